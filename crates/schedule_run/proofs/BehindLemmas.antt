@@ -99,7 +99,7 @@ settles_so lines event.Settle r before after old new t told stands handled =
       right.sound (standing lines 0).posture,
       record {
         explains = right.explains;
-        calm = λ each well. right.calm each;
+        calm = λ each s u seen told_after well. right.calm each u told_after;
         bounded = no_run lines (length lines + 1) handled.asked before after old new (Ok r) handled.asks handled.answers;
         leaves = leaves_so (length lines + 1) event.Settle before after old new r (settling_leaves (length lines + 1) event.Settle before after old new (Ok r)) t told stands handled;
         ends = ends_so (length lines + 1) event.Settle before after old new r (settling_ends (length lines + 1) event.Settle before after old new (Ok r)) t told stands handled;

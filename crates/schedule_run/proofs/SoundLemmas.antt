@@ -9,11 +9,13 @@ use Rattle.cloud_trait.specs.Seen.{Seen}
 use Rattle.cloud_trait.specs.State.{CloudState}
 use Rattle.event_text.specs.declared.event.Event.{Event}
 use Rattle.event_text.specs.declared.event.Event.TheVariants as event
-use Rattle.replay_meaning.specs.Standing.{Line}
+use Rattle.replay_meaning.specs.Standing.{Line, session_of}
 use Rattle.reply_text.specs.declared.reply.Reply.{Reply}
 use Rattle.reply_text.specs.declared.reply.Reply.TheVariants as reply
 use Rattle.session_facts.proofs.BookLemmas.{book_of}
 use Rattle.session_facts.specs.Facts.{session_at, SomeBookStands}
+use Rattle.session_facts.specs.Sessions.Untroubled.{IsUntroubled}
+use Rattle.world_core.specs.Calm.{work_at}
 use Rattle.world_core.specs.World.{World}
 use Rattle.world_core.specs.Handled.{Handled}
 use Rattle.world_core.specs.Settled.{SettlingLeaves, SettlingEnds}
@@ -117,7 +119,9 @@ went_explained before old t lines after new (further earlier line mid _ world _ 
       went_explained before old t earlier mid world went told stands,
       record {
         explains = explained (length earlier + 1) line.event mid after world new (Ok line.reply) earlier o.state refl o.told o.stands handled;
-        calm = well_after (length earlier + 1) line.event mid after world new (Ok line.reply) earlier o.state refl o.told o.stands handled;
+        calm = λ each s u seen told_after well.
+            well_after (length earlier + 1) line.event mid after world new (Ok line.reply) earlier o.state u refl o.told told_after o.stands handled each
+            (subst (λ x. IsUntroubled x (work_at world (session_of line.event))) (same_some s o.state (sym seen ∙ o.told)) well);
         bounded = few_calls (length earlier + 1) line.event mid after world new (Ok line.reply) earlier o.state refl o.told o.stands handled;
         leaves =
             leaves_so (length earlier + 1) line.event mid after world new line.reply

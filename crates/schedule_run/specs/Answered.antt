@@ -67,8 +67,9 @@ IsKeptLine entries before line = IsKeptReply entries (standing before (session_o
 pub record IsExplained (lines : List Line) (line : Line) (before after : Seen) (old new : World) (handled : Handled (length lines + 1) line.event before after old new (Ok line.reply))
     : Type 0 where
   pub explains : EachStep StepExplains (length lines + 1) line.event before after old new (Ok line.reply) handled
-  pub calm : EachStep StepIsCalm (length lines + 1) line.event before after old new (Ok line.reply) handled → IsUntroubled (work_at old (session_of line.event))
-      → IsUntroubled (work_at new (session_of line.event)) × RepliesWell line.event (standing lines (session_of line.event)).posture line.reply
+  pub calm : EachStep StepIsCalm (length lines + 1) line.event before after old new (Ok line.reply) handled → (t u : CloudState)
+      → before.state ≡ Some t → after.state ≡ Some u → IsUntroubled t (work_at old (session_of line.event))
+      → IsUntroubled u (work_at new (session_of line.event)) × RepliesWell u line.event (standing lines (session_of line.event)).posture line.reply
   pub bounded : AnswersSoon lines (length lines + 1) handled.asked before after old new (Ok line.reply) handled.answers
   pub leaves : LeavesSo (length lines + 1) line.event before after old new line.reply handled
   pub ends : (t : CloudState) → before.state ≡ Some t → EndsSo t (length lines + 1) line.event before after old new line.reply handled

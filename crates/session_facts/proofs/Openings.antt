@@ -20,3 +20,4 @@ pub mod Unmarked
 pub mod Completing
 pub mod Showing
 pub mod Explaining
+pub mod Late

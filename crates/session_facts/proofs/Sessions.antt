@@ -16,6 +16,8 @@ pub mod ReadingSteps
 pub mod ScanningSteps
 pub mod SettlingSteps
 pub mod SettlingExplaining
+pub mod Quiet
+pub mod Waiting
 pub mod Calling
 pub mod CheckpointCalls
 pub mod HeadPuts

@@ -11,3 +11,4 @@ pub mod Beside
 pub mod Hands
 pub mod Steps
 pub mod Explaining
+pub mod Late

@@ -2,6 +2,7 @@
 pub mod Noting
 pub mod Sessions
 pub mod Puts
+pub mod Spent
 pub mod Answering
 pub mod Explaining
 pub mod Calls

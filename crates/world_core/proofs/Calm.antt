@@ -1,5 +1,5 @@
 -- A line whose calls are all calm is answered well.
-use Rattle.std.proofs.Common.{◌≡◌, ◌+◌, inl, inr, ℕ, List, [], length, Bool, true, false, Option, Some, None, Result, Ok, Err, refl, sym, ap, subst, ◌∙◌}
+use Rattle.std.proofs.Common.{◌≡◌, ◌≤◌, ◌+◌, arith, inl, inr, ℕ, List, [], length, Bool, true, false, Option, Some, None, Result, Ok, Err, refl, sym, ap, subst, ◌∙◌}
 use Rattle.std.specs.Prelude.{unwrap_or}
 use Rattle.client_work.specs.Session.{Acting, StepsSession, StepsAt, Follows, Begins, closed_session, settling_session, value_of}
 use Rattle.client_work.specs.declared.answer.Answer.{Answer}
@@ -13,6 +13,7 @@ use Rattle.client_work.specs.declared.shown.Shown.{Shown}
 use Rattle.client_work.specs.declared.work.Work.{Work}
 use Rattle.client_work.specs.declared.work.Work.TheVariants as work
 use Rattle.cloud_facts.proofs.Book.Names.{at_same}
+use Rattle.cloud_trait.proofs.EffectLemmas.{begins_itself, begins_same}
 use Rattle.cloud_trait.specs.Caller.{Caller}
 use Rattle.cloud_trait.specs.Seen.{Seen}
 use Rattle.cloud_trait.specs.State.{CloudState}
@@ -42,12 +43,13 @@ use Rattle.session_facts.specs.PageCheckpoints.Checkpoint.{MayStop as MayStopPag
 use Rattle.session_facts.specs.Sessions.Answering.{MayRefuse, MaySettle}
 use Rattle.session_facts.specs.Sessions.Explaining.{left_told, trouble_of_answer}
 use Rattle.session_facts.specs.Sessions.Sessions.{Sessions, IsRightOp}
+use Rattle.session_facts.specs.Sessions.Spent.{IsOfOpening, IsOfCommit, IsOfFolding, IsOfSettling}
 use Rattle.session_facts.specs.Sessions.Untroubled.{StepsCalmly, IsOfNoCall, IsUntroubled, IsSpent, IsSpentOrOf}
 use Rattle.session_facts.specs.TreeCheckpoints.Checkpoint.{MayStop as MayStopTree}
 use Rattle.session_facts.specs.Walks.Walks.{MayStop as MayStopWalk}
 use Rattle.session_facts.proofs.CommitRuns.Telling.{IsTold}
 use Rattle.session_facts.proofs.Sessions.AtOnce.{IsAtOnce, begins_at_once, begins_untroubled}
-use Rattle.session_facts.proofs.Sessions.Untroubled.{step_untroubled, answer_untroubled, answered_rests, closed_rests, at_rest, commit_tells, commit_well}
+use Rattle.session_facts.proofs.Sessions.Untroubled.{IsAtRest, rested, untroubled_later, step_untroubled, answer_untroubled, answered_rests, closed_rests, at_rest, commit_tells, commit_well}
 use Rattle.tree_walk.specs.Walk.{sought}
 use Rattle.txn_buffer.specs.Noted.{Noted}
 use Rattle.world_core.specs.declared.asked.Asked.{Asked}
@@ -68,64 +70,64 @@ use Rattle.world_core.proofs.Behind.{LinesStand}
 use Rattle.world_core.proofs.Explained.{explained}
 use Rattle.world_core.proofs.Sound.{sound_after}
 use Rattle.world_core.proofs.Texts.{commit_is}
-use Rattle.world_core.proofs.StandsLemmas.{IsUnderWay, changed_at, changed_was, has_at, way_begins, steps_own, went_on, no_stop, no_memory, replies_to, settler}
+use Rattle.world_core.proofs.StandsLemmas.{IsUnderWay, changed_at, changed_was, has_at, way_begins, steps_own, went_on, no_stop, no_memory, replies_to, end_later, settler}
 
 -- ---- troubles that no call brought
 
-opening_spent : (k : Trouble) → MayStopOpening k → IsOfNoCall k → (k ≡ trouble.Memory → ⊥) → IsSpent k
-opening_spent (trouble.Exhausted what) may none other = tt
-opening_spent trouble.Memory may none other = other refl
-opening_spent trouble.Failed may none other = none
-opening_spent (trouble.Late end now) may none other = none
-opening_spent (trouble.Busy lock until) may none other = none
-opening_spent (trouble.Waiting have need) may none other = none
-opening_spent k may none other = may
+opening_spent : (u : CloudState) (k : Trouble) → MayStopOpening k → IsOfNoCall u k → (k ≡ trouble.Memory → ⊥) → IsSpent IsOfOpening u k
+opening_spent u (trouble.Exhausted what) may none other = (may, none)
+opening_spent u trouble.Memory may none other = other refl
+opening_spent u trouble.Failed may none other = none
+opening_spent u (trouble.Late end now) may none other = none
+opening_spent u (trouble.Busy lock until) may none other = none
+opening_spent u (trouble.Waiting have need) may none other = none
+opening_spent u k may none other = may
 
-commit_spent : (k : Trouble) → MayStopCommit k → IsOfNoCall k → (k ≡ trouble.Memory → ⊥) → IsSpent k
-commit_spent (trouble.Exhausted what) may none other = tt
-commit_spent trouble.Memory may none other = other refl
-commit_spent trouble.Failed may none other = none
-commit_spent (trouble.Late end now) may none other = none
-commit_spent k may none other = may
+commit_spent : (u : CloudState) (k : Trouble) → MayStopCommit k → IsOfNoCall u k → (k ≡ trouble.Memory → ⊥) → IsSpent IsOfCommit u k
+commit_spent u (trouble.Exhausted what) may none other = (may, none)
+commit_spent u trouble.Memory may none other = other refl
+commit_spent u trouble.Failed may none other = none
+commit_spent u (trouble.Late end now) may none other = none
+commit_spent u k may none other = may
 
-tree_spent : (k : Trouble) → MayStopTree k → IsOfNoCall k → (k ≡ trouble.Memory → ⊥) → IsSpent k
-tree_spent (trouble.Exhausted what) may none other = tt
-tree_spent trouble.Memory may none other = other refl
-tree_spent trouble.Failed may none other = none
-tree_spent (trouble.Late end now) may none other = none
-tree_spent (trouble.Busy lock until) may none other = none
-tree_spent k may none other = may
+tree_spent : (u : CloudState) (k : Trouble) → MayStopTree k → IsOfNoCall u k → (k ≡ trouble.Memory → ⊥) → IsSpent IsOfFolding u k
+tree_spent u (trouble.Exhausted what) may none other = (may, none)
+tree_spent u trouble.Memory may none other = other refl
+tree_spent u trouble.Failed may none other = none
+tree_spent u (trouble.Late end now) may none other = none
+tree_spent u (trouble.Busy lock until) may none other = none
+tree_spent u k may none other = may
 
-settled_spent : (k : Trouble) → MaySettle k → IsOfNoCall k → (k ≡ trouble.Memory → ⊥) → IsSpent k
-settled_spent (trouble.Exhausted what) may none other = tt
-settled_spent trouble.Memory may none other = other refl
-settled_spent trouble.Failed may none other = none
-settled_spent (trouble.Late end now) may none other = none
-settled_spent (trouble.Busy lock until) may none other = none
-settled_spent (trouble.Waiting have need) may none other = none
-settled_spent k may none other = may
+settled_spent : (u : CloudState) (k : Trouble) → MaySettle k → IsOfNoCall u k → (k ≡ trouble.Memory → ⊥) → IsSpent IsOfSettling u k
+settled_spent u (trouble.Exhausted what) may none other = (may, none)
+settled_spent u trouble.Memory may none other = other refl
+settled_spent u trouble.Failed may none other = none
+settled_spent u (trouble.Late end now) may none other = none
+settled_spent u (trouble.Busy lock until) may none other = none
+settled_spent u (trouble.Waiting have need) may none other = none
+settled_spent u k may none other = may
 
-page_spent : (page : ℕ) (k : Trouble) → MayStopPage page k → IsOfNoCall k → (k ≡ trouble.Memory → ⊥) → IsSpentOrOf page k
-page_spent page (trouble.Exhausted what) may none other = tt
-page_spent page (trouble.Absent named) may none other = may
-page_spent page (trouble.NotALeaf named) may none other = may
-page_spent page trouble.Memory may none other = other refl
-page_spent page trouble.Failed may none other = none
-page_spent page (trouble.Late end now) may none other = none
-page_spent page (trouble.Busy lock until) may none other = none
-page_spent page k may none other = may
+page_spent : (u : CloudState) (page : ℕ) (k : Trouble) → MayStopPage page k → IsOfNoCall u k → (k ≡ trouble.Memory → ⊥) → IsSpentOrOf page u k
+page_spent u page (trouble.Exhausted what) may none other = (may, none)
+page_spent u page (trouble.Absent named) may none other = may
+page_spent u page (trouble.NotALeaf named) may none other = may
+page_spent u page trouble.Memory may none other = other refl
+page_spent u page trouble.Failed may none other = none
+page_spent u page (trouble.Late end now) may none other = none
+page_spent u page (trouble.Busy lock until) may none other = none
+page_spent u page k may none other = may
 
-refuse_never : (k : Trouble) → MayRefuse k → IsOfNoCall k → (k ≡ trouble.Memory → ⊥) → ⊥
-refuse_never trouble.Memory may none other = other refl
-refuse_never trouble.Failed may none other = none
-refuse_never (trouble.Late end now) may none other = none
-refuse_never k may none other = may
+refuse_never : (u : CloudState) (k : Trouble) → MayRefuse k → IsOfNoCall u k → (k ≡ trouble.Memory → ⊥) → ⊥
+refuse_never u trouble.Memory may none other = other refl
+refuse_never u trouble.Failed may none other = none
+refuse_never u (trouble.Late end now) may none other = none
+refuse_never u k may none other = may
 
-walk_never : (k : Trouble) → MayStopWalk k → IsOfNoCall k → (k ≡ trouble.Memory → ⊥) → ⊥
-walk_never trouble.Memory may none other = other refl
-walk_never trouble.Failed may none other = none
-walk_never (trouble.Stale page least got) may none other = none
-walk_never k may none other = may
+walk_never : (u : CloudState) (k : Trouble) → MayStopWalk k → IsOfNoCall u k → (k ≡ trouble.Memory → ⊥) → ⊥
+walk_never u trouble.Memory may none other = other refl
+walk_never u trouble.Failed may none other = none
+walk_never u (trouble.Stale page least got) may none other = none
+walk_never u k may none other = may
 
 -- ---- the answer of an operation
 
@@ -189,55 +191,55 @@ answers_as who before after (work.Idle home) new s a p acts = absurd p
 answers_as who before after (work.Broken lease) new s a p acts = absurd p
 
 -- what is known of an answer: no call brought its trouble, no deletion failed, and what a commit tells
-record IsOfNone (w : Work) (a : Answer) : Type 0 where
-  trouble : (k : Trouble) → trouble_of_answer a ≡ Some k → IsOfNoCall k
+record IsOfNone (u : CloudState) (w : Work) (a : Answer) : Type 0 where
+  trouble : (k : Trouble) → trouble_of_answer a ≡ Some k → IsOfNoCall u k
   left : left_told w (Ended a) ≡ 0
   told : (c : CommitAnswer) → a ≡ answer.Commit c → IsTold c
 
 -- a sound reply to it is one that the operation did well
-trouble_well : (task : Task) (k : Trouble) → IsSoundReply (Working task) (reply.Trouble k) → IsOfNoCall k → (k ≡ trouble.Memory → ⊥) → DoesWell task (reply.Trouble k)
-trouble_well Opening k may none other = opening_spent k may none other
-trouble_well Closing k may none other = refuse_never k may none other
-trouble_well Renewing k may none other = refuse_never k may none other
-trouble_well (Committing changes) k may none other = commit_spent k may none other
-trouble_well (Reading tree key) k may none other = walk_never k may none other
-trouble_well (Scanning tree from to) k may none other = walk_never k may none other
-trouble_well (Paging tree page) k may none other = page_spent page k may none other
-trouble_well (Folding tree) k may none other = tree_spent k may none other
+trouble_well : (u : CloudState) (task : Task) (k : Trouble) → IsSoundReply (Working task) (reply.Trouble k) → IsOfNoCall u k → (k ≡ trouble.Memory → ⊥) → DoesWell u task (reply.Trouble k)
+trouble_well u Opening k may none other = opening_spent u k may none other
+trouble_well u Closing k may none other = refuse_never u k may none other
+trouble_well u Renewing k may none other = refuse_never u k may none other
+trouble_well u (Committing changes) k may none other = commit_spent u k may none other
+trouble_well u (Reading tree key) k may none other = walk_never u k may none other
+trouble_well u (Scanning tree from to) k may none other = walk_never u k may none other
+trouble_well u (Paging tree page) k may none other = page_spent u page k may none other
+trouble_well u (Folding tree) k may none other = tree_spent u k may none other
 
-value_well : (tree : ℕ) (key : List ℕ) (value : Option (List ℕ)) (r : Reply) → r ≡ value_reply value → DoesWell (Reading tree key) r
-value_well tree key None r e = subst (DoesWell (Reading tree key)) (sym e) tt
-value_well tree key (Some payload) r e = subst (DoesWell (Reading tree key)) (sym e) tt
+value_well : (u : CloudState) (tree : ℕ) (key : List ℕ) (value : Option (List ℕ)) (r : Reply) → r ≡ value_reply value → DoesWell u (Reading tree key) r
+value_well u tree key None r e = subst (DoesWell u (Reading tree key)) (sym e) tt
+value_well u tree key (Some payload) r e = subst (DoesWell u (Reading tree key)) (sym e) tt
 
-troubled : (task : Task) (k : Trouble) (left : Acting) (r : Reply) → IsSoundReply (Working task) r → RepliesTo (answer.Trouble k) left (Ok r) → IsOfNoCall k → DoesWell task r
-troubled task k left r sound e none =
+troubled : (u : CloudState) (task : Task) (k : Trouble) (left : Acting) (r : Reply) → IsSoundReply (Working task) r → RepliesTo (answer.Trouble k) left (Ok r) → IsOfNoCall u k → DoesWell u task r
+troubled u task k left r sound e none =
     let is = replies_to (answer.Trouble k) left r e in
-    subst (DoesWell task) (sym is.0.0) (trouble_well task k (subst (IsSoundReply (Working task)) is.0.0 sound) none is.0.1)
+    subst (DoesWell u task) (sym is.0.0) (trouble_well u task k (subst (IsSoundReply (Working task)) is.0.0 sound) none is.0.1)
 
-answer_well : (task : Task) (a : Answer) (left : Acting) (r : Reply) → IsAnswerOf task a → IsSoundReply (Working task) r → RepliesTo a left (Ok r) → IsOfNone left.work a → DoesWell task r
-answer_well task (answer.Trouble k) left r of sound e none = troubled task k left r sound e (none.trouble k refl)
-answer_well Opening (answer.Opened epoch) left r of sound e none = let is : r ≡ reply.Opened epoch = cc in subst (DoesWell Opening) (sym is) tt
-answer_well Closing answer.Closed left r of sound e none = let is : r ≡ reply.Closed = cc in subst (DoesWell Closing) (sym is) tt
-answer_well Renewing (answer.Renewed end) left r of sound e none = let is : r ≡ reply.Renewed end = cc in subst (DoesWell Renewing) (sym is) tt
-answer_well (Committing changes) (answer.Commit c) left r of sound e none =
+answer_well : (u : CloudState) (task : Task) (a : Answer) (left : Acting) (r : Reply) → IsAnswerOf task a → IsSoundReply (Working task) r → RepliesTo a left (Ok r) → IsOfNone u left.work a → DoesWell u task r
+answer_well u task (answer.Trouble k) left r of sound e none = troubled u task k left r sound e (none.trouble k refl)
+answer_well u Opening (answer.Opened epoch) left r of sound e none = let is : r ≡ reply.Opened epoch = cc in subst (DoesWell u Opening) (sym is) tt
+answer_well u Closing answer.Closed left r of sound e none = let is : r ≡ reply.Closed = cc in subst (DoesWell u Closing) (sym is) tt
+answer_well u Renewing (answer.Renewed end) left r of sound e none = let is : r ≡ reply.Renewed end = cc in subst (DoesWell u Renewing) (sym is) tt
+answer_well u (Committing changes) (answer.Commit c) left r of sound e none =
     let is = (commit_is c r e).0 in
-    subst (DoesWell (Committing changes)) (sym is) (commit_well c (none.told c refl) none.trouble (subst (IsSoundReply (Working (Committing changes))) is sound))
-answer_well (Reading tree key) answer.Value left r of sound e none = value_well tree key (value_of left) r e
-answer_well (Scanning tree from to) answer.Scan left r of sound e none = subst (DoesWell (Scanning tree from to)) (sym e) tt
-answer_well (Paging tree page) (answer.Done n) left r of sound e none =
+    subst (DoesWell u (Committing changes)) (sym is) (commit_well u c (none.told c refl) none.trouble (subst (IsSoundReply (Working (Committing changes))) is sound))
+answer_well u (Reading tree key) answer.Value left r of sound e none = value_well u tree key (value_of left) r e
+answer_well u (Scanning tree from to) answer.Scan left r of sound e none = subst (DoesWell u (Scanning tree from to)) (sym e) tt
+answer_well u (Paging tree page) (answer.Done n) left r of sound e none =
     let is : r ≡ reply.Done n = cc in
-    subst (DoesWell (Paging tree page)) (sym is) none.left
-answer_well (Folding tree) (answer.Done n) left r of sound e none =
+    subst (DoesWell u (Paging tree page)) (sym is) none.left
+answer_well u (Folding tree) (answer.Done n) left r of sound e none =
     let is : r ≡ reply.Done n = cc in
-    subst (DoesWell (Folding tree)) (sym is) none.left
-answer_well Opening a left r of sound e none = absurd of
-answer_well Closing a left r of sound e none = absurd of
-answer_well Renewing a left r of sound e none = absurd of
-answer_well (Committing changes) a left r of sound e none = absurd of
-answer_well (Reading tree key) a left r of sound e none = absurd of
-answer_well (Scanning tree from to) a left r of sound e none = absurd of
-answer_well (Paging tree page) a left r of sound e none = absurd of
-answer_well (Folding tree) a left r of sound e none = absurd of
+    subst (DoesWell u (Folding tree)) (sym is) none.left
+answer_well u Opening a left r of sound e none = absurd of
+answer_well u Closing a left r of sound e none = absurd of
+answer_well u Renewing a left r of sound e none = absurd of
+answer_well u (Committing changes) a left r of sound e none = absurd of
+answer_well u (Reading tree key) a left r of sound e none = absurd of
+answer_well u (Scanning tree from to) a left r of sound e none = absurd of
+answer_well u (Paging tree page) a left r of sound e none = absurd of
+answer_well u (Folding tree) a left r of sound e none = absurd of
 
 -- ---- steps
 
@@ -247,21 +249,49 @@ session_is : (who : Caller) (wish : Wish) (before after : Seen) (old new : World
 session_is who wish before after old new turn p =
     changed_at who.session _ old.sessions new.sessions p.session who.session ∙ at_same who.session p.session.after (session_at old.sessions) who.session refl
 
-module _ (who : Caller) (wish : Wish) (before after : Seen) (old new : World) (turn : Turn Answer) (p : StepsLooked who wish before after old new turn) where
-  untroubled_before : IsUntroubled (work_at old who.session) → IsUntroubled p.session.before.work
-  untroubled_before well = subst (λ (a : Acting). IsUntroubled a.work) (changed_was who.session _ old.sessions new.sessions p.session) well
+-- what a session of a world has in hand goes well so far, where a cloud tells its state
+abbrev pub SessionIsUntroubled : ℕ → Seen → World → Type 0
+SessionIsUntroubled session seen world = (t : CloudState) → seen.state ≡ Some t → IsUntroubled t (work_at world session)
 
-  untroubled_after : IsUntroubled p.session.after.work → IsUntroubled (work_at new who.session)
-  untroubled_after well = subst (λ (a : Acting). IsUntroubled a.work) (sym (session_is who wish before after old new turn p)) well
+-- or it tells one, and the session goes well
+abbrev GoesWellAt : ℕ → Seen → World → Type 0
+GoesWellAt session seen world = (t : CloudState) × (seen.state ≡ Some t) × IsUntroubled t (work_at world session)
+
+state_is : (x y : CloudState) → Some x ≡ Some y → x ≡ y
+state_is x y e = cc
+
+pub goes_in : (session : ℕ) (seen : Seen) (world : World) → GoesWellAt session seen world → SessionIsUntroubled session seen world
+goes_in session seen world (t, told, well) u told_u = subst (λ (x : CloudState). IsUntroubled x (work_at world session)) (state_is t u (sym told ∙ told_u)) well
+
+module _ (who : Caller) (wish : Wish) (before after : Seen) (old new : World) (turn : Turn Answer) (p : StepsLooked who wish before after old new turn) where
+  abbrev Goes : Seen → World → Type 0
+  Goes seen world = GoesWellAt who.session seen world
+
+  -- what was told before its call, and is behind it
+  told_under : (t : CloudState) → before.state ≡ Some t → p.under.state ≡ Some (record t { wish = wish })
+  told_under t told = p.wishes.set t (p.look_before.stays t told)
+
+  untroubled_before : (calm : StepIsCalm who wish before after old new turn p) → Goes before old → IsUntroubled calm.calm.before p.session.before.work
+  untroubled_before calm (t, told, well) =
+      subst (λ (x : CloudState). IsUntroubled x p.session.before.work) (state_is (record t { wish = wish }) calm.calm.before (sym (told_under t told) ∙ calm.calm.told))
+      (untroubled_later t (record t { wish = wish }) p.session.before.work (λ name. begins_itself (t.versions name)) (omega arith)
+      (subst (λ (a : Acting). IsUntroubled t a.work) (changed_was who.session _ old.sessions new.sessions p.session) well))
+
+  untroubled_after : (calm : StepIsCalm who wish before after old new turn p) → IsUntroubled calm.calm.after p.session.after.work → Goes after new
+  untroubled_after calm well = (
+    calm.calm.after,
+    p.look_after.stays calm.calm.after calm.calm.left,
+    subst (λ (a : Acting). IsUntroubled calm.calm.after a.work) (sym (session_is who wish before after old new turn p)) well,
+  )
 
 goes_calmly : (who : Caller) (wish : Wish) (before after : Seen) (old new : World) (p : StepsLooked who wish before after old new More) → StepIsCalm who wish before after old new More p
-    → StepExplains who wish before after old new More p → IsUntroubled (work_at old who.session) → IsUntroubled (work_at new who.session)
+    → StepExplains who wish before after old new More p → GoesWellAt who.session before old → GoesWellAt who.session after new
 goes_calmly who wish before after old new p calm explains well =
-    untroubled_after who wish before after old new More p
-    (step_untroubled who p.under p.to p.session.before p.session.after p.session.does calm explains (untroubled_before who wish before after old new More p well))
+    untroubled_after who wish before after old new More p calm
+    (step_untroubled who p.under p.to p.session.before p.session.after p.session.does calm explains (untroubled_before who wish before after old new More p calm well))
 
 went_calmly : (who : Caller) (before : Seen) (old : World) (after : Seen) (new : World) (went : Went who before old after new) → EachWent StepIsCalm who before old after new went
-    → EachWent StepExplains who before old after new went → IsUntroubled (work_at old who.session) → IsUntroubled (work_at new who.session)
+    → EachWent StepExplains who before old after new went → GoesWellAt who.session before old → GoesWellAt who.session after new
 went_calmly who before old after new start calm explains well = well
 went_calmly who before old after new (further mid _ world _ went step) calm explains well =
     goes_calmly who Plain mid after world new step calm.1 explains.1 (went_calmly who before old mid world went calm.0 explains.0 well)
@@ -273,53 +303,65 @@ tells_any who before after old new a p calm c e = absurd (cc (e))
 
 -- the answer of a calm step
 answers_calmly : (who : Caller) (wish : Wish) (before after : Seen) (old new : World) (a : Answer) (p : StepsLooked who wish before after old new (Ended a))
-    → StepIsCalm who wish before after old new (Ended a) p → StepExplains who wish before after old new (Ended a) p → IsUntroubled (work_at old who.session)
-    → IsOfNone p.session.after.work a
+    → (calm : StepIsCalm who wish before after old new (Ended a) p) → StepExplains who wish before after old new (Ended a) p → GoesWellAt who.session before old
+    → IsOfNone calm.calm.after p.session.after.work a
 answers_calmly who wish before after old new a p calm explains well =
-    let is = answer_untroubled who p.under p.to p.session.before p.session.after a p.session.does calm explains (untroubled_before who wish before after old new (Ended a) p well) in
+    let is = answer_untroubled who p.under p.to p.session.before p.session.after a p.session.does calm explains (untroubled_before who wish before after old new (Ended a) p calm well) in
     record { trouble = is.0; left = is.1; told = tells_any who p.under p.to p.session.before p.session.after a p.session.does calm }
 
-answers_rest : (who : Caller) (wish : Wish) (before after : Seen) (old new : World) (a : Answer) (p : StepsLooked who wish before after old new (Ended a)) → IsUntroubled (work_at new who.session)
+answers_rest : (who : Caller) (wish : Wish) (before after : Seen) (old new : World) (a : Answer) (p : StepsLooked who wish before after old new (Ended a)) → IsAtRest (work_at new who.session)
 answers_rest who wish before after old new a p =
-    untroubled_after who wish before after old new (Ended a) p (answered_rests who p.under p.to p.session.before.work p.session.after.work a p.session.does.work)
+    subst (λ (b : Acting). IsAtRest b.work) (sym (session_is who wish before after old new (Ended a) p))
+    (answered_rests who p.under p.to p.session.before.work p.session.after.work a p.session.does.work)
+
+-- what is at rest is untroubled, whatever a cloud tells
+rests_in : (session : ℕ) (seen : Seen) (world : World) → IsAtRest (work_at world session) → SessionIsUntroubled session seen world
+rests_in session seen world rest t told = rested t (work_at world session) rest
 
 -- ---- replies
 
-refused_runs : (posture : Posture) (r : Reply) (rule : Refusal) → r ≡ reply.Refused rule → RunsWell posture r
-refused_runs posture r rule e = subst (RunsWell posture) (sym e) tt
+refused_runs : (u : CloudState) (posture : Posture) (r : Reply) (rule : Refusal) → r ≡ reply.Refused rule → RunsWell u posture r
+refused_runs u posture r rule e = subst (RunsWell u posture) (sym e) tt
 
-runs_of : (posture : Posture) (task : Task) (r : Reply) → posture ≡ Working task → DoesWell task r → RunsWell posture r
-runs_of posture task r is does = subst (λ (q : Posture). RunsWell q r) (sym is) (on r does)
+runs_of : (u : CloudState) (posture : Posture) (task : Task) (r : Reply) → posture ≡ Working task → DoesWell u task r → RunsWell u posture r
+runs_of u posture task r is does = subst (λ (q : Posture). RunsWell u q r) (sym is) (on r does)
   where
-    on : (q : Reply) → DoesWell task q → RunsWell (Working task) q
+    on : (q : Reply) → DoesWell u task q → RunsWell u (Working task) q
     on (reply.Refused rule) does = tt
     on q does = does
 
-steps_of : (posture : Posture) (r : Reply) → RunsWell posture r → StepsWell posture r
-steps_of posture reply.Called runs = tt
-steps_of posture r runs = runs
+steps_of : (u : CloudState) (posture : Posture) (r : Reply) → RunsWell u posture r → StepsWell u posture r
+steps_of u posture reply.Called runs = tt
+steps_of u posture r runs = runs
 
 -- ---- what a line asks of a session
 
-unchanged : (k : ℕ) (old new : World) → new ≡ old → IsUntroubled (work_at old k) → IsUntroubled (work_at new k)
-unchanged k old new same well = subst (λ (w : World). IsUntroubled (work_at w k)) (sym same) well
+unchanged : (k : ℕ) (before after : Seen) (old new : World) → after ≡ before → new ≡ old → SessionIsUntroubled k before old → SessionIsUntroubled k after new
+unchanged k before after old new seen same well =
+    subst (λ (w : World). SessionIsUntroubled k after w) (sym same) (subst (λ (z : Seen). SessionIsUntroubled k z old) (sym seen) well)
 
 -- where one session changes
 changes_to : (k : ℕ) (Does : Acting → Acting → Type 0) (old new : World) (c : Changes k Does old.sessions new.sessions) → session_at new.sessions k ≡ c.after
 changes_to k Does old new c = changed_at k Does old.sessions new.sessions c k ∙ at_same k c.after (session_at old.sessions) k refl
 
-rests_after : (k : ℕ) (Does : Acting → Acting → Type 0) (old new : World) (c : Changes k Does old.sessions new.sessions) → (IsUntroubled c.before.work → IsUntroubled c.after.work)
-    → IsUntroubled (work_at old k) → IsUntroubled (work_at new k)
-rests_after k Does old new c leaves well =
-    subst (λ (a : Acting). IsUntroubled a.work) (sym (changes_to k Does old new c))
-    (leaves (subst (λ (a : Acting). IsUntroubled a.work) (changed_was k Does old.sessions new.sessions c) well))
+rests_after : (k : ℕ) (before after : Seen) (Does : Acting → Acting → Type 0) (old new : World) (c : Changes k Does old.sessions new.sessions) → after ≡ before
+    → ((t : CloudState) → IsUntroubled t c.before.work → IsUntroubled t c.after.work) → SessionIsUntroubled k before old → SessionIsUntroubled k after new
+rests_after k before after Does old new c seen leaves well t told =
+    subst (λ (a : Acting). IsUntroubled t a.work) (sym (changes_to k Does old new c))
+    (leaves t (subst (λ (a : Acting). IsUntroubled t a.work) (changed_was k Does old.sessions new.sessions c) (well t (ap (λ (z : Seen). z.state) (sym seen) ∙ told))))
 
-has_closed : (k : ℕ) (old new : World) → Has k closed_session old new → IsUntroubled (work_at new k)
+has_closed : (k : ℕ) (old new : World) → Has k closed_session old new → IsAtRest (work_at new k)
 has_closed k old new has =
-    subst (λ (a : Acting). IsUntroubled a.work) (sym (has_at k closed_session old new has k ∙ at_same k closed_session (session_at old.sessions) k refl)) closed_rests
+    subst (λ (a : Acting). IsAtRest a.work) (sym (has_at k closed_session old new has k ∙ at_same k closed_session (session_at old.sessions) k refl)) closed_rests
 
 module _ (lines : List Line) (n k : ℕ) (before after : Seen) (old new : World) (r : Reply) (t : CloudState) (number : length lines + 1 ≡ n) (told : before.state ≡ Some t)
-    (stands : LinesStand lines old t) (well : IsUntroubled (work_at old k)) where
+    (stands : LinesStand lines old t) (well : SessionIsUntroubled k before old) (u : CloudState) (told_after : after.state ≡ Some u) where
+  abbrev Behind : Type 0
+  Behind = SessionIsUntroubled k after new
+
+  here : GoesWellAt k before old
+  here = (t, told, well t told)
+
   abbrev who : Caller
   who = record { session = k; event = n }
 
@@ -331,79 +373,80 @@ module _ (lines : List Line) (n k : ℕ) (before after : Seen) (old new : World)
 
   -- a step that is answered, behind some that went on
   ended_well : (wish : Wish) (mid : Seen) (world : World) (a : Answer) → IsUnderWay lines world mid → (p : StepsLooked who wish mid after world new (Ended a))
-      → StepIsCalm who wish mid after world new (Ended a) p → StepExplains who wish mid after world new (Ended a) p → IsUntroubled (work_at world k)
-      → IsSoundReply posture r → RepliesTo a p.session.after (Ok r) → RunsWell posture r
+      → (calm : StepIsCalm who wish mid after world new (Ended a) p) → StepExplains who wish mid after world new (Ended a) p → GoesWellAt k mid world
+      → IsSoundReply posture r → RepliesTo a p.session.after (Ok r) → RunsWell u posture r
   ended_well wish mid world a on p calm explains still sound replies =
       let own = steps_own lines who wish mid after world new (Ended a) (sym number) on p in
       let said = answers_as who p.under p.to (session_at world.sessions k).work p.session.after.work (standing lines k) a own.work (on.goes.acts k).work in
-      runs_of posture said.task r said.posture
-      (answer_well said.task a p.session.after r said.of (subst (λ (q : Posture). IsSoundReply q r) said.posture sound) replies
-      (answers_calmly who wish mid after world new a p calm explains still))
+      runs_of u posture said.task r said.posture
+      (answer_well u said.task a p.session.after r said.of (subst (λ (q : Posture). IsSoundReply q r) said.posture sound) replies
+      (subst (λ (x : CloudState). IsOfNone x p.session.after.work a)
+      (state_is calm.calm.after u (sym (p.look_after.stays calm.calm.after calm.calm.left) ∙ told_after)) (answers_calmly who wish mid after world new a p calm explains still)))
 
-  not_done : (why : Refused) → Declines why before after old new (Ok r) → IsUntroubled (work_at new k) × ((rule : Refusal) × (r ≡ reply.Refused rule))
-  not_done (refused.Rule rule) h = let is : r ≡ reply.Refused rule = cc (h.reply) in (unchanged k old new h.world well, (rule, is))
+  not_done : (why : Refused) → Declines why before after old new (Ok r) → Behind × ((rule : Refusal) × (r ≡ reply.Refused rule))
+  not_done (refused.Rule rule) h = let is : r ≡ reply.Refused rule = cc (h.reply) in (unchanged k before after old new h.seen h.world well, (rule, is))
   not_done refused.Memory h = absurd (cc (h.reply))
 
   makes_well : (wish : Wish) (h : MakesStep n k wish before after old new (Ok r)) → EachMade StepIsCalm n k wish before after old new (Ok r) h
-      → EachMade StepExplains n k wish before after old new (Ok r) h → IsSoundReply posture r → IsUntroubled (work_at new k) × StepsWell posture r
+      → EachMade StepExplains n k wish before after old new (Ok r) h → IsSoundReply posture r → Behind × StepsWell u posture r
   makes_well wish (inl refuses) calm explains sound =
       let is = not_done _ refuses.declines in
-      (is.0, steps_of posture r (refused_runs posture r is.1.0 is.1.1))
+      (is.0, steps_of u posture r (refused_runs u posture r is.1.0 is.1.1))
   makes_well wish (inr (inl step)) calm explains sound = on step.turn step.steps step.replies calm explains
     where
       on : (turn : Turn Answer) (p : StepsLooked who wish before after old new turn) → RepliesTurn turn p.session.after (Ok r) → StepIsCalm who wish before after old new turn p
-          → StepExplains who wish before after old new turn p → IsUntroubled (work_at new k) × StepsWell posture r
-      on More p e calm explains = (goes_calmly who wish before after old new p calm explains well, let is : r ≡ reply.Called = cc in subst (StepsWell posture) (sym is) tt)
+          → StepExplains who wish before after old new turn p → Behind × StepsWell u posture r
+      on More p e calm explains = (goes_in k after new (goes_calmly who wish before after old new p calm explains here), let is : r ≡ reply.Called = cc in subst (StepsWell u posture) (sym is) tt)
       on (Ended a) p e calm explains =
-          (answers_rest who wish before after old new a p, steps_of posture r (ended_well wish before old a way p calm explains well sound e))
+          (rests_in k after new (answers_rest who wish before after old new a p), steps_of u posture r (ended_well wish before old a way p calm explains here sound e))
       on (Stopped q) p e calm explains = absurd (no_stop _ p.under p.to p.session.before p.session.after q p.session.does)
   makes_well wish (inr (inr memory)) calm explains sound = absurd (no_memory r memory.0)
 
   runs_well : (h : Runs n k before after old new (Ok r)) → EachRun StepIsCalm n k before after old new (Ok r) h → EachRun StepExplains n k before after old new (Ok r) h
-      → IsSoundReply posture r → IsUntroubled (work_at new k) × RunsWell posture r
-  runs_well (inl refuses) calm explains sound = let is = not_done _ refuses.declines in (is.0, refused_runs posture r is.1.0 is.1.1)
+      → IsSoundReply posture r → Behind × RunsWell u posture r
+  runs_well (inl refuses) calm explains sound = let is = not_done _ refuses.declines in (is.0, refused_runs u posture r is.1.0 is.1.1)
   runs_well (inr (inl run)) calm explains sound =
       let c = run.comes in (
-        answers_rest who Plain c.mid after c.world new run.answer c.steps,
+        rests_in k after new (answers_rest who Plain c.mid after c.world new run.answer c.steps),
         ended_well Plain c.mid c.world run.answer (went_on lines who before old c.mid c.world (sym number) way c.went) c.steps calm.1 explains.1
-            (went_calmly who before old c.mid c.world c.went calm.0 explains.0 well) sound run.replies,
+            (went_calmly who before old c.mid c.world c.went calm.0 explains.0 here) sound run.replies,
       )
   runs_well (inr (inr memory)) calm explains sound = absurd (no_memory r memory.0)
 
-  dies_well : (Changes k (λ a b. b ≡ closed_session) old.sessions new.sessions) → IsUntroubled (work_at new k)
-  dies_well c = rests_after k _ old new c (λ w. subst (λ (a : Acting). IsUntroubled a.work) (sym c.does) closed_rests) well
+  dies_well : (Changes k (λ a b. b ≡ closed_session) old.sessions new.sessions) → Behind
+  dies_well c = rests_in k after new (subst (λ (a : Acting). IsAtRest a.work) (sym (changes_to k _ old new c ∙ c.does)) closed_rests)
 
-  crash_well : (done : Bool) → Crashes n k done before after old new (Ok r) → IsUntroubled (work_at new k)
+  crash_well : (done : Bool) → Crashes n k done before after old new (Ok r) → Behind
   crash_well false h = dies_well h.closed
   crash_well true (inl idle) = dies_well idle.dies.closed
-  crash_well true (inr (inl h)) = has_closed k h.world new h.closes
+  crash_well true (inr (inl h)) = rests_in k after new (has_closed k h.world new h.closes)
   crash_well true (inr (inr memory)) = absurd (no_memory r memory.0)
 
-  notes_well : (tree : ℕ) (change : Change) → Changes k (NotesChange tree change (Ok r)) old.sessions new.sessions → IsUntroubled (work_at new k)
-  notes_well tree change c = rests_after k _ old new c (λ was. on was c.does.noted c.does.notes) well
+  notes_well : (tree : ℕ) (change : Change) → after ≡ before → Changes k (NotesChange tree change (Ok r)) old.sessions new.sessions → Behind
+  notes_well tree change seen c = rests_after k before after _ old new c seen (λ x was. on x was c.does.noted c.does.notes) well
     where
-      on : IsUntroubled c.before.work → (done : Result (Unit {0}) Refused) → NotesIn tree change c.before c.after done → IsUntroubled c.after.work
-      on was (Ok x) notes = subst (λ (a : Acting). IsUntroubled a.work) (sym notes.0) was
-      on was (Err why) notes = subst (λ (a : Acting). IsUntroubled a.work) (sym notes.0) was
+      on : (x : CloudState) → IsUntroubled x c.before.work → (done : Result (Unit {0}) Refused) → NotesIn tree change c.before c.after done → IsUntroubled x c.after.work
+      on x was (Ok done) notes = subst (λ (a : Acting). IsUntroubled x a.work) (sym notes.0) was
+      on x was (Err why) notes = subst (λ (a : Acting). IsUntroubled x a.work) (sym notes.0) was
 
-  aborts_well : Changes k (DropsChanges (Ok r)) old.sessions new.sessions → IsUntroubled (work_at new k)
-  aborts_well c = rests_after k _ old new c (λ was. on was c.does.dropped c.does.drops) well
+  aborts_well : after ≡ before → Changes k (DropsChanges (Ok r)) old.sessions new.sessions → Behind
+  aborts_well seen c = rests_after k before after _ old new c seen (λ x was. on x was c.does.dropped c.does.drops) well
     where
-      on : IsUntroubled c.before.work → (done : Result (Unit {0}) Refused) → AbortsIn c.before c.after done → IsUntroubled c.after.work
-      on was (Ok x) drops = subst (λ (a : Acting). IsUntroubled a.work) (sym drops.0) was
-      on was (Err why) drops = subst (λ (a : Acting). IsUntroubled a.work) (sym drops.0) was
+      on : (x : CloudState) → IsUntroubled x c.before.work → (done : Result (Unit {0}) Refused) → AbortsIn c.before c.after done → IsUntroubled x c.after.work
+      on x was (Ok done) drops = subst (λ (a : Acting). IsUntroubled x a.work) (sym drops.0) was
+      on x was (Err why) drops = subst (λ (a : Acting). IsUntroubled x a.work) (sym drops.0) was
 
   -- ---- begins
 
   abbrev OpWell : Op → Reply → Type 0
-  OpWell (op.Open client) q = BeginsWell Opening q
-  OpWell op.Close q = BeginsWell Closing q
-  OpWell op.Renew q = BeginsWell Renewing q
-  OpWell op.Commit q = BeginsWell (Committing []) q
-  OpWell (op.Read tree key) q = BeginsWell (Reading tree key) q
-  OpWell (op.Scan tree from to) q = (first last : List ℕ) → BeginsWell (Scanning tree first last) q
-  OpWell (op.Page tree page) q = BeginsWell (Paging tree page) q
-  OpWell (op.Tree tree) q = BeginsWell (Folding tree) q
+  OpWell (op.Open client) q = BeginsWell u Opening q
+  OpWell op.Close q = BeginsWell u Closing q
+  OpWell op.Renew q = BeginsWell u Renewing q
+  OpWell op.Commit q = BeginsWell u (Committing []) q
+  OpWell (op.Read tree key) q = BeginsWell u (Reading tree key) q
+  OpWell (op.Scan tree from to) q = (first last : List ℕ) → BeginsWell u (Scanning tree first last) q
+  OpWell (op.Page tree page) q = BeginsWell u (Paging tree page) q
+  OpWell (op.Tree tree) q = BeginsWell u (Folding tree) q
 
   op_begun : (o : Op) → OpWell o reply.Begun
   op_begun (op.Open client) = tt
@@ -425,7 +468,7 @@ module _ (lines : List Line) (n k : ℕ) (before after : Seen) (old new : World)
   op_refused (op.Page tree page) rule = tt
   op_refused (op.Tree tree) rule = tt
 
-  memory_at_once : (o : Op) (q : Trouble) → IsAtOnce o (answer.Trouble q) → q ≡ trouble.Memory
+  memory_at_once : (o : Op) (q : Trouble) → IsAtOnce u o (answer.Trouble q) → q ≡ trouble.Memory
   memory_at_once (op.Open client) q e = e
   memory_at_once op.Close q e = e
   memory_at_once op.Renew q e = e
@@ -435,15 +478,15 @@ module _ (lines : List Line) (n k : ℕ) (before after : Seen) (old new : World)
   memory_at_once (op.Page tree page) q e = e
   memory_at_once (op.Tree tree) q e = e
 
-  value_begins : (tree : ℕ) (key : List ℕ) (value : Option (List ℕ)) → r ≡ value_reply value → BeginsWell (Reading tree key) r
-  value_begins tree key None e = subst (BeginsWell (Reading tree key)) (sym e) tt
-  value_begins tree key (Some payload) e = subst (BeginsWell (Reading tree key)) (sym e) tt
+  value_begins : (tree : ℕ) (key : List ℕ) (value : Option (List ℕ)) → r ≡ value_reply value → BeginsWell u (Reading tree key) r
+  value_begins tree key None e = subst (BeginsWell u (Reading tree key)) (sym e) tt
+  value_begins tree key (Some payload) e = subst (BeginsWell u (Reading tree key)) (sym e) tt
 
-  op_answered : (o : Op) (a : Answer) (left : Acting) → IsAtOnce o a → RepliesTo a left (Ok r) → OpWell o r
+  op_answered : (o : Op) (a : Answer) (left : Acting) → IsAtOnce u o a → RepliesTo a left (Ok r) → OpWell o r
   op_answered o (answer.Trouble q) left is e = absurd ((replies_to (answer.Trouble q) left r e).0.1 (memory_at_once o q is))
-  op_answered op.Commit (answer.Commit c) left is e = subst (BeginsWell (Committing [])) (sym (commit_is c r e).0) is
+  op_answered op.Commit (answer.Commit c) left is e = subst (BeginsWell u (Committing [])) (sym (commit_is c r e).0) is
   op_answered (op.Read tree key) answer.Value left is e = value_begins tree key (value_of left) e
-  op_answered (op.Scan tree from to) answer.Scan left is e = λ first last. subst (BeginsWell (Scanning tree first last)) (sym e) tt
+  op_answered (op.Scan tree from to) answer.Scan left is e = λ first last. subst (BeginsWell u (Scanning tree first last)) (sym e) tt
   op_answered (op.Open client) a left is e = absurd is
   op_answered op.Close a left is e = absurd is
   op_answered op.Renew a left is e = absurd is
@@ -453,8 +496,9 @@ module _ (lines : List Line) (n k : ℕ) (before after : Seen) (old new : World)
   op_answered (op.Page tree page) a left is e = absurd is
   op_answered (op.Tree tree) a left is e = absurd is
 
-  begins_well : (o : Op) → IsRightOp o → Changes k (BeginsOp o (Ok r)) old.sessions new.sessions → IsUntroubled (work_at new k) × OpWell o r
-  begins_well o right c = (rests_after k _ old new c (begins_untroubled o c.before c.after c.does.begun c.does.begins) well, on c.does.begun begins c.does.replies)
+  begins_well : (o : Op) → IsRightOp o → after ≡ before → Changes k (BeginsOp o (Ok r)) old.sessions new.sessions → Behind × OpWell o r
+  begins_well o right seen c =
+      (rests_after k before after _ old new c seen (λ x. begins_untroubled x o c.before c.after c.does.begun c.does.begins) well, on c.does.begun begins c.does.replies)
     where
       f : Sessions
       f = session_at old.sessions
@@ -464,7 +508,7 @@ module _ (lines : List Line) (n k : ℕ) (before after : Seen) (old new : World)
 
       on : (begun : Result Begun Refused) → Begins o (f k) c.after begun → RepliesBegun begun c.after (Ok r) → OpWell o r
       on (Ok BegunWorking) does e = let is : r ≡ reply.Begun = cc (e) in subst (OpWell o) (sym is) (op_begun o)
-      on (Ok (Answered a)) does e = op_answered o a c.after (begins_at_once stands.holds.book stands.holds.order t f k c.after stands.holds.stand o a right does) e
+      on (Ok (Answered a)) does e = op_answered o a c.after (subst (λ (x : CloudState). IsAtOnce x o a) (state_is t u (sym told ∙ (sym (ap (λ (z : Seen). z.state) seen) ∙ told_after))) (begins_at_once stands.holds.book stands.holds.order t f k c.after stands.holds.stand o a right does)) e
       on (Err (refused.Rule rule)) does e = let is : r ≡ reply.Refused rule = cc (e) in subst (OpWell o) (sym is) (op_refused o rule)
       on (Err refused.Memory) does e = absurd (cc (e))
 
@@ -477,7 +521,7 @@ module _ (lines : List Line) (n k : ℕ) (before after : Seen) (old new : World)
 
   request_well : (Well : Reply → Type 0) → ((rule : Refusal) → Well (reply.Refused rule)) → (Is : Result Request Refused → Type 0) (asked : Asked) → OfSession k Is asked
       → (h : Answers n asked before after old new (Ok r)) → EachAsked StepIsCalm n asked before after old new (Ok r) h → EachAsked StepExplains n asked before after old new (Ok r) h
-      → ((request : Request) → Is (Ok request) → DoesCalmly k request → IsUntroubled (work_at new k) × Well r) → IsUntroubled (work_at new k) × Well r
+      → ((request : Request) → Is (Ok request) → DoesCalmly k request → Behind × Well r) → Behind × Well r
   request_well Well rules Is (Session j (Ok request)) belongs (inl p) calm explains served =
       served request belongs.1 (subst (λ i. DoesCalmly i request) belongs.0 (p.1, calm, explains))
   request_well Well rules Is (Session j (Err why)) belongs (inl p) calm explains served = let is = not_done why p.1 in (is.0, subst Well (sym is.1.1) (rules is.1.0))
@@ -491,8 +535,8 @@ module _ (lines : List Line) (n k : ℕ) (before after : Seen) (old new : World)
   as_asked request own e does = let is : request ≡ own = cc (e) in subst (DoesCalmly k) is does
 
   -- a change is noted
-  noted_well : (tree : ℕ) (Is : Result Change Refused → Type 0) (request : Request) → IsNoted tree Is (Ok request) → DoesCalmly k request → IsUntroubled (work_at new k) × Unit {0}
-  noted_well tree Is (Note j change) is does = (notes_well j change does.0.1, tt)
+  noted_well : (tree : ℕ) (Is : Result Change Refused → Type 0) (request : Request) → IsNoted tree Is (Ok request) → DoesCalmly k request → Behind × Unit {0}
+  noted_well tree Is (Note j change) is does = (notes_well j change does.0.0.seen does.0.1, tt)
   noted_well tree Is (Begin o) is does = absurd is
   noted_well tree Is Abort is does = absurd is
   noted_well tree Is (Step wish) is does = absurd is
@@ -501,7 +545,8 @@ module _ (lines : List Line) (n k : ℕ) (before after : Seen) (old new : World)
 
 -- ---- a settling
 
-module _ (lines : List Line) (n : ℕ) (before after : Seen) (old new : World) (r : Reply) (sound : IsSoundReply (standing lines 0).posture r) where
+module _ (lines : List Line) (n : ℕ) (before after : Seen) (old new : World) (r : Reply) (t u : CloudState) (told : before.state ≡ Some t)
+    (told_after : after.state ≡ Some u) (sound : IsSoundReply (standing lines 0).posture r) where
   abbrev first : Caller
   first = settler n
 
@@ -519,114 +564,134 @@ module _ (lines : List Line) (n : ℕ) (before after : Seen) (old new : World) (
   unsettled_is (trouble.Loop page) e = (cc (e), λ m. absurd (cc (m)))
   unsettled_is (trouble.Exhausted what) e = (cc (e), λ m. absurd (cc (m)))
 
-  settled_as : (w : Work) (a : Answer) → IsOfNone w a → RepliesSettled a (Ok r) → SettlesWell r
-  settled_as w (answer.Settled x) none e = let is : r ≡ reply.Settled x.calls = cc (e) in subst SettlesWell (sym is) tt
+  settled_as : (w : Work) (a : Answer) → IsOfNone u w a → RepliesSettled a (Ok r) → SettlesWell u r
+  settled_as w (answer.Settled x) none e = let is : r ≡ reply.Settled x.calls = cc (e) in subst (SettlesWell u) (sym is) tt
   settled_as w (answer.Trouble q) none e =
       let is = unsettled_is q e in
-      subst SettlesWell (sym is.0) (settled_spent q (subst (IsSoundReply (standing lines 0).posture) is.0 sound) (none.trouble q refl) is.1)
+      subst (SettlesWell u) (sym is.0) (settled_spent u q (subst (IsSoundReply (standing lines 0).posture) is.0 sound) (none.trouble q refl) is.1)
   settled_as w a none e = absurd e
 
-  begun_untroubled : (begun : World) → Has 0 settling_session old begun → IsUntroubled (work_at begun 0)
+  begun_untroubled : (begun : World) → Has 0 settling_session old begun → IsAtRest (work_at begun 0)
   begun_untroubled begun has =
-      subst (λ (a : Acting). IsUntroubled a.work) (sym (has_at 0 settling_session old begun has 0 ∙ at_same 0 settling_session (session_at old.sessions) 0 refl))
+      subst (λ (a : Acting). IsAtRest a.work) (sym (has_at 0 settling_session old begun has 0 ∙ at_same 0 settling_session (session_at old.sessions) 0 refl))
       (at_rest settling_session.work refl refl)
 
   pub settles_well : (h : Settles n before after old new (Ok r)) → EachSettling StepIsCalm n before after old new (Ok r) h → EachSettling StepExplains n before after old new (Ok r) h
-      → IsUntroubled (work_at new 0) × SettlesWell r
+      → SessionIsUntroubled 0 after new × SettlesWell u r
   settles_well (inr memory) calm explains = absurd (no_memory r memory.0)
   settles_well (inl h) calm explains = on h.settles calm explains
     where
       on : (s : SettlesOn first before after h.begun new (Ok r)) → EachSettlingOn StepIsCalm first before after h.begun new (Ok r) s
-          → EachSettlingOn StepExplains first before after h.begun new (Ok r) s → IsUntroubled (work_at new 0) × SettlesWell r
+          → EachSettlingOn StepExplains first before after h.begun new (Ok r) s → SessionIsUntroubled 0 after new × SettlesWell u r
       on (inr memory) calm explains = absurd (no_memory r memory.0)
       on (inl s) calm explains =
           let c = s.comes in (
-            has_closed 0 s.left new s.closes,
+            rests_in 0 after new (has_closed 0 s.left new s.closes),
             settled_as c.steps.session.after.work s.answer
+                (subst (λ (x : CloudState). IsOfNone x c.steps.session.after.work s.answer)
+                (state_is calm.1.calm.after u (sym (c.steps.look_after.stays calm.1.calm.after calm.1.calm.left) ∙ told_after))
                 (answers_calmly first Plain c.mid after c.world s.left s.answer c.steps calm.1 explains.1
-                (went_calmly first before h.begun c.mid c.world c.went calm.0 explains.0 (begun_untroubled h.begun h.begins)))
+                (went_calmly first before h.begun c.mid c.world c.went calm.0 explains.0 (t, told, rested t (work_at h.begun 0) (begun_untroubled h.begun h.begins)))))
                 s.replies,
           )
 
 -- ---- every line
 
 module _ (lines : List Line) (n : ℕ) (before after : Seen) (old new : World) (r : Reply) (t : CloudState) (number : length lines + 1 ≡ n) (told : before.state ≡ Some t)
-    (stands : LinesStand lines old t) where
+    (stands : LinesStand lines old t) (u : CloudState) (told_after : after.state ≡ Some u) where
   abbrev Well : Event → Type 0
-  Well e = IsUntroubled (work_at new (session_of e)) × RepliesWell e (standing lines (session_of e)).posture r
+  Well e = SessionIsUntroubled (session_of e) after new × RepliesWell u e (standing lines (session_of e)).posture r
 
   -- what is asked is answered, each step of it calm and explained
   abbrev AnswersCalmly : Asked → Type 0
   AnswersCalmly z = (h : Answers n z before after old new (Ok r)) × EachAsked StepIsCalm n z before after old new (Ok r) h × EachAsked StepExplains n z before after old new (Ok r) h
 
   asked_well : (e : Event) (asked : Asked) → Asks e asked → (h : Answers n asked before after old new (Ok r)) → EachAsked StepIsCalm n asked before after old new (Ok r) h
-      → EachAsked StepExplains n asked before after old new (Ok r) h → IsSoundFor e (standing lines (session_of e)).posture r → IsUntroubled (work_at old (session_of e)) → Well e
+      → EachAsked StepExplains n asked before after old new (Ok r) h → IsSoundFor e (standing lines (session_of e)).posture r
+      → SessionIsUntroubled (session_of e) before old → Well e
   asked_well (event.Open k client) asked asks h calm explains sound well =
-      request_well lines n k before after old new r t number told stands well (BeginsWell Opening) (λ rule. tt) (IsOpening client) asked asks h calm explains
-      (λ request is does. begins_well lines n k before after old new r t number told stands well (op.Open client) is.0 (as_asked lines n k before after old new r t number told stands well request (Begin (op.Open client)) (ap (λ q. Ok q) is.1) does).0.1)
+      request_well lines n k before after old new r t number told stands well u told_after (BeginsWell u Opening) (λ rule. tt) (IsOpening client) asked asks h calm explains
+      (λ request is does. let d = as_asked lines n k before after old new r t number told stands well u told_after request (Begin (op.Open client)) (ap (λ q. Ok q) is.1) does in begins_well lines n k before after old new r t number told stands well u told_after (op.Open client) is.0 d.0.0.seen d.0.1)
   asked_well (event.Close k) asked asks h calm explains sound well =
-      request_well lines n k before after old new r t number told stands well (BeginsWell Closing) (λ rule. tt) (λ request. request ≡ Ok (Begin op.Close)) asked asks h calm explains
-      (λ request is does. begins_well lines n k before after old new r t number told stands well op.Close tt (as_asked lines n k before after old new r t number told stands well request (Begin op.Close) is does).0.1)
+      request_well lines n k before after old new r t number told stands well u told_after (BeginsWell u Closing) (λ rule. tt) (λ request. request ≡ Ok (Begin op.Close)) asked asks h calm explains
+      (λ request is does. let d = as_asked lines n k before after old new r t number told stands well u told_after request (Begin op.Close) is does in begins_well lines n k before after old new r t number told stands well u told_after op.Close tt d.0.0.seen d.0.1)
   asked_well (event.Renew k) asked asks h calm explains sound well =
-      request_well lines n k before after old new r t number told stands well (BeginsWell Renewing) (λ rule. tt) (λ request. request ≡ Ok (Begin op.Renew)) asked asks h calm explains
-      (λ request is does. begins_well lines n k before after old new r t number told stands well op.Renew tt (as_asked lines n k before after old new r t number told stands well request (Begin op.Renew) is does).0.1)
+      request_well lines n k before after old new r t number told stands well u told_after (BeginsWell u Renewing) (λ rule. tt) (λ request. request ≡ Ok (Begin op.Renew)) asked asks h calm explains
+      (λ request is does. let d = as_asked lines n k before after old new r t number told stands well u told_after request (Begin op.Renew) is does in begins_well lines n k before after old new r t number told stands well u told_after op.Renew tt d.0.0.seen d.0.1)
   asked_well (event.Commit k) asked asks h calm explains sound well =
-      request_well lines n k before after old new r t number told stands well (BeginsWell (Committing [])) (λ rule. tt) (λ request. request ≡ Ok (Begin op.Commit)) asked asks h calm explains
-      (λ request is does. begins_well lines n k before after old new r t number told stands well op.Commit tt (as_asked lines n k before after old new r t number told stands well request (Begin op.Commit) is does).0.1)
+      request_well lines n k before after old new r t number told stands well u told_after (BeginsWell u (Committing [])) (λ rule. tt) (λ request. request ≡ Ok (Begin op.Commit)) asked asks h calm explains
+      (λ request is does. let d = as_asked lines n k before after old new r t number told stands well u told_after request (Begin op.Commit) is does in begins_well lines n k before after old new r t number told stands well u told_after op.Commit tt d.0.0.seen d.0.1)
   asked_well (event.Read k tree key) asked asks h calm explains sound well =
-      request_well lines n k before after old new r t number told stands well (BeginsWell (Reading tree key)) (λ rule. tt) (IsReading tree key) asked asks h calm explains
-      (λ request is does. begins_well lines n k before after old new r t number told stands well (op.Read tree key) is.0 (as_asked lines n k before after old new r t number told stands well request (Begin (op.Read tree key)) (ap (λ q. Ok q) is.2) does).0.1)
+      request_well lines n k before after old new r t number told stands well u told_after (BeginsWell u (Reading tree key)) (λ rule. tt) (IsReading tree key) asked asks h calm explains
+      (λ request is does. let d = as_asked lines n k before after old new r t number told stands well u told_after request (Begin (op.Read tree key)) (ap (λ q. Ok q) is.2) does in begins_well lines n k before after old new r t number told stands well u told_after (op.Read tree key) is.0 d.0.0.seen d.0.1)
   asked_well (event.Scan k tree from to) asked asks h calm explains sound well =
-      request_well lines n k before after old new r t number told stands well (BeginsWell (Scanning tree from to)) (λ rule. tt) (IsScanning tree from to) asked asks h calm explains
+      request_well lines n k before after old new r t number told stands well u told_after (BeginsWell u (Scanning tree from to)) (λ rule. tt) (IsScanning tree from to) asked asks h calm explains
       (λ request is does.
-      let w = begins_well lines n k before after old new r t number told stands well (op.Scan tree (bound_of from) (bound_of to)) is.0 (as_asked lines n k before after old new r t number told stands well request (Begin (op.Scan tree (bound_of from) (bound_of to))) (ap (λ q. Ok q) is.3) does).0.1 in
+      let d = as_asked lines n k before after old new r t number told stands well u told_after request (Begin (op.Scan tree (bound_of from) (bound_of to))) (ap (λ q. Ok q) is.3) does in
+      let w = begins_well lines n k before after old new r t number told stands well u told_after (op.Scan tree (bound_of from) (bound_of to)) is.0 d.0.0.seen d.0.1 in
       (w.0, w.1 from to))
   asked_well (event.Page k tree page) asked asks h calm explains sound well =
-      request_well lines n k before after old new r t number told stands well (BeginsWell (Paging tree page)) (λ rule. tt) (IsPaging tree page) asked asks h calm explains
-      (λ request is does. begins_well lines n k before after old new r t number told stands well (op.Page tree page) (is.0, is.1) (as_asked lines n k before after old new r t number told stands well request (Begin (op.Page tree page)) (ap (λ q. Ok q) is.2) does).0.1)
+      request_well lines n k before after old new r t number told stands well u told_after (BeginsWell u (Paging tree page)) (λ rule. tt) (IsPaging tree page) asked asks h calm explains
+      (λ request is does. let d = as_asked lines n k before after old new r t number told stands well u told_after request (Begin (op.Page tree page)) (ap (λ q. Ok q) is.2) does in begins_well lines n k before after old new r t number told stands well u told_after (op.Page tree page) (is.0, is.1) d.0.0.seen d.0.1)
   asked_well (event.Tree k tree) asked asks h calm explains sound well =
-      request_well lines n k before after old new r t number told stands well (BeginsWell (Folding tree)) (λ rule. tt) (IsFolding tree) asked asks h calm explains
-      (λ request is does. begins_well lines n k before after old new r t number told stands well (op.Tree tree) is.0 (as_asked lines n k before after old new r t number told stands well request (Begin (op.Tree tree)) (ap (λ q. Ok q) is.1) does).0.1)
+      request_well lines n k before after old new r t number told stands well u told_after (BeginsWell u (Folding tree)) (λ rule. tt) (IsFolding tree) asked asks h calm explains
+      (λ request is does. let d = as_asked lines n k before after old new r t number told stands well u told_after request (Begin (op.Tree tree)) (ap (λ q. Ok q) is.1) does in begins_well lines n k before after old new r t number told stands well u told_after (op.Tree tree) is.0 d.0.0.seen d.0.1)
   asked_well (event.Insert k tree key payload) asked asks h calm explains sound well =
-      request_well lines n k before after old new r t number told stands well (λ q. Unit {0}) (λ rule. tt) (IsNoted tree (IsInsert key payload)) asked asks h calm explains
-      (λ request is does. noted_well lines n k before after old new r t number told stands well tree (IsInsert key payload) request is does)
+      request_well lines n k before after old new r t number told stands well u told_after (λ q. Unit {0}) (λ rule. tt) (IsNoted tree (IsInsert key payload)) asked asks h calm explains
+      (λ request is does. noted_well lines n k before after old new r t number told stands well u told_after tree (IsInsert key payload) request is does)
   asked_well (event.Update k tree key payload) asked asks h calm explains sound well =
-      request_well lines n k before after old new r t number told stands well (λ q. Unit {0}) (λ rule. tt) (IsNoted tree (IsUpdate key payload)) asked asks h calm explains
-      (λ request is does. noted_well lines n k before after old new r t number told stands well tree (IsUpdate key payload) request is does)
+      request_well lines n k before after old new r t number told stands well u told_after (λ q. Unit {0}) (λ rule. tt) (IsNoted tree (IsUpdate key payload)) asked asks h calm explains
+      (λ request is does. noted_well lines n k before after old new r t number told stands well u told_after tree (IsUpdate key payload) request is does)
   asked_well (event.Delete k tree key) asked asks h calm explains sound well =
-      request_well lines n k before after old new r t number told stands well (λ q. Unit {0}) (λ rule. tt) (IsNoted tree (IsDelete key)) asked asks h calm explains
-      (λ request is does. noted_well lines n k before after old new r t number told stands well tree (IsDelete key) request is does)
+      request_well lines n k before after old new r t number told stands well u told_after (λ q. Unit {0}) (λ rule. tt) (IsNoted tree (IsDelete key)) asked asks h calm explains
+      (λ request is does. noted_well lines n k before after old new r t number told stands well u told_after tree (IsDelete key) request is does)
   asked_well (event.Abort k) asked asks h calm explains sound well =
-      request_well lines n k before after old new r t number told stands well (λ q. Unit {0}) (λ rule. tt) (λ request. request ≡ Ok Abort) asked asks h calm explains
-      (λ request is does. (aborts_well lines n k before after old new r t number told stands well (as_asked lines n k before after old new r t number told stands well request Abort is does).0.1, tt))
+      request_well lines n k before after old new r t number told stands well u told_after (λ q. Unit {0}) (λ rule. tt) (λ request. request ≡ Ok Abort) asked asks h calm explains
+      (λ request is does. (
+        aborts_well lines n k before after old new r t number told stands well u told_after (as_asked lines n k before after old new r t number told stands well u told_after request Abort is does).0.0.seen
+            (as_asked lines n k before after old new r t number told stands well u told_after request Abort is does).0.1,
+        tt,
+      ))
   asked_well (event.Step k wish) asked asks h calm explains sound well =
-      request_well lines n k before after old new r t number told stands well (StepsWell (standing lines k).posture) (λ rule. tt) (IsStep wish) asked asks h calm explains
+      request_well lines n k before after old new r t number told stands well u told_after (StepsWell u (standing lines k).posture) (λ rule. tt) (IsStep wish) asked asks h calm explains
       (λ request is does.
-      let d = as_asked lines n k before after old new r t number told stands well request (Step wish) (ap (λ q. Ok q) is) does in
-      makes_well lines n k before after old new r t number told stands well wish d.0 d.1 d.2 sound)
+      let d = as_asked lines n k before after old new r t number told stands well u told_after request (Step wish) (ap (λ q. Ok q) is) does in
+      makes_well lines n k before after old new r t number told stands well u told_after wish d.0 d.1 d.2 sound)
   asked_well (event.Run k) asked asks h calm explains sound well =
-      request_well lines n k before after old new r t number told stands well (RunsWell (standing lines k).posture) (λ rule. tt) (λ request. request ≡ Ok Run) asked asks h calm explains
+      request_well lines n k before after old new r t number told stands well u told_after (RunsWell u (standing lines k).posture) (λ rule. tt) (λ request. request ≡ Ok Run) asked asks h calm explains
       (λ request is does.
-      let d = as_asked lines n k before after old new r t number told stands well request Run is does in
-      runs_well lines n k before after old new r t number told stands well d.0 d.1 d.2 sound)
+      let d = as_asked lines n k before after old new r t number told stands well u told_after request Run is does in
+      runs_well lines n k before after old new r t number told stands well u told_after d.0 d.1 d.2 sound)
   asked_well (event.Crash k done) asked asks h calm explains sound well =
-      request_well lines n k before after old new r t number told stands well (λ q. Unit {0}) (λ rule. tt) (λ request. request ≡ Ok (Crash done)) asked asks h calm explains
-      (λ request is does. (crash_well lines n k before after old new r t number told stands well done (as_asked lines n k before after old new r t number told stands well request (Crash done) is does).0, tt))
+      request_well lines n k before after old new r t number told stands well u told_after (λ q. Unit {0}) (λ rule. tt) (λ request. request ≡ Ok (Crash done)) asked asks h calm explains
+      (λ request is does. (crash_well lines n k before after old new r t number told stands well u told_after done (as_asked lines n k before after old new r t number told stands well u told_after request (Crash done) is does).0, tt))
   asked_well (event.Wait ticks) asked asks h calm explains sound well = on (subst (λ z. Answers n z before after old new (Ok r)) asks h)
     where
       on : Answers n (Wait ticks) before after old new (Ok r) → Well (event.Wait ticks)
-      on (inl waits) = (unchanged 0 old new waits.1 well, tt)
-      on (inr long) = (unchanged 0 old new long.declines.world well, tt)
+      on (inl waits) = (goes_in 0 after new (subst (λ (w : World). GoesWellAt 0 after w) (sym waits.1) behind), tt)
+        where
+          behind : GoesWellAt 0 after old
+          behind =
+              let w = waits.0.waited t told in (
+                w.after,
+                w.told,
+                untroubled_later t w.after (work_at old 0) (λ name. begins_same (t.versions name) (w.after.versions name) (ap (λ (x : CloudState). x.versions name) w.rest))
+                    (end_later t.now ticks w.after.now (waits.0.clock t told) w.later) (well t told),
+              )
+      on (inr long) = (unchanged 0 before after old new long.declines.seen long.declines.world well, tt)
   asked_well (event.Report tree) asked asks h calm explains sound well =
       let reports = subst (λ z. Answers n z before after old new (Ok r)) asks h in
-      (unchanged 0 old new reports.world well, tt)
+      (goes_in 0 after new (t, reports.looked.stays t told, subst (λ (w : World). IsUntroubled t (work_at w 0)) (sym reports.world) (well t told)), tt)
   asked_well event.Settle asked asks h calm explains sound well =
       let d = subst AnswersCalmly asks (h, calm, explains) in
-      settles_well lines n before after old new r sound d.0 d.1 d.2
+      settles_well lines n before after old new r t u told told_after sound d.0 d.1 d.2
 
 pub well_after : (n : ℕ) (e : Event) (before after : Seen) (old new : World) (result : Result Reply WorldFault) → AnswersWell n e before after old new result
-well_after n e before after old new (Ok r) = λ lines t number told stands handled calm well.
-    asked_well lines n before after old new r t number told stands.by_lines e handled.asked handled.asks handled.answers calm
+well_after n e before after old new (Ok r) = λ lines t u number told told_after stands handled calm well.
+    let is =
+    asked_well lines n before after old new r t number told stands.by_lines u told_after e handled.asked handled.asks handled.answers calm
     (explained n e before after old new (Ok r) lines t number told stands handled)
-    (sound_after n e before after old new (Ok r) handled lines t number told stands) well
+    (sound_after n e before after old new (Ok r) handled lines t number told stands)
+    (λ x told_x. subst (λ (y : CloudState). IsUntroubled y (work_at old (session_of e))) (state_is t x (sym told ∙ told_x)) well) in
+    (is.0 u told_after, is.1)
 well_after n e before after old new (Err fault) = tt

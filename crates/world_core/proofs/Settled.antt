@@ -40,15 +40,15 @@ use Rattle.session_facts.proofs.Sessions.Explaining.{session_explains}
 use Rattle.session_facts.proofs.Sessions.Stopping.{session_stops}
 use Rattle.session_facts.proofs.Steps.{MadeCall, made_call}
 use Rattle.session_facts.specs.Sessions.Answering.{MaySettle, MayAnswer}
-use Rattle.session_facts.specs.Sessions.Explaining.{ReceivesLate}
-use Rattle.session_facts.specs.Sessions.Sessions.{SessionsStand, leases_of}
-use Rattle.session_facts.specs.Sessions.Untroubled.{IsUntroubled}
+use Rattle.session_facts.specs.Sessions.Sessions.{SessionsStand}
+use Rattle.session_facts.specs.Sessions.Untroubled.{GivesBackLasting, IsUntroubled}
 use Rattle.session_facts.specs.Settled.Bound.{IsWithin}
 use Rattle.session_facts.specs.Settled.Runs.{TreesRun, PagesRun, RecoveriesRun}
 use Rattle.session_facts.specs.Settled.Story.{Moment}
 use Rattle.settle_run.specs.Settling.{Settling, Step, passed, new_settling, settle_ask}
 use Rattle.settle_run.specs.declared.settled.Settled.{Settled as Answered}
 use Rattle.world_core.proofs.Calm.{settles_well}
+use Rattle.world_core.proofs.Keeping.{keeps_book}
 use Rattle.world_core.specs.Calm.{StepIsCalm, SettlesWell, work_at}
 use Rattle.world_core.specs.EachStep.{StepFact, EachWent, EachCome, EachSettlingOn, EachSettling, EachAsked, EachStep}
 use Rattle.world_core.specs.Handled.{Has, StepsLooked, Went, start, further, SettlesTo, SettlesOn, Settles as SettlesLine, Answers, Handled}
@@ -232,8 +232,7 @@ module _ (n : ℕ) where
       ask = settle_ask way.settling;
       hand = ap ask_of_work way.works;
       calm = call_calm;
-      received = λ late. well.received call_calm.after call_calm.left
-          (subst (λ (ask : Ask). ReceivesLate ask (leases_of p.session.before.work) call_calm.after.now) (sym asked) late);
+      returned = subst (λ (ask : Ask). GivesBackLasting ask call_calm.after.now) asked (well.returned call_calm.after call_calm.left);
       memory = well.memory;
     }
 
@@ -461,14 +460,14 @@ asked_calm n before after old new t r told stands free (Report tree) is answers 
 record AsksRightly (n : ℕ) (asked : Asked) (before after : Seen) (old new : World) (r : Reply) (answers : Answers n asked before after old new (Ok r)) : Type 0 where
   sound : (posture : Posture) → IsSoundReply posture r
   explains : EachAsked StepExplains n asked before after old new (Ok r) answers
-  calm : EachAsked StepIsCalm n asked before after old new (Ok r) answers → IsUntroubled (work_at new 0) × SettlesWell r
+  calm : EachAsked StepIsCalm n asked before after old new (Ok r) answers → (u : CloudState) → after.state ≡ Some u → IsUntroubled u (work_at new 0) × SettlesWell u r
 
 asked_right : (n : ℕ) (before after : Seen) (old new : World) (t : CloudState) (r : Reply) → before.state ≡ Some t → SomeBookStands (session_at old.sessions) t
     → (asked : Asked) → asked ≡ Settle → (answers : Answers n asked before after old new (Ok r)) → AsksRightly n asked before after old new r answers
 asked_right n before after old new t r told stands Settle is answers =
     let sound = settling_sound n before after old new r t told stands answers in
     let explains = settling_explains n before after old new r t told stands answers in
-    record { sound = sound; explains = explains; calm = λ each. settles_well [] n before after old new r (sound (standing [] 0).posture) answers each explains }
+    record { sound = sound; explains = explains; calm = λ each u told_after. let is = settles_well [] n before after old new r t u told told_after (sound (standing [] 0).posture) answers each explains in (is.0 u told_after, is.1) }
 asked_right n before after old new t r told stands (Session j request) is answers = absurd (cc (is))
 asked_right n before after old new t r told stands (Wait ticks) is answers = absurd (cc (is))
 asked_right n before after old new t r told stands (Report tree) is answers = absurd (cc (is))
@@ -484,13 +483,14 @@ module _ (trees : TreesRun) (pages : PagesRun) (clients : RecoveriesRun) where
   settles_for n event.Settle before after old new (Ok r) = λ t told stands free handled each.
       let calm = asked_calm n before after old new t r told stands free handled.asked handled.asks handled.answers each in
       let right = asked_right n before after old new t r told stands handled.asked handled.asks handled.answers in
-      on r t told stands handled calm (right.calm calm).1
+      let kept = keeps_book n event.Settle before after old new (Ok r) handled t told stands in
+      on r t told stands handled calm kept.0 kept.1 (right.calm calm kept.0 kept.1).1
     where
       on : (q : Reply) (t : CloudState) → before.state ≡ Some t → SomeBookStands (session_at old.sessions) t → (handled : Handled n event.Settle before after old new (Ok q))
-          → EachStep StepIsCalm n event.Settle before after old new (Ok q) handled → SettlesWell q → AnswersSettled t after q
-      on (reply.Settled calls) t told stands handled calm well = asked_within trees pages clients n before after old new t calls told stands handled.asked handled.asks handled.answers calm
-      on (reply.NotSettled k) t told stands handled calm well = well
-      on q t told stands handled calm well = absurd well
+          → EachStep StepIsCalm n event.Settle before after old new (Ok q) handled → (u : CloudState) → after.state ≡ Some u → SettlesWell u q → AnswersSettled t after q
+      on (reply.Settled calls) t told stands handled calm u told_after well = asked_within trees pages clients n before after old new t calls told stands handled.asked handled.asks handled.answers calm
+      on (reply.NotSettled k) t told stands handled calm u told_after well = (u, told_after, well)
+      on q t told stands handled calm u told_after well = absurd well
   settles_for n e before after old new result = tt
 
 pub settling_leaves : (n : ℕ) (e : Event) (before after : Seen) (old new : World) (result : Result Reply WorldFault) → SettlingLeaves n e before after old new result

@@ -634,7 +634,7 @@ settles lines n r before after old new t at told stands (inr memory) = absurd (n
 
 -- ---- waits
 
-end_later : (now ticks after : ℕ) → now ≤ greatest → end_after now ticks ≤ after → now ≤ after
+pub end_later : (now ticks after : ℕ) → now ≤ greatest → end_after now ticks ≤ after → now ≤ after
 end_later now ticks after within later = omega arith
 
 pub waits : (lines : List Line) (ticks : ℕ) (r : Reply) (before after : Seen) (old new : World) (t : CloudState) → before.state ≡ Some t → LinesStand lines old t

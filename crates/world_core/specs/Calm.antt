@@ -9,6 +9,7 @@ use Rattle.replay_meaning.specs.Standing.{Line, Task, Opening, Closing, Renewing
 use Rattle.session_facts.specs.Facts.{session_at}
 use Rattle.reply_text.specs.declared.reply.Reply.{Reply}
 use Rattle.reply_text.specs.declared.reply.Reply.TheVariants as reply
+use Rattle.session_facts.specs.Sessions.Spent.{IsOfOpening, IsOfCommit, IsOfFolding, IsOfSettling}
 use Rattle.session_facts.specs.Sessions.Untroubled.{StepsCalmly, IsUntroubled, IsSpent, IsSpentOrOf, CommitsWell}
 use Rattle.world_core.specs.World.{World}
 use Rattle.world_core.specs.declared.world.WorldFault.{WorldFault}
@@ -26,61 +27,61 @@ work_at world session = (session_at world.sessions session).work
 
 -- ---- answers
 
--- The answer of an operation that went well. A counter at its last value may stop an opening, a commit and a checkpoint, and that of a page may
--- find none, or no leaf.
-abbrev pub DoesWell : Task → Reply → Type 0
-DoesWell Opening (reply.Opened epoch) = Unit {0}
-DoesWell Opening (reply.Trouble t) = IsSpent t
-DoesWell Closing reply.Closed = Unit {0}
-DoesWell Renewing (reply.Renewed end) = Unit {0}
-DoesWell (Committing changes) (reply.Commit answer) = CommitsWell answer
-DoesWell (Committing changes) (reply.Trouble t) = IsSpent t
-DoesWell (Reading tree key) (reply.Value payload) = Unit {0}
-DoesWell (Reading tree key) reply.NoValue = Unit {0}
-DoesWell (Scanning tree from to) (reply.Scan pairs) = Unit {0}
-DoesWell (Paging tree page) (reply.Done n) = n.left ≡ 0
-DoesWell (Paging tree page) (reply.Trouble t) = IsSpentOrOf page t
-DoesWell (Folding tree) (reply.Done n) = n.left ≡ 0
-DoesWell (Folding tree) (reply.Trouble t) = IsSpent t
-DoesWell task reply = ⊥
+-- The answer of an operation that went well, where the cloud tells this behind it. A counter of its own at its last value may stop an opening, a commit
+-- and a checkpoint, and that of a page may find none, or no leaf.
+abbrev pub DoesWell : CloudState → Task → Reply → Type 0
+DoesWell u Opening (reply.Opened epoch) = Unit {0}
+DoesWell u Opening (reply.Trouble k) = IsSpent IsOfOpening u k
+DoesWell u Closing reply.Closed = Unit {0}
+DoesWell u Renewing (reply.Renewed end) = Unit {0}
+DoesWell u (Committing changes) (reply.Commit answer) = CommitsWell u answer
+DoesWell u (Committing changes) (reply.Trouble k) = IsSpent IsOfCommit u k
+DoesWell u (Reading tree key) (reply.Value payload) = Unit {0}
+DoesWell u (Reading tree key) reply.NoValue = Unit {0}
+DoesWell u (Scanning tree from to) (reply.Scan pairs) = Unit {0}
+DoesWell u (Paging tree page) (reply.Done n) = n.left ≡ 0
+DoesWell u (Paging tree page) (reply.Trouble k) = IsSpentOrOf page u k
+DoesWell u (Folding tree) (reply.Done n) = n.left ≡ 0
+DoesWell u (Folding tree) (reply.Trouble k) = IsSpent IsOfFolding u k
+DoesWell u task reply = ⊥
 
 -- the reply to the begin of an operation: it is begun, or a rule refuses it, or it is done at once
-abbrev pub BeginsWell : Task → Reply → Type 0
-BeginsWell task reply.Begun = Unit {0}
-BeginsWell task (reply.Refused rule) = Unit {0}
-BeginsWell task reply = DoesWell task reply
+abbrev pub BeginsWell : CloudState → Task → Reply → Type 0
+BeginsWell u task reply.Begun = Unit {0}
+BeginsWell u task (reply.Refused rule) = Unit {0}
+BeginsWell u task reply = DoesWell u task reply
 
 -- the reply to a run: a session at work is done
-abbrev pub RunsWell : Posture → Reply → Type 0
-RunsWell posture (reply.Refused rule) = Unit {0}
-RunsWell (Working task) reply = DoesWell task reply
-RunsWell posture reply = Unit {0}
+abbrev pub RunsWell : CloudState → Posture → Reply → Type 0
+RunsWell u posture (reply.Refused rule) = Unit {0}
+RunsWell u (Working task) reply = DoesWell u task reply
+RunsWell u posture reply = Unit {0}
 
 -- the reply to a step: it goes on, or is done
-abbrev pub StepsWell : Posture → Reply → Type 0
-StepsWell posture reply.Called = Unit {0}
-StepsWell posture reply = RunsWell posture reply
+abbrev pub StepsWell : CloudState → Posture → Reply → Type 0
+StepsWell u posture reply.Called = Unit {0}
+StepsWell u posture reply = RunsWell u posture reply
 
 -- a settling comes to its end
-abbrev pub SettlesWell : Reply → Type 0
-SettlesWell (reply.Settled calls) = Unit {0}
-SettlesWell (reply.NotSettled t) = IsSpent t
-SettlesWell reply = ⊥
+abbrev pub SettlesWell : CloudState → Reply → Type 0
+SettlesWell u (reply.Settled calls) = Unit {0}
+SettlesWell u (reply.NotSettled k) = IsSpent IsOfSettling u k
+SettlesWell u reply = ⊥
 
 -- the reply to a line whose session stood so; other lines make no call, and a report has its own clause
-abbrev pub RepliesWell : Event → Posture → Reply → Type 0
-RepliesWell (event.Open session client) posture reply = BeginsWell Opening reply
-RepliesWell (event.Close session) posture reply = BeginsWell Closing reply
-RepliesWell (event.Renew session) posture reply = BeginsWell Renewing reply
-RepliesWell (event.Commit session) posture reply = BeginsWell (Committing []) reply
-RepliesWell (event.Read session tree key) posture reply = BeginsWell (Reading tree key) reply
-RepliesWell (event.Scan session tree from to) posture reply = BeginsWell (Scanning tree from to) reply
-RepliesWell (event.Page session tree page) posture reply = BeginsWell (Paging tree page) reply
-RepliesWell (event.Tree session tree) posture reply = BeginsWell (Folding tree) reply
-RepliesWell (event.Step session wish) posture reply = StepsWell posture reply
-RepliesWell (event.Run session) posture reply = RunsWell posture reply
-RepliesWell event.Settle posture reply = SettlesWell reply
-RepliesWell event posture reply = Unit {0}
+abbrev pub RepliesWell : CloudState → Event → Posture → Reply → Type 0
+RepliesWell u (event.Open session client) posture reply = BeginsWell u Opening reply
+RepliesWell u (event.Close session) posture reply = BeginsWell u Closing reply
+RepliesWell u (event.Renew session) posture reply = BeginsWell u Renewing reply
+RepliesWell u (event.Commit session) posture reply = BeginsWell u (Committing []) reply
+RepliesWell u (event.Read session tree key) posture reply = BeginsWell u (Reading tree key) reply
+RepliesWell u (event.Scan session tree from to) posture reply = BeginsWell u (Scanning tree from to) reply
+RepliesWell u (event.Page session tree page) posture reply = BeginsWell u (Paging tree page) reply
+RepliesWell u (event.Tree session tree) posture reply = BeginsWell u (Folding tree) reply
+RepliesWell u (event.Step session wish) posture reply = StepsWell u posture reply
+RepliesWell u (event.Run session) posture reply = RunsWell u posture reply
+RepliesWell u event.Settle posture reply = SettlesWell u reply
+RepliesWell u event posture reply = Unit {0}
 
 -- ---- every line
 
@@ -88,7 +89,7 @@ RepliesWell event posture reply = Unit {0}
 -- handled, the session is untroubled behind it, and the line is answered well.
 abbrev pub AnswersWell : ℕ → Event → Seen → Seen → World → World → Result Reply WorldFault → Type 0
 AnswersWell n event before after old new (Ok reply) =
-    (lines : List Line) (t : CloudState) → length lines + 1 ≡ n → before.state ≡ Some t → WorldStands lines old t
+    (lines : List Line) (t u : CloudState) → length lines + 1 ≡ n → before.state ≡ Some t → after.state ≡ Some u → WorldStands lines old t
     → (handled : Handled n event before after old new (Ok reply)) → EachStep StepIsCalm n event before after old new (Ok reply) handled
-    → IsUntroubled (work_at old (session_of event)) → IsUntroubled (work_at new (session_of event)) × RepliesWell event (standing lines (session_of event)).posture reply
+    → IsUntroubled t (work_at old (session_of event)) → IsUntroubled u (work_at new (session_of event)) × RepliesWell u event (standing lines (session_of event)).posture reply
 AnswersWell n event before after old new (Err fault) = Unit {0}

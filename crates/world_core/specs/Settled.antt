@@ -22,9 +22,8 @@ use Rattle.report_types.specs.declared.entry.Entry.{Entry}
 use Rattle.session_facts.specs.Answers.{IsSoundReply}
 use Rattle.session_facts.specs.Facts.{session_at, SomeBookStands}
 use Rattle.session_facts.specs.Sessions.Calls.{reply_of}
-use Rattle.session_facts.specs.Sessions.Explaining.{ReceivesLate}
-use Rattle.session_facts.specs.Sessions.Sessions.{leases_of}
-use Rattle.session_facts.specs.Sessions.Untroubled.{IsSpent, IsUntroubled}
+use Rattle.session_facts.specs.Sessions.Spent.{IsOfSettling}
+use Rattle.session_facts.specs.Sessions.Untroubled.{GivesBackLasting, IsSpent, IsUntroubled}
 use Rattle.session_facts.specs.Settled.Bound.{IsWithin}
 use Rattle.world_audit.specs.Counts.{heads_upto, AreWaiting}
 use Rattle.world_core.specs.Calm.{StepIsCalm, SettlesWell, work_at}
@@ -38,15 +37,15 @@ use Rattle.world_core.specs.declared.world.WorldFault.{WorldFault}
 abbrev pub StepDelivers : StepFact
 StepDelivers who wish before after old new turn p = p.to.counts.withheld ≡ p.under.counts.withheld
 
--- A step went well but for the lock that it may take: its call found memory and no count rose in it, the leases that it names lasted, and where it
--- receives so did those in hand.
+-- A step went well but for the lock that it may take: its call found memory and no count rose in it, and the leases that it names lasted, also one that
+-- it gives back.
 pub record GoesWell (who : Caller) (before after : Seen) (old new : Acting) (turn : Turn Answer) (p : StepsSession who before after old new (Ok turn)) : Type 0 where
   pub ask : Ask
   pub hand : ask_of_work old.work ≡ Some ask
   pub memory : reply_of who before after old new turn p ≢ Memory
   pub counts : after.counts ≡ before.counts
   pub lasting : (t : CloudState) → after.state ≡ Some t → NamesLasting ask t.now
-  pub received : (t : CloudState) → after.state ≡ Some t → ReceivesLate ask (leases_of old.work) t.now → ⊥
+  pub returned : (t : CloudState) → after.state ≡ Some t → GivesBackLasting ask t.now
 
 abbrev pub StepGoesWell : StepFact
 StepGoesWell who wish before after old new turn p = GoesWell who p.under p.to p.session.before p.session.after turn p.session.does
@@ -93,14 +92,14 @@ SettledLeaves n calls before after old new handled = EachStep StepDelivers n eve
 -- its last value
 abbrev pub AnswersSettled : CloudState → Seen → Reply → Type 0
 AnswersSettled t after (reply.Settled calls) = SettledWithin t after calls
-AnswersSettled t after (reply.NotSettled k) = IsSpent k
+AnswersSettled t after (reply.NotSettled k) = (u : CloudState) × (after.state ≡ Some u) × IsSpent IsOfSettling u k
 AnswersSettled t after r = ⊥
 
 -- It shows no trouble that only damage could cause, each of its steps explains what it brought, and where each was calm it comes to its end.
 pub record SettlesRightly (n : ℕ) (before after : Seen) (old new : World) (r : Reply) (handled : Handled n event.Settle before after old new (Ok r)) : Type 0 where
   pub sound : (posture : Posture) → IsSoundReply posture r
   pub explains : EachStep StepExplains n event.Settle before after old new (Ok r) handled
-  pub calm : EachStep StepIsCalm n event.Settle before after old new (Ok r) handled → IsUntroubled (work_at new 0) × SettlesWell r
+  pub calm : EachStep StepIsCalm n event.Settle before after old new (Ok r) handled → (u : CloudState) → after.state ≡ Some u → IsUntroubled u (work_at new 0) × SettlesWell u r
 
 -- Whatever lines led to a world and a cloud for which some book stands before a settling, however it was handled: where in no step a message was
 -- withheld a settling that came to its end left nothing; where no lock was held and every step went well it came to its end so; and it was right.

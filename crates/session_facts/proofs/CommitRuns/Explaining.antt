@@ -22,6 +22,8 @@ use Rattle.commit_writes.specs.Sound.{SendsRecord, IsSoundAt as IsSoundStage}
 use Rattle.commit_writes.specs.Writing.{Writing, head_ask, send_ask, ask_at as stage_ask}
 use Rattle.db_base.specs.declared.names.ObjName.TheVariants as object
 use Rattle.db_base.specs.declared.names.QueueName.TheVariants as queue
+use Rattle.db_base.specs.declared.trouble.Counter.{Counter}
+use Rattle.db_base.specs.declared.trouble.Counter.TheVariants as counter
 use Rattle.db_base.specs.declared.trouble.Trouble.{Trouble}
 use Rattle.db_base.specs.declared.trouble.Trouble.TheVariants as trouble
 use Rattle.cloud_facts.specs.Homes.Homes.{Home, Part}
@@ -35,6 +37,7 @@ use Rattle.cloud_facts.specs.Tellings.Told.{store_of}
 use Rattle.session_facts.specs.Commits.Committing.{KnowsCommitAt}
 use Rattle.session_facts.specs.CommitRuns.Running.{KnowsSeeking, KnowsHand, KnowsRun}
 use Rattle.session_facts.specs.Sessions.Explaining.{IsShown}
+use Rattle.session_facts.specs.Sessions.Spent.{IsOfCommit}
 use Rattle.session_facts.proofs.CommitRuns.Stopping.{IsFair, IsOpeningFair, MayAnswerAt, MayAnswerIn, EndsWell, run_ends_by}
 use Rattle.session_facts.proofs.Sessions.Showing.{sent_shown, put_shown}
 use Rattle.session_facts.specs.Walks.Walks.{WalkLeads}
@@ -95,9 +98,14 @@ module _ (book : Book) (order : List Entry) (s : CloudState) (stands : StandsUnd
   pub run_shown : (m : Run × Cache) (part : Part) (reply : Answer) → KnowsRun st t.now m part → IsSoundRun m.0 → Makes who (run_ask m.0) reply before after → reply ≢ Memory
       → EndsWell (Shown (run_ask m.0)) (run_next m reply)
   run_shown m part reply k sound made some =
-      run_ends_by (Shown (run_ask m.0)) (λ what. tt) book order s stands (Shown (run_ask m.0)) (λ trouble shown stale. shown) who t m part reply k
+      run_ends_by (Shown (run_ask m.0)) spent_shown book order s stands (Shown (run_ask m.0)) (λ trouble shown stale. shown) who t m part reply k
       (call_of who (run_ask m.0) reply before after s t made told told_after) (on m.0.hand k.hand sound made)
     where
+      spent_shown : (what : Counter) → IsOfCommit what → Shown (run_ask m.0) (trouble.Exhausted what)
+      spent_shown counter.Txn of = tt
+      spent_shown counter.Number of = tt
+      spent_shown what of = absurd of
+
       walks : (w : Walk) → KnowsSeeking st t.now m.0.draft w part → Makes who (walk_ask w) reply before after → WalkLeads st (Shown (walk_ask w)) (walk_next (w, m.1) reply)
       walks w seeks made = walk_shown book order s stands who before after t told told_after held w m.1 (record { walk = seeks.walk; cache = k.cache }) reply made
 

@@ -17,6 +17,7 @@ use Rattle.commit_run.specs.declared.hand.Hand.TheVariants.{Writes, First, Chang
 use Rattle.commit_run.specs.Draft.{Draft, new_draft, pruned_by_root, pruned_by_kept, pruned_with, pruned_behind, planned, leaf_noted, paged}
 use Rattle.commit_run.specs.Run.{Run, new_run, target_of, asks, ask_at, wrote, refused, troubled, by_turn, begun_turn, walk_to, seek, plan_on, stale_at, is_stale, walk_stopped, walk_turned, walked, long_walk, pending_target, begin_walks, run_ready, next_at, run_next}
 use Rattle.session_facts.specs.CommitRuns.Running.{KnowsSeeking, KnowsHand, KnowsRun}
+use Rattle.session_facts.specs.Sessions.Spent.{IsOfCommit}
 use Rattle.session_facts.specs.CommitRuns.Stopping.{MayStop, EndsBy}
 use Rattle.session_facts.proofs.CommitRuns.Steps.{Step}
 use Rattle.commit_writes.specs.declared.stage.Stage.{Stage}
@@ -96,7 +97,7 @@ EndsWell May (Goes m) = Unit {0}
 EndsWell May (Ends m a) = EndsBy May a
 EndsWell May (Stops m t) = May t
 
-module _ (May : Trouble → Type 0) (spent : (what : Counter) → May (trouble.Exhausted what)) where
+module _ (May : Trouble → Type 0) (spent : (what : Counter) → IsOfCommit what → May (trouble.Exhausted what)) where
   logs : (w : Writing) (o : Option AtomicRec) → WritesWell May (log_or_open w o)
   logs w (Some r) = tt
   logs w None = tt
@@ -159,7 +160,7 @@ module _ (May : Trouble → Type 0) (spent : (what : Counter) → May (trouble.E
   routes w pages = on (passes (routed_of w.home w.changes pages))
     where
       on : (b : Bool) → WritesWell May (cond b (not_committed w (trouble.Exhausted counter.Number)) (begun w (routed_of w.home w.changes pages)))
-      on true = spent counter.Number
+      on true = spent counter.Number tt
       on false = logs (record w { records = routed_of w.home w.changes pages; place = 0 }) (slice_get (routed_of w.home w.changes pages) 0)
 
   -- ---- where a step leads
@@ -275,7 +276,7 @@ module _ (May : Trouble → Type 0) (spent : (what : Counter) → May (trouble.E
         where
           on : (b : Bool) → EndsWell May (cond b (refused (new_draft (waiting home changes)) c (trouble.Exhausted counter.Txn))
               (begin_walks (new_draft (cond b (waiting home changes) (with_home (waiting home changes) (with_attempt home)))) c))
-          on true = spent counter.Txn
+          on true = spent counter.Txn tt
           on false = long (nat_lt 256 (length home.head.pending))
 
 -- ---- answers that bring no value
@@ -331,7 +332,7 @@ module _ (book : Book) (order : List Entry) (s : CloudState) (stands : StandsUnd
   pub run_ends : (who : Caller) (t : CloudState) (m : Run × Cache) (part : Part) (reply : Answer) → KnowsRun (store_of book order s) t.now m part
       → IsCall who (asks m) reply s t → EndsWell MayStop (run_next m reply)
   run_ends who t m part reply k call =
-      run_ends_by MayStop (λ what. tt) book order s stands MayStopWalk walk_fair who t m part reply k call (on m.0.hand k.hand call)
+      run_ends_by MayStop (λ what of. of) book order s stands MayStopWalk walk_fair who t m part reply k call (on m.0.hand k.hand call)
     where
       walks : (w : Walk) → KnowsSeeking (store_of book order s) t.now m.0.draft w part → IsCall who (ask_at (Change w) m.0.draft.writes) reply s t
           → WalkLeads (store_of book order s) MayStopWalk (walk_next (w, m.1) reply)

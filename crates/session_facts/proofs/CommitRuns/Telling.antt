@@ -20,19 +20,27 @@ use Rattle.db_base.specs.declared.trouble.Trouble.{Trouble}
 use Rattle.db_base.specs.declared.trouble.Trouble.TheVariants as trouble
 use Rattle.log_codec.specs.declared.record.AtomicRec.{AtomicRec}
 use Rattle.page_cache.specs.Cache.{Cache}
-use Rattle.session_facts.specs.Sessions.Untroubled.{IsOfNoCall}
 use Rattle.session_facts.proofs.CommitRuns.Steps.{Step}
 use Rattle.tree_walk.specs.Walk.{Walk, new_walk, walk_ready, walk_next}
 use Rattle.txn_buffer.specs.Noted.{Noted}
 
+-- a trouble that no call brings
+abbrev pub IsByNoCall : Trouble → Type 0
+IsByNoCall trouble.Failed = ⊥
+IsByNoCall (trouble.Late end now) = ⊥
+IsByNoCall (trouble.Busy lock until) = ⊥
+IsByNoCall (trouble.Waiting have need) = ⊥
+IsByNoCall (trouble.Stale page least got) = ⊥
+IsByNoCall t = Unit {0}
+
 -- a trouble is the call's
 abbrev IsOfCall : Trouble → Type 0
-IsOfCall t = (IsOfNoCall t → ⊥) × (t ≢ trouble.Memory)
+IsOfCall t = (IsByNoCall t → ⊥) × (t ≢ trouble.Memory)
 
 -- what a commit tells
 abbrev pub IsTold : CommitAnswer → Type 0
 IsTold (NotCommitted t) = t ≢ trouble.Memory
-IsTold (CommittedOpen t) = IsOfNoCall t → ⊥
+IsTold (CommittedOpen t) = IsByNoCall t → ⊥
 IsTold answer = Unit {0}
 
 -- ---- answers that bring no value

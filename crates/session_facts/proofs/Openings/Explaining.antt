@@ -32,7 +32,7 @@ use Rattle.session_facts.proofs.Sessions.Laws.{setting_of, known_at}
 use Rattle.session_facts.proofs.Sessions.Troubles.{memory_or}
 
 -- no trouble waits once a client is open, or a session closed
-opened_none : (h : Option Home) → trouble_in (opened_work h) ≡ None
+pub opened_none : (h : Option Home) → trouble_in (opened_work h) ≡ None
 opened_none (Some home) = refl
 opened_none None = refl
 

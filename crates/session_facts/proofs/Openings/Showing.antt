@@ -1,17 +1,19 @@
 -- What a call of an opening or a recovery shows of the trouble that it meets, and that a trouble which waits is its answer.
 use Rattle.std.proofs.Common.{◌≡◌, ◌+◌, ◌-◌, ◌^◌, ◌<◌, ◌≤◌, ◌==◌, ◌⊎◌, inl, inr, ℕ, Bool, true, false, cond, List, [], ◌∷◌, ◌++◌, length, Option, Some, None, Result, Ok, Err, refl, sym, ap, subst, ◌∙◌, arith}
 use Rattle.std.specs.Prelude.{slice_get, nat_le}
+use Rattle.std.specs.Option.{option_map}
 use Rattle.std.specs.List.{AllByRecursion}
-use Rattle.std.proofs.lemmas.Bool.{cases_lt, and_from, eq-eqb}
+use Rattle.std.proofs.lemmas.Bool.{cases_lt, and_from, eq-eqb, eqb-true}
 use Rattle.std.proofs.lemmas.Bool.Decides.{nat_tests}
 use Rattle.cloud_facts.specs.Book.Book.{Book}
 use Rattle.cloud_facts.specs.Book.Messages.{IsDeleted}
+use Rattle.cloud_facts.specs.Book.Records.{IsIn}
 use Rattle.cloud_facts.specs.Book.Tally.{Store}
 use Rattle.cloud_facts.specs.Calls.Standing.{StandsUnder}
 use Rattle.cloud_facts.specs.Homes.Homes.{Part, PartHolds, OpeningHolds}
 use Rattle.cloud_facts.specs.Tellings.Told.{store_of}
 use Rattle.cloud_trait.specs.declared.answer.Answer.{Answer}
-use Rattle.cloud_trait.specs.declared.answer.Answer.TheVariants.{Received}
+use Rattle.cloud_trait.specs.declared.answer.Answer.TheVariants.{Got, Received}
 use Rattle.cloud_trait.specs.declared.message.Message.{Message}
 use Rattle.cloud_trait.specs.Ask.{Ask, GetHeld, PutHeld, Send, Receive, Delete, Take}
 use Rattle.cloud_trait.specs.Caller.{Caller}
@@ -19,10 +21,12 @@ use Rattle.cloud_trait.specs.Claim.{Claim, Lasts}
 use Rattle.cloud_trait.specs.Delivery.{IsDelivering}
 use Rattle.cloud_trait.specs.Machine.{Goes, Ends, Stops}
 use Rattle.cloud_trait.specs.Seen.{Seen}
-use Rattle.cloud_trait.specs.State.{CloudState, Counts, called}
+use Rattle.cloud_trait.specs.State.{CloudState, Counts, called, newest}
+use Rattle.cloud_trait.specs.declared.state.Version.{Version}
 use Rattle.cloud_trait.specs.Views.{given_of, got_of, sent_of, received_of, done_of}
 use Rattle.cloud_trait.specs.Weather.{Makes, Rose, Weather}
 use Rattle.db_base.specs.declared.names.Lock.TheVariants as lock
+use Rattle.db_base.specs.declared.names.ObjName.{ObjName}
 use Rattle.db_base.specs.declared.names.ObjName.TheVariants as object
 use Rattle.db_base.specs.declared.names.QueueName.{QueueName}
 use Rattle.db_base.specs.declared.names.QueueName.TheVariants as queue
@@ -38,6 +42,7 @@ use Rattle.head_codec.specs.declared.head.Phase.TheVariants.{Settled, Open}
 use Rattle.report_types.specs.declared.entry.Entry.{Entry}
 use Rattle.route_plan.specs.Queue.{queue_name}
 use Rattle.session_facts.specs.Openings.Opening.{leases_of_recovery, IsWanted, HasSifted, opening_with, MayEnd, KnowsGathering, KnowsSifted, KnowsOpeningAt, KnowsOpening}
+use Rattle.session_facts.specs.Sessions.Spent.{HasLastEpoch}
 use Rattle.session_facts.specs.Sessions.Explaining.{trouble_at, trouble_of_recovery, MeetsNext, IsShown}
 use Rattle.session_facts.proofs.Openings.Completing.{none_missing}
 use Rattle.session_facts.proofs.Openings.Messages.{one_record, sent_message}
@@ -126,6 +131,24 @@ received_row : (who : Caller) (q : QueueName) (a : Answer) (c d : Counts) (b t :
 received_row who q (Received ns) c d b t row ms e = let same : ns ≡ ms = cc in subst (λ (l : List Message). IsDelivering (b.messages q) 256 l ⊎ Rose c.withheld d.withheld) same row.2
 received_row who q a c d b t row ms e = absurd (cc)
 
+-- a held get answers the newest version, and leaves the versions as they are
+held_newest : (who : Caller) (name : ObjName) (l : Claim) (a : Answer) (c d : Counts) (b t : CloudState) → Weather who (GetHeld name l) a c d b t → (v : Option (List ℕ)) → got_of a ≡ Ok v
+    → newest t name ≡ v
+held_newest who name l (Got w) c d b t row v e =
+    let same : w ≡ v = cc in
+    subst (λ (x : CloudState). newest x name ≡ v) (sym row.0) (sym row.2 ∙ same)
+held_newest who name l a c d b t row v e = absurd (cc)
+
+-- a newest head in the last epoch has landed
+held_last : (client : ℕ) (h : Head) (t : CloudState) {bytes : List ℕ} → newest t (object.Head client) ≡ Some bytes → head_of bytes ≡ Some h → h.epoch ≡ 2 ^ 64 - 1 → HasLastEpoch t
+held_last client h t {bytes} is reads last = on (t.versions (object.Head client)) (slice_get (t.versions (object.Head client)) (length (t.versions (object.Head client)) - 1)) refl refl is
+  where
+    on : (vs : List Version) (o : Option Version) → vs ≡ t.versions (object.Head client) → slice_get vs (length vs - 1) ≡ o → option_map (λ (v : Version). v.bytes) o ≡ Some bytes → HasLastEpoch t
+    on vs (Some v) all at e =
+        let same : bytes ≡ v.bytes = cc (e) in
+        record { client = client; version = v; head = h; landed = subst (λ (xs : List Version). IsIn xs v) all (length vs - 1, at); reads = subst (λ (x : List ℕ). head_of x ≡ Some h) same reads; last = last }
+    on vs None all at e = absurd (cc (e))
+
 -- ---- one step
 
 module _ (who : Caller) (before after : Seen) (s t : CloudState) (book : Book) (order : List Entry) (told : before.state ≡ Some s) (told_after : after.state ≡ Some t)
@@ -165,25 +188,30 @@ module _ (who : Caller) (before after : Seen) (s t : CloudState) (book : Book) (
   phase_shows Settled m = λ k e. absurd (never k e)
   phase_shows (Open count) m = λ k e. absurd (never k e)
 
-  head_shows : (m : Recovery) (h : Head) → Shows (head_read m h)
-  head_shows m h = on (h.epoch == 2 ^ 64 - 1)
-    where
-      on : (b : Bool) → Shows (cond b (stopping m (trouble.Exhausted counter.Epoch)) (phase_read h.phase (behind m h)))
-      on true = stops_shown m (trouble.Exhausted counter.Epoch) tt
-      on false = phase_shows h.phase (behind m h)
+  -- where its epoch is the last one, the cloud tells so
+  abbrev TellsLast : Head → Type 0
+  TellsLast h = h.epoch ≡ 2 ^ 64 - 1 → HasLastEpoch t
 
-  bytes_shows : (m : Recovery) (bytes : List ℕ) (o : Option Head) → Shows (bytes_read m bytes o)
-  bytes_shows m bytes (Some h) = head_shows m h
-  bytes_shows m bytes None = stops_shown m _ tt
+  head_shows : (m : Recovery) (h : Head) → TellsLast h → Shows (head_read m h)
+  head_shows m h tells = on (h.epoch == 2 ^ 64 - 1) refl
+    where
+      on : (b : Bool) → (h.epoch == 2 ^ 64 - 1) ≡ b → Shows (cond b (stopping m (trouble.Exhausted counter.Epoch)) (phase_read h.phase (behind m h)))
+      on true e = stops_shown m (trouble.Exhausted counter.Epoch) (tells (eqb-true h.epoch (2 ^ 64 - 1) e))
+      on false e = phase_shows h.phase (behind m h)
+
+  bytes_shows : (m : Recovery) (bytes : List ℕ) (o : Option Head) → ((h : Head) → o ≡ Some h → TellsLast h) → Shows (bytes_read m bytes o)
+  bytes_shows m bytes (Some h) tells = head_shows m h (tells h refl)
+  bytes_shows m bytes None tells = stops_shown m _ tt
 
   none_shows : (aim : Aim) (m : Recovery) → Shows (none_read aim m)
-  none_shows Opening m = head_shows m empty_head
+  none_shows Opening m = head_shows m empty_head (λ (last : 0 ≡ 2 ^ 64 - 1). absurd (omega (arith, last)))
   none_shows Settling m = λ k e. absurd (never k e)
 
-  got_shows : (m : Recovery) (g : Result (Option (List ℕ)) Trouble) → Fails g → Shows (got_by m g)
-  got_shows m (Ok None) fails = none_shows m.aim m
-  got_shows m (Ok (Some bytes)) fails = bytes_shows m bytes (head_of bytes)
-  got_shows m (Err q) fails = stops_shown m q (fails q refl)
+  got_shows : (m : Recovery) (g : Result (Option (List ℕ)) Trouble) → Fails g → ((bytes : List ℕ) → g ≡ Ok (Some bytes) → (h : Head) → head_of bytes ≡ Some h → TellsLast h)
+      → Shows (got_by m g)
+  got_shows m (Ok None) fails tells = none_shows m.aim m
+  got_shows m (Ok (Some bytes)) fails tells = bytes_shows m bytes (head_of bytes) (tells bytes refl)
+  got_shows m (Err q) fails tells = stops_shown m q (fails q refl)
 
   -- ---- what is gathered and sent on
 
@@ -335,6 +363,12 @@ module _ (who : Caller) (before after : Seen) (s t : CloudState) (book : Book) (
   receive_fails stage e is =
       failing receive (received_of reply) (asks stage e ∙ is) (λ m. received_shown who before after s t told told_after held (queue.Atomic r.client) 256 reply m)
 
+  -- the head that is got under the lease is the newest, and has landed
+  head_told : (l : Claim) → recovery_ask r ≡ GetHeld (object.Head r.client) l → (bytes : List ℕ) → got_of reply ≡ Ok (Some bytes) → (h : Head) → head_of bytes ≡ Some h → TellsLast h
+  head_told l asked bytes got h reads last =
+      held_last r.client h t (held_newest who (object.Head r.client) l reply before.counts after.counts (called who t.now s) t
+      (row_of who before after s t told told_after held (GetHeld (object.Head r.client) l) reply (subst (λ a. Makes who a reply before after) asked made)) (Some bytes) got) reads last
+
   by_stage : trouble_of_recovery r ≡ None → Shows (recovery_next r reply)
   by_stage none = on r.stage refl knows.at sound none
     where
@@ -348,6 +382,7 @@ module _ (who : Caller) (before after : Seen) (s t : CloudState) (book : Book) (
           got_shows r (got_of reply)
           (failing (GetHeld (object.Head r.client) a.0.now) (got_of reply) (under_lease Getting e a.0.now (λ l. GetHeld (object.Head r.client) l) refl a.0.is)
           (λ m. got_shown who before after s t told told_after held (object.Head r.client) a.0.now reply m))
+          (head_told a.0.now (under_lease Getting e a.0.now (λ l. GetHeld (object.Head r.client) l) refl a.0.is))
       on Receiving e a w n =
           received_shows r (received_of reply) (receive_fails Receiving e refl) (λ ms got items read. waiting_shown a.0 a.1 ms got items read (asks Receiving e))
       on Deleting e a w n = deleted_shows r (done_of reply) (delete_fails Deleting e refl w.1) a.2.1

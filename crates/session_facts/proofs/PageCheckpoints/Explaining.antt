@@ -27,7 +27,6 @@ use Rattle.cloud_trait.specs.Views.{given_of, got_of, received_of, done_of}
 use Rattle.db_base.specs.declared.names.Lock.TheVariants as lock
 use Rattle.db_base.specs.declared.names.Place.{Place}
 use Rattle.db_base.specs.declared.names.QueueName.{QueueName}
-use Rattle.db_base.specs.declared.trouble.Counter.{Counter}
 use Rattle.db_base.specs.declared.trouble.Counter.TheVariants as counter
 use Rattle.db_base.specs.declared.trouble.Trouble.{Trouble}
 use Rattle.db_base.specs.declared.trouble.Trouble.TheVariants as trouble
@@ -53,7 +52,7 @@ pub record Lets (Sh : Trouble → Type 0) : Type 0 where
   pub damaged : (where_it_is : Place) (at : ℕ) → Sh (trouble.Damaged where_it_is at)
   pub fence : (page : ℕ) (expected found : List ℕ) → Sh (trouble.BadFence page expected found)
   pub loop : (page : ℕ) → Sh (trouble.Loop page)
-  pub spent : (what : Counter) → Sh (trouble.Exhausted what)
+  pub spent : Sh (trouble.Exhausted counter.Version)
 
 module _ (Sh : Trouble → Type 0) (lets : Lets Sh) (most tree page : ℕ) where
   -- each trouble that is kept is so, at most so many deletions failed, and the tree and the page are these
@@ -167,9 +166,9 @@ module _ (Sh : Trouble → Type 0) (lets : Lets Sh) (most tree page : ℕ) where
   fails_brings {q = q} (step.bad_message p first second ms t read) keeps refused = stops q t keeps (items_lets (own_queue p) read.cursor (items_of ms) t read.takes)
   fails_brings {q = q} (step.bad_right p first second got t holds) keeps refused = stops q t keeps (linked_lets p.tree p.at.page p.at.low got t holds)
   fails_brings {q = q} (step.round link on seen) keeps refused = stops q (trouble.Loop link.page) (onward_keeps on keeps) (lets.loop link.page)
-  fails_brings {q = q} (step.home_spent on spent) keeps refused = stops q (trouble.Exhausted counter.Version) (onward_keeps on keeps) (lets.spent counter.Version)
+  fails_brings {q = q} (step.home_spent on spent) keeps refused = stops q (trouble.Exhausted counter.Version) (onward_keeps on keeps) lets.spent
   fails_brings {q = q} (step.right_spent p first second got l holds some spent) keeps refused =
-      stops q (trouble.Exhausted counter.Version) keeps (lets.spent counter.Version)
+      stops q (trouble.Exhausted counter.Version) keeps lets.spent
 
   -- ---- a step
 
@@ -210,7 +209,7 @@ tried_well d = on d.ids
 
 -- any trouble lets
 all_let : Lets (λ k. Unit {0})
-all_let = record { absent = λ page. tt; no_leaf = λ page. tt; damaged = λ w at. tt; fence = λ page e f. tt; loop = λ page. tt; spent = λ what. tt }
+all_let = record { absent = λ page. tt; no_leaf = λ page. tt; damaged = λ w at. tt; fence = λ page e f. tt; loop = λ page. tt; spent = tt }
 
 -- the trouble is kept, or it is the answer
 abbrev pub KeepsNext : Trouble → Step → Type 0
@@ -255,7 +254,7 @@ module _ (who : Caller) (before after : Seen) (s t : CloudState) (told : before.
     damaged = λ w at. tt;
     fence = λ page e f. tt;
     loop = λ page. tt;
-    spent = λ what. tt;
+    spent = tt;
   }
 
   asks : (stage : Stage) → p.stage ≡ stage → paging_ask p ≡ ask_at stage p

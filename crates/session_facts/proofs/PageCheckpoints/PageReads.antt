@@ -1,11 +1,11 @@
 -- What the held get of a page shows: the newest version of the page that was named, and at a right page the leaf that its link promised.
-use Rattle.std.proofs.Common.{◌≡◌, ◌==◌, inl, inr, ℕ, Bool, true, false, cond, List, [], Option, Some, None, Result, Ok, Err, refl, sym, ap, subst, ◌∙◌}
+use Rattle.std.proofs.Common.{◌≡◌, ◌==◌, inl, inr, ℕ, zero, Bool, true, false, cond, List, [], Option, Some, None, Result, Ok, Err, refl, sym, ap, subst, ◌∙◌}
 use Rattle.std.proofs.lemmas.Bool.{eqb-true, eq-eqb}
 use Rattle.std.specs.Prelude.{◌-◌, length, slice_get}
 use Rattle.byte_format.specs.Order.{bytes_same}
 use Rattle.byte_format.proofs.OrderLemmas.{same_itself}
 use Rattle.cloud_facts.specs.Chains.Chain.{IsChained}
-use Rattle.cloud_facts.specs.Chains.Links.{newest_node}
+use Rattle.cloud_facts.specs.Chains.Links.{first_link, newest_node}
 use Rattle.ckpt_parts.specs.Leaves.{bad_fence, fenced, HoldsLeaf, HoldsLinked}
 use Rattle.cloud_facts.specs.Calls.Standing.{StandsUnder}
 use Rattle.cloud_facts.proofs.Calls.Firsts.{newest_leafy, chain_leaf}
@@ -22,7 +22,7 @@ use Rattle.cloud_facts.proofs.Decoding.Reading.{node_reads}
 use Rattle.cloud_facts.proofs.Decoding.Values.{newest_page_decodes}
 use Rattle.leaf_view.specs.Leaf.{Leaf, IsLeaf}
 use Rattle.leaf_view.specs.Lookup.{empty_leaf}
-use Rattle.node_codec.specs.Inner.{IsInner}
+use Rattle.node_codec.specs.Inner.{Inner, IsInner}
 use Rattle.page_ckpt.specs.Paging.{IsNoInner, HoldsNamed}
 use Rattle.ckpt_parts.specs.Leaves.{IsNoLeaf}
 use Rattle.report_types.specs.declared.entry.Entry.{Entry}
@@ -61,18 +61,6 @@ node_spelled bytes (Branch n) is no_leaf no_inner = no_inner n is
 module _ (book : Book) (order : List Entry) (s : CloudState) (stands : StandsUnder book order s) (tree : ℕ) (of_tree : IsTree tree) where
   spelled_newest : (page : ℕ) (bytes : List ℕ) (l : Leaf) → newest s (object.Page tree page) ≡ Some bytes → IsLeaf bytes l → IsNewestLeaf (nodes_of s tree) page l
   spelled_newest page bytes l e spells = record { is = spelled_page s tree page bytes l e spells; absent = λ none. absurd (some_version s tree page bytes e none) }
-
-  pub named_is : (page : ℕ) (got : Option (List ℕ)) (found : Result Leaf Trouble) → newest s (object.Page tree page) ≡ got → HoldsNamed tree page got found
-      → IsNamed (nodes_of s tree) page found
-  named_is page None found e is = subst (IsNamed (nodes_of s tree) page) (sym is) (on (page == 1) refl)
-    where
-      on : (b : Bool) → (page == 1) ≡ b → IsNamed (nodes_of s tree) page (cond b (Ok empty_leaf) (Err (trouble.Absent page)))
-      on true first = record { is = absent_page s tree page e; absent = λ none. eqb-true page 1 first }
-      on false other = refl
-  named_is page (Some bytes) found e (inl (n, spells, is)) = subst (IsNamed (nodes_of s tree) page) (sym is) refl
-  named_is page (Some bytes) found e (inr (no_inner, inl (l, spells, is))) = subst (IsNamed (nodes_of s tree) page) (sym is) (spelled_newest page bytes l e spells)
-  named_is page (Some bytes) found e (inr (no_inner, inr (no_leaf, is))) =
-      absurd (node_spelled bytes (newest_node (nodes_of s tree) page) (newest_page_decodes s tree page bytes stands.decodes e) no_leaf no_inner)
 
   -- ---- a page of the leaf chain
 
@@ -137,3 +125,30 @@ module _ (book : Book) (order : List Entry) (s : CloudState) (stands : StandsUnd
       where
         same : bytes_same link.low leaf.low ≡ true
         same = ap (bytes_same link.low) low ∙ same_itself link.low
+
+  -- ---- the page that was named
+
+  -- page 1 is a leaf
+  no_inner_first : (page : ℕ) (bytes : List ℕ) (n : Inner) → newest s (object.Page tree page) ≡ Some bytes → IsInner bytes n → page ≡ 1 → ⊥
+  no_inner_first page bytes n e spells is = never (named_leaf first_link first (Some bytes) (Err (trouble.NotALeaf 1)) here (inl (n, spells, refl)))
+    where
+      first : IsIn (book.chain tree 0) first_link
+      first = (zero, ap (λ (ls : List Link). slice_get ls 0) (stands.holds.chains tree of_tree).levels.leaves.1)
+
+      here : newest s (object.Page tree 1) ≡ Some bytes
+      here = subst (λ (p : ℕ). newest s (object.Page tree p) ≡ Some bytes) is e
+
+      never : {l : Leaf} → ◌≡◌ {A = Result Leaf Trouble} (Err (trouble.NotALeaf 1)) (Ok l) → ⊥
+      never same = cc
+
+  pub named_is : (page : ℕ) (got : Option (List ℕ)) (found : Result Leaf Trouble) → newest s (object.Page tree page) ≡ got → HoldsNamed tree page got found
+      → IsNamed (nodes_of s tree) page found
+  named_is page None found e is = subst (IsNamed (nodes_of s tree) page) (sym is) (on (page == 1) refl)
+    where
+      on : (b : Bool) → (page == 1) ≡ b → IsNamed (nodes_of s tree) page (cond b (Ok empty_leaf) (Err (trouble.Absent page)))
+      on true first = record { is = absent_page s tree page e; absent = λ none. eqb-true page 1 first }
+      on false other = (refl, λ first. let clash : true ≡ false = sym (eq-eqb page 1 first) ∙ other in cc)
+  named_is page (Some bytes) found e (inl (n, spells, is)) = subst (IsNamed (nodes_of s tree) page) (sym is) (refl, no_inner_first page bytes n e spells)
+  named_is page (Some bytes) found e (inr (no_inner, inl (l, spells, is))) = subst (IsNamed (nodes_of s tree) page) (sym is) (spelled_newest page bytes l e spells)
+  named_is page (Some bytes) found e (inr (no_inner, inr (no_leaf, is))) =
+      absurd (node_spelled bytes (newest_node (nodes_of s tree) page) (newest_page_decodes s tree page bytes stands.decodes e) no_leaf no_inner)

@@ -61,7 +61,7 @@ end_is a b e = cc
 
 -- what may come without a call may come, and is the trouble of the end of a commit
 may_then : (t : Trouble) → MayStopAtOnce t → MayStop t
-may_then (trouble.Exhausted what) may = tt
+may_then (trouble.Exhausted what) may = may
 may_then trouble.Memory may = tt
 may_then t may = absurd may
 
@@ -152,7 +152,7 @@ module _ (book : Book) (order : List Entry) (s : CloudState) (sessions : Session
   commit_ends home a idle (inl nothing) = subst (EndsBy MayStopAtOnce) (sym (end_is a (Committed 0) nothing.answer)) tt
   commit_ends home a idle (inr (some, (m, leads, left))) =
       subst (EndsWell MayStopAtOnce) leads
-      (ready_ends_by MayStopAtOnce (λ what. tt) book order s stand.cloud s.now (stand.parts session) home old.buffer old.cache (home_known home idle) (stand.each session).buffer (cache_known home idle))
+      (ready_ends_by MayStopAtOnce (λ what of. of) book order s stand.cloud s.now (stand.parts session) home old.buffer old.cache (home_known home idle) (stand.each session).buffer (cache_known home idle))
 
   scan_no_end : (tree : ℕ) (from to : Option (List ℕ)) (home : Home) (a : CommitAnswer) → ScansIn tree from to old home new (Answered (answer.Commit a)) → ⊥
   scan_no_end tree from to home a (same, p) = on p.moved p.turn p.follows p.begins

@@ -1,5 +1,5 @@
 -- A step of a session explains what it brought.
-use Rattle.std.proofs.Common.{◌≡◌, ◌≢◌, ◌≤◌, List, Some, Ok, refl, subst}
+use Rattle.std.proofs.Common.{◌≡◌, ◌≢◌, ◌≤◌, ◌⊎◌, ℕ, List, Some, None, Ok, refl, sym, subst, ◌∙◌}
 use Rattle.client_work.specs.Session.{Acting, StepsSession, StepsAt, ShowsAt, ask_of_work}
 use Rattle.client_work.specs.declared.answer.Answer.{Answer}
 use Rattle.client_work.specs.declared.shown.Shown.{Shown}
@@ -9,23 +9,32 @@ use Rattle.cloud_trait.specs.declared.answer.Answer.{Answer as Reply}
 use Rattle.cloud_trait.specs.declared.answer.Answer.TheVariants.{Memory}
 use Rattle.cloud_trait.specs.declared.turn.Turn.{Turn}
 use Rattle.cloud_trait.specs.Ask.{Ask, Renew, Release}
+use Rattle.cloud_trait.proofs.RowLemmas.{leaves_grown}
 use Rattle.cloud_trait.specs.Caller.{Caller}
+use Rattle.cloud_trait.specs.Growth.{HasGrown}
 use Rattle.cloud_trait.specs.Seen.{Seen}
 use Rattle.cloud_trait.specs.State.{CloudState}
 use Rattle.cloud_facts.specs.Book.Book.{Book}
 use Rattle.cloud_facts.specs.Book.Tally.{Store}
+use Rattle.cloud_facts.specs.Homes.Homes.{PartHolds}
 use Rattle.cloud_facts.specs.Tellings.Told.{store_of}
+use Rattle.cloud_facts.proofs.Calls.Calls.{call_of}
+use Rattle.cloud_trait.specs.Weather.{Rose}
+use Rattle.db_base.specs.declared.trouble.Trouble.TheVariants.{Waiting}
 use Rattle.commit_run.specs.Run.{run_ask}
 use Rattle.page_cache.specs.Cache.{Cache}
 use Rattle.page_ckpt.specs.Paging.{paging_ask}
 use Rattle.range_scan.specs.Scan.{scan_ask}
 use Rattle.recover_run.specs.Recovery.{recovery_ask}
 use Rattle.report_types.specs.declared.entry.Entry.{Entry}
-use Rattle.session_facts.specs.Sessions.Calls.{IsExplained, reply_at}
-use Rattle.session_facts.specs.Sessions.Explaining.{Explains}
-use Rattle.session_facts.specs.Sessions.Sessions.{KnowsKept, KnowsWork, Sessions, SessionsStand}
+use Rattle.session_facts.specs.Sessions.Calls.{IsExplained, WaitsLate, reply_at}
+use Rattle.session_facts.specs.Sessions.Explaining.{Explains, Meets, ReceivesLate, left_in, trouble_in}
+use Rattle.session_facts.specs.Sessions.Sessions.{KnowsKept, KnowsWork, Sessions, SessionsStand, leases_of}
 use Rattle.session_facts.proofs.Openings.Explaining.{opening_explains}
-use Rattle.session_facts.proofs.Sessions.Laws.{known_at}
+use Rattle.session_facts.proofs.Sessions.Laws.{setting_of, known_at}
+use Rattle.session_facts.proofs.Sessions.Quiet.{paging_quiet, making_quiet, run_quiet}
+use Rattle.session_facts.proofs.Sessions.Waiting.{opening_waits, settling_waits, quiet_waits}
+use Rattle.session_facts.proofs.Steps.{MadeCall, made_call}
 use Rattle.session_facts.proofs.Sessions.FoldingExplaining.{folding_explains}
 use Rattle.session_facts.proofs.Sessions.LeaseExplaining.{closing_explains, renewing_explains}
 use Rattle.session_facts.proofs.Sessions.PagingExplaining.{paging_explains}
@@ -37,6 +46,9 @@ use Rattle.settle_run.specs.Settling.{settle_ask}
 use Rattle.tree_ckpt.specs.Making.{making_ask}
 use Rattle.tree_walk.specs.Walk.{walk_ask}
 use Rattle.txn_buffer.specs.Noted.{Noted}
+
+state_is : (x y : CloudState) → Some x ≡ Some y → x ≡ y
+state_is x y e = cc
 
 module _ (who : Caller) (before after : Seen) (s t : CloudState) (book : Book) (order : List Entry) (sessions : Sessions) (told : before.state ≡ Some s) (told_after : after.state ≡ Some t)
     (stand : SessionsStand book order s sessions) where
@@ -62,6 +74,23 @@ module _ (who : Caller) (before after : Seen) (s t : CloudState) (book : Book) (
   -- by what was at work
   abbrev Explained : Work → Work → Turn Answer → Reply → Type 0
   Explained work new turn reply = (ask : Ask) × (ask_of_work work ≡ Some ask) × (reply ≢ Memory → Explains ask before.counts after.counts s t work new turn)
+
+  later_at : (work new : Work) (turn : Turn Answer) → StepsAt who before after work new turn → s.now ≤ t.now
+  later_at work new turn steps =
+      let c : MadeCall who before after work = made_call who before after work new turn steps in
+      (call_of who c.ask c.answer before after s t c.made told told_after).later
+
+  grown_at : (work new : Work) (turn : Turn Answer) → StepsAt who before after work new turn → HasGrown s t
+  grown_at work new turn steps =
+      let c : MadeCall who before after work = made_call who before after work new turn steps in
+      let l = c.made.state s told in
+      subst (HasGrown s) (state_is l.after t (sym l.told ∙ told_after)) (leaves_grown who c.ask c.answer before.counts after.counts s after.state l)
+
+  -- where it comes to wait
+  abbrev Waits : Work → Work → Turn Answer → Type 0
+  Waits work new turn =
+      trouble_in work ≡ None → left_in work ≡ 0 → (have need : ℕ) → Meets new turn (Waiting have need)
+      → Rose before.counts.withheld after.counts.withheld ⊎ WaitsLate new turn t.now
 
   by_work : (buffer : List Noted) (work new : Work) (c : Cache) (shown : Shown) (turn : Turn Answer) → old ≡ work → (steps : StepsAt who before after work new turn)
       → (shows : ShowsAt who before after buffer work kept c new shown turn) → Explained work new turn (reply_at who before after buffer work kept c new shown turn steps shows)
@@ -91,11 +120,53 @@ module _ (who : Caller) (before after : Seen) (s t : CloudState) (book : Book) (
   by_work buffer (Idle home) new c shown turn is never shows = absurd never
   by_work buffer (Broken l) new c shown turn is never shows = absurd never
 
+  waits_at : (work new : Work) (turn : Turn Answer) → old ≡ work → StepsAt who before after work new turn → (ask : Ask) → ask_of_work work ≡ Some ask
+      → Explains ask before.counts after.counts s t work new turn → Waits work new turn
+  waits_at (Opening r) new turn is steps ask hand x = λ none clean have need meets.
+      opening_waits who before after s t st r (stand.parts who.session) (known_in (Opening r) is (later_at (Opening r) new turn steps)) new turn steps.1
+      (subst (λ a. Explains a before.counts after.counts s t (Opening r) new turn) (cc (hand)) x) none have need meets
+  waits_at (Settling m) new turn is steps ask hand x = λ none clean have need meets.
+      settling_waits who before after s t book order told told_after stand.cloud (stand.parts who.session) (holds (later_at (Settling m) new turn steps)) m
+      (known_in (Settling m) is (later_at (Settling m) new turn steps)).work steps.0 new turn steps.1 none have need meets
+    where
+      holds : s.now ≤ t.now → PartHolds st.tally t.now (stand.parts who.session)
+      holds later = (setting_of book order s sessions stand t.now who.session later).homes.each who.session
+  waits_at (Committing r) new turn is steps ask hand x =
+      quiet_waits ask before.counts after.counts s t (Committing r) new turn
+      (λ late. run_quiet (leases_of (Committing r)) t.now r (subst (λ a. ReceivesLate a (leases_of (Committing r)) t.now) (cc (hand)) late)) x
+  waits_at (Folding home m) new turn is steps ask hand x =
+      quiet_waits ask before.counts after.counts s t (Folding home m) new turn
+      (λ late. making_quiet (leases_of (Folding home m)) t.now m (subst (λ a. ReceivesLate a (leases_of (Folding home m)) t.now) (cc (hand)) late)) x
+  waits_at (Paging home p) new turn is steps ask hand x =
+      quiet_waits ask before.counts after.counts s t (Paging home p) new turn
+      (λ late. paging_quiet (leases_of (Paging home p)) t.now p (subst (λ a. ReceivesLate a (leases_of (Paging home p)) t.now) (cc (hand)) late)) x
+  waits_at (Reading home w) new turn is steps ask hand x =
+      quiet_waits ask before.counts after.counts s t (Reading home w) new turn
+      (λ late. let same : ask ≡ walk_ask w = cc (hand) in subst (λ a. ReceivesLate a (leases_of (Reading home w)) t.now) same late) x
+  waits_at (Scanning home l) new turn is steps ask hand x =
+      quiet_waits ask before.counts after.counts s t (Scanning home l) new turn
+      (λ late. let same : ask ≡ scan_ask l.scan = cc (hand) in subst (λ a. ReceivesLate a (leases_of (Scanning home l)) t.now) same late) x
+  waits_at (Closing l) new turn is steps ask hand x =
+      quiet_waits ask before.counts after.counts s t (Closing l) new turn
+      (λ late. let same : ask ≡ Release l = cc (hand) in subst (λ a. ReceivesLate a (leases_of (Closing l)) t.now) same late) x
+  waits_at (Renewing home) new turn is steps ask hand x =
+      quiet_waits ask before.counts after.counts s t (Renewing home) new turn
+      (λ late. let same : ask ≡ Renew home.lease 600 = cc (hand) in subst (λ a. ReceivesLate a (leases_of (Renewing home)) t.now) same late) x
+  waits_at Closed new turn is never ask hand x = absurd never
+  waits_at (Idle home) new turn is never ask hand x = absurd never
+  waits_at (Broken l) new turn is never ask hand x = absurd never
+
   own_explains : (new : Acting) (turn : Turn Answer) → (steps : StepsSession who before after (sessions who.session) new (Ok turn))
       → IsExplained who before after (sessions who.session) new turn s t steps
   own_explains new turn steps =
       let e = by_work new.buffer old new.work steps.shown.0 new.shown turn refl steps.work steps.shown.1 in
-      record { ask = e.0; hand = e.1; explains = e.2 }
+      record {
+        ask = e.0;
+        hand = e.1;
+        grown = grown_at old new.work turn steps.work;
+        explains = e.2;
+        waits = λ found. waits_at old new.work turn refl steps.work e.0 e.1 (e.2 found);
+      }
 
   -- a step of a session
   pub session_explains : (a new : Acting) (turn : Turn Answer) → sessions who.session ≡ a → (steps : StepsSession who before after a new (Ok turn))

@@ -9,6 +9,7 @@ use Rattle.cloud_trait.specs.Caller.{Caller}
 use Rattle.cloud_trait.specs.Claim.{Claim}
 use Rattle.cloud_trait.specs.Machine.{Next, Goes, Ends, Stops}
 use Rattle.cloud_trait.specs.State.{CloudState}
+use Rattle.db_base.specs.declared.trouble.Counter.TheVariants as counter
 use Rattle.db_base.specs.declared.trouble.Trouble.{Trouble}
 use Rattle.db_base.specs.declared.trouble.Trouble.TheVariants as trouble
 use Rattle.cloud_facts.specs.Homes.Homes.{Parts}
@@ -95,13 +96,20 @@ moved_may s (Ends w left) may = ended_may (counted (with_part s w)) left (same_o
 moved_may s (Stops w t) may = may
 
 of_opening : (t : Trouble) → MayStopOpening t → MaySettle t
-of_opening t may = may
+of_opening (trouble.Exhausted counter.Epoch) may = tt
+of_opening trouble.Failed may = tt
+of_opening (trouble.Late end now) may = tt
+of_opening (trouble.Busy lock until) may = tt
+of_opening (trouble.Waiting have need) may = tt
+of_opening trouble.Memory may = tt
+of_opening t may = absurd may
 
 of_tree : (t : Trouble) → MayStopTree t → MaySettle t
 of_tree trouble.Failed may = tt
 of_tree (trouble.Late end now) may = tt
 of_tree (trouble.Busy lock until) may = tt
-of_tree (trouble.Exhausted what) may = tt
+of_tree (trouble.Exhausted counter.Version) may = tt
+of_tree (trouble.Exhausted counter.Pages) may = tt
 of_tree trouble.Memory may = tt
 of_tree t may = absurd may
 
@@ -109,7 +117,7 @@ of_page : (page : ℕ) (t : Trouble) → MayStopPage page t → IsOfNoPage t →
 of_page page trouble.Failed may fair = tt
 of_page page (trouble.Late end now) may fair = tt
 of_page page (trouble.Busy lock until) may fair = tt
-of_page page (trouble.Exhausted what) may fair = tt
+of_page page (trouble.Exhausted counter.Version) may fair = tt
 of_page page trouble.Memory may fair = tt
 of_page page (trouble.Absent named) may fair = absurd fair
 of_page page (trouble.NotALeaf named) may fair = absurd fair

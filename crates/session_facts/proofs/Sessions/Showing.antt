@@ -13,6 +13,7 @@ use Rattle.cloud_trait.specs.Weather.{FirstOver, Leaves, Makes, Rose, Weather}
 use Rattle.db_base.specs.declared.names.Lock.{Lock}
 use Rattle.db_base.specs.declared.names.ObjName.{ObjName}
 use Rattle.db_base.specs.declared.names.QueueName.{QueueName}
+use Rattle.db_base.specs.declared.trouble.Counter.TheVariants as counter
 use Rattle.db_base.specs.declared.trouble.Trouble.{Trouble}
 use Rattle.db_base.specs.declared.trouble.Trouble.TheVariants as trouble
 use Rattle.session_facts.specs.Sessions.Explaining.{IsShown}
@@ -193,9 +194,10 @@ module _ (who : Caller) (before after : Seen) (s t : CloudState) (told : before.
 
 -- ---- troubles that no call shows
 
--- of what was read, of a number at its last value, or of memory
+-- of what was read, of a number at its last value that is no epoch, or of memory
 abbrev pub IsFree : Trouble → Type 0
 IsFree trouble.Memory = Unit {0}
+IsFree (trouble.Exhausted counter.Epoch) = ⊥
 IsFree (trouble.Exhausted what) = Unit {0}
 IsFree (trouble.Absent page) = Unit {0}
 IsFree (trouble.NotALeaf page) = Unit {0}
@@ -206,6 +208,7 @@ IsFree t = ⊥
 
 pub free_shown : (ask : Ask) (held : List Claim) (c d : Counts) (s t : CloudState) (k : Trouble) → IsFree k → IsShown ask held c d s t k
 free_shown ask held c d s t trouble.Memory is = tt
+free_shown ask held c d s t (trouble.Exhausted counter.Epoch) is = absurd is
 free_shown ask held c d s t (trouble.Exhausted what) is = tt
 free_shown ask held c d s t (trouble.Absent page) is = tt
 free_shown ask held c d s t (trouble.NotALeaf page) is = tt

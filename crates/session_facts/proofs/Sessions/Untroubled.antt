@@ -1,7 +1,7 @@
 -- A calm step leaves a session untroubled, and brings no answer that a call brought about.
-use Rattle.std.proofs.Common.{◌≡◌, ◌≢◌, ◌≤◌, ◌⊎◌, inl, inr, ℕ, List, Option, Some, None, Ok, refl, sym, ap, subst, ◌∙◌, arith}
+use Rattle.std.proofs.Common.{◌≡◌, ◌≢◌, ◌≤◌, ◌<◌, ◌⊎◌, inl, inr, ℕ, List, Option, Some, None, Ok, refl, sym, ap, subst, ◌∙◌, arith}
 use Rattle.calm_calls.specs.Calm.{NamesLasting, TakesFree}
-use Rattle.client_work.specs.Session.{Acting, StepsSession, StepsAt, ShowsAt, Follows, ListsLeaf, opened_work, committed_work, stopped_work}
+use Rattle.client_work.specs.Session.{Acting, StepsSession, StepsAt, ShowsAt, Follows, ListsLeaf, ask_of_work, opened_work, committed_work, stopped_work}
 use Rattle.client_work.specs.declared.answer.Answer.{Answer}
 use Rattle.client_work.specs.declared.answer.Answer.TheVariants as answer
 use Rattle.client_work.specs.declared.listing.Listing.{Listing}
@@ -11,11 +11,20 @@ use Rattle.client_work.specs.declared.work.Work.TheVariants.{Closed, Idle, Openi
 use Rattle.cloud_trait.specs.declared.answer.Answer.TheVariants.{Memory}
 use Rattle.cloud_trait.specs.declared.turn.Turn.{Turn}
 use Rattle.cloud_trait.specs.declared.turn.Turn.TheVariants.{More, Ended, Stopped}
-use Rattle.cloud_trait.specs.Ask.{Ask}
+use Rattle.cloud_trait.specs.Ask.{Ask, Release}
 use Rattle.cloud_trait.specs.Caller.{Caller}
+use Rattle.cloud_trait.specs.Claim.{Lasts}
+use Rattle.cloud_trait.specs.Growth.{BeginsWith, HasGrown}
 use Rattle.cloud_trait.specs.Seen.{Seen}
 use Rattle.cloud_trait.specs.State.{CloudState, Counts}
 use Rattle.cloud_trait.specs.Weather.{Rose}
+use Rattle.cloud_facts.proofs.Book.Places.{in_front}
+use Rattle.cloud_facts.specs.Book.Records.{IsIn}
+use Rattle.cloud_trait.specs.declared.state.Version.{Version}
+use Rattle.db_base.specs.declared.names.ObjName.{ObjName}
+use Rattle.db_base.specs.declared.names.ObjName.TheVariants as object
+use Rattle.db_base.specs.declared.trouble.Counter.{Counter}
+use Rattle.db_base.specs.declared.trouble.Counter.TheVariants as counter
 use Rattle.db_base.specs.declared.trouble.CommitAnswer.{CommitAnswer}
 use Rattle.db_base.specs.declared.trouble.CommitAnswer.TheVariants.{Committed, NotCommitted, InDoubt, CommittedOpen}
 use Rattle.db_base.specs.declared.trouble.Trouble.{Trouble}
@@ -26,11 +35,12 @@ use Rattle.recover_run.specs.declared.home.Home.{Home}
 use Rattle.recover_run.specs.Recovery.{home_of}
 use Rattle.txn_buffer.specs.Noted.{Noted}
 use Rattle.session_facts.specs.CommitRuns.Stopping.{MayStop as MayStopCommit, MayEnd}
-use Rattle.session_facts.specs.Sessions.Calls.{IsExplained, reply_at, reply_of}
-use Rattle.session_facts.specs.Sessions.Explaining.{Explains, IsShown, KeepsTrouble, Meets, ReceivesLate, left_in, left_told, trouble_in, trouble_of_answer, trouble_of_commit}
+use Rattle.session_facts.specs.Sessions.Calls.{GivesLateBack, IsExplained, WaitsLate, reply_at, reply_of}
+use Rattle.session_facts.specs.Sessions.Explaining.{Explains, IsShown, KeepsTrouble, Meets, left_in, left_told, trouble_in, trouble_of_answer, trouble_of_commit}
 use Rattle.session_facts.specs.Sessions.Sessions.{leases_of}
-use Rattle.session_facts.specs.Sessions.Untroubled.{StepsCalmly, IsOfNoCall, IsUntroubled, IsSpent, CommitsWell}
-use Rattle.session_facts.proofs.CommitRuns.Telling.{EndsTold, IsTold, run_tells}
+use Rattle.session_facts.specs.Sessions.Spent.{IsOfCommit, IsSpentIn}
+use Rattle.session_facts.specs.Sessions.Untroubled.{GivesBackLasting, StepsCalmly, IsOfNoCall, IsExcused, IsUntroubled, IsSpent, CommitsWell}
+use Rattle.session_facts.proofs.CommitRuns.Telling.{EndsTold, IsByNoCall, IsTold, run_tells}
 use Rattle.session_facts.proofs.Sessions.Troubles.{memory_or}
 
 -- one trouble is told
@@ -40,73 +50,157 @@ same_trouble a b e = cc
 no_trouble : (a : Trouble) → (let none : Option Trouble = None in none ≡ Some a) → ⊥
 no_trouble a e = cc
 
-module _ (ask : Ask) (c d : Counts) (s t : CloudState) (old new : Work) (same : d ≡ c) (free : TakesFree ask s t.now) (lasting : NamesLasting ask t.now)
-    (received : ReceivesLate ask (leases_of old) t.now → ⊥) (well : IsUntroubled old) where
+-- a counter that was told as spent is told so from then on
+pub spent_later : (s t : CloudState) (what : Counter) → ((name : ObjName) → BeginsWith (s.versions name) (t.versions name)) → IsSpentIn s what → IsSpentIn t what
+spent_later s t counter.Epoch grown is =
+    let g = grown (object.Head is.client) in
+    record {
+      client = is.client;
+      version = is.version;
+      head = is.head;
+      landed = subst (λ (vs : List Version). IsIn vs is.version) (sym g.1) (in_front (s.versions (object.Head is.client)) g.0 is.version is.landed);
+      reads = is.reads;
+      last = is.last;
+    }
+spent_later s t counter.Txn grown is = tt
+spent_later s t counter.Number grown is = tt
+spent_later s t counter.Version grown is = tt
+spent_later s t counter.Pages grown is = tt
+
+-- records are waited for
+abbrev IsWait : Trouble → Type 0
+IsWait k = (have : ℕ) × (need : ℕ) × (k ≡ trouble.Waiting have need)
+
+module _ (ask : Ask) (c d : Counts) (s t : CloudState) (old new : Work) (same : d ≡ c) (free : TakesFree ask s t.now) (lasting : NamesLasting ask t.now) where
   steady : (count : Counts → ℕ) → Rose (count c) (count d) → ⊥
   steady count rose = omega (arith, rose, ap count same)
 
-  -- what a calm call shows is of no call
-  shown_none : (k : Trouble) → IsShown ask (leases_of old) c d s t k → IsOfNoCall k
-  shown_none trouble.Failed rose = steady (λ (x : Counts). x.faults) rose
-  shown_none (trouble.Late end now) late = late lasting
-  shown_none (trouble.Busy lock until) (inl held) = held free
-  shown_none (trouble.Busy lock until) (inr rose) = steady (λ (x : Counts). x.withheld) rose
-  shown_none (trouble.Waiting have need) (inl rose) = steady (λ (x : Counts). x.withheld) rose
-  shown_none (trouble.Waiting have need) (inr late) = received late
-  shown_none (trouble.Stale page least got) rose = steady (λ (x : Counts). x.stale) rose
-  shown_none trouble.Memory shown = tt
-  shown_none (trouble.Exhausted what) shown = tt
-  shown_none (trouble.Absent page) shown = tt
-  shown_none (trouble.NotALeaf page) shown = tt
-  shown_none (trouble.Damaged place offset) shown = tt
-  shown_none (trouble.BadFence page expected found) shown = tt
-  shown_none (trouble.Loop page) shown = tt
-
-  -- a trouble that is met where none waited
-  met_none : (turn : Turn Answer) → Explains ask c d s t old new turn → trouble_in old ≡ None → (k : Trouble) → Meets new turn k → IsOfNoCall k
-  met_none turn x none k meets = on (memory_or k)
-    where
-      on : (k ≡ trouble.Memory) ⊎ (k ≢ trouble.Memory) → IsOfNoCall k
-      on (inl e) = subst IsOfNoCall (sym e) tt
-      on (inr other) = shown_none k (x.shown none well.left k other meets)
-
-  no_left : (turn : Turn Answer) → Explains ask c d s t old new turn → left_told new turn ≡ 0
-  no_left turn x = on x.left
-    where
-      on : (left_told new turn ≤ left_in old) ⊎ Rose c.faults d.faults → left_told new turn ≡ 0
-      on (inl less) = omega (arith, less, well.left)
-      on (inr rose) = absurd (steady (λ (y : Counts). y.faults) rose)
-
-  goes_untroubled : Explains ask c d s t old new More → IsUntroubled new
-  goes_untroubled x = record { trouble = λ k is. on k is (trouble_in old) refl; left = no_left More x }
-    where
-      on : (k : Trouble) → trouble_in new ≡ Some k → (was : Option Trouble) → trouble_in old ≡ was → IsOfNoCall k
-      on k is None none = met_none More x none k (inl is)
-      on k is (Some j) was = subst IsOfNoCall (same_trouble j k (sym (x.kept j was) ∙ is)) (well.trouble j was)
-
-  answers_untroubled : (a : Answer) → Explains ask c d s t old new (Ended a) → (k : Trouble) → trouble_of_answer a ≡ Some k → IsOfNoCall k
-  answers_untroubled a x k is = on (trouble_in old) refl
-    where
-      kept : (j : Trouble) → trouble_in old ≡ Some j → KeepsTrouble new (Ended a) j → IsOfNoCall k
-      kept j was (inl same) = subst IsOfNoCall (same_trouble j k (sym same ∙ is)) (well.trouble j was)
-      kept j was (inr memory) = subst IsOfNoCall (same_trouble trouble.Memory k (sym memory ∙ is)) tt
-
-      on : (was : Option Trouble) → trouble_in old ≡ was → IsOfNoCall k
-      on None none = met_none (Ended a) x none k (inr is)
-      on (Some j) was = kept j was (x.kept j was)
+  -- what a calm call shows is of no call, but that it waits
+  shown_none : (k : Trouble) → IsShown ask (leases_of old) c d s t k → IsWait k ⊎ IsOfNoCall t k
+  shown_none trouble.Failed rose = absurd (steady (λ (x : Counts). x.faults) rose)
+  shown_none (trouble.Late end now) late = absurd (late lasting)
+  shown_none (trouble.Busy lock until) (inl held) = absurd (held free)
+  shown_none (trouble.Busy lock until) (inr rose) = absurd (steady (λ (x : Counts). x.withheld) rose)
+  shown_none (trouble.Waiting have need) shown = inl (have, need, refl)
+  shown_none (trouble.Stale page least got) rose = absurd (steady (λ (x : Counts). x.stale) rose)
+  shown_none trouble.Memory shown = inr tt
+  shown_none (trouble.Exhausted what) shown = inr shown
+  shown_none (trouble.Absent page) shown = inr tt
+  shown_none (trouble.NotALeaf page) shown = inr tt
+  shown_none (trouble.Damaged place offset) shown = inr tt
+  shown_none (trouble.BadFence page expected found) shown = inr tt
+  shown_none (trouble.Loop page) shown = inr tt
 
 -- ---- a session
 
 -- the call of a calm step, as it was explained
 pub record IsCalmly (ask : Ask) (c d : Counts) (s t : CloudState) (old new : Work) (turn : Turn Answer) : Type 0 where
+  pub hand : ask_of_work old ≡ Some ask
   pub same : d ≡ c
   pub free : TakesFree ask s t.now
   pub lasting : NamesLasting ask t.now
-  pub received : ReceivesLate ask (leases_of old) t.now → ⊥
+  pub returned : GivesBackLasting ask t.now
+  pub grown : HasGrown s t
   pub explains : Explains ask c d s t old new turn
+  pub waits : trouble_in old ≡ None → left_in old ≡ 0 → (have need : ℕ) → Meets new turn (trouble.Waiting have need) → Rose c.withheld d.withheld ⊎ WaitsLate new turn t.now
 
 same_ask : (a b : Ask) → Some a ≡ Some b → a ≡ b
 same_ask a b e = cc
+
+module _ (ask : Ask) (c d : Counts) (s t : CloudState) (old new : Work) (turn : Turn Answer) (calm : IsCalmly ask c d s t old new turn) (well : IsUntroubled s old) where
+  -- what waits gives back a lease that is over next: no calm call does
+  none_late : GivesLateBack old s.now → ⊥
+  none_late (l, is, over) = let lasts : Lasts t.now l = subst (λ a. GivesBackLasting a t.now) (same_ask ask (Release l) (sym calm.hand ∙ is)) calm.returned in ends lasts
+    where
+      ends : t.now < l.end → ⊥
+      ends lasts = let later = calm.grown.later in absurd (omega (arith, over, later, lasts))
+
+  -- so a trouble that is kept is of no call
+  kept_none : (k : Trouble) → trouble_in old ≡ Some k → IsOfNoCall t k
+  kept_none k was = on k (well.trouble k was)
+    where
+      on : (k : Trouble) → IsExcused s old k → IsOfNoCall t k
+      on (trouble.Waiting have need) late = absurd (none_late late)
+      on trouble.Failed is = is
+      on (trouble.Late end now) is = is
+      on (trouble.Busy lock until) is = is
+      on (trouble.Stale page least got) is = is
+      on trouble.Memory is = tt
+      on (trouble.Exhausted what) is = spent_later s t what calm.grown.versions is
+      on (trouble.Absent page) is = tt
+      on (trouble.NotALeaf page) is = tt
+      on (trouble.Damaged place offset) is = tt
+      on (trouble.BadFence page expected found) is = tt
+      on (trouble.Loop page) is = tt
+
+  -- a trouble that is met where none waited
+  met_none : trouble_in old ≡ None → (k : Trouble) → Meets new turn k → (IsWait k × WaitsLate new turn t.now) ⊎ IsOfNoCall t k
+  met_none none k meets = on (memory_or k)
+    where
+      waits : IsWait k → (IsWait k × WaitsLate new turn t.now) ⊎ IsOfNoCall t k
+      waits (have, need, is) = by (calm.waits none well.left have need (subst (Meets new turn) is meets))
+        where
+          by : Rose c.withheld d.withheld ⊎ WaitsLate new turn t.now → (IsWait k × WaitsLate new turn t.now) ⊎ IsOfNoCall t k
+          by (inl rose) = absurd (steady ask c d s t old new calm.same calm.free calm.lasting (λ (x : Counts). x.withheld) rose)
+          by (inr late) = inl ((have, need, is), late)
+
+      shown : IsWait k ⊎ IsOfNoCall t k → (IsWait k × WaitsLate new turn t.now) ⊎ IsOfNoCall t k
+      shown (inl wait) = waits wait
+      shown (inr none) = inr none
+
+      on : (k ≡ trouble.Memory) ⊎ (k ≢ trouble.Memory) → (IsWait k × WaitsLate new turn t.now) ⊎ IsOfNoCall t k
+      on (inl e) = inr (subst (IsOfNoCall t) (sym e) tt)
+      on (inr other) = shown (shown_none ask c d s t old new calm.same calm.free calm.lasting k (calm.explains.shown none well.left k other meets))
+
+  no_left : left_told new turn ≡ 0
+  no_left = on calm.explains.left
+    where
+      on : (left_told new turn ≤ left_in old) ⊎ Rose c.faults d.faults → left_told new turn ≡ 0
+      on (inl less) = let none = well.left in omega (arith, less, none)
+      on (inr rose) = absurd (steady ask c d s t old new calm.same calm.free calm.lasting (λ (y : Counts). y.faults) rose)
+
+excused : (t : CloudState) (w : Work) (k : Trouble) → IsOfNoCall t k → IsExcused t w k
+excused t w trouble.Failed none = none
+excused t w (trouble.Late end now) none = none
+excused t w (trouble.Busy lock until) none = none
+excused t w (trouble.Waiting have need) none = absurd none
+excused t w (trouble.Stale page least got) none = none
+excused t w trouble.Memory none = tt
+excused t w (trouble.Exhausted what) none = none
+excused t w (trouble.Absent page) none = tt
+excused t w (trouble.NotALeaf page) none = tt
+excused t w (trouble.Damaged place offset) none = tt
+excused t w (trouble.BadFence page expected found) none = tt
+excused t w (trouble.Loop page) none = tt
+
+module _ (ask : Ask) (c d : Counts) (s t : CloudState) (old new : Work) where
+  goes_untroubled : IsCalmly ask c d s t old new More → IsUntroubled s old → IsUntroubled t new
+  goes_untroubled calm well = record { trouble = λ k is. on k is (trouble_in old) refl; left = no_left ask c d s t old new More calm well }
+    where
+      met : (k : Trouble) → (IsWait k × WaitsLate new More t.now) ⊎ IsOfNoCall t k → IsExcused t new k
+      met k (inl ((have, need, is), late)) = subst (IsExcused t new) (sym is) late
+      met k (inr none) = excused t new k none
+
+      on : (k : Trouble) → trouble_in new ≡ Some k → (was : Option Trouble) → trouble_in old ≡ was → IsExcused t new k
+      on k is None none = met k (met_none ask c d s t old new More calm well none k (inl is))
+      on k is (Some j) was =
+          excused t new k
+          (subst (IsOfNoCall t) (same_trouble j k (sym (calm.explains.kept j was) ∙ is)) (kept_none ask c d s t old new More calm well j was))
+
+  answers_untroubled : (a : Answer) → IsCalmly ask c d s t old new (Ended a) → IsUntroubled s old → (k : Trouble) → trouble_of_answer a ≡ Some k → IsOfNoCall t k
+  answers_untroubled a calm well k is = on (trouble_in old) refl
+    where
+      kept : (j : Trouble) → trouble_in old ≡ Some j → KeepsTrouble new (Ended a) j → IsOfNoCall t k
+      kept j was (inl same) = subst (IsOfNoCall t) (same_trouble j k (sym same ∙ is)) (kept_none ask c d s t old new (Ended a) calm well j was)
+      kept j was (inr memory) = subst (IsOfNoCall t) (same_trouble trouble.Memory k (sym memory ∙ is)) tt
+
+      met : (IsWait k × ⊥) ⊎ IsOfNoCall t k → IsOfNoCall t k
+      met (inl (wait, late)) = absurd late
+      met (inr none) = none
+
+      on : (was : Option Trouble) → trouble_in old ≡ was → IsOfNoCall t k
+      on None none = met (met_none ask c d s t old new (Ended a) calm well none k (inr is))
+      on (Some j) was = kept j was (calm.explains.kept j was)
 
 module _ (who : Caller) (before after : Seen) (old new : Acting) (turn : Turn Answer) (p : StepsSession who before after old new (Ok turn)) (calm : StepsCalmly who before after old new turn p)
     (explained : (s t : CloudState) → before.state ≡ Some s → after.state ≡ Some t → IsExplained who before after old new turn s t p) where
@@ -124,54 +218,84 @@ module _ (who : Caller) (before after : Seen) (old new : Acting) (turn : Turn An
 
   pub calmly : IsCalmly calm.ask before.counts after.counts s t old.work new.work turn
   calmly = record {
+    hand = calm.hand;
     same = calm.calm.counts;
     free = calm.calm.free;
     lasting = calm.calm.lasting;
-    received = calm.received;
+    returned = calm.returned;
+    grown = x.grown;
     explains = subst (λ a. Explains a before.counts after.counts s t old.work new.work turn) one (x.explains calm.memory);
+    waits = x.waits calm.memory;
   }
 
 -- a calm step that goes on leaves what is at work untroubled
-pub step_untroubled : (who : Caller) (before after : Seen) (old new : Acting) (p : StepsSession who before after old new (Ok More)) → StepsCalmly who before after old new More p
-    → ((s t : CloudState) → before.state ≡ Some s → after.state ≡ Some t → IsExplained who before after old new More s t p) → IsUntroubled old.work → IsUntroubled new.work
+pub step_untroubled : (who : Caller) (before after : Seen) (old new : Acting) (p : StepsSession who before after old new (Ok More)) → (calm : StepsCalmly who before after old new More p)
+    → ((s t : CloudState) → before.state ≡ Some s → after.state ≡ Some t → IsExplained who before after old new More s t p) → IsUntroubled calm.calm.before old.work
+    → IsUntroubled calm.calm.after new.work
 step_untroubled who before after old new p calm explained well =
-    let c = calmly who before after old new More p calm explained in
-    goes_untroubled calm.ask before.counts after.counts calm.calm.before calm.calm.after old.work new.work c.same c.free c.lasting c.received well c.explains
+    goes_untroubled calm.ask before.counts after.counts calm.calm.before calm.calm.after old.work new.work (calmly who before after old new More p calm explained) well
 
 -- an answer of a calm step has no trouble that a call brought, and no failed deletions
 pub answer_untroubled : (who : Caller) (before after : Seen) (old new : Acting) (a : Answer) (p : StepsSession who before after old new (Ok (Ended a)))
-    → StepsCalmly who before after old new (Ended a) p
-    → ((s t : CloudState) → before.state ≡ Some s → after.state ≡ Some t → IsExplained who before after old new (Ended a) s t p) → IsUntroubled old.work
-    → ((k : Trouble) → trouble_of_answer a ≡ Some k → IsOfNoCall k) × (left_told new.work (Ended a) ≡ 0)
+    → (calm : StepsCalmly who before after old new (Ended a) p)
+    → ((s t : CloudState) → before.state ≡ Some s → after.state ≡ Some t → IsExplained who before after old new (Ended a) s t p) → IsUntroubled calm.calm.before old.work
+    → ((k : Trouble) → trouble_of_answer a ≡ Some k → IsOfNoCall calm.calm.after k) × (left_told new.work (Ended a) ≡ 0)
 answer_untroubled who before after old new a p calm explained well =
     let c = calmly who before after old new (Ended a) p calm explained in (
-      answers_untroubled calm.ask before.counts after.counts calm.calm.before calm.calm.after old.work new.work c.same c.free c.lasting c.received well a c.explains,
-      no_left calm.ask before.counts after.counts calm.calm.before calm.calm.after old.work new.work c.same c.free c.lasting c.received well (Ended a) c.explains,
+      answers_untroubled calm.ask before.counts after.counts calm.calm.before calm.calm.after old.work new.work a c well,
+      no_left calm.ask before.counts after.counts calm.calm.before calm.calm.after old.work new.work (Ended a) c well,
     )
+
+-- ---- behind the calls of others
+
+pub untroubled_later : (s t : CloudState) (w : Work) → ((name : ObjName) → BeginsWith (s.versions name) (t.versions name)) → s.now ≤ t.now → IsUntroubled s w → IsUntroubled t w
+untroubled_later s t w grown later well = record { trouble = λ k is. on k (well.trouble k is); left = well.left }
+  where
+    on : (k : Trouble) → IsExcused s w k → IsExcused t w k
+    on (trouble.Waiting have need) (l, is, over) = (l, is, omega (arith, over, later))
+    on trouble.Failed is = is
+    on (trouble.Late end now) is = is
+    on (trouble.Busy lock until) is = is
+    on (trouble.Stale page least got) is = is
+    on trouble.Memory is = tt
+    on (trouble.Exhausted what) is = spent_later s t what grown is
+    on (trouble.Absent page) is = tt
+    on (trouble.NotALeaf page) is = tt
+    on (trouble.Damaged place offset) is = tt
+    on (trouble.BadFence page expected found) is = tt
+    on (trouble.Loop page) is = tt
 
 -- ---- behind an answer
 
-pub at_rest : (w : Work) → trouble_in w ≡ None → left_in w ≡ 0 → IsUntroubled w
-at_rest w none left = record { trouble = λ k is. absurd (no_trouble k (sym none ∙ is)); left = left }
+-- nothing is kept
+pub record IsAtRest (w : Work) : Type 0 where
+  pub none : trouble_in w ≡ None
+  pub left : left_in w ≡ 0
 
-pub rests_as : (w v : Work) → w ≡ v → IsUntroubled v → IsUntroubled w
-rests_as w v e well = subst IsUntroubled (sym e) well
+pub rested : (t : CloudState) (w : Work) → IsAtRest w → IsUntroubled t w
+rested t w rest = record { trouble = λ k is. absurd (no_trouble k (sym rest.none ∙ is)); left = rest.left }
 
-pub idle_rests : (home : Home) → IsUntroubled (Idle home)
+pub at_rest : (w : Work) → trouble_in w ≡ None → left_in w ≡ 0 → IsAtRest w
+at_rest w none left = record { none = none; left = left }
+
+pub rests_as : (w v : Work) → w ≡ v → IsAtRest v → IsAtRest w
+rests_as w v e well = subst IsAtRest (sym e) well
+
+pub idle_rests : (home : Home) → IsAtRest (Idle home)
 idle_rests home = at_rest (Idle home) refl refl
 
-pub closed_rests : IsUntroubled Closed
+pub closed_rests : IsAtRest Closed
 closed_rests = at_rest Closed refl refl
 
-pub stopped_rests : (k : Trouble) (home : Home) → IsUntroubled (stopped_work k home)
+pub stopped_rests : (k : Trouble) (home : Home) → IsAtRest (stopped_work k home)
 stopped_rests trouble.Memory home = at_rest (Broken home.lease) refl refl
 stopped_rests k home = idle_rests home
 
-opened_rests : (home : Option Home) → IsUntroubled (opened_work home)
+opened_rests : (home : Option Home) → IsAtRest (opened_work home)
 opened_rests (Some home) = idle_rests home
 opened_rests None = closed_rests
 
-committed_rests : (a : CommitAnswer) (home : Home) → IsUntroubled (committed_work a home)
+committed_rests : (a : CommitAnswer) (home : Home) → IsAtRest (committed_work a home)
 committed_rests InDoubt home = at_rest (Broken home.lease) refl refl
 committed_rests (CommittedOpen t) home = at_rest (Broken home.lease) refl refl
 committed_rests (Committed txn) home = idle_rests home
@@ -179,21 +303,21 @@ committed_rests (NotCommitted t) home = idle_rests home
 
 -- a scan that is answered
 follows_rests : (home : Home) (buffer : List Noted) (m : Listing) (c : Cache) (moved : Turn ℕ) (new : Work) (shown : Shown) (a : Answer) → Follows home buffer m c moved new shown (Ended a)
-    → IsUntroubled new
+    → IsAtRest new
 follows_rests home buffer m c More new shown a f = absurd (goes_on a f.2)
   where
     goes_on : (a : Answer) → (let x : Turn Answer = Ended a in let y : Turn Answer = More in x ≡ y) → ⊥
     goes_on a e = cc
 follows_rests home buffer m c (Ended page) new shown a f = lists a f
   where
-    lists : (a : Answer) → ListsLeaf home buffer m c new shown (Ended a) → IsUntroubled new
+    lists : (a : Answer) → ListsLeaf home buffer m c new shown (Ended a) → IsAtRest new
     lists answer.Scan l = rests_as new (Idle home) l.3 (idle_rests home)
     lists (answer.Trouble t) l = rests_as new (Broken home.lease) l.1 (at_rest (Broken home.lease) refl refl)
     lists a never = absurd never
 follows_rests home buffer m c (Stopped t) new shown a f = rests_as new (stopped_work t home) f.0 (stopped_rests t home)
 
 -- what an answer leaves in hand is at rest
-pub answered_rests : (who : Caller) (before after : Seen) (w new : Work) (a : Answer) → StepsAt who before after w new (Ended a) → IsUntroubled new
+pub answered_rests : (who : Caller) (before after : Seen) (w new : Work) (a : Answer) → StepsAt who before after w new (Ended a) → IsAtRest new
 answered_rests who before after (Opening m) new (answer.Opened epoch) p = rests_as new (opened_work (home_of p.1.0)) p.1.2 (opened_rests (home_of p.1.0))
 answered_rests who before after (Opening m) new (answer.Trouble k) p = rests_as new Closed p.1.2 closed_rests
 answered_rests who before after (Opening m) new a p = absurd p.1
@@ -254,17 +378,31 @@ pub commit_tells : (who : Caller) (before after : Seen) (old new : Acting) (a : 
 commit_tells who before after old new a p found = tells_at who before after new.buffer old.work old.cache p.shown.0 new.work new.shown a p.work p.shown.1 found
 
 -- a commit that is refused for no call, or stays open for none
-abbrev pub IsOfNone : CommitAnswer → Type 0
-IsOfNone c = (k : Trouble) → trouble_of_commit c ≡ Some k → IsOfNoCall k
+abbrev pub IsOfNone : CloudState → CommitAnswer → Type 0
+IsOfNone t c = (k : Trouble) → trouble_of_commit c ≡ Some k → IsOfNoCall t k
 
-pub commit_well : (c : CommitAnswer) → IsTold c → IsOfNone c → MayEnd c → CommitsWell c
-commit_well (Committed txn) told none may = tt
-commit_well InDoubt told none may = none trouble.Failed refl
-commit_well (CommittedOpen t) told none may = told (none t refl)
-commit_well (NotCommitted t) told none may = on t told (none t refl) may
+pub commit_well : (t : CloudState) (c : CommitAnswer) → IsTold c → IsOfNone t c → MayEnd c → CommitsWell t c
+commit_well t (Committed txn) told none may = tt
+commit_well t InDoubt told none may = none trouble.Failed refl
+commit_well t (CommittedOpen k) told none may = told (by_none k (none k refl))
   where
-    on : (k : Trouble) → (k ≢ trouble.Memory) → IsOfNoCall k → MayStopCommit k → IsSpent k
-    on (trouble.Exhausted what) told none may = tt
+    by_none : (k : Trouble) → IsOfNoCall t k → IsByNoCall k
+    by_none trouble.Failed none = none
+    by_none (trouble.Late end now) none = none
+    by_none (trouble.Busy lock until) none = none
+    by_none (trouble.Waiting have need) none = none
+    by_none (trouble.Stale page least got) none = none
+    by_none trouble.Memory none = tt
+    by_none (trouble.Exhausted what) none = tt
+    by_none (trouble.Absent page) none = tt
+    by_none (trouble.NotALeaf page) none = tt
+    by_none (trouble.Damaged place offset) none = tt
+    by_none (trouble.BadFence page expected found) none = tt
+    by_none (trouble.Loop page) none = tt
+commit_well t (NotCommitted k) told none may = on k told (none k refl) may
+  where
+    on : (k : Trouble) → (k ≢ trouble.Memory) → IsOfNoCall t k → MayStopCommit k → IsSpent IsOfCommit t k
+    on (trouble.Exhausted what) told none may = (may, none)
     on trouble.Memory told none may = absurd (told refl)
     on trouble.Failed told none may = none
     on (trouble.Late end now) told none may = none

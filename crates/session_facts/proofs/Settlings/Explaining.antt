@@ -86,7 +86,7 @@ passed_anew s = on (new_ids s.known (part_received s.part))
     on (id ∷ ids) = again_anew s.part
 
 -- one that begins has met nothing
-abbrev HasMetNothing : AtWork → Type 0
+abbrev pub HasMetNothing : AtWork → Type 0
 HasMetNothing w = (trouble_of_part w ≡ None) × (left_of_part w ≡ 0)
 
 again_clean : (w : AtWork) → HasMetNothing (part_again w)
@@ -94,7 +94,7 @@ again_clean (Client client m) = (refl, refl)
 again_clean (Tree tree m) = (refl, refl)
 again_clean (Page tree page m) = (refl, refl)
 
-anew_clean : (w : AtWork) → part_again w ≡ w → HasMetNothing w
+pub anew_clean : (w : AtWork) → part_again w ≡ w → HasMetNothing w
 anew_clean w anew = subst HasMetNothing anew (again_clean w)
 
 -- ---- the part at work

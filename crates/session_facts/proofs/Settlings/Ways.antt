@@ -50,11 +50,11 @@ use Rattle.tree_ckpt.specs.Making.{Making}
 
 -- what stops the checkpoint of any page is of no page
 fair_of : (t : Trouble) → ((page : ℕ) → MayStop page t) → IsOfNoPage t
-fair_of (trouble.Absent named) may = absurd (never named (may (suc named)))
+fair_of (trouble.Absent named) may = absurd (never named (may (suc named)).0)
   where
     never : (n : ℕ) → n ≡ suc n → ⊥
     never n e = absurd (omega (arith, e))
-fair_of (trouble.NotALeaf named) may = absurd (never named (may (suc named)))
+fair_of (trouble.NotALeaf named) may = absurd (never named (may (suc named)).0)
   where
     never : (n : ℕ) → n ≡ suc n → ⊥
     never n e = absurd (omega (arith, e))

@@ -14,6 +14,7 @@ use Rattle.cloud_trait.specs.Claim.{Claim}
 use Rattle.cloud_trait.specs.Machine.{Next, Goes, Ends, Stops}
 use Rattle.cloud_trait.specs.Views.{got_of, done_of}
 use Rattle.db_base.specs.declared.names.QueueName.TheVariants as queue
+use Rattle.db_base.specs.declared.trouble.Counter.TheVariants as counter
 use Rattle.db_base.specs.declared.trouble.Trouble.{Trouble}
 use Rattle.db_base.specs.declared.trouble.Trouble.TheVariants as trouble
 use Rattle.leaf_edit.specs.Lacked.{lacked}
@@ -65,7 +66,8 @@ HasFree (Ok x) = Unit {0}
 HasFree (Err t) = IsFree t
 
 spent_free : (t : Trouble) → IsSpent t → IsFree t
-spent_free (trouble.Exhausted what) is = tt
+spent_free (trouble.Exhausted counter.Version) is = tt
+spent_free (trouble.Exhausted counter.Pages) is = tt
 spent_free t is = absurd is
 
 fair_free : {X : Type 0} → (r : Result X Trouble) → IsFair r → HasFree r

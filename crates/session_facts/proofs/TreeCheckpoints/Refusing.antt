@@ -11,6 +11,7 @@ use Rattle.db_base.specs.declared.trouble.Trouble.{Trouble}
 use Rattle.db_base.specs.declared.trouble.Trouble.TheVariants as trouble
 use Rattle.node_codec.specs.Tree.{Tree, tree_bytes}
 use Rattle.cloud_facts.specs.Book.Tally.{Store}
+use Rattle.session_facts.specs.Sessions.Spent.{IsOfFolding}
 use Rattle.session_facts.specs.TreeCheckpoints.Checkpoint.{MayStop}
 use Rattle.tree_descent.specs.declared.descent.Descent.{Descent}
 use Rattle.session_facts.specs.Trees.Ways.{LeadsOn}
@@ -25,11 +26,11 @@ StopsWell (Stops m t) = MayStop t
 
 -- a counter stands at its last value
 abbrev pub IsSpent : Trouble → Type 0
-IsSpent (trouble.Exhausted what) = Unit {0}
+IsSpent (trouble.Exhausted what) = IsOfFolding what
 IsSpent t = ⊥
 
 pub spent_may : (t : Trouble) → IsSpent t → MayStop t
-spent_may (trouble.Exhausted what) is = tt
+spent_may (trouble.Exhausted what) is = is
 spent_may t is = absurd is
 
 -- what it comes to is no other trouble

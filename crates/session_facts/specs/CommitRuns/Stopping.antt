@@ -3,18 +3,19 @@ use Rattle.db_base.specs.declared.trouble.CommitAnswer.{CommitAnswer}
 use Rattle.db_base.specs.declared.trouble.CommitAnswer.TheVariants.{Committed, NotCommitted, InDoubt, CommittedOpen}
 use Rattle.db_base.specs.declared.trouble.Trouble.{Trouble}
 use Rattle.db_base.specs.declared.trouble.Trouble.TheVariants as trouble
+use Rattle.session_facts.specs.Sessions.Spent.{IsOfCommit}
 
 -- a call failed or came too late, a counter stands at its last value, or memory ran out: no object is damaged, no walk is stale
 abbrev pub MayStop : Trouble → Type 0
 MayStop trouble.Failed = Unit {0}
 MayStop (trouble.Late end now) = Unit {0}
-MayStop (trouble.Exhausted what) = Unit {0}
+MayStop (trouble.Exhausted what) = IsOfCommit what
 MayStop trouble.Memory = Unit {0}
 MayStop t = ⊥
 
 -- without a call a counter stands at its last value, or memory ran out
 abbrev pub MayStopAtOnce : Trouble → Type 0
-MayStopAtOnce (trouble.Exhausted what) = Unit {0}
+MayStopAtOnce (trouble.Exhausted what) = IsOfCommit what
 MayStopAtOnce trouble.Memory = Unit {0}
 MayStopAtOnce t = ⊥
 

@@ -26,6 +26,7 @@ use Rattle.recover_run.specs.Meaning.{head_behind}
 use Rattle.recover_run.specs.Recovery.{Recovery, Step, home_of}
 use Rattle.recover_run.proofs.Knowing.{IsRising}
 use Rattle.session_facts.specs.Openings.Client.{KnowsClient}
+use Rattle.session_facts.specs.Sessions.Spent.{IsOfOpening}
 use Rattle.cloud_facts.specs.Book.Messages.{IsLogMessage, IsDeleted}
 use Rattle.cloud_facts.specs.Book.Records.{IsIn, StandsAt}
 use Rattle.cloud_facts.specs.Book.Tally.{Store}
@@ -127,7 +128,7 @@ MayStop trouble.Failed = Unit {0}
 MayStop (trouble.Late end now) = Unit {0}
 MayStop (trouble.Busy lock until) = Unit {0}
 MayStop (trouble.Waiting have need) = Unit {0}
-MayStop (trouble.Exhausted what) = Unit {0}
+MayStop (trouble.Exhausted what) = IsOfOpening what
 MayStop trouble.Memory = Unit {0}
 MayStop t = ⊥
 

@@ -17,6 +17,7 @@ use Rattle.page_ckpt.specs.Paging.{Paging, Step, PagingLeads}
 use Rattle.page_ckpt.specs.declared.stage.Stage.{Stage}
 use Rattle.page_ckpt.specs.declared.stage.Stage.TheVariants.{TakingHome, GettingHome, Receiving, TakingRight, GettingRight, PuttingRight, ReleasingRight, PuttingHome, Deleting as DeletingNext, Releasing, Finished}
 use Rattle.session_facts.specs.Runs.Runs.{MayDelete}
+use Rattle.session_facts.specs.Sessions.Spent.{IsOfPaging}
 use Rattle.cloud_facts.specs.Book.Tally.{Store}
 use Rattle.session_facts.specs.PageCheckpoints.Rights.{ReadLeaf, ComesRight, PutsRight, LeavesRight, PutsHome}
 
@@ -49,18 +50,22 @@ HasLeases p = HoldsPage p.tree p.page p.held ⊎ ((right : ℕ) × HoldsRight p.
 
 -- ---- why it stops
 
+-- the page is the one that was named, and not page 1, which is a leaf in each tree
+abbrev pub IsNamedOne : ℕ → ℕ → Type 0
+IsNamedOne page named = (named ≡ page) × (page ≢ 1)
+
 -- It stops for no fault of the tree: no message, page, fence or way is ever broken, and of pages the named one alone may be absent or no
--- leaf.
+-- leaf, unless it is page 1.
 abbrev pub MayStop : ℕ → Trouble → Type 0
 MayStop page trouble.Failed = Unit {0}
 MayStop page (trouble.Late end now) = Unit {0}
 MayStop page (trouble.Busy lock until) = Unit {0}
-MayStop page (trouble.Absent named) = named ≡ page
-MayStop page (trouble.NotALeaf named) = named ≡ page
+MayStop page (trouble.Absent named) = IsNamedOne page named
+MayStop page (trouble.NotALeaf named) = IsNamedOne page named
 MayStop page (trouble.Damaged place offset) = ⊥
 MayStop page (trouble.BadFence named expected found) = ⊥
 MayStop page (trouble.Loop named) = ⊥
-MayStop page (trouble.Exhausted what) = Unit {0}
+MayStop page (trouble.Exhausted what) = IsOfPaging what
 MayStop page (trouble.Waiting have need) = ⊥
 MayStop page (trouble.Stale named least got) = ⊥
 MayStop page trouble.Memory = Unit {0}

@@ -6,6 +6,7 @@ use Rattle.db_base.specs.declared.trouble.Trouble.{Trouble}
 use Rattle.db_base.specs.declared.trouble.Trouble.TheVariants as trouble
 use Rattle.session_facts.specs.Openings.Opening.{MayStop as MayStopOpening}
 use Rattle.session_facts.specs.PageCheckpoints.Checkpoint.{MayStop as MayStopPage}
+use Rattle.session_facts.specs.Sessions.Spent.{IsOfSettling}
 use Rattle.session_facts.specs.TreeCheckpoints.Checkpoint.{MayStop as MayStopTree}
 use Rattle.session_facts.specs.Walks.Walks.{MayStop as MayStopWalk}
 
@@ -23,7 +24,7 @@ MaySettle trouble.Failed = Unit {0}
 MaySettle (trouble.Late end now) = Unit {0}
 MaySettle (trouble.Busy lock until) = Unit {0}
 MaySettle (trouble.Waiting have need) = Unit {0}
-MaySettle (trouble.Exhausted what) = Unit {0}
+MaySettle (trouble.Exhausted what) = IsOfSettling what
 MaySettle trouble.Memory = Unit {0}
 MaySettle t = ⊥
 

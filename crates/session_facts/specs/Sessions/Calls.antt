@@ -1,5 +1,5 @@
 -- The one service call of a step of a session, and what the step explains of it.
-use Rattle.std.specs.Prelude.{◌≡◌, ◌≢◌, List, Some, Ok}
+use Rattle.std.specs.Prelude.{ℕ, ◌≡◌, ◌≢◌, ◌⊎◌, List, Some, None, Ok}
 use Rattle.client_work.specs.Session.{Acting, StepsSession, StepsAt, ShowsAt, StepsOpening, StepsCommit, ReadsBy, StepsPaging, StepsFolding, StepsClosing, StepsRenewing, StepsSettling, ask_of_work}
 use Rattle.client_work.specs.declared.answer.Answer.{Answer}
 use Rattle.client_work.specs.declared.answer.Answer.TheVariants as answer
@@ -10,17 +10,20 @@ use Rattle.cloud_trait.specs.declared.answer.Answer.{Answer as Reply}
 use Rattle.cloud_trait.specs.declared.answer.Answer.TheVariants.{Memory}
 use Rattle.cloud_trait.specs.declared.turn.Turn.{Turn}
 use Rattle.cloud_trait.specs.declared.turn.Turn.TheVariants.{More, Ended}
-use Rattle.cloud_trait.specs.Ask.{Ask}
+use Rattle.cloud_trait.specs.Ask.{Ask, Release}
 use Rattle.cloud_trait.specs.Caller.{Caller}
-use Rattle.cloud_trait.specs.Claim.{Claim}
+use Rattle.cloud_trait.specs.Claim.{Claim, IsOver}
+use Rattle.cloud_trait.specs.Growth.{HasGrown}
 use Rattle.cloud_trait.specs.Seen.{Seen}
 use Rattle.cloud_trait.specs.State.{CloudState}
+use Rattle.cloud_trait.specs.Weather.{Rose}
+use Rattle.db_base.specs.declared.trouble.Trouble.TheVariants.{Waiting}
 use Rattle.commit_run.specs.Run.{Run}
 use Rattle.page_cache.specs.Cache.{Cache}
 use Rattle.page_ckpt.specs.Paging.{Paging as Page}
 use Rattle.recover_run.specs.declared.home.Home.{Home}
 use Rattle.recover_run.specs.Recovery.{Recovery}
-use Rattle.session_facts.specs.Sessions.Explaining.{Explains}
+use Rattle.session_facts.specs.Sessions.Explaining.{Explains, Meets, left_in, trouble_in}
 use Rattle.settle_run.specs.Settling.{Settling as SettlingState}
 use Rattle.tree_ckpt.specs.Making.{Making}
 use Rattle.tree_walk.specs.Walk.{Walk}
@@ -97,8 +100,21 @@ reply_at who before after buffer (Broken lease) c d new shown turn p q = absurd 
 abbrev pub reply_of : (who : Caller) (before after : Seen) (old new : Acting) (turn : Turn Answer) → StepsSession who before after old new (Ok turn) → Reply
 reply_of who before after old new turn p = reply_at who before after new.buffer old.work old.cache p.shown.0 new.work new.shown turn p.work p.shown.1
 
--- a step explains what it brought by the call that was in hand, where that found memory
+-- the lease that is given back next is over
+abbrev pub GivesLateBack : Work → ℕ → Type 0
+GivesLateBack w now = (l : Claim) × (ask_of_work w ≡ Some (Release l)) × IsOver now l
+
+-- an operation that begins to wait for records under such a lease does not answer before it gives it back
+abbrev pub WaitsLate : Work → Turn Answer → ℕ → Type 0
+WaitsLate new More now = GivesLateBack new now
+WaitsLate new turn now = ⊥
+
+-- A step explains what it brought by the call that was in hand, where that found memory. One that comes to wait for records while no message is withheld
+-- does so under a lease that is over.
 pub record IsExplained (who : Caller) (before after : Seen) (old new : Acting) (turn : Turn Answer) (s t : CloudState) (p : StepsSession who before after old new (Ok turn)) : Type 0 where
   pub ask : Ask
   pub hand : ask_of_work old.work ≡ Some ask
+  pub grown : HasGrown s t
   pub explains : reply_of who before after old new turn p ≢ Memory → Explains ask before.counts after.counts s t old.work new.work turn
+  pub waits : reply_of who before after old new turn p ≢ Memory → trouble_in old.work ≡ None → left_in old.work ≡ 0 → (have need : ℕ) → Meets new.work turn (Waiting have need)
+      → Rose before.counts.withheld after.counts.withheld ⊎ WaitsLate new.work turn t.now

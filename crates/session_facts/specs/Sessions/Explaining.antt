@@ -14,6 +14,7 @@ use Rattle.cloud_trait.specs.Claim.{Claim, IsOver}
 use Rattle.cloud_trait.specs.Machine.{Next, Goes, Ends, Stops}
 use Rattle.cloud_trait.specs.State.{CloudState, Counts}
 use Rattle.cloud_trait.specs.Weather.{Rose}
+use Rattle.db_base.specs.declared.names.QueueName.TheVariants as queue
 use Rattle.db_base.specs.declared.trouble.CommitAnswer.{CommitAnswer}
 use Rattle.db_base.specs.declared.trouble.CommitAnswer.TheVariants.{Committed, NotCommitted, InDoubt, CommittedOpen}
 use Rattle.db_base.specs.declared.trouble.Trouble.{Trouble}
@@ -23,6 +24,7 @@ use Rattle.recover_run.specs.declared.stage.RecoverAnswer.{RecoverAnswer}
 use Rattle.recover_run.specs.declared.stage.Stage.{Stage}
 use Rattle.recover_run.specs.declared.stage.Stage.TheVariants as stage
 use Rattle.session_facts.specs.Sessions.Sessions.{leases_of}
+use Rattle.session_facts.specs.Sessions.Spent.{IsSpentIn}
 use Rattle.settle_run.specs.declared.part.Part.{Part}
 use Rattle.settle_run.specs.declared.part.Part.TheVariants.{Client, Tree, Page}
 use Rattle.tree_ckpt.specs.Making.{Making}
@@ -164,14 +166,14 @@ Meets new turn t = (trouble_in new ≡ Some t) ⊎ (trouble_of_turn turn ≡ Som
 abbrev pub HasOver : List Claim → ℕ → Type 0
 HasOver held now = (l : Claim) × IsIn held l × IsOver now l
 
--- the call receives when one of these leases is over
+-- the call receives from the queue of a client when one of these leases is over
 abbrev pub ReceivesLate : Ask → List Claim → ℕ → Type 0
-ReceivesLate (Receive queue most) held now = HasOver held now
+ReceivesLate (Receive (queue.Atomic client) most) held now = HasOver held now
 ReceivesLate ask held now = ⊥
 
 -- A call shows a trouble, by the counts and the states before and behind it: a failure by the count of faults; a late call by a lease that
 -- it names and that is over; a held lock by the lock, or by the count of what was withheld; records that were not received by that count, or by
--- a receive when a lease in hand is over; a stale read by the count of stale reads. The last number of a counter, and a page that a line named, are not
+-- a receive from a client's queue when a lease in hand is over; a stale read by the count of stale reads. The last number of a counter, and a page that a line named, are not
 -- the call's.
 abbrev pub IsShown : Ask → List Claim → Counts → Counts → CloudState → CloudState → Trouble → Type 0
 IsShown ask held c d s t trouble.Failed = Rose c.faults d.faults
@@ -180,7 +182,7 @@ IsShown ask held c d s t (trouble.Busy lock until) = (TakesFree ask s t.now → 
 IsShown ask held c d s t (trouble.Waiting have need) = Rose c.withheld d.withheld ⊎ ReceivesLate ask held t.now
 IsShown ask held c d s t (trouble.Stale page least got) = Rose c.stale d.stale
 IsShown ask held c d s t trouble.Memory = Unit {0}
-IsShown ask held c d s t (trouble.Exhausted what) = Unit {0}
+IsShown ask held c d s t (trouble.Exhausted what) = IsSpentIn t what
 IsShown ask held c d s t (trouble.Absent page) = Unit {0}
 IsShown ask held c d s t (trouble.NotALeaf page) = Unit {0}
 IsShown ask held c d s t (trouble.Damaged place offset) = Unit {0}

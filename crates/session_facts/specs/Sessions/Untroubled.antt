@@ -6,54 +6,69 @@ use Rattle.client_work.specs.declared.answer.Answer.{Answer}
 use Rattle.client_work.specs.declared.work.Work.{Work}
 use Rattle.cloud_trait.specs.declared.answer.Answer.TheVariants.{Memory}
 use Rattle.cloud_trait.specs.declared.turn.Turn.{Turn}
-use Rattle.cloud_trait.specs.Ask.{Ask}
+use Rattle.cloud_trait.specs.Ask.{Ask, Release}
 use Rattle.cloud_trait.specs.Caller.{Caller}
+use Rattle.cloud_trait.specs.Claim.{Lasts}
 use Rattle.cloud_trait.specs.Seen.{Seen}
+use Rattle.cloud_trait.specs.State.{CloudState}
 use Rattle.db_base.specs.declared.trouble.CommitAnswer.{CommitAnswer}
 use Rattle.db_base.specs.declared.trouble.CommitAnswer.TheVariants.{Committed, NotCommitted}
+use Rattle.db_base.specs.declared.trouble.Counter.{Counter}
 use Rattle.db_base.specs.declared.trouble.Trouble.{Trouble}
 use Rattle.db_base.specs.declared.trouble.Trouble.TheVariants as trouble
-use Rattle.session_facts.specs.Sessions.Calls.{reply_of}
-use Rattle.session_facts.specs.Sessions.Explaining.{ReceivesLate, left_in, trouble_in}
-use Rattle.session_facts.specs.Sessions.Sessions.{leases_of}
+use Rattle.session_facts.specs.PageCheckpoints.Checkpoint.{IsNamedOne}
+use Rattle.session_facts.specs.Sessions.Calls.{GivesLateBack, reply_of}
+use Rattle.session_facts.specs.Sessions.Explaining.{left_in, trouble_in}
+use Rattle.session_facts.specs.Sessions.Spent.{IsOfCommit, IsOfPaging, IsSpentIn}
 
--- A step was calm: its call found memory and no count rose in it, the lock that it takes was free, the leases that it names lasted, and where it
--- receives so did those in hand.
+-- the lease that the call gives back lasts at a moment
+abbrev pub GivesBackLasting : Ask → ℕ → Type 0
+GivesBackLasting (Release l) now = Lasts now l
+GivesBackLasting ask now = Unit {0}
+
+-- A step was calm: its call found memory and no count rose in it, the lock that it takes was free, and the leases that it names lasted, also one that
+-- it gives back.
 pub record StepsCalmly (who : Caller) (before after : Seen) (old new : Acting) (turn : Turn Answer) (p : StepsSession who before after old new (Ok turn)) : Type 0 where
   pub ask : Ask
   pub hand : ask_of_work old.work ≡ Some ask
   pub calm : IsCalm (record { who = who; ask = ask; answer = reply_of who before after old new turn p; before = before; after = after })
-  pub received : ReceivesLate ask (leases_of old.work) calm.after.now → ⊥
+  pub returned : GivesBackLasting ask calm.after.now
   pub memory : reply_of who before after old new turn p ≢ Memory
 
--- no call of the cloud brings such a trouble
-abbrev pub IsOfNoCall : Trouble → Type 0
-IsOfNoCall trouble.Failed = ⊥
-IsOfNoCall (trouble.Late end now) = ⊥
-IsOfNoCall (trouble.Busy lock until) = ⊥
-IsOfNoCall (trouble.Waiting have need) = ⊥
-IsOfNoCall (trouble.Stale page least got) = ⊥
-IsOfNoCall t = Unit {0}
+-- no call of the cloud brings such a trouble; one of a counter that is spent comes where the cloud tells so
+abbrev pub IsOfNoCall : CloudState → Trouble → Type 0
+IsOfNoCall t trouble.Failed = ⊥
+IsOfNoCall t (trouble.Late end now) = ⊥
+IsOfNoCall t (trouble.Busy lock until) = ⊥
+IsOfNoCall t (trouble.Waiting have need) = ⊥
+IsOfNoCall t (trouble.Stale page least got) = ⊥
+IsOfNoCall t (trouble.Exhausted what) = IsSpentIn t what
+IsOfNoCall t k = Unit {0}
 
--- what is at work goes well so far: no call brought it a trouble, and no deletion failed
-pub record IsUntroubled (w : Work) : Type 0 where
-  pub trouble : (t : Trouble) → trouble_in w ≡ Some t → IsOfNoCall t
+-- what is at work may keep such a trouble where a cloud tells this: no call brought it, or it waits for records under a lease that is over and is given
+-- back next
+abbrev pub IsExcused : CloudState → Work → Trouble → Type 0
+IsExcused t w (trouble.Waiting have need) = GivesLateBack w t.now
+IsExcused t w k = IsOfNoCall t k
+
+-- what is at work goes well so far: no call brought it a trouble that is not excused, and no deletion failed
+pub record IsUntroubled (t : CloudState) (w : Work) : Type 0 where
+  pub trouble : (k : Trouble) → trouble_in w ≡ Some k → IsExcused t w k
   pub left : left_in w ≡ 0
 
--- a counter stands at its last value
-abbrev pub IsSpent : Trouble → Type 0
-IsSpent (trouble.Exhausted what) = Unit {0}
-IsSpent t = ⊥
+-- a counter of these stands at its last value, as the cloud tells
+abbrev pub IsSpent : (Counter → Type 0) → CloudState → Trouble → Type 0
+IsSpent Own t (trouble.Exhausted what) = Own what × IsSpentIn t what
+IsSpent Own t k = ⊥
 
--- or the page that was named is absent or no leaf
-abbrev pub IsSpentOrOf : ℕ → Trouble → Type 0
-IsSpentOrOf page (trouble.Exhausted what) = Unit {0}
-IsSpentOrOf page (trouble.Absent named) = named ≡ page
-IsSpentOrOf page (trouble.NotALeaf named) = named ≡ page
-IsSpentOrOf page t = ⊥
+-- or the page that was named is absent or no leaf, unless it is page 1
+abbrev pub IsSpentOrOf : ℕ → CloudState → Trouble → Type 0
+IsSpentOrOf page t (trouble.Absent named) = IsNamedOne page named
+IsSpentOrOf page t (trouble.NotALeaf named) = IsNamedOne page named
+IsSpentOrOf page t k = IsSpent IsOfPaging t k
 
 -- it is committed, unless a counter stands at its last value
-abbrev pub CommitsWell : CommitAnswer → Type 0
-CommitsWell (Committed txn) = Unit {0}
-CommitsWell (NotCommitted t) = IsSpent t
-CommitsWell answer = ⊥
+abbrev pub CommitsWell : CloudState → CommitAnswer → Type 0
+CommitsWell t (Committed txn) = Unit {0}
+CommitsWell t (NotCommitted k) = IsSpent IsOfCommit t k
+CommitsWell t answer = ⊥

@@ -13,6 +13,7 @@ use Rattle.db_base.specs.declared.trouble.Trouble.TheVariants as trouble
 use Rattle.history.specs.Audited.{Audited, applied_entry}
 use Rattle.session_facts.specs.Runs.Runs.{MayDelete}
 use Rattle.cloud_facts.specs.Book.Tally.{Store}
+use Rattle.session_facts.specs.Sessions.Spent.{IsOfFolding}
 use Rattle.tree_ckpt.specs.Making.{Making, MakingLeads}
 use Rattle.tree_ckpt.specs.Standing.{OfTree, HasIds}
 use Rattle.session_facts.specs.Trees.Charts.{KnowsRoot}
@@ -52,7 +53,7 @@ abbrev pub MayStop : Trouble → Type 0
 MayStop trouble.Failed = Unit {0}
 MayStop (trouble.Late end now) = Unit {0}
 MayStop (trouble.Busy lock until) = Unit {0}
-MayStop (trouble.Exhausted what) = Unit {0}
+MayStop (trouble.Exhausted what) = IsOfFolding what
 MayStop trouble.Memory = Unit {0}
 MayStop t = ⊥
 

@@ -18,3 +18,4 @@ pub mod Acknowledged
 pub mod Added
 pub mod Opened
 pub mod LeftNone
+pub mod ShownByLines

@@ -1,9 +1,8 @@
 -- What a read and a scan show is what the lines say.
-use Rattle.std.proofs.Common.{◌≡◌, ◌≢◌, ◌+◌, ℕ, List, Some, Ok, refl, sym, ap, subst, ◌∙◌, Bool}
+use Rattle.std.proofs.Common.{◌≡◌, ℕ, List, Ok, sym, ap, subst, ◌∙◌, Bool}
 use Rattle.client_work.specs.Session.{Acting, StepsAt, StepsSession, noted_behind}
 use Rattle.client_work.specs.declared.answer.Answer.{Answer}
 use Rattle.client_work.specs.declared.answer.Answer.TheVariants as answer
-use Rattle.client_work.specs.declared.listing.Listing.{Listing}
 use Rattle.client_work.specs.declared.work.Work.{Work}
 use Rattle.client_work.specs.declared.work.Work.TheVariants.{Reading, Scanning, Settling}
 use Rattle.cloud_facts.specs.Book.Messages.{IsLogMessage}
@@ -20,17 +19,12 @@ use Rattle.cloud_trait.specs.State.{CloudState}
 use Rattle.db_base.specs.declared.names.QueueName.TheVariants.{Atomic}
 use Rattle.head_codec.specs.declared.lists.Pending.{Pending}
 use Rattle.history.specs.Audited.{Audited}
-use Rattle.log_codec.specs.declared.record.AtomicRec.{AtomicRec}
-use Rattle.range_scan.specs.Listing.{range_of}
 use Rattle.recover_run.specs.declared.home.Home.{Home}
-use Rattle.replay_meaning.specs.Committed.{committed}
 use Rattle.replay_meaning.specs.Standing.{Line, Standing, standing}
 use Rattle.report_types.specs.declared.entry.Entry.{Entry}
-use Rattle.session_facts.specs.Facts.{WorksAs, ActsAs, AllAct, CloudHolds}
+use Rattle.session_facts.specs.Facts.{WorksAs, ActsAs, CloudHolds}
 use Rattle.session_facts.specs.Sessions.Sessions.{Sessions, IsHome, KnowsWork}
-use Rattle.session_facts.specs.ShownByLines.{IsOfCommitted, IsByLines, ReadsByLines, ScansByLines, ShowsByLines}
-use Rattle.tree_walk.specs.Walk.{Walk}
-use Rattle.txn_buffer.specs.Noted.{Noted}
+use Rattle.session_facts.specs.ShownByLines.{IsOfCommitted, ShowsByLines}
 
 module _ (n : ℕ) (lines : List Line) (sessions : Sessions) (audit : Audited) (blind : Bool) (t : CloudState) (h : CloudHolds n lines sessions audit blind t) where
   abbrev st : Store
@@ -51,20 +45,20 @@ module _ (n : ℕ) (lines : List Line) (sessions : Sessions) (audit : Audited) (
       }
 
   module _ (who : Caller) (before after : Seen) (new : Acting) where
-    abbrev old : Acting
-    old = sessions who.session
+    abbrev mine : Acting
+    mine = sessions who.session
 
     abbrev s : Standing
     s = standing lines who.session
 
     -- what is in hand is known, and stands by the lines
-    known_as : (w : Work) → old.work ≡ w → KnowsWork st t.now old.cache w (h.stand.parts who.session)
-    known_as w is = subst (λ (v : Work). KnowsWork st t.now old.cache v (h.stand.parts who.session)) is (h.stand.each who.session).work
+    known_as : (w : Work) → mine.work ≡ w → KnowsWork st t.now mine.cache w (h.stand.parts who.session)
+    known_as w is = subst (λ (v : Work). KnowsWork st t.now mine.cache v (h.stand.parts who.session)) is (h.stand.each who.session).work
 
-    stands_as : (w : Work) → old.work ≡ w → ActsAs old s → WorksAs w s
+    stands_as : (w : Work) → mine.work ≡ w → ActsAs mine s → WorksAs w s
     stands_as w is acts = subst (λ (v : Work). WorksAs v s) is acts.work
 
-    pub shown_by_lines : (turn : Turn Answer) → ActsAs old s → StepsSession who before after old new (Ok turn) → ShowsByLines lines t who before after old new turn
+    pub shown_by_lines : (turn : Turn Answer) → ActsAs mine s → StepsSession who before after mine new (Ok turn) → ShowsByLines lines t who before after mine new turn
     shown_by_lines (Ended answer.Value) acts p =
         let read = p.whole in
         let stands = stands_as (Reading read.0 read.1) read.2 acts in
@@ -76,7 +70,7 @@ module _ (n : ℕ) (lines : List Line) (sessions : Sessions) (audit : Audited) (
           by = record {
             works = stands.0;
             client = stands.1;
-            noted = p.buffer ∙ (ap (λ (w : Work). noted_behind w old.buffer) read.2 ∙ acts.buffer);
+            noted = p.buffer ∙ (ap (λ (w : Work). noted_behind w mine.buffer) read.2 ∙ acts.buffer);
             pending = pending_by read.0 (h.stand.parts who.session) (known_as (Reading read.0 read.1) read.2).0;
           };
         }

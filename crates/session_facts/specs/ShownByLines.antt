@@ -1,6 +1,6 @@
 -- What a read and a scan show by the lines: the session's buffer is what its lines noted, and the pending entries of its head are records that its client
 -- committed.
-use Rattle.std.specs.Prelude.{ℕ, ◌≡◌, List, [], Option, unwrap_or}
+use Rattle.std.specs.Prelude.{ℕ, ◌≡◌, List, [], unwrap_or}
 use Rattle.client_work.specs.Session.{Acting, value_of, items_of}
 use Rattle.client_work.specs.Showing.{ShowsValue, ShowsRecords}
 use Rattle.client_work.specs.declared.answer.Answer.{Answer}

@@ -3,6 +3,7 @@ use Rattle.std.proofs.Common.{◌≡◌, ℕ, Option, Some, None, refl, sym, sub
 use Rattle.cloud_facts.specs.Calls.Acting.{IsPruned, KnowsHome}
 use Rattle.cloud_facts.proofs.Calls.OthersLemmas.{pruned_again}
 use Rattle.cloud_trait.specs.Claim.{Lasts}
+use Rattle.session_facts.specs.Openings.Client.{AreOfRecords}
 use Rattle.session_facts.specs.Commits.Committing.{KnowsTaken}
 use Rattle.commit_run.specs.Draft.{Draft, pruned_by_root, pruned_by_kept, pruned_with, pruned_behind}
 use Rattle.session_facts.specs.CommitRuns.Running.{KnowsDraft}

@@ -76,7 +76,6 @@ without st client head test applied = record {
     on p is (inl old) = inl old
     on p is (inr e) = inr (applied p is e)
 
-
 -- those of its newest head are, and so those of that head pruned
 pub own_entries : (st : Store) (client : ℕ) (head : Head) → Pends st → IsClient client → IsPruned st.tally client (st.tally.head client) head
     → AreOfRecords st.book.log client head.pending

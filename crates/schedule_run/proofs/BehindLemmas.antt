@@ -22,6 +22,7 @@ use Rattle.session_facts.specs.LeftNone.{IsLeftReply}
 use Rattle.session_facts.specs.Sessions.Sessions.{Sessions}
 use Rattle.world_core.proofs.Keeping.{keeps_book}
 use Rattle.world_core.proofs.Shown.{shown}
+use Rattle.world_core.proofs.ShownByLines.{settled_by}
 use Rattle.world_core.proofs.Settled.{settling_leaves, settling_ends, settling_right}
 use Rattle.world_core.proofs.StandsLemmas.{no_memory}
 use Rattle.world_core.specs.Bounded.{AnswersSoon}
@@ -110,6 +111,7 @@ settles_so lines event.Settle r before after old new t told stands handled =
             settled_commits _ (standing lines 0).posture (session_at new.sessions 0).work (length lines + 1) before after old new r
             (subst (λ z. Answers (length lines + 1) z before after old new (Ok r)) handled.asks handled.answers);
         shows = shown (length lines + 1) event.Settle before after old new (Ok r) handled;
+        shows_by = settled_by lines (length lines + 1) handled.asked before after old new (Ok r) handled.asks handled.answers;
         left = λ u seen.
             settled_counts u (length lines + 1) before after old new r (subst (λ z. Answers (length lines + 1) z before after old new (Ok r)) handled.asks handled.answers);
       },

@@ -27,6 +27,7 @@ use Rattle.world_core.proofs.Calm.{well_after}
 use Rattle.world_core.proofs.Explained.{explained}
 use Rattle.world_core.proofs.LeftNone.{nothing_after}
 use Rattle.world_core.proofs.Shown.{shown}
+use Rattle.world_core.proofs.ShownByLines.{shown_by}
 use Rattle.world_core.proofs.Settled.{settling_leaves, settling_ends}
 use Rattle.world_core.proofs.Sound.{sound_after}
 use Rattle.schedule_run.specs.Answered.{WentOn, start, further, LeavesSo, EndsSo, AreExplained, IsSoundLine, RepliesAreSound}
@@ -132,6 +133,7 @@ went_explained before old t lines after new (further earlier line mid _ world _ 
         kept = λ u seen. durable_after (length earlier + 1) line.event mid after world new (Ok line.reply) handled earlier o.state u refl o.told o.stands seen;
         left_none = λ u seen. nothing_after (length earlier + 1) line.event mid after world new (Ok line.reply) handled earlier o.state u refl o.told o.stands seen;
         shows = shown (length earlier + 1) line.event mid after world new (Ok line.reply) handled;
+        shows_by = shown_by (length earlier + 1) line.event mid after world new (Ok line.reply) earlier o.state refl o.told o.stands handled;
         left = λ u seen.
             let f = stands_after (length earlier + 1) line.event mid after world new (Ok line.reply) handled earlier o.state refl o.told o.stands in
             subst (λ x. LeftIsRight x line.reply) (same_some f.after u (sym f.told ∙ seen)) f.left;

@@ -28,6 +28,7 @@ use Rattle.world_core.specs.EachStep.{EachStep}
 use Rattle.world_core.specs.Explained.{StepExplains}
 use Rattle.world_core.specs.Handled.{Handled}
 use Rattle.world_core.specs.Shown.{StepShows}
+use Rattle.world_core.specs.ShownByLines.{StepShowsBy}
 use Rattle.world_core.specs.Settled.{SettledLeaves, AnswersSettled, NoLockHeld, StepGoesWell}
 use Rattle.world_core.specs.Sound.{IsSoundFor}
 use Rattle.world_core.specs.Stands.{LeftIsRight}
@@ -63,7 +64,7 @@ IsKeptLine entries before line = IsKeptReply entries (standing before (session_o
 -- a line that was handled explains the steps that it made; where its session was untroubled and each of these was calm, the session is untroubled
 -- behind it, and the line is answered well; the calls of a checkpoint are few up to it; a settling leaves nothing and comes to its end so;
 -- a commit that it answers as committed is among what was committed, and of one that it answers as not committed nothing is; the two numbers of a
--- report count what is left then; and a read and a scan show what their own calls served
+-- report count what is left then; and a read and a scan show what their own calls served, by what the lines say of the client
 pub record IsExplained (lines : List Line) (line : Line) (before after : Seen) (old new : World) (handled : Handled (length lines + 1) line.event before after old new (Ok line.reply))
     : Type 0 where
   pub explains : EachStep StepExplains (length lines + 1) line.event before after old new (Ok line.reply) handled
@@ -78,6 +79,7 @@ pub record IsExplained (lines : List Line) (line : Line) (before after : Seen) (
       → IsLeftReply (committed (lines ++ line ∷ []) u) (standing lines (session_of line.event)).posture (session_at new.sessions (session_of line.event)).work line.reply
   pub left : (u : CloudState) → after.state ≡ Some u → LeftIsRight u line.reply
   pub shows : EachStep StepShows (length lines + 1) line.event before after old new (Ok line.reply) handled
+  pub shows_by : EachStep (StepShowsBy lines) (length lines + 1) line.event before after old new (Ok line.reply) handled
 
 -- and so does each line
 abbrev pub AreExplained : (before : Seen) (old : World) (lines : List Line) (after : Seen) (new : World) → WentOn before old lines after new → Type 0

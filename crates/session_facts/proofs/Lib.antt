@@ -44,3 +44,4 @@ pub mod ReportLemmas
 pub mod Answering
 pub mod Acknowledged
 pub mod LeftNone
+pub mod ShownByLines

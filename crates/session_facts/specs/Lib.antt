@@ -20,3 +20,4 @@ pub mod Acknowledged
 pub mod Added
 pub mod Opened
 pub mod LeftNone
+pub mod ShownByLines

@@ -29,4 +29,6 @@ pub mod AddedLines
 pub mod AddedShort
 pub mod OpenedLines
 pub mod Shown
+pub mod EachUnderWay
+pub mod ShownByLines
 pub mod OpenedShort

@@ -16,3 +16,4 @@ pub mod Added
 pub mod Opened
 pub mod World
 pub mod Shown
+pub mod ShownByLines

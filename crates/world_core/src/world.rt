@@ -75,6 +75,7 @@ impl<S: SessionCalls> World<S> {
     ghost use Rattle.world_core.specs.LeftNone.{LeavesNoCommit};
     ghost use Rattle.world_core.specs.Explained.{ExplainsSteps};
     ghost use Rattle.world_core.specs.Shown.{ShowsSteps};
+    ghost use Rattle.world_core.specs.ShownByLines.{ShowsStepsBy};
     ghost use Rattle.world_core.specs.Calm.{AnswersWell};
     ghost use Rattle.world_core.specs.Bounded.{MakesFewCalls};
     ghost use Rattle.world_core.specs.Settled.{SettlingEnds, SettlingIsRight, SettlingLeaves};
@@ -116,6 +117,8 @@ impl<S: SessionCalls> World<S> {
         ensures left_nothing { LeavesNoCommit n event.now (C.seen cloud.old) (C.seen cloud.new) self.old self.new result }
         ensures explained { ExplainsSteps n event.now (C.seen cloud.old) (C.seen cloud.new) self.old self.new result }
         ensures shown { ShowsSteps n event.now (C.seen cloud.old) (C.seen cloud.new) self.old self.new result }
+        // What it shows is by what the lines say of its client.
+        ensures shown_by_lines { ShowsStepsBy n event.now (C.seen cloud.old) (C.seen cloud.new) self.old self.new result }
         ensures calm { AnswersWell n event.now (C.seen cloud.old) (C.seen cloud.new) self.old self.new result }
         ensures bounded { MakesFewCalls n event.now (C.seen cloud.old) (C.seen cloud.new) self.old self.new result }
         ensures settled { SettlingLeaves n event.now (C.seen cloud.old) (C.seen cloud.new) self.old self.new result }

@@ -3,6 +3,7 @@ use Rattle.std.proofs.Common.{◌≡◌, ℕ, Option, Some, None, refl, sym, sub
 use Rattle.cloud_facts.specs.Calls.Acting.{IsPruned, KnowsHome}
 use Rattle.cloud_facts.proofs.Calls.OthersLemmas.{pruned_again}
 use Rattle.cloud_trait.specs.Claim.{Lasts}
+use Rattle.session_facts.specs.Openings.Client.{AreOfRecords}
 use Rattle.session_facts.specs.Commits.Committing.{KnowsTaken}
 use Rattle.commit_run.specs.Draft.{Draft, pruned_by_root, pruned_by_kept, pruned_with, pruned_behind}
 use Rattle.session_facts.specs.CommitRuns.Running.{KnowsDraft}
@@ -30,7 +31,7 @@ use Rattle.tree_walk.specs.Walk.{Walk, sought}
 use Rattle.session_facts.specs.Walks.Caches.{KnowsCache}
 use Rattle.session_facts.specs.Walks.Walks.{WasUsed, KnowsWalk}
 use Rattle.session_facts.proofs.Walks.Caches.{seen_root, seen_leaf}
-use Rattle.session_facts.proofs.Walks.Prunings.{AreOfRecords, kept_from, own_entries, leaf_prunes, root_prunes}
+use Rattle.session_facts.proofs.Walks.Prunings.{kept_from, own_entries, leaf_prunes, root_prunes}
 
 -- ---- a draft
 
@@ -48,7 +49,7 @@ module _ (st : Store) (now : ℕ) (h : Holds st) (part : Part) (d : Draft) (k : 
       → (Lasts now d.writes.home.lease → IsPruned st.tally d.writes.home.client d.writes.home.head head)
       → ((p : Pending) → IsIn head.pending p → IsIn d.writes.home.head.pending p) → KnowsDraft st now (record d { writes = pruned d.writes head }) part
   with_pruned head epoch txn phase prunes from = record {
-    taken = record { before = k.taken.before; taken = k.taken.taken; home = record { at = home; trees = λ p is. k.taken.home.trees p (from p is) } };
+    taken = record { before = k.taken.before; taken = k.taken.taken; home = record { at = home; trees = λ p is. k.taken.home.trees p (from p is); of_records = λ p is. k.taken.home.of_records p (from p is) } };
     may = k.may;
     some = k.some;
     none = k.none;

@@ -39,6 +39,7 @@ taken_left st now home part t = record {
     begun = let before = k.begun in let taken = t.taken in omega (arith, before, taken);
   };
   trees = t.home.trees;
+  of_records = t.home.of_records;
 }
   where
     k : KnowsHome st now home.client home.lease home.head t.before part
@@ -89,6 +90,7 @@ module _ (st : Store) (now : ℕ) (parts : Parts) (session : ℕ) (w : Writing) 
     records_are = refl;
     newest = k.newest;
     trees = t.home.trees;
+    of_records = t.home.of_records;
     uncommitted = uncommitted;
   }
 

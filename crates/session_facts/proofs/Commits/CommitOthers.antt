@@ -23,6 +23,7 @@ use Rattle.cloud_facts.specs.Book.Growth.{PhaseRises, IsLater, Grows}
 use Rattle.cloud_facts.specs.Book.Records.{IsIn}
 use Rattle.cloud_facts.specs.Book.Tally.{Store}
 use Rattle.txn_buffer.specs.Noted.{Noted}
+use Rattle.session_facts.proofs.Openings.Entries.{records_stay}
 
 -- nothing of the transaction joins the log
 abbrev pub NoneOf : Attempt → Store → Store → Type 0
@@ -102,6 +103,7 @@ module _ (st su : Store) (now later : ℕ) (x : Attempt) (after : now ≤ later)
     records_are = a.records_are;
     newest = λ lasts. pruned_stays st su x.client base is_client grows (still lasts) (a.newest (earlier lasts));
     trees = a.trees;
+    of_records = records_stay st su x.client base.pending grows a.of_records;
     uncommitted = λ r is of. a.uncommitted r (none r is of) of;
   }
 
@@ -176,6 +178,7 @@ commit_others st su now later w part after o joins k =
       past = past_on w.home.head (st.tally.head w.home.client) (su.tally.head w.home.client) a.past ((o.passes).grows.heads w.home.client);
       newest = λ lasts. still lasts ∙ a.newest (omega (arith, lasts, after));
       trees = a.trees;
+      of_records = records_stay st su w.home.client w.home.head.pending (o.passes).grows a.of_records;
       needed = a.needed;
       messages = messages a.messages;
     }

@@ -26,13 +26,18 @@ use Rattle.cloud_facts.proofs.Book.Places.{in_behind}
 use Rattle.session_facts.specs.TreeCheckpoints.Checkpoint.{leases_of_making}
 use Rattle.session_facts.proofs.TreeCheckpoints.MakingOthers.{making_others}
 use Rattle.session_facts.proofs.Walks.Walks.{walk_grows}
+use Rattle.session_facts.proofs.Openings.Entries.{records_stay}
 
 -- ---- what a session knows it knows still
 
 home_stays : (st su : Store) (now later : ℕ) (home : Home) (part : Part) (mine : List Claim) → now ≤ later → IsIn mine home.lease → Others mine later st su → IsHome st now home part
     → IsHome su later home part
 home_stays st su now later home part mine after here o k =
-    record { at = home_others st su now later home.client home.lease home.head home.attempt part mine after here o k.at; trees = k.trees }
+    record {
+      at = home_others st su now later home.client home.lease home.head home.attempt part mine after here o k.at;
+      trees = k.trees;
+      of_records = records_stay st su home.client home.head.pending o.passes.grows k.of_records;
+    }
 
 pub work_others : (st su : Store) (now later : ℕ) (c : Cache) (work : Work) (part : Part) → now ≤ later → Others (leases_of work) later st su → NoneJoins part st su
     → KnowsWork st now c work part → KnowsWork su later c work part

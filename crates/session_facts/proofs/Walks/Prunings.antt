@@ -20,6 +20,7 @@ use Rattle.route_plan.specs.Record.{pending_of}
 use Rattle.cloud_facts.specs.Book.Premises.{IsAppliedEntry, IsLeafAtMost}
 use Rattle.cloud_facts.specs.Book.Records.{IsIn}
 use Rattle.cloud_facts.specs.Book.Tally.{Leafy, Store}
+use Rattle.session_facts.specs.Openings.Client.{AreOfRecords}
 use Rattle.session_facts.specs.Walks.Caches.{IsSeenRoot, IsSeenLeaf}
 
 -- ---- lists without some of their elements
@@ -74,10 +75,6 @@ without st client head test applied = record {
         → IsIn (filter (λ q. not (test q)) head.pending) p ⊎ IsAppliedEntry st.tally client p
     on p is (inl old) = inl old
     on p is (inr e) = inr (applied p is e)
-
--- a client's entries are of its records in the log
-abbrev pub AreOfRecords : List AtomicRec → ℕ → List Pending → Type 0
-AreOfRecords log client pending = (p : Pending) → IsIn pending p → (r : AtomicRec) × IsOwn log client r × (p ≡ pending_of r)
 
 -- those of its newest head are, and so those of that head pruned
 pub own_entries : (st : Store) (client : ℕ) (head : Head) → Pends st → IsClient client → IsPruned st.tally client (st.tally.head client) head

@@ -1,19 +1,27 @@
 -- What an open client that works on no commit knows.
-use Rattle.std.specs.Prelude.{ℕ, List}
+use Rattle.std.specs.Prelude.{ℕ, ◌≡◌, List}
 use Rattle.cloud_facts.specs.Book.Records.{IsIn}
 use Rattle.cloud_facts.specs.Book.Tally.{Store}
 use Rattle.cloud_facts.specs.Calls.Acting.{KnowsHome}
 use Rattle.cloud_facts.specs.Homes.Homes.{Part}
+use Rattle.cloud_facts.specs.Pendings.Pending.{IsOwn}
 use Rattle.cloud_trait.specs.Claim.{Claim}
 use Rattle.db_base.specs.Ids.{IsTree}
 use Rattle.head_codec.specs.declared.head.Head.{Head}
 use Rattle.head_codec.specs.declared.lists.Pending.{Pending}
+use Rattle.log_codec.specs.declared.record.AtomicRec.{AtomicRec}
+use Rattle.route_plan.specs.Record.{pending_of}
 
 -- pending entries are of trees
 abbrev pub AreOfTrees : List Pending → Type 0
 AreOfTrees pending = (p : Pending) → IsIn pending p → IsTree p.tree
 
--- its home, and that the pending entries of its head are of trees, whether its lease lasts or not
+-- and of the client's records in the log, which are committed
+abbrev pub AreOfRecords : List AtomicRec → ℕ → List Pending → Type 0
+AreOfRecords log client pending = (p : Pending) → IsIn pending p → (r : AtomicRec) × IsOwn log client r × (p ≡ pending_of r)
+
+-- its home, and that the pending entries of its head are of trees and of its committed records, whether its lease lasts or not
 pub record KnowsClient (st : Store) (now client : ℕ) (lease : Claim) (head : Head) (attempt : ℕ) (part : Part) : Type 0 where
   pub at : KnowsHome st now client lease head attempt part
   pub trees : AreOfTrees head.pending
+  pub of_records : AreOfRecords st.book.log client head.pending

@@ -5,6 +5,7 @@ use Rattle.world_core.proofs.Explained.{explained}
 use Rattle.world_core.proofs.Keeping.{keeps_book}
 use Rattle.world_core.proofs.Settled.{settling_ends, settling_leaves, settling_right}
 use Rattle.world_core.proofs.Shown.{shown}
+use Rattle.world_core.proofs.ShownByLines.{shown_by}
 use Rattle.world_core.proofs.Sound.{sound_after}
 use Rattle.world_core.proofs.Acknowledged.{durable_after}
 use Rattle.world_core.proofs.LeftNone.{nothing_after}
@@ -24,6 +25,9 @@ returns-clause-explained g c = explained _ _ _ _ _ _ _
 
 pub returns-clause-shown : goal.returns-clause-shown
 returns-clause-shown g c = shown _ _ _ _ _ _ _
+
+pub returns-clause-shown_by_lines : goal.returns-clause-shown_by_lines
+returns-clause-shown_by_lines g c = shown_by _ _ _ _ _ _ _
 
 pub returns-clause-calm : goal.returns-clause-calm
 returns-clause-calm g c = well_after _ _ _ _ _ _ _

@@ -1,0 +1,85 @@
+-- What holds of each step of a line: it holds of a session's own steps, under the lines before it, and of a settling's.
+use Rattle.std.proofs.Common.{inl, inr, ◌≡◌, ◌+◌, ℕ, List, length, Bool, true, false, Some, Result, Ok, Err, sym}
+use Rattle.client_work.specs.declared.answer.Answer.{Answer}
+use Rattle.cloud_trait.specs.Caller.{Caller}
+use Rattle.cloud_trait.specs.Seen.{Seen}
+use Rattle.cloud_trait.specs.State.{CloudState}
+use Rattle.cloud_trait.specs.declared.turn.Turn.{Turn}
+use Rattle.cloud_trait.specs.declared.turn.Turn.TheVariants.{More, Ended}
+use Rattle.db_base.specs.declared.refusal.Refused.{Refused}
+use Rattle.db_base.specs.declared.wish.Wish.{Wish}
+use Rattle.db_base.specs.declared.wish.Wish.TheVariants.{Plain}
+use Rattle.replay_meaning.specs.Standing.{Line}
+use Rattle.reply_text.specs.declared.reply.Reply.{Reply}
+use Rattle.world_core.specs.declared.asked.Asked.{Asked}
+use Rattle.world_core.specs.declared.asked.Asked.TheVariants.{Session, Wait, Report, Settle}
+use Rattle.world_core.specs.declared.asked.Request.{Request}
+use Rattle.world_core.specs.declared.asked.Request.TheVariants.{Begin, Note, Abort, Step, Run, Crash}
+use Rattle.world_core.specs.World.{World}
+use Rattle.world_core.specs.declared.world.WorldFault.{WorldFault}
+use Rattle.world_core.specs.EachStep.{StepFact, EachWent, EachMade, EachRun, EachCrashed, EachSettling, EachDone, EachServed, EachAsked}
+use Rattle.world_core.specs.Handled.{StepsLooked, MakesStep, Went, start, further, Runs, Settles, Crashes, Does, Serves, Answers}
+use Rattle.world_core.specs.Stands.{WorldStands}
+use Rattle.world_core.proofs.StandsLemmas.{IsUnderWay, way_begins, went_on}
+
+module _ (Holds : StepFact) (lines : List Line)
+    (own : (who : Caller) (wish : Wish) (before after : Seen) (old new : World) (turn : Turn Answer) → who.event ≡ length lines + 1 → IsUnderWay lines old before
+        → (p : StepsLooked who wish before after old new turn) → Holds who wish before after old new turn p)
+    (settles : (n : ℕ) (before after : Seen) (old new : World) (result : Result Reply WorldFault) (h : Settles n before after old new result)
+        → EachSettling Holds n before after old new result h) where
+  went_each : (who : Caller) (before : Seen) (old : World) (after : Seen) (new : World) → who.event ≡ length lines + 1 → IsUnderWay lines old before
+      → (went : Went who before old after new) → EachWent Holds who before old after new went
+  went_each who before old after new number way start = tt
+  went_each who before old after new number way (further mid _ world _ went step) = (
+    went_each who before old mid world number way went,
+    own who Plain mid after world new More number (went_on lines who before old mid world number way went) step,
+  )
+
+  module _ (n : ℕ) (before after : Seen) (old new : World) (result : Result Reply WorldFault) (t : CloudState) (number : length lines + 1 ≡ n) (told : before.state ≡ Some t)
+      (stands : WorldStands lines old t) where
+    way : IsUnderWay lines old before
+    way = way_begins lines before old t told stands
+
+    abbrev who : ℕ → Caller
+    who k = record { session = k; event = n }
+
+    made_each : (k : ℕ) (wish : Wish) (h : MakesStep n k wish before after old new result) → EachMade Holds n k wish before after old new result h
+    made_each k wish (inl refused) = tt
+    made_each k wish (inr (inl made)) = own (who k) wish before after old new made.turn (sym number) way made.steps
+    made_each k wish (inr (inr memory)) = tt
+
+    run_each : (k : ℕ) (h : Runs n k before after old new result) → EachRun Holds n k before after old new result h
+    run_each k (inl refused) = tt
+    run_each k (inr (inl run)) = (
+      went_each (who k) before old run.comes.mid run.comes.world (sym number) way run.comes.went,
+      own (who k) Plain run.comes.mid after run.comes.world new (Ended run.answer) (sym number)
+          (went_on lines (who k) before old run.comes.mid run.comes.world (sym number) way run.comes.went) run.comes.steps,
+    )
+    run_each k (inr (inr memory)) = tt
+
+    crash_each : (k : ℕ) (done : Bool) (h : Crashes n k done before after old new result) → EachCrashed Holds n k done before after old new result h
+    crash_each k false dies = tt
+    crash_each k true (inl idle) = tt
+    crash_each k true (inr (inl dies)) = own (who k) Plain before after old dies.world dies.turn (sym number) way dies.steps
+    crash_each k true (inr (inr memory)) = tt
+
+    does_each : (k : ℕ) (request : Request) (h : Does n k request before after old new result) → EachDone Holds n k request before after old new result h
+    does_each k (Step wish) h = made_each k wish h
+    does_each k Run h = run_each k h
+    does_each k (Crash done) h = crash_each k done h
+    does_each k (Begin o) h = tt
+    does_each k (Note tree change) h = tt
+    does_each k Abort h = tt
+
+    serves_each : (k : ℕ) (request : Result Request Refused) (h : Serves n k request before after old new result) → EachServed Holds n k request before after old new result h
+    serves_each k (Ok request) h = does_each k request h
+    serves_each k (Err why) h = tt
+
+    -- ---- every line
+
+    pub each_step : (asked : Asked) → (h : Answers n asked before after old new result) → EachAsked Holds n asked before after old new result h
+    each_step (Session k request) (inl served) = serves_each k request served.1
+    each_step (Session k request) (inr none) = tt
+    each_step (Wait ticks) waits = tt
+    each_step (Report tree) reports = tt
+    each_step Settle h = settles n before after old new result h

@@ -1,0 +1,105 @@
+-- What each step of a line shows where it ends a read or a scan is what the lines before it say.
+use Rattle.std.proofs.Common.{inl, inr, ◌≡◌, ◌+◌, ℕ, List, length, Some, Ok, Result, refl, sym, ap, subst, ◌∙◌}
+use Rattle.client_work.specs.Session.{Acting, settling_session, StepsSession}
+use Rattle.client_work.specs.declared.answer.Answer.{Answer}
+use Rattle.cloud_trait.specs.Caller.{Caller}
+use Rattle.cloud_trait.specs.Seen.{Seen}
+use Rattle.cloud_trait.specs.State.{CloudState}
+use Rattle.cloud_facts.proofs.Book.Names.{at_same}
+use Rattle.cloud_trait.specs.declared.turn.Turn.{Turn}
+use Rattle.cloud_trait.specs.declared.turn.Turn.TheVariants.{More, Ended}
+use Rattle.db_base.specs.declared.wish.Wish.{Wish}
+use Rattle.db_base.specs.declared.wish.Wish.TheVariants.{Plain}
+use Rattle.event_text.specs.declared.event.Event.{Event}
+use Rattle.replay_meaning.specs.Standing.{Line}
+use Rattle.reply_text.specs.declared.reply.Reply.{Reply}
+use Rattle.session_facts.specs.Facts.{session_at, CloudHolds}
+use Rattle.session_facts.specs.ShownByLines.{ShowsByLines}
+use Rattle.session_facts.proofs.ShownByLines.{IsSettler, shown_by_lines, settler_goes, settler_by_lines}
+use Rattle.session_facts.proofs.Steps.{wish_holds}
+use Rattle.world_core.specs.World.{World}
+use Rattle.world_core.specs.declared.world.WorldFault.{WorldFault}
+use Rattle.world_core.specs.declared.asked.Asked.{Asked}
+use Rattle.world_core.specs.declared.asked.Asked.TheVariants.{Session, Wait, Report, Settle}
+use Rattle.world_core.specs.EachStep.{EachWent, EachSettlingOn, EachSettling, EachAsked}
+use Rattle.world_core.specs.Handled.{StepsLooked, Went, start, further, SettlesOn, Settles, Answers}
+use Rattle.world_core.specs.ShownByLines.{StepShowsBy, ShowsStepsBy}
+use Rattle.world_core.proofs.EachUnderWay.{each_step}
+use Rattle.world_core.proofs.StandsLemmas.{IsUnderWay, changed_at, changed_was, has_at, told_under, steps_own, settler}
+
+module _ (lines : List Line) where
+  own_shows : (who : Caller) (wish : Wish) (before after : Seen) (old new : World) (turn : Turn Answer) → who.event ≡ length lines + 1 → IsUnderWay lines old before
+      → (p : StepsLooked who wish before after old new turn) → StepShowsBy lines who wish before after old new turn p
+  own_shows who wish before after old new turn number way p s under =
+      subst (λ (a : Acting). ShowsByLines lines s who p.under p.to a p.session.after turn) (changed_was who.session _ old.sessions new.sessions p.session)
+      (shown_by_lines (length lines + 1) lines (session_at old.sessions) old.audit old.blind s held who p.under p.to p.session.after turn (way.goes.acts who.session)
+      (steps_own lines who wish before after old new turn number way p))
+    where
+      wished : CloudState
+      wished = record way.after { wish = wish }
+
+      same : wished ≡ s
+      same = let told : p.under.state ≡ Some wished = told_under lines who wish before after old new turn number way p in let e : Some wished ≡ Some s = sym told ∙ under in cc
+
+      held : CloudHolds (length lines + 1) lines (session_at old.sessions) old.audit old.blind s
+      held = subst (λ (x : CloudState). CloudHolds (length lines + 1) lines (session_at old.sessions) old.audit old.blind x) same
+          (wish_holds (length lines + 1) lines (session_at old.sessions) old.audit old.blind way.after wish way.goes.holds)
+
+-- ---- a settling, whatever the cloud tells
+
+-- its session settles at each of its steps, and such a step shows nothing
+module _ (lines : List Line) (n : ℕ) where
+  step_shows : (wish : Wish) (before after : Seen) (old new : World) (turn : Turn Answer) → IsSettler (session_at old.sessions 0).work
+      → (p : StepsLooked (settler n) wish before after old new turn) → StepShowsBy lines (settler n) wish before after old new turn p
+  step_shows wish before after old new turn settles p s under =
+      settler_by_lines lines s (settler n) p.under p.to p.session.before p.session.after turn
+      (subst (λ (a : Acting). IsSettler a.work) (changed_was 0 _ old.sessions new.sessions p.session) settles) p.session.does
+
+  step_goes : (before after : Seen) (old new : World) → IsSettler (session_at old.sessions 0).work → StepsLooked (settler n) Plain before after old new More
+      → IsSettler (session_at new.sessions 0).work
+  step_goes before after old new settles p =
+      subst (λ (a : Acting). IsSettler a.work) (sym (changed_at 0 _ old.sessions new.sessions p.session 0 ∙ at_same 0 p.session.after (session_at old.sessions) 0 refl))
+      (settler_goes (settler n) p.under p.to p.session.before.work p.session.after.work
+      (subst (λ (a : Acting). IsSettler a.work) (changed_was 0 _ old.sessions new.sessions p.session) settles) p.session.does.work)
+
+  went_goes : (before : Seen) (old : World) (after : Seen) (new : World) → IsSettler (session_at old.sessions 0).work → Went (settler n) before old after new
+      → IsSettler (session_at new.sessions 0).work
+  went_goes before old after new settles start = settles
+  went_goes before old after new settles (further mid _ world _ went step) = step_goes mid after world new (went_goes before old mid world settles went) step
+
+  went_shows : (before : Seen) (old : World) (after : Seen) (new : World) → IsSettler (session_at old.sessions 0).work → (went : Went (settler n) before old after new)
+      → EachWent (StepShowsBy lines) (settler n) before old after new went
+  went_shows before old after new settles start = tt
+  went_shows before old after new settles (further mid _ world _ went step) = (
+    went_shows before old mid world settles went,
+    step_shows Plain mid after world new More (went_goes before old mid world settles went) step,
+  )
+
+  pub settling_shows : (before after : Seen) (old new : World) (result : Result Reply WorldFault) (h : Settles n before after old new result)
+      → EachSettling (StepShowsBy lines) n before after old new result h
+  settling_shows before after old new result (inr memory) = tt
+  settling_shows before after old new result (inl h) = on h.settles
+    where
+      begins : IsSettler (session_at h.begun.sessions 0).work
+      begins = subst (λ (a : Acting). IsSettler a.work) (sym (has_at 0 settling_session old h.begun h.begins 0 ∙ at_same 0 settling_session (session_at old.sessions) 0 refl)) tt
+
+      on : (s : SettlesOn (settler n) before after h.begun new result) → EachSettlingOn (StepShowsBy lines) (settler n) before after h.begun new result s
+      on (inr memory) = tt
+      on (inl s) = (
+        went_shows before h.begun s.comes.mid s.comes.world begins s.comes.went,
+        step_shows Plain s.comes.mid after s.comes.world s.left (Ended s.answer) (went_goes before h.begun s.comes.mid s.comes.world begins s.comes.went) s.comes.steps,
+      )
+
+-- ---- every line
+
+pub shown_by : (n : ℕ) (event : Event) (before after : Seen) (old new : World) (result : Result Reply WorldFault) → ShowsStepsBy n event before after old new result
+shown_by n event before after old new result lines t number told stands handled =
+    each_step (StepShowsBy lines) lines (own_shows lines) (settling_shows lines) n before after old new result t number told stands handled.asked handled.answers
+
+-- and one that settles, whatever lines led there
+pub settled_by : (lines : List Line) (n : ℕ) (asked : Asked) (before after : Seen) (old new : World) (result : Result Reply WorldFault) → asked ≡ Settle
+    → (h : Answers n asked before after old new result) → EachAsked (StepShowsBy lines) n asked before after old new result h
+settled_by lines n Settle before after old new result is h = settling_shows lines n before after old new result h
+settled_by lines n (Session k request) before after old new result is h = absurd (cc (is))
+settled_by lines n (Wait ticks) before after old new result is h = tt
+settled_by lines n (Report tree) before after old new result is h = tt

@@ -27,4 +27,3 @@ pub mod AddedLines
 pub mod AddedShort
 pub mod OpenedLines
 pub mod Shown
-pub mod OpenedShort

@@ -59,17 +59,17 @@ use Rattle.world_core.proofs.StandsLemmas.{changed_at, changed_was, has_at, sett
 
 -- ---- events that open clients
 
-opened_more : (events : List Event) (e : Event) (client : ℕ) → IsOpenedIn events client → IsOpenedIn (events ++ e ∷ []) client
+pub opened_more : (events : List Event) (e : Event) (client : ℕ) → IsOpenedIn events client → IsOpenedIn (events ++ e ∷ []) client
 opened_more [] e client h = absurd h
 opened_more (x ∷ events) e client (inl h) = inl h
 opened_more (x ∷ events) e client (inr h) = inr (opened_more events e client h)
 
-opened_last : (events : List Event) (e : Event) (client : ℕ) → Opens e client → IsOpenedIn (events ++ e ∷ []) client
+pub opened_last : (events : List Event) (e : Event) (client : ℕ) → Opens e client → IsOpenedIn (events ++ e ∷ []) client
 opened_last [] e client h = inl h
 opened_last (x ∷ events) e client h = inr (opened_last events e client h)
 
 -- what the last of them opens no earlier one did
-opened_new : (events : List Event) (e : Event) (client : ℕ) → OpenEachOnce (events ++ e ∷ []) → Opens e client → IsOpenedIn events client → ⊥
+pub opened_new : (events : List Event) (e : Event) (client : ℕ) → OpenEachOnce (events ++ e ∷ []) → Opens e client → IsOpenedIn events client → ⊥
 opened_new [] e client once opens h = absurd h
 opened_new (x ∷ events) e client once opens (inl h) = once.0 client h (opened_last events e client opens)
 opened_new (x ∷ events) e client once opens (inr h) = opened_new events e client once.1 opens h

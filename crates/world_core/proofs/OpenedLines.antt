@@ -10,7 +10,6 @@ use Rattle.event_text.specs.declared.event.Event.TheVariants as event
 use Rattle.reply_text.specs.declared.reply.Reply.{Reply}
 use Rattle.reply_text.specs.declared.reply.Reply.TheVariants as reply
 use Rattle.txn_buffer.specs.Noted.{Noted}
-use Rattle.head_codec.specs.declared.head.Head.{Head}
 use Rattle.page_cache.specs.Cache.{Cache}
 use Rattle.cloud_trait.specs.Caller.{Caller}
 use Rattle.cloud_trait.specs.Machine.{Goes, Ends}
@@ -30,8 +29,7 @@ use Rattle.client_work.specs.declared.op.Op.TheVariants as op
 use Rattle.client_work.specs.declared.shown.Shown.{Shown}
 use Rattle.client_work.specs.declared.work.Work.{Work}
 use Rattle.client_work.specs.declared.work.Work.TheVariants as work
-use Rattle.client_work.specs.Session.{Acting, closed_session, settling_session, StepsSession, Begins, BeginsWith, BeginsOpening, HasInHand, CommitsIn, CommitsOf, CommitsNoted, ReadsOf, ReadsIn, ScansIn, old_lease, stopped_work, paging_begun_by, folding_begun_by}
-use Rattle.cloud_facts.proofs.Book.Names.{at_same}
+use Rattle.client_work.specs.Session.{Acting, closed_session, StepsSession, Begins, BeginsWith, BeginsOpening, HasInHand, CommitsIn, CommitsOf, CommitsNoted, ReadsOf, ReadsIn, ScansIn, old_lease, stopped_work, paging_begun_by, folding_begun_by}
 use Rattle.replay_meaning.specs.Standing.{Line, Closed, standing}
 use Rattle.session_facts.specs.Facts.{session_at, ActsAs}
 use Rattle.session_facts.specs.Sessions.Sessions.{Sessions}
@@ -51,11 +49,11 @@ use Rattle.world_core.specs.declared.asked.Asked.TheVariants.{Session, Wait, Rep
 use Rattle.world_core.specs.declared.world.WorldFault.{WorldFault}
 use Rattle.world_core.specs.Asked.{Asks}
 use Rattle.world_core.specs.Sessions.{Changes, NotesIn, AbortsIn}
-use Rattle.world_core.specs.Handled.{Has, MakesNoCall, SetsWish, StepsLooked, RunsShort, MakesStep, Went, start, further, StopsShort, Runs, SettlesOn, Settles, Dies, Crashes, CrashesDone, Does, Answers, Handled}
+use Rattle.world_core.specs.Handled.{Has, SetsWish, StepsLooked, RunsShort, MakesStep, Went, start, further, StopsShort, Runs, SettlesOn, Settles, Dies, Crashes, CrashesDone, Does, Answers, Handled}
 use Rattle.world_core.specs.Added.{WorldAdds}
 use Rattle.world_core.specs.Opened.{Opens, IsOpenedIn, OpenEachOnce, WorldApart}
 use Rattle.world_core.proofs.AddedSteps.{IsAdding, SettlerAdds, adding_begins, begun_way, settler_went, went_adding}
-use Rattle.world_core.proofs.StandsLemmas.{changed_at, changed_was, has_at, settler}
+use Rattle.world_core.proofs.StandsLemmas.{changed_at, changed_was, settler}
 
 -- ---- events that open clients
 

@@ -20,7 +20,7 @@ use Rattle.run_text.specs.Summary.{summary}
 use Rattle.sched_gen.specs.Schedule.{next_state, drawn, key_of, change_event, checkpoint_events, round_events, state_after, rounds, openings, closings, schedule}
 use Rattle.schedule_run.specs.Run.{Generates}
 use Rattle.schedule_run.specs.Status.{status_of_output, ended_as}
-use Rattle.world_core.specs.Opened.{Opens, IsOpenedIn, OpenEachOnce}
+use Rattle.world_core.specs.Opened.{IsOpenedIn, OpenEachOnce}
 use Rattle.world_core.proofs.OpenedLines.{once_before}
 use Rattle.schedule_run.proofs.OnceLemmas.{OpenNone, events_more, none_more, one_none, none_once, once_nothing, stopped_once}
 use Rattle.schedule_run.proofs.PlayLemmas.{played_nothing, played_more, stopped_at}

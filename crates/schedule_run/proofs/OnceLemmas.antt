@@ -1,5 +1,5 @@
 -- What lines add to any cloud is of its kind, and opens no transaction twice where they open no client twice.
-use Rattle.std.proofs.Common.{◌≡◌, ◌+◌, ℕ, List, [], ◌∷◌, ◌++◌, length, Some, Result, Ok, Err, false, refl, sym, ap, subst, ◌∙◌, ◌⊎◌, inl, inr}
+use Rattle.std.proofs.Common.{◌≡◌, ◌+◌, ℕ, List, [], ◌∷◌, ◌++◌, length, Some, Ok, Err, false, refl, sym, ap, subst, ◌∙◌, ◌⊎◌, inl, inr}
 use Rattle.cloud_trait.specs.State.{CloudState}
 use Rattle.cloud_trait.specs.Seen.{Seen}
 use Rattle.client_work.specs.Session.{Acting, closed_session}
@@ -19,7 +19,7 @@ use Rattle.world_core.specs.Handled.{Handled}
 use Rattle.world_core.specs.Opened.{Opens, IsOpenedIn, OpenEachOnce, WorldApart}
 use Rattle.world_core.proofs.AddedLines.{handled_adds}
 use Rattle.world_core.proofs.AddedShort.{handled_rows}
-use Rattle.world_core.proofs.OpenedLines.{handled_apart, none_twice, once_before, opened_new}
+use Rattle.world_core.proofs.OpenedLines.{handled_apart, none_twice, once_before}
 use Rattle.schedule_run.specs.Answered.{IsNew, WentOn, start, further, events_of, OpensNoneTwice}
 use Rattle.schedule_run.specs.Play.{StoppedAt, stopped_before, stopped_within}
 

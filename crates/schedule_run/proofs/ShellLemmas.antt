@@ -1,5 +1,5 @@
 -- The lines of a shell, one after another.
-use Rattle.std.proofs.Common.{◌≡◌, ◌+◌, ℕ, List, [], ◌∷◌, ◌++◌, length, Some, Result, Ok, Err, Bool, true, false, if◌then◌else◌, refl, sym, ap, subst, ◌∙◌, append_assoc, inl, inr, arith, length-append}
+use Rattle.std.proofs.Common.{◌≡◌, ◌+◌, ℕ, List, [], ◌∷◌, ◌++◌, length, Result, Ok, Err, Bool, true, false, if◌then◌else◌, refl, sym, ap, subst, ◌∙◌, append_assoc, inl, inr, arith, length-append}
 use Rattle.std.proofs.lemmas.List.{append-nil}
 use Rattle.cloud_trait.specs.Seen.{Seen}
 use Rattle.db_io.specs.Content.{Told, Adds, AddsPrefix}
@@ -18,9 +18,9 @@ use Rattle.words.specs.declared.fault.TextFault.TheVariants.{NotInGrammar}
 use Rattle.schedule_run.specs.InPlay.{Play}
 use Rattle.schedule_run.specs.declared.shell.ShellFault.{ShellFault}
 use Rattle.schedule_run.specs.declared.shell.ShellFault.TheVariants.{NotOpened, BadLine, WriteFault, Memory}
-use Rattle.schedule_run.specs.Play.{IsFresh, IsNext, IsRun, answered, answered_run, RanOut, uncounted, no_answer, StopsRun, stops_event, stops_run, Played}
+use Rattle.schedule_run.specs.Play.{IsFresh, IsRun, answered, answered_run, StopsRun, stops_event, stops_run, Played}
 use Rattle.run_text.specs.Written.{AddsFront, NothingRan, reply_line, shown_from, bad_line}
-use Rattle.schedule_run.specs.Shell.{AreShellLines, IsBad, alone, with_run, no_events, more_events, WereRun, in_event, in_run, WereStopped, Opens, WasCut, cut_opening, cut_line, cut_closing, cut_refusal, IsNextOf, ShellRanOut, out_before, out_writing, out_between, out_opening, out_next, ShellEnded, ShellWent, IsAt, RanOutAt, out_reply, out_event, EventRan, shown_by, ended, is_opened, opened_by, OpeningRan, ClosingRan, LineRefused, LineRan, event_run, refused, unread}
+use Rattle.schedule_run.specs.Shell.{AreShellLines, IsBad, alone, with_run, no_events, more_events, WereRun, in_event, in_run, WereStopped, Opens, WasCut, cut_opening, cut_line, cut_closing, cut_refusal, ShellRanOut, out_before, out_writing, out_between, out_opening, out_next, ShellEnded, ShellWent, IsAt, RanOutAt, out_reply, out_event, EventRan, shown_by, ended, is_opened, opened_by, OpeningRan, ClosingRan, LineRefused, LineRan, event_run, refused, unread}
 use Rattle.schedule_run.proofs.GoingLemmas.{adds_more}
 use Rattle.schedule_run.specs.Answered.{OpensNoneTwice}
 use Rattle.schedule_run.proofs.OnceLemmas.{OpenNone, none_more, one_none, once_nothing}

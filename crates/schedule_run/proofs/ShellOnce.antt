@@ -6,7 +6,7 @@ use Rattle.event_text.specs.declared.event.Event.TheVariants as event
 use Rattle.event_text.specs.declared.keyword.Keyword.{Keyword}
 use Rattle.event_text.specs.declared.keyword.Keyword.TheVariants as word
 use Rattle.event_text.specs.Keyword.{keyword_text, keyword_of, is_shell}
-use Rattle.event_text.specs.Event.{IsShellLine, event_words}
+use Rattle.event_text.specs.Event.{IsShellLine}
 use Rattle.reply_text.specs.declared.reply.Reply.{Reply}
 use Rattle.reply_text.specs.declared.reply.Reply.TheVariants.{Begun}
 use Rattle.replay_meaning.specs.Standing.{Line}

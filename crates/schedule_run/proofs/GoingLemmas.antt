@@ -32,6 +32,7 @@ use Rattle.schedule_run.specs.Answered.{IsNew, WentOn, start, further, AreAnswer
 use Rattle.schedule_run.proofs.BehindLemmas.{lines_left, lines_settled}
 use Rattle.schedule_run.proofs.SoundLemmas.{get_before, take_whole, went_soundly, went_explained}
 use Rattle.schedule_run.proofs.SeeingLemmas.{went_comes}
+use Rattle.schedule_run.proofs.OnceLemmas.{went_adds, lines_once, unanswered_kinds, unanswered_once}
 use Rattle.schedule_run.proofs.StayLemmas.{stay_upto, went_stay}
 use Rattle.run_text.specs.Written.{reply_line, replies_from, replies, bad_line}
 use Rattle.schedule_run.specs.Replayed.{AreSpelled, WroteFront, reply_cut, refusal_cut, EndedBy, between, writing, handling, Ended, WentThrough, Handles, IsAt, IsAnswered, LineWent, event_handled, refused, unread}
@@ -228,6 +229,8 @@ answered texts w v s t first world fresh h = record {
   settled = lines_settled h.lines s t first world h.went fresh;
   left = lines_left h.lines s t first world h.went fresh;
   reports = λ x told empty. reports_come h.lines s t first world x h.went fresh told empty;
+  kinds = λ x told. went_adds s first x told fresh h.lines t world h.went;
+  once = lines_once h.lines s t first world h.went fresh;
 }
 
 pub at_end : (text rest : List ℕ) (n : ℕ) (w v : Told) (s t : Seen) (first world : World) → IsNew first
@@ -328,6 +331,8 @@ with_answer {text} {rest} {behind} {line} {n} {m} {w} {v} {s} {t} {z} {first} {o
       settled = lines_settled (met.is.handles.lines ++ one ∷ []) s z first new went met.fresh;
       left = lines_left (met.is.handles.lines ++ one ∷ []) s z first new went met.fresh;
       reports = λ x told empty. reports_come (met.is.handles.lines ++ one ∷ []) s z first new x went met.fresh told empty;
+      kinds = λ x told. went_adds s first x told met.fresh (met.is.handles.lines ++ one ∷ []) z new went;
+      once = lines_once (met.is.handles.lines ++ one ∷ []) s z first new went met.fresh;
     }
 
 -- the run ends behind a text that has a reply
@@ -363,6 +368,7 @@ no_answer : {text rest behind line : List ℕ} {n m : ℕ} {w v : Told} {s t z :
     → Handled m event t z old new (Err fault) → u ≡ v → EndedBy fault met.is.handles.lines (line ∷ lines_of behind) w u s z
 no_answer {text} {rest} {behind} {line} {n} {m} {w} {v} {s} {t} {z} {first} {old} met u new event fault spells handled same =
     let h = met.is.handles in
+    let own : Handled (length h.lines + 1) event t z old new (Err fault) = subst (λ j. Handled j event t z old new (Err fault)) (met_count met) handled in
     record {
       event = event;
       spelled = spells;
@@ -370,7 +376,9 @@ no_answer {text} {rest} {behind} {line} {n} {m} {w} {v} {s} {t} {z} {first} {old
         mid = t;
         answered = answered met.is.earlier w v s t first old met.fresh h;
         last = new;
-        handled = subst (λ j. Handled j event t z old new (Err fault)) (met_count met) handled;
+        handled = own;
+        kinds = unanswered_kinds h.lines event fault s t z first old new h.went met.fresh own;
+        once = unanswered_once h.lines event fault s t z first old new h.went met.fresh own;
       };
       wrote = subst (λ x. Adds w x (replies h.lines)) (sym same) h.wrote;
     }

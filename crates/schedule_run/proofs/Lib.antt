@@ -5,6 +5,7 @@ pub mod WriteLemmas
 pub mod SeeingLemmas
 pub mod GoingLemmas
 pub mod PlayLemmas
+pub mod OnceLemmas
 pub mod ShellOnce
 pub mod ShellLemmas
 pub mod GeneratedLemmas

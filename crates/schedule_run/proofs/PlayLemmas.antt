@@ -1,5 +1,5 @@
 -- A world that handles one event behind another.
-use Rattle.std.proofs.Common.{◌≡◌, ◌<◌, ◌+◌, ℕ, List, [], ◌∷◌, ◌++◌, length, take, Some, Result, Ok, Err, refl, sym, ap, subst, ◌∙◌, arith, length-append}
+use Rattle.std.proofs.Common.{◌≡◌, ◌<◌, ◌+◌, ℕ, List, [], ◌∷◌, ◌++◌, length, take, Some, Result, Ok, Err, sym, subst, arith, length-append}
 use Rattle.std.proofs.lemmas.Option.{slice_get_within}
 use Rattle.cloud_trait.proofs.TracedLemmas.{empty_traced}
 use Rattle.cloud_trait.specs.Seen.{Seen}
@@ -9,37 +9,19 @@ use Rattle.event_text.specs.declared.event.Event.{Event}
 use Rattle.event_text.specs.declared.event.Event.TheVariants.{Run}
 use Rattle.reply_text.specs.declared.reply.Reply.{Reply}
 use Rattle.reply_text.specs.declared.reply.Reply.TheVariants.{Begun}
-use Rattle.client_work.specs.Session.{Acting, closed_session}
 use Rattle.cloud_trait.specs.State.{CloudState, IsEmptyCloud}
-use Rattle.replay_meaning.specs.Standing.{Line, unnamed}
-use Rattle.session_facts.specs.Facts.{session_at, ActsAs}
-use Rattle.session_facts.proofs.AddedRows.{adds_nothing as nothing_added}
-use Rattle.session_facts.proofs.StartLemmas.{closed_at}
-use Rattle.world_core.specs.World.{World}
-use Rattle.world_core.specs.Added.{WorldAdds}
-use Rattle.world_core.proofs.AddedLines.{handled_adds}
-use Rattle.world_core.proofs.AddedShort.{handled_rows}
+use Rattle.replay_meaning.specs.Standing.{Line}
 use Rattle.world_core.specs.declared.world.WorldFault.{WorldFault}
 use Rattle.world_core.specs.declared.world.WorldFault.TheVariants as world
 use Rattle.world_core.specs.Handled.{Handled}
 use Rattle.world_core.specs.Stands.{WorldStands, StandsOn, Grows}
 use Rattle.schedule_run.specs.InPlay.{Play}
-use Rattle.schedule_run.specs.Answered.{IsNew, WentOn, start, further, ReportsAreRight, KeepsTheTheorem}
+use Rattle.schedule_run.specs.Answered.{WentOn, start, further, ReportsAreRight, KeepsTheTheorem}
 use Rattle.schedule_run.specs.Play.{IsFresh, IsNext, RanOut, uncounted, no_answer, Takes, answered_run, stops_run, RunsWhole, Played, StoppedAt, stopped_before, stopped_within}
 use Rattle.schedule_run.proofs.BehindLemmas.{lines_left, lines_settled}
 use Rattle.schedule_run.proofs.GoingLemmas.{stands_more, fresh_stands, replies_sound, lines_explained, reports_come, report_same, acts_upto, acknowledged_stay, keeps_now}
+use Rattle.schedule_run.proofs.OnceLemmas.{went_adds, lines_once, unanswered_kinds, unanswered_once}
 use Rattle.schedule_run.proofs.StayLemmas.{stay_upto}
-
--- a new world added nothing to any cloud
-fresh_adds : (s : Seen) (world : World) (t : CloudState) → s.state ≡ Some t → IsNew world → WorldAdds [] t world s
-fresh_adds s world t told fresh = record {
-  rows = record { state = t; told = told; adds = nothing_added 0 [] t };
-  acts = λ n. subst (λ (a : Acting). ActsAs a unnamed) (sym (closed n)) (record { buffer = refl; work = refl });
-  rests = closed 0;
-}
-  where
-    closed : (n : ℕ) → session_at world.sessions n ≡ closed_session
-    closed n = ap (λ (l : List Acting). session_at l n) fresh.sessions ∙ closed_at 17 n
 
 -- nothing is handled yet
 pub played_nothing : (s : Seen) (play : Play) → IsFresh play → Played [] s s play
@@ -48,7 +30,8 @@ played_nothing s play fresh = record {
   first = play.world;
   fresh = fresh.world;
   went = start;
-  kinds = λ t told. fresh_adds s play.world t told fresh.world;
+  kinds = λ t told. went_adds s play.world t told fresh.world [] s play.world start;
+  once = lines_once [] s s play.world play.world start fresh.world;
   settled = λ t told runs. tt;
   left = lines_left [] s s play.world play.world start fresh.world;
   stands = stands;
@@ -75,7 +58,8 @@ played_more lines event reply s t z old new p n =
       first = p.first;
       fresh = p.fresh;
       went = went;
-      kinds = λ x told. handled_adds new.handled event t z old.world new.world reply lines x (omega arith) n.handled (p.kinds x told);
+      kinds = λ x told. went_adds s p.first x told p.fresh (lines ++ line ∷ []) z new.world went;
+      once = lines_once (lines ++ line ∷ []) s z p.first new.world went p.fresh;
       settled = lines_settled (lines ++ line ∷ []) s z p.first new.world went p.fresh;
       left = lines_left (lines ++ line ∷ []) s z p.first new.world went p.fresh;
       stands = stands at;
@@ -126,12 +110,18 @@ stopped_at lines event s t z old new p (no_answer handled grows) =
         settled = p.settled;
         left = p.left;
         reports = p.reports;
+        kinds = p.kinds;
+        once = p.once;
       };
       last = new.world;
-      handled = subst (λ j. Handled j event t z old.world new.world (Err world.Memory)) at handled;
+      handled = own at;
+      kinds = unanswered_kinds lines event world.Memory s t z p.first old.world new.world p.went p.fresh (own at);
+      once = unanswered_once lines event world.Memory s t z p.first old.world new.world p.went p.fresh (own at);
     })
-    (λ x reply told. handled_rows (length lines + 1) event t z old.world new.world (Err world.Memory) lines x refl (subst (λ j. Handled j event t z old.world new.world (Err world.Memory)) at handled) (p.kinds x told) reply)
     (keeps_behind lines (old.handled + 1) s t z old p at grows)
+  where
+    own : old.handled + 1 ≡ length lines + 1 → Handled (length lines + 1) event t z old.world new.world (Err world.Memory)
+    own at = subst (λ j. Handled j event t z old.world new.world (Err world.Memory)) at handled
 
 -- an event under the next number has no reply
 pub found_no_memory : (event : Event) (m : ℕ) (t z : Seen) (old new : Play) (fault : WorldFault) → m ≡ old.handled + 1

@@ -24,6 +24,7 @@ use Rattle.command_words.specs.declared.shape.Shape.TheVariants.{Replay, Gen, Sh
 use Rattle.command_words.specs.Words.{is_folder, generated, shell_over, settling_of, shape_of}
 use Rattle.schedule_run.specs.declared.status.Status.TheVariants as status
 use Rattle.schedule_run.specs.Status.{ended_as, status_of_input, status_of_line, status_of_shell}
+use Rattle.schedule_run.proofs.OnceLemmas.{once_nothing}
 use Rattle.schedule_run.specs.Run.{AsksWithin, WasWithin, ReadWhole, Replays, replay_unread, replay_went, RunsShell, shell_unread, shell_went, Ran}
 
 -- where no read was made, nothing was read
@@ -65,7 +66,7 @@ pub not_asked : (asked : Option Shape) (left w : Told) (s : Seen) → Ran asked 
 not_asked None left w s = record { ends = inr refl; unread = refl; nothing = record { output = refl; seen = refl } }
 not_asked (Some Replay) left w s = replay_not_read left left w s input.Memory
 not_asked (Some (Gen number count)) left w s =
-    (refl, record { ended = Err output.Memory; leads = refl; went = generated.out_before (record { output = refl; seen = refl }) })
+    (refl, record { ended = Err output.Memory; leads = refl; went = generated.out_before (record { output = refl; seen = refl }); opens_once = once_nothing s s refl })
 not_asked (Some (Shell client dir)) left w s = shell_not_read client left left w s input.Memory
 not_asked (Some (Settle dir)) left w s =
     (refl, record { ended = Err settle.Memory; leads = refl; went = settling.out_before (record { output = refl; seen = refl }) })

@@ -1,5 +1,5 @@
 -- The lines of a shell, one after another.
-use Rattle.std.proofs.Common.{◌≡◌, ◌+◌, ℕ, List, [], ◌∷◌, ◌++◌, length, Some, Result, Ok, Err, Bool, true, false, if◌then◌else◌, refl, sym, ap, subst, ◌∙◌, append_assoc, inl, inr, arith, length-append}
+use Rattle.std.proofs.Common.{◌≡◌, ◌+◌, ℕ, List, [], ◌∷◌, ◌++◌, length, Result, Ok, Err, Bool, true, false, if◌then◌else◌, refl, sym, ap, subst, ◌∙◌, append_assoc, inl, inr, arith, length-append}
 use Rattle.std.proofs.lemmas.List.{append-nil}
 use Rattle.cloud_trait.specs.Seen.{Seen}
 use Rattle.db_io.specs.Content.{Told, Adds, AddsPrefix}
@@ -18,19 +18,13 @@ use Rattle.words.specs.declared.fault.TextFault.TheVariants.{NotInGrammar}
 use Rattle.schedule_run.specs.InPlay.{Play}
 use Rattle.schedule_run.specs.declared.shell.ShellFault.{ShellFault}
 use Rattle.schedule_run.specs.declared.shell.ShellFault.TheVariants.{NotOpened, BadLine, WriteFault, Memory}
-use Rattle.schedule_run.specs.Play.{IsFresh, IsNext, IsRun, answered, answered_run, RanOut, uncounted, no_answer, StopsRun, stops_event, stops_run, Played}
+use Rattle.schedule_run.specs.Play.{IsFresh, IsRun, answered, answered_run, StopsRun, stops_event, stops_run, Played}
 use Rattle.run_text.specs.Written.{AddsFront, NothingRan, reply_line, shown_from, bad_line}
-use Rattle.schedule_run.specs.Shell.{AreShellLines, IsBad, alone, with_run, no_events, more_events, WereRun, in_event, in_run, WereStopped, Opens, WasCut, cut_opening, cut_line, cut_closing, cut_refusal, IsNextOf, ShellRanOut, out_before, out_writing, out_between, out_opening, out_next, ShellEnded, ShellWent, IsAt, RanOutAt, out_reply, out_event, EventRan, shown_by, ended, is_opened, opened_by, OpeningRan, ClosingRan, LineRefused, LineRan, event_run, refused, unread}
+use Rattle.schedule_run.specs.Shell.{AreShellLines, IsBad, alone, with_run, no_events, more_events, WereRun, in_event, in_run, WereStopped, Opens, WasCut, cut_opening, cut_line, cut_closing, cut_refusal, ShellRanOut, out_before, out_writing, out_between, out_opening, out_next, ShellEnded, ShellWent, IsAt, RanOutAt, out_reply, out_event, EventRan, shown_by, ended, is_opened, opened_by, OpeningRan, ClosingRan, LineRefused, LineRan, event_run, refused, unread}
 use Rattle.schedule_run.proofs.GoingLemmas.{adds_more}
-use Rattle.schedule_run.proofs.ShellOnce.{of_shell, shells_more, once_nothing, once_more, once_behind, none_twice, stops_once, twice_nothing}
-use Rattle.schedule_run.specs.ShellOnce.{AllShells, AreShells}
-use Rattle.session_facts.specs.Opened.{AddsNoneTwice}
-use Rattle.world_core.specs.Opened.{IsShells, WorldOnce}
-use Rattle.world_core.specs.Added.{WorldAdds}
-use Rattle.world_core.specs.declared.world.WorldFault.TheVariants as world
-use Rattle.world_core.proofs.OpenedLines.{handled_once}
-use Rattle.world_core.proofs.OpenedShort.{handled_none_twice}
-use Rattle.cloud_trait.specs.State.{CloudState}
+use Rattle.schedule_run.specs.Answered.{OpensNoneTwice}
+use Rattle.schedule_run.proofs.OnceLemmas.{OpenNone, none_more, one_none, once_nothing}
+use Rattle.schedule_run.proofs.ShellOnce.{all_shells, next_shells, shell_once, once_whole, stopped_in_once}
 use Rattle.schedule_run.proofs.PlayLemmas.{played_nothing, played_more, stopped_at}
 
 -- ---- events that are run whole
@@ -41,22 +35,7 @@ run_nothing s play fresh = record {
   whole = no_events;
   count = refl;
   played = played_nothing s play fresh;
-  once = λ shells t told. once_nothing s play.world t told fresh.world;
 }
-
--- the number under which the next event is handled
-next_number : (event : Event) (reply : Reply) (lines : List Line) (s t z : Seen) (old new : Play) → Played lines s t old → IsNext event reply t z old new → length lines + 1 ≡ new.handled
-next_number event reply lines s t z old new p n =
-    let c : old.handled ≡ length lines = p.count in
-    let d : new.handled ≡ old.handled + 1 = n.count in
-    omega arith
-
--- one event more opens no transaction twice
-once_next : (events : List Event) (replies : List Reply) (event : Event) (reply : Reply) (s t z : Seen) (old new : Play) → WereRun events replies s t old → IsNext event reply t z old new
-    → AreShells (events ++ event ∷ []) → (x : CloudState) → s.state ≡ Some x → WorldOnce x new.world z
-once_next events replies event reply s t z old new w next shells x told =
-    once_more events event reply new.handled w.lines x t z old.world new.world (next_number event reply w.lines s t z old new w.played next) shells next.handled (w.played.kinds x told)
-    (λ own. w.once own x told)
 
 run_more : (events : List Event) (replies : List Reply) (event : Event) (reply : Reply) (s t z : Seen) (old new : Play)
     → WereRun events replies s t old → IsRun event reply t z old new → WereRun (events ++ event ∷ []) (replies ++ reply ∷ []) s z new
@@ -65,7 +44,6 @@ run_more events replies event reply s t z old new w (answered other next) = reco
   whole = more_events events event w.lines (record { event = event; reply = reply } ∷ []) replies reply w.whole (alone reply other);
   count = omega (arith, length-append replies (reply ∷ []), length-append events (event ∷ []), w.count);
   played = played_more w.lines event reply s t z old new w.played next;
-  once = λ shells x told. once_behind events event x new.world z (once_next events replies event reply s t z old new w next shells x told);
 }
 run_more events replies event reply s t z old new w (answered_run mid play first last) =
     let began : Line = record { event = event; reply = Begun } in
@@ -76,23 +54,7 @@ run_more events replies event reply s t z old new w (answered_run mid play first
       count = omega (arith, length-append replies (reply ∷ []), length-append events (event ∷ []), w.count);
       played = subst (λ ls. Played ls s z new) (append_assoc w.lines (began ∷ []) (ran ∷ []))
           (played_more (w.lines ++ began ∷ []) (Run 1) reply s mid z play new (played_more w.lines event Begun s t mid old play w.played first) last);
-      once = λ shells x told.
-          let p = played_more w.lines event Begun s t mid old play w.played first in
-          once_behind events event x new.world z
-          (handled_once new.handled (Run 1) mid z play.world new.world reply (w.lines ++ began ∷ []) x (next_number (Run 1) reply (w.lines ++ began ∷ []) s mid z play new p last) refl
-          last.handled (p.kinds x told) (once_next events replies event Begun s t mid old play w first shells x told));
     }
-
--- how many lines a play has handled
-count_of : (lines : List Line) (s t : Seen) (play : Play) → Played lines s t play → length lines + 1 ≡ play.handled + 1
-count_of lines s t play p = let c : play.handled ≡ length lines = p.count in omega arith
-
--- memory ran out at the run of what an event began
-run_stops : (lines : List Line) (x : CloudState) (t z : Seen) (old new : Play) → length lines + 1 ≡ old.handled + 1 → RanOut (Run 1) t z old new → WorldAdds lines x old.world t
-    → WorldOnce x old.world t → AddsNoneTwice x z
-run_stops lines x t z old new at (uncounted same) w h = subst (AddsNoneTwice x) (sym same) (none_twice x old.world t h)
-run_stops lines x t z old new at (no_answer handled grows) w h =
-    handled_none_twice (old.handled + 1) (Run 1) t z old.world new.world (Err world.Memory) lines x at refl handled w h
 
 run_stopped : (events : List Event) (replies : List Reply) (event : Event) (s t z : Seen) (old new : Play)
     → WereRun events replies s t old → StopsRun event t z old new → WereStopped events replies event s z
@@ -100,14 +62,11 @@ run_stopped events replies event s t z old new w (stops_event out) = record {
   lines = w.lines;
   whole = w.whole;
   stopped = in_event (stopped_at w.lines event s t z old new w.played out);
-  once = λ shells x told. stops_once events event w.lines x t z old new (count_of w.lines s t old w.played) shells out (w.played.kinds x told) (λ own. w.once own x told);
 }
 run_stopped events replies event s t z old new w (stops_run mid play first out) = record {
   lines = w.lines;
   whole = w.whole;
   stopped = in_run (stopped_at began (Run 1) s mid z play new so_far out);
-  once = λ shells x told.
-      run_stops began x mid z play new (count_of began s mid play so_far) out (so_far.kinds x told) (once_next events replies event Begun s t mid old play w first shells x told);
 }
   where
     began : List Line
@@ -160,43 +119,36 @@ is_bad text only event is = never_read event (only event is)
 
 -- ---- the whole
 
--- the events of these lines are a shell's
-all_shells : (texts : List (List ℕ)) (events : List Event) → AreShellLines texts events → AllShells events
-all_shells [] [] spelled = tt
-all_shells [] (e ∷ events) spelled = absurd spelled
-all_shells (t ∷ texts) [] spelled = absurd spelled
-all_shells (t ∷ texts) (e ∷ events) spelled = (of_shell t e spelled.0, all_shells texts events spelled.1)
+module _ (client : ℕ) (events : List Event) (s z : Seen) (shells : OpenNone events) where
+  run_once : (later : List Event) (replies : List Reply) (play : Play) → OpenNone later → WereRun (Open 1 client ∷ later) replies s z play → OpensNoneTwice s z
+  run_once later replies play none run = run.played.once (once_whole (Open 1 client ∷ later) run.lines replies run.whole (shell_once client later none))
 
--- what a shell runs next is a shell's
-next_shells : (later : List (List ℕ)) (event : Event) → IsNextOf later event → IsShells event
-next_shells [] event is = subst IsShells (sym is) refl
-next_shells (text ∷ texts) event is = of_shell text event is
+  closed_behind : OpenNone (events ++ Close 1 ∷ [])
+  closed_behind = none_more events (Close 1 ∷ []) shells (one_none (Close 1) (λ other h. h))
 
-module _ (client : ℕ) (events : List Event) (s z : Seen) (x : CloudState) (told : s.state ≡ Some x) (shells : AllShells events) where
-  opened_behind : (later : List Event) (replies : List Reply) (play : Play) → AllShells later → WereRun (Open 1 client ∷ later) replies s z play → AddsNoneTwice x z
-  opened_behind later replies play all run = none_twice x play.world z (run.once ((client, refl), all) x told)
+  stop_once : (later : List Event) (replies : List Reply) (event : Event) → OpenNone (later ++ event ∷ []) → WereStopped (Open 1 client ∷ later) replies event s z → OpensNoneTwice s z
+  stop_once later replies event none stop =
+      stopped_in_once (Open 1 client ∷ later) stop.lines replies event s z stop.whole stop.stopped (shell_once client (later ++ event ∷ []) none)
 
-  closed_behind : AllShells (events ++ Close 1 ∷ [])
-  closed_behind = shells_more events (Close 1) shells refl
-
-  cut_once : (later : List (List ℕ)) (w u : Told) → WasCut client events later w u s z → AddsNoneTwice x z
-  cut_once later w u (cut_opening reply play none run front) = opened_behind [] (reply ∷ []) play tt run
-  cut_once later w u (cut_line replies reply play run opens front) = opened_behind events (replies ++ reply ∷ []) play shells run
-  cut_once later w u (cut_closing replies reply play none run opens front) = opened_behind (events ++ Close 1 ∷ []) (replies ++ reply ∷ []) play closed_behind run
-  cut_once later w u (cut_refusal replies play bad run opens front) = opened_behind events replies play shells run
+  cut_once : (later : List (List ℕ)) (w u : Told) → WasCut client events later w u s z → OpensNoneTwice s z
+  cut_once later w u (cut_opening reply play none run front) = run_once [] (reply ∷ []) play (λ other h. h) run
+  cut_once later w u (cut_line replies reply play run opens front) = run_once events (replies ++ reply ∷ []) play shells run
+  cut_once later w u (cut_closing replies reply play none run opens front) = run_once (events ++ Close 1 ∷ []) (replies ++ reply ∷ []) play closed_behind run
+  cut_once later w u (cut_refusal replies play bad run opens front) = run_once events replies play shells run
 
   -- where memory ran out
-  out_once : (later : List (List ℕ)) (w u : Told) → ShellRanOut client events later w u s z → AddsNoneTwice x z
-  out_once later w u (out_before nothing) = subst (AddsNoneTwice x) (sym nothing.seen) (twice_nothing x s told)
+  out_once : (later : List (List ℕ)) (w u : Told) → ShellRanOut client events later w u s z → OpensNoneTwice s z
+  out_once later w u (out_before nothing) = once_nothing s z nothing.seen
   out_once later w u (out_writing cut) = cut_once later w u cut
-  out_once later w u (out_between replies play run opens wrote) = opened_behind events replies play shells run
-  out_once later w u (out_opening stopped same) = stopped.once ((client, refl), tt) x told
-  out_once later w u (out_next replies event next stopped opens wrote) = stopped.once ((client, refl), shells_more events event shells (next_shells later event next)) x told
+  out_once later w u (out_between replies play run opens wrote) = run_once events replies play shells run
+  out_once later w u (out_opening stopped same) = stopped_in_once [] stopped.lines [] (Open 1 client) s z stopped.whole stopped.stopped (shell_once client [] (λ other h. h))
+  out_once later w u (out_next replies event next stopped opens wrote) =
+      stop_once events replies event (none_more events (event ∷ []) shells (one_none event (next_shells later event next))) stopped
 
-  ended_once : (result : Result (Unit {0}) ShellFault) (later : List (List ℕ)) (w u : Told) → ShellEnded result client events later w u s z → AddsNoneTwice x z
-  ended_once (Ok done) later w u so = opened_behind (events ++ Close 1 ∷ []) so.1.replies so.1.play closed_behind so.1.run
-  ended_once (Err NotOpened) later w u so = opened_behind [] (so.reply ∷ []) so.play tt so.run
-  ended_once (Err BadLine) later w u so = opened_behind events so.1.replies so.1.play shells so.1.run
+  ended_once : (result : Result (Unit {0}) ShellFault) (later : List (List ℕ)) (w u : Told) → ShellEnded result client events later w u s z → OpensNoneTwice s z
+  ended_once (Ok done) later w u so = run_once (events ++ Close 1 ∷ []) so.1.replies so.1.play closed_behind so.1.run
+  ended_once (Err NotOpened) later w u so = run_once [] (so.reply ∷ []) so.play (λ other h. h) so.run
+  ended_once (Err BadLine) later w u so = run_once events so.1.replies so.1.play shells so.1.run
   ended_once (Err WriteFault) later w u so = cut_once later w u so
   ended_once (Err Memory) later w u so = out_once later w u so
 
@@ -210,7 +162,7 @@ shell_went {client} {text} {result} {w} {u} {s} {z} events earlier later at spel
   at = at;
   spelled = spelled;
   so = so;
-  opens_once = λ x told. ended_once client events s z x told (all_shells earlier events spelled) result later w u so;
+  opens_once = ended_once client events s z (all_shells earlier events spelled) result later w u so;
 }
 
 -- ---- one event

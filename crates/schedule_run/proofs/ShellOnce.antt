@@ -1,36 +1,22 @@
--- The events of a shell open no transaction twice.
-use Rattle.std.proofs.Common.{◌≡◌, ◌<◌, ◌^◌, ◌+◌, ℕ, List, [], ◌∷◌, ◌++◌, length, Some, Ok, Err, true, false, refl, sym, ap, subst, ◌∙◌, lit<}
-use Rattle.std.specs.Fmt.{decimal}
-use Rattle.std.proofs.lemmas.Fmt.{decimal_injective}
-use Rattle.cloud_trait.specs.State.{CloudState}
+-- The events of a shell open one client, once.
+use Rattle.std.proofs.Common.{◌≡◌, ◌+◌, ℕ, List, [], ◌∷◌, ◌++◌, Some, true, false, refl, sym, ap, subst, ◌∙◌, append_assoc, ◌⊎◌, inl, inr}
 use Rattle.cloud_trait.specs.Seen.{Seen}
-use Rattle.client_work.specs.Session.{Acting, closed_session}
-use Rattle.head_codec.specs.declared.head.Head.{Head}
 use Rattle.event_text.specs.declared.event.Event.{Event}
 use Rattle.event_text.specs.declared.event.Event.TheVariants as event
 use Rattle.event_text.specs.declared.keyword.Keyword.{Keyword}
 use Rattle.event_text.specs.declared.keyword.Keyword.TheVariants as word
 use Rattle.event_text.specs.Keyword.{keyword_text, keyword_of, is_shell}
-use Rattle.event_text.specs.Event.{IsShellLine, event_words}
+use Rattle.event_text.specs.Event.{IsShellLine}
 use Rattle.reply_text.specs.declared.reply.Reply.{Reply}
+use Rattle.reply_text.specs.declared.reply.Reply.TheVariants.{Begun}
 use Rattle.replay_meaning.specs.Standing.{Line}
-use Rattle.session_facts.specs.Facts.{session_at}
-use Rattle.session_facts.specs.Opened.{TakesNumber, AddsNoneTwice}
-use Rattle.session_facts.proofs.OpenedCalls.{opened_nothing}
-use Rattle.session_facts.proofs.StartLemmas.{closed_at}
-use Rattle.world_core.specs.World.{World}
-use Rattle.world_core.specs.declared.world.WorldFault.TheVariants as fault
-use Rattle.world_core.specs.Added.{WorldAdds}
-use Rattle.world_core.specs.Handled.{Handled}
-use Rattle.world_core.specs.Opened.{IsShells, WorldOnce, WorldOpenedNone}
-use Rattle.world_core.proofs.OpenedLines.{handled_once, opening_once}
-use Rattle.world_core.proofs.OpenedShort.{adds_none, handled_none_twice, opening_none_twice}
-use Rattle.schedule_run.specs.Answered.{IsNew}
-use Rattle.schedule_run.specs.InPlay.{Play}
-use Rattle.schedule_run.specs.Play.{RanOut, uncounted, no_answer}
-use Rattle.schedule_run.specs.ShellOnce.{AllShells, AreShells, OnceBehind}
+use Rattle.world_core.specs.Opened.{Opens, IsOpenedIn, OpenEachOnce}
+use Rattle.world_core.proofs.OpenedLines.{once_before, opened_new, opened_more, opened_last}
+use Rattle.schedule_run.specs.Answered.{events_of, OpensNoneTwice}
+use Rattle.schedule_run.specs.Shell.{AreShellLines, IsWhole, alone, with_run, AreWhole, no_events, more_events, StoppedIn, in_event, in_run, IsNextOf}
+use Rattle.schedule_run.proofs.OnceLemmas.{OpenNone, events_more, opened_either, none_once, once_push, stopped_once}
 
--- ---- a shell's line is of session 1 and opens no client
+-- ---- a shell's line opens no client
 
 keyword_again : (keyword : Keyword) → keyword_of (keyword_text keyword) ≡ Some keyword
 keyword_again word.Open = refl
@@ -56,11 +42,6 @@ first_word : List (List ℕ) → List ℕ
 first_word [] = []
 first_word (w ∷ ws) = w
 
-second_word : List (List ℕ) → List ℕ
-second_word [] = []
-second_word (w ∷ []) = []
-second_word (w ∷ x ∷ ws) = x
-
 -- a word of no shell's line does not begin one
 never_first : (own keyword : Keyword) → is_shell own ≡ false → keyword_text own ≡ keyword_text keyword → is_shell keyword ≡ true → ⊥
 never_first own keyword other e shell =
@@ -69,108 +50,78 @@ never_first own keyword other e shell =
     let never : false ≡ true = sym other ∙ ap is_shell same ∙ shell in
     absurd (cc)
 
-one_small : 1 < 2 ^ 64
-one_small = lit< tt
+pub of_shell : (text : List ℕ) (e : Event) → IsShellLine text e → (client : ℕ) → Opens e client → ⊥
+unfolding first_word
+of_shell text (event.Open session own) line client opens = never_first word.Open line.keyword refl (ap first_word line.words) line.shell
+of_shell text e line client opens = absurd opens
 
-module _ (text : List ℕ) where
-  never : (event : Event) (own : Keyword) (rest : List (List ℕ)) → IsShellLine text event → event_words event ≡ keyword_text own ∷ rest → is_shell own ≡ false → ⊥
-  unfolding first_word
-  never event own rest line words other = never_first own line.keyword other (ap first_word (sym words ∙ line.words)) line.shell
+-- the events of these lines
+pub all_shells : (texts : List (List ℕ)) (events : List Event) → AreShellLines texts events → OpenNone events
+all_shells [] [] spelled client h = absurd h
+all_shells [] (e ∷ events) spelled client h = absurd spelled
+all_shells (t ∷ texts) [] spelled client h = absurd h
+all_shells (t ∷ texts) (e ∷ events) spelled client (inl h) = of_shell t e spelled.0 client h
+all_shells (t ∷ texts) (e ∷ events) spelled client (inr h) = all_shells texts events spelled.1 client h
 
-  first_session : (event : Event) (k : ℕ) (w : List ℕ) (rest : List (List ℕ)) → IsShellLine text event → event_words event ≡ w ∷ decimal k ∷ rest → k < 2 ^ 64 → k ≡ 1
-  unfolding second_word
-  first_session event k w rest line words small = decimal_injective k 1 small one_small (ap second_word (sym words ∙ line.words))
+-- what a shell runs next
+pub next_shells : (later : List (List ℕ)) (e : Event) → IsNextOf later e → (client : ℕ) → Opens e client → ⊥
+next_shells [] e is client opens = subst (λ (x : Event). Opens x client) is opens
+next_shells (text ∷ texts) e is client opens = of_shell text e is client opens
 
-  pub of_shell : (e : Event) → IsShellLine text e → IsShells e
-  of_shell (event.Renew k) line = first_session (event.Renew k) k _ _ line refl line.in_range
-  of_shell (event.Insert k tree key payload) line = first_session (event.Insert k tree key payload) k _ _ line refl line.in_range.0
-  of_shell (event.Update k tree key payload) line = first_session (event.Update k tree key payload) k _ _ line refl line.in_range.0
-  of_shell (event.Delete k tree key) line = first_session (event.Delete k tree key) k _ _ line refl line.in_range.0
-  of_shell (event.Commit k) line = first_session (event.Commit k) k _ _ line refl line.in_range
-  of_shell (event.Abort k) line = first_session (event.Abort k) k _ _ line refl line.in_range
-  of_shell (event.Read k tree key) line = first_session (event.Read k tree key) k _ _ line refl line.in_range.0
-  of_shell (event.Scan k tree low high) line = first_session (event.Scan k tree low high) k _ _ line refl line.in_range.0
-  of_shell (event.Page k tree page) line = first_session (event.Page k tree page) k _ _ line refl line.in_range.0
-  of_shell (event.Tree k tree) line = first_session (event.Tree k tree) k _ _ line refl line.in_range.0
-  of_shell (event.Close k) line = absurd (never (event.Close k) word.Close _ line refl refl)
-  of_shell (event.Run k) line = absurd (never (event.Run k) word.Run _ line refl refl)
-  of_shell (event.Open k client) line = absurd (never (event.Open k client) word.Open _ line refl refl)
-  of_shell (event.Step k wish) line = absurd (never (event.Step k wish) word.Step _ line refl refl)
-  of_shell (event.Crash k done) line = absurd (never (event.Crash k done) word.Crash _ line refl refl)
-  of_shell (event.Wait ticks) line = absurd (never (event.Wait ticks) word.Wait _ line refl refl)
-  of_shell (event.Report tree) line = absurd (never (event.Report tree) word.Report _ line refl refl)
-  of_shell event.Settle line = absurd (never event.Settle word.Settle _ line refl refl)
+-- behind its opening
+pub shell_once : (client : ℕ) (later : List Event) → OpenNone later → OpenEachOnce (event.Open 1 client ∷ later)
+shell_once client later none = (λ other opens h. none other h, none_once later none)
 
--- ---- lists of events
+-- ---- events that are run whole
 
-shells_behind : (events : List Event) (e : Event) → AllShells (events ++ e ∷ []) → AllShells events × IsShells e
-shells_behind [] e h = (tt, h.0)
-shells_behind (x ∷ events) e h = let k = shells_behind events e h.1 in ((h.0, k.0), k.1)
+-- what is handled of one opens what it opens
+in_it : (e : Event) (of_it : List Line) (reply : Reply) → IsWhole e of_it reply → (client : ℕ) → IsOpenedIn (events_of of_it) client → Opens e client
+in_it e _ reply (alone _ other) client (inl h) = h
+in_it e _ reply (alone _ other) client (inr h) = absurd h
+in_it e _ reply (with_run _) client (inl h) = h
+in_it e _ reply (with_run _) client (inr (inl h)) = absurd h
+in_it e _ reply (with_run _) client (inr (inr h)) = absurd h
 
-pub shells_more : (events : List Event) (e : Event) → AllShells events → IsShells e → AllShells (events ++ e ∷ [])
-shells_more [] e h is = (is, tt)
-shells_more (x ∷ events) e h is = (h.0, shells_more events e h.1 is)
-
--- ---- from one event to the next
-
--- a new world opened nothing
-pub once_nothing : (s : Seen) (world : World) (t : CloudState) → s.state ≡ Some t → IsNew world → WorldOpenedNone t world s
-once_nothing s world t told fresh = (
-  record { state = t; told = told; adds = opened_nothing (λ (head : Head). ⊥) t },
-  subst (λ (a : Acting). TakesNumber a.work) (sym closed) tt,
-)
+in_whole : (events : List Event) (lines : List Line) (replies : List Reply) → AreWhole events lines replies → (client : ℕ) → IsOpenedIn (events_of lines) client → IsOpenedIn events client
+in_whole _ _ _ no_events client h = absurd h
+in_whole _ _ _ (more_events events e lines of_it replies reply whole it) client h =
+    on (in_whole events lines replies whole client) (opened_either (events_of lines) (events_of of_it) client (subst (λ es. IsOpenedIn es client) (events_more lines of_it) h))
   where
-    closed : session_at world.sessions 1 ≡ closed_session
-    closed = ap (λ (l : List Acting). session_at l 1) fresh.sessions ∙ closed_at 17 1
+    on : (IsOpenedIn (events_of lines) client → IsOpenedIn events client) → IsOpenedIn (events_of lines) client ⊎ IsOpenedIn (events_of of_it) client
+        → IsOpenedIn (events ++ e ∷ []) client
+    on so (inl k) = opened_more events e client (so k)
+    on so (inr k) = opened_last events e client (in_it e of_it reply it client k)
 
--- one event more was handled
-pub once_more : (events : List Event) (e : Event) (r : Reply) (n : ℕ) (lines : List Line) (t : CloudState) (before after : Seen) (old new : World) → length lines + 1 ≡ n
-    → AreShells (events ++ e ∷ []) → Handled n e before after old new (Ok r) → WorldAdds lines t old before → (AreShells events → OnceBehind events t old before) → WorldOnce t new after
-once_more [] e r n lines t before after old new at shells handled kinds once = opening_once n e before after old new r t shells.0 handled (once tt)
-once_more (x ∷ events) e r n lines t before after old new at shells handled kinds once =
-    let h = shells_behind events e shells.1 in
-    handled_once n e before after old new r lines t at h.1 handled kinds (once (shells.0, h.0))
+-- an event behind lines that are whole
+whole_push : (events : List Event) (lines : List Line) (replies : List Reply) (e : Event) → AreWhole events lines replies → OpenEachOnce (events ++ e ∷ []) → OpenEachOnce (events_of lines)
+    → OpenEachOnce (events_of lines ++ e ∷ [])
+whole_push events lines replies e whole once so =
+    once_push (events_of lines) e so (λ client opens h. opened_new events e client once opens (in_whole events lines replies whole client h))
 
-pub once_behind : (events : List Event) (e : Event) (t : CloudState) (world : World) (seen : Seen) → WorldOnce t world seen → OnceBehind (events ++ e ∷ []) t world seen
-once_behind [] e t world seen h = h
-once_behind (x ∷ events) e t world seen h = h
+run_push : (events : List Event) → OpenEachOnce events → OpenEachOnce (events ++ event.Run 1 ∷ [])
+run_push events once = once_push events (event.Run 1) once (λ client opens h. opens)
 
--- what is said of a shell's whole run
-pub none_twice : (t : CloudState) (world : World) (seen : Seen) → WorldOnce t world seen → AddsNoneTwice t seen
-none_twice t world seen h = record {
-  state = h.rows.state;
-  told = h.rows.told;
-  added = h.rows.adds.added;
-  trace = h.rows.adds.trace;
-  once = h.rows.adds.once;
-}
+it_push : (e : Event) (lines of_it : List Line) (reply : Reply) → IsWhole e of_it reply → OpenEachOnce (events_of lines ++ e ∷ []) → OpenEachOnce (events_of (lines ++ of_it))
+it_push e lines _ reply (alone _ other) once = subst OpenEachOnce (sym (events_more lines (record { event = e; reply = reply } ∷ []))) once
+it_push e lines _ reply (with_run _) once =
+    subst OpenEachOnce
+    (sym (events_more lines (record { event = e; reply = Begun } ∷ record { event = event.Run 1; reply = reply } ∷ [])
+    ∙ sym (append_assoc (events_of lines) (e ∷ []) (event.Run 1 ∷ []))))
+    (run_push (events_of lines ++ e ∷ []) once)
 
--- where nothing was done nothing was opened
-pub twice_nothing : (t : CloudState) (s : Seen) → s.state ≡ Some t → AddsNoneTwice t s
-twice_nothing t s told = adds_none (λ (head : Head). ⊥) t s (record { state = t; told = told; adds = opened_nothing (λ (head : Head). ⊥) t })
+pub once_whole : (events : List Event) (lines : List Line) (replies : List Reply) → AreWhole events lines replies → OpenEachOnce events → OpenEachOnce (events_of lines)
+once_whole _ _ _ no_events once = tt
+once_whole _ _ _ (more_events events e lines of_it replies reply whole it) once =
+    it_push e lines of_it reply it (whole_push events lines replies e whole once (once_whole events lines replies whole (once_before events (e ∷ []) once)))
 
--- what was opened behind events is opened once
-behind_once : (events : List Event) (t : CloudState) (world : World) (seen : Seen) → OnceBehind events t world seen → AddsNoneTwice t seen
-behind_once [] t world seen h = adds_none (λ (head : Head). ⊥) t seen h.0
-behind_once (e ∷ events) t world seen h = none_twice t world seen h
-
--- memory ran out at an event
-stops_handled : (events : List Event) (e : Event) (n : ℕ) (lines : List Line) (t : CloudState) (before after : Seen) (old new : World) → length lines + 1 ≡ n
-    → AreShells (events ++ e ∷ []) → Handled n e before after old new (Err fault.Memory) → WorldAdds lines t old before → (AreShells events → OnceBehind events t old before)
-    → AddsNoneTwice t after
-stops_handled [] e n lines t before after old new at shells handled kinds once = opening_none_twice n e before after old new (Err fault.Memory) t shells.0 handled (once tt)
-stops_handled (x ∷ events) e n lines t before after old new at shells handled kinds once =
-    let h = shells_behind events e shells.1 in
-    handled_none_twice n e before after old new (Err fault.Memory) lines t at h.1 handled kinds (once (shells.0, h.0))
-
-own_behind : (events : List Event) (e : Event) → AreShells (events ++ e ∷ []) → AreShells events
-own_behind [] e shells = tt
-own_behind (x ∷ events) e shells = (shells.0, (shells_behind events e shells.1).0)
-
-pub stops_once : (events : List Event) (e : Event) (lines : List Line) (t : CloudState) (before after : Seen) (old new : Play) → length lines + 1 ≡ old.handled + 1
-    → AreShells (events ++ e ∷ []) → RanOut e before after old new → WorldAdds lines t old.world before → (AreShells events → OnceBehind events t old.world before)
-    → AddsNoneTwice t after
-stops_once events e lines t before after old new at shells (uncounted same) kinds once =
-    subst (AddsNoneTwice t) (sym same) (behind_once events t old.world before (once (own_behind events e shells)))
-stops_once events e lines t before after old new at shells (no_answer handled grows) kinds once =
-    stops_handled events e (old.handled + 1) lines t before after old.world new.world at shells handled kinds once
+-- memory ran out at an event behind them
+pub stopped_in_once : (events : List Event) (lines : List Line) (replies : List Reply) (e : Event) (s z : Seen) → AreWhole events lines replies → StoppedIn e lines s z
+    → OpenEachOnce (events ++ e ∷ []) → OpensNoneTwice s z
+stopped_in_once events lines replies e s z whole (in_event stopped) once =
+    stopped_once e lines s z stopped (whole_push events lines replies e whole once (once_whole events lines replies whole (once_before events (e ∷ []) once)))
+stopped_in_once events lines replies e s z whole (in_run stopped) once =
+    let began : List Line = lines ++ record { event = e; reply = Begun } ∷ [] in
+    let so : OpenEachOnce (events_of lines ++ e ∷ []) =
+    whole_push events lines replies e whole once (once_whole events lines replies whole (once_before events (e ∷ []) once)) in
+    stopped_once (event.Run 1) began s z stopped
+    (run_push (events_of began) (subst OpenEachOnce (sym (events_more lines (record { event = e; reply = Begun } ∷ []))) so))

@@ -1,5 +1,5 @@
 -- Lines that a world handles, one behind another.
-use Rattle.std.specs.Prelude.{ℕ, ◌≡◌, ◌+◌, ◌≤◌, ◌⊎◌, false, List, [], ◌∷◌, ◌++◌, length, replicate, take, slice_get, Some, Ok, Err}
+use Rattle.std.specs.Prelude.{ℕ, ◌≡◌, ◌+◌, ◌≤◌, ◌⊎◌, false, List, [], ◌∷◌, ◌++◌, map, length, replicate, take, slice_get, Some, Ok, Err}
 use Rattle.client_work.specs.Session.{closed_session}
 use Rattle.cloud_trait.specs.State.{CloudState, IsEmptyCloud}
 use Rattle.cloud_trait.specs.Seen.{Seen}
@@ -17,16 +17,20 @@ use Rattle.replay_meaning.specs.Right.{ReportIsRight}
 use Rattle.report_types.specs.declared.entry.Entry.{Entry}
 use Rattle.report_types.specs.declared.report.Report.{Report}
 use Rattle.session_facts.specs.Acknowledged.{IsKeptReply}
+use Rattle.session_facts.specs.Added.{AddsTo}
 use Rattle.session_facts.specs.Facts.{session_at, WasLeft}
 use Rattle.session_facts.specs.LeftNone.{IsLeftReply}
+use Rattle.session_facts.specs.Opened.{AddsNoneTwice}
 use Rattle.session_facts.specs.Sessions.Untroubled.{IsUntroubled}
 use Rattle.world_core.specs.World.{World}
 use Rattle.world_core.specs.declared.world.WorldFault.{WorldFault}
+use Rattle.world_core.specs.Added.{WorldAdds}
 use Rattle.world_core.specs.Bounded.{AnswersSoon}
 use Rattle.world_core.specs.Calm.{StepIsCalm, RepliesWell, work_at}
 use Rattle.world_core.specs.EachStep.{EachStep}
 use Rattle.world_core.specs.Explained.{StepExplains}
 use Rattle.world_core.specs.Handled.{Handled}
+use Rattle.world_core.specs.Opened.{OpenEachOnce}
 use Rattle.world_core.specs.Shown.{StepShows}
 use Rattle.world_core.specs.ShownByLines.{StepShowsBy}
 use Rattle.world_core.specs.Settled.{SettledLeaves, AnswersSettled, NoLockHeld, StepGoesWell}
@@ -116,8 +120,19 @@ ReportsCome lines before after =
     after.counts.dark ≡ before.counts.dark → (k : ℕ) (line : Line) (tree : ℕ) → slice_get lines k ≡ Some line → line.event ≡ event.Report tree → IsTree tree
     → (r : Report) × (line.reply ≡ reply.Report r)
 
--- these lines were handled from a new world on; over a cloud that was empty and told its state each of them explains itself, and reports come; and
--- over one that earlier runs left each settling among them explains itself
+-- ---- over any cloud
+
+-- what lines asked for
+abbrev pub events_of : List Line → List Event
+events_of lines = map (λ line. line.event) lines
+
+-- no two of the rows that were added to the trace of a cloud that tells its state open one transaction
+abbrev pub OpensNoneTwice : Seen → Seen → Type 0
+OpensNoneTwice before after = (t : CloudState) → before.state ≡ Some t → AddsNoneTwice t after
+
+-- these lines were handled from a new world on; over a cloud that was empty and told its state each of them explains itself, and reports come; over
+-- one that earlier runs left each settling among them explains itself; and over any one each row that they added is of a kind that its session's
+-- standing by them allows, and where they open no client twice no transaction was opened twice
 pub record AreAnswered (lines : List Line) (before after : Seen) : Type 0 where
   pub first : World
   pub fresh : IsNew first
@@ -127,13 +142,18 @@ pub record AreAnswered (lines : List Line) (before after : Seen) : Type 0 where
   pub settled : (t : CloudState) → before.state ≡ Some t → IsOfRuns t → AreSettled before first lines after last went
   pub left : LeavesOne before after
   pub reports : (t : CloudState) → before.state ≡ Some t → IsEmptyCloud t → ReportsCome lines before after
+  pub kinds : (t : CloudState) → before.state ≡ Some t → WorldAdds lines t last after
+  pub once : OpenEachOnce (events_of lines) → OpensNoneTwice before after
 
--- behind these lines this event was handled, and has no reply, by this fault
+-- behind these lines this event was handled, and has no reply, by this fault; what it added to any cloud is of its kind too, whatever its reply would
+-- have been, and where it opens no client of theirs no transaction was opened twice
 pub record IsUnanswered (lines : List Line) (event : Event) (fault : WorldFault) (before after : Seen) : Type 0 where
   pub mid : Seen
   pub answered : AreAnswered lines before mid
   pub last : World
   pub handled : Handled (length lines + 1) event mid after answered.last last (Err fault)
+  pub kinds : (t : CloudState) (reply : Reply) → before.state ≡ Some t → AddsTo (length lines + 1) (lines ++ record { event = event; reply = reply } ∷ []) t after
+  pub once : OpenEachOnce (events_of lines ++ event ∷ []) → OpensNoneTwice before after
 
 -- every report is right for the lines up to its own and the state up to its line
 abbrev pub ReportsAreRight : List Line → CloudState → Type 0

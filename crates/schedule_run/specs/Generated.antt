@@ -1,5 +1,5 @@
 -- What a run of made events writes and leaves.
-use Rattle.std.specs.Prelude.{◌≡◌, List, [], ◌∷◌, ◌++◌, map, length, Result, Ok, Err}
+use Rattle.std.specs.Prelude.{◌≡◌, List, [], ◌∷◌, ◌++◌, length, Result, Ok, Err}
 use Rattle.cloud_trait.specs.Seen.{Seen}
 use Rattle.db_io.specs.Content.{Told, Adds, AddsPrefix}
 use Rattle.event_text.specs.declared.event.Event.{Event}
@@ -9,13 +9,11 @@ use Rattle.line_io.specs.declared.output.OutputFault.TheVariants.{WriteFault, Me
 use Rattle.reply_text.specs.declared.reply.Reply.{Reply}
 use Rattle.replay_meaning.specs.Standing.{Line}
 use Rattle.world_core.specs.declared.world.WorldFault.{WorldFault}
+use Rattle.schedule_run.specs.Answered.{events_of}
 use Rattle.schedule_run.specs.InPlay.{Play}
 use Rattle.schedule_run.specs.Play.{Played, StoppedAt}
 use Rattle.run_text.specs.Summary.{summary}
 use Rattle.run_text.specs.Written.{NothingRan}
-
-abbrev pub events_of : List Line → List Event
-events_of lines = map (λ line. line.event) lines
 
 -- these events were handled from a new world on
 pub record Handles (events : List Event) (start now : Seen) (play : Play) : Type 0 where

@@ -2,7 +2,6 @@ pub mod Answered
 pub mod Replayed
 pub mod Play
 pub mod Settling
-pub mod ShellOnce
 pub mod Shell
 pub mod Generated
 pub mod InPlay

@@ -1,5 +1,5 @@
 -- A world that handles one event behind another, from a new one on.
-use Rattle.std.specs.Prelude.{◌≡◌, ◌+◌, List, [], ◌∷◌, ◌++◌, length, Some, Result, Ok, Err}
+use Rattle.std.specs.Prelude.{◌≡◌, ◌+◌, List, length, Some, Result, Ok, Err}
 use Rattle.cloud_trait.specs.State.{CloudState, IsEmptyCloud}
 use Rattle.cloud_trait.specs.Seen.{Seen}
 use Rattle.cloud_trait.specs.Traced.{IsTraced}
@@ -12,11 +12,11 @@ use Rattle.world_core.specs.World.{World}
 use Rattle.world_core.specs.declared.world.WorldFault.{WorldFault}
 use Rattle.world_core.specs.declared.world.WorldFault.TheVariants as world
 use Rattle.world_core.specs.Handled.{Handled}
-use Rattle.session_facts.specs.Added.{AddsTo}
 use Rattle.world_core.specs.Added.{WorldAdds}
+use Rattle.world_core.specs.Opened.{OpenEachOnce}
 use Rattle.world_core.specs.Stands.{WorldStands, StandsOn, Grows}
 use Rattle.schedule_run.specs.InPlay.{Play}
-use Rattle.schedule_run.specs.Answered.{IsNew, WentOn, AreSettled, IsOfRuns, LeavesOne, IsUnanswered, ReportsAreRight, KeepsTheTheorem, AreExplained, ReportsCome}
+use Rattle.schedule_run.specs.Answered.{IsNew, WentOn, AreSettled, IsOfRuns, LeavesOne, IsUnanswered, events_of, OpensNoneTwice, ReportsAreRight, KeepsTheTheorem, AreExplained, ReportsCome}
 
 -- a new world that has handled nothing
 pub record IsFresh (play : Play) : Type 0 where
@@ -63,7 +63,7 @@ RunsWhole event (Err fault) before after old new = StopsRun event before after o
 -- ---- lines from a new world on
 
 -- these lines were handled from a new world on; over any cloud that tells its state each row that they added is of a kind that its session's standing
--- by them allows, over one that earlier runs left each settling among them explains itself and another one is left, and over one that was empty all
+-- by them allows, and where they open no client twice no transaction was opened twice, over one that earlier runs left each settling among them explains itself and another one is left, and over one that was empty all
 -- stands for them, they keep the theorem, each explains itself, and reports come
 pub record Played (lines : List Line) (start now : Seen) (play : Play) : Type 0 where
   pub count : play.handled ≡ length lines
@@ -71,6 +71,7 @@ pub record Played (lines : List Line) (start now : Seen) (play : Play) : Type 0 
   pub fresh : IsNew first
   pub went : WentOn start first lines now play.world
   pub kinds : (t : CloudState) → start.state ≡ Some t → WorldAdds lines t play.world now
+  pub once : OpenEachOnce (events_of lines) → OpensNoneTwice start now
   pub settled : (t : CloudState) → start.state ≡ Some t → IsOfRuns t → AreSettled start first lines now play.world went
   pub left : LeavesOne start now
   pub stands : (t : CloudState) → start.state ≡ Some t → IsEmptyCloud t
@@ -79,9 +80,7 @@ pub record Played (lines : List Line) (start now : Seen) (play : Play) : Type 0 
   pub explained : (t : CloudState) → start.state ≡ Some t → IsEmptyCloud t → AreExplained start first lines now play.world went
   pub reports : (t : CloudState) → start.state ≡ Some t → IsEmptyCloud t → ReportsCome lines start now
 
--- behind these lines memory ran out: before this event did anything, or while it was handled. What was handled keeps the theorem, and what it added to
--- any cloud is of its kind, also what the event added, whatever its reply would have been
+-- behind these lines memory ran out: before this event did anything, or while it was handled. What was handled keeps the theorem
 pub data StoppedAt (event : Event) (lines : List Line) (start now : Seen) : Type 0 where
   stopped_before : (play : Play) → Played lines start now play → StoppedAt event lines start now
-  stopped_within : (out : IsUnanswered lines event world.Memory start now) → ((t : CloudState) (reply : Reply) → start.state ≡ Some t → AddsTo (length lines + 1) (lines ++ record { event = event; reply = reply } ∷ []) t now)
-      → KeepsTheTheorem lines start now → StoppedAt event lines start now
+  stopped_within : IsUnanswered lines event world.Memory start now → KeepsTheTheorem lines start now → StoppedAt event lines start now

@@ -12,6 +12,7 @@ use Rattle.sched_gen.specs.Schedule.{schedule}
 use Rattle.schedule_run.specs.declared.replay.LineFault.{LineFault}
 use Rattle.schedule_run.specs.declared.settling.SettleFault.{SettleFault}
 use Rattle.schedule_run.specs.declared.shell.ShellFault.{ShellFault}
+use Rattle.schedule_run.specs.Answered.{OpensNoneTwice}
 use Rattle.schedule_run.specs.Generated.{GenEnded}
 use Rattle.schedule_run.specs.Replayed.{HasBadLine, ReplayWent}
 use Rattle.schedule_run.specs.Settling.{SettleEnded}
@@ -112,11 +113,12 @@ pub data RunsShell (client : ℕ) (result : Status) (left rest written now_writt
   shell_went : (input : ReadWhole left rest) (ended : Result (Unit {0}) ShellFault) → result ≡ ended_as status_of_shell ended
       → ShellWent client input.bytes ended written now_written start now → RunsShell client result left rest written now_written start now
 
--- a generated schedule: its events were handled up to this end
+-- a generated schedule: its events were handled up to this end, and opened no transaction twice, whatever was in the cloud before
 pub record Generates (number count : ℕ) (result : Status) (written now_written : Told) (start now : Seen) : Type 0 where
   pub ended : Result (Unit {0}) OutputFault
   pub leads : result ≡ ended_as status_of_output ended
   pub went : GenEnded (schedule number count) ended written now_written start now
+  pub opens_once : OpensNoneTwice start now
 
 -- a settling: the line `settle` was handled up to this end
 pub record RunsSettling (result : Status) (written now_written : Told) (start now : Seen) : Type 0 where

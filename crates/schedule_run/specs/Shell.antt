@@ -1,7 +1,6 @@
 -- What a shell writes and leaves, line by line.
-use Rattle.std.specs.Prelude.{ℕ, ◌≡◌, Some, Bool, true, false, if◌then◌else◌, List, [], ◌∷◌, ◌++◌, length, Result, Ok, Err}
+use Rattle.std.specs.Prelude.{ℕ, ◌≡◌, Bool, true, false, if◌then◌else◌, List, [], ◌∷◌, ◌++◌, length, Result, Ok, Err}
 use Rattle.cloud_trait.specs.Seen.{Seen}
-use Rattle.cloud_trait.specs.State.{CloudState}
 use Rattle.db_io.specs.Content.{Told, Adds, AddsPrefix}
 use Rattle.event_text.specs.declared.event.Event.{Event}
 use Rattle.event_text.specs.declared.event.Event.TheVariants.{Open, Close, Run}
@@ -12,12 +11,11 @@ use Rattle.line_io.specs.declared.output.OutputFault.TheVariants as output
 use Rattle.reply_text.specs.declared.reply.Reply.{Reply}
 use Rattle.reply_text.specs.declared.reply.Reply.TheVariants.{Begun, Opened}
 use Rattle.replay_meaning.specs.Standing.{Line}
-use Rattle.session_facts.specs.Opened.{AddsNoneTwice}
+use Rattle.schedule_run.specs.Answered.{OpensNoneTwice}
 use Rattle.schedule_run.specs.InPlay.{Play}
 use Rattle.schedule_run.specs.declared.shell.ShellFault.{ShellFault}
 use Rattle.schedule_run.specs.declared.shell.ShellFault.TheVariants.{NotOpened, BadLine, WriteFault, Memory}
 use Rattle.schedule_run.specs.Play.{Played, StoppedAt, IsRun, StopsRun}
-use Rattle.schedule_run.specs.ShellOnce.{AreShells, OnceBehind}
 use Rattle.run_text.specs.Written.{AddsFront, NothingRan, reply_line, shown_from, bad_line}
 
 -- ---- the lines of a shell
@@ -59,27 +57,23 @@ pub data AreWhole : List Event → List Line → List Reply → Type 0 where
   more_events : (events : List Event) (event : Event) (lines of_it : List Line) (replies : List Reply) (reply : Reply)
       → AreWhole events lines replies → IsWhole event of_it reply → AreWhole (events ++ event ∷ []) (lines ++ of_it) (replies ++ reply ∷ [])
 
--- these events were run whole from a new world on, and these are their last replies; where they are a shell's, no transaction was opened twice, over any
--- cloud that tells its state
+-- these events were run whole from a new world on, and these are their last replies
 pub record WereRun (events : List Event) (replies : List Reply) (start now : Seen) (play : Play) : Type 0 where
   pub lines : List Line
   pub whole : AreWhole events lines replies
   pub count : length replies ≡ length events
   pub played : Played lines start now play
-  pub once : AreShells events → (t : CloudState) → start.state ≡ Some t → OnceBehind events t play.world now
 
 -- memory ran out at an event behind these lines, or at the run of what it began
 pub data StoppedIn (event : Event) (lines : List Line) (start now : Seen) : Type 0 where
   in_event : StoppedAt event lines start now → StoppedIn event lines start now
   in_run : StoppedAt (Run 1) (lines ++ record { event = event; reply = Begun } ∷ []) start now → StoppedIn event lines start now
 
--- these events were run whole, and memory ran out at this one; where they are a shell's, no transaction was opened twice, over any cloud that tells its
--- state
+-- these events were run whole, and memory ran out at this one
 pub record WereStopped (events : List Event) (replies : List Reply) (event : Event) (start now : Seen) : Type 0 where
   pub lines : List Line
   pub whole : AreWhole events lines replies
   pub stopped : StoppedIn event lines start now
-  pub once : AreShells (events ++ event ∷ []) → (t : CloudState) → start.state ≡ Some t → AddsNoneTwice t now
 
 -- ---- how a shell ended
 
@@ -164,7 +158,7 @@ pub record ShellWent (client : ℕ) (text : List ℕ) (ended : Result (Unit {0})
   pub at : lines_of text ≡ earlier ++ later
   pub spelled : AreShellLines earlier events
   pub so : ShellEnded ended client events later written now_written start now
-  pub opens_once : (t : CloudState) → start.state ≡ Some t → AddsNoneTwice t now
+  pub opens_once : OpensNoneTwice start now
 
 -- ---- between two lines
 

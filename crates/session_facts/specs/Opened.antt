@@ -15,6 +15,7 @@ use Rattle.client_work.specs.declared.work.Work.{Work}
 use Rattle.client_work.specs.declared.work.Work.TheVariants.{Closed, Idle, Opening, Committing, Reading, Scanning, Paging, Folding, Closing, Renewing, Settling, Broken}
 use Rattle.replay_meaning.specs.Kinds.{LandsOpen, OpensOnce}
 use Rattle.session_facts.specs.Facts.{IsPlaced}
+use Rattle.session_facts.specs.Sessions.Sessions.{Sessions}
 
 -- ---- a commit
 
@@ -93,11 +94,28 @@ abbrev pub MayOpen : Work → Head → Type 0
 MayOpen (Committing r) head = IsBelow (home_of r).head.epoch (later_of r) head
 MayOpen w head = MayHaveOpened w head
 
+-- ---- for whom a session works
+
+-- the session opens the client, or has it open
+abbrev pub WorksFor : ℕ → Work → Type 0
+WorksFor client (Opening r) = r.client ≡ client
+WorksFor client (Committing r) = (home_of r).client ≡ client
+WorksFor client (Idle home) = home.client ≡ client
+WorksFor client (Reading home m) = home.client ≡ client
+WorksFor client (Scanning home l) = home.client ≡ client
+WorksFor client (Paging home p) = home.client ≡ client
+WorksFor client (Folding home f) = home.client ≡ client
+WorksFor client (Renewing home) = home.client ≡ client
+WorksFor client Closed = ⊥
+WorksFor client (Closing lease) = ⊥
+WorksFor client (Settling m) = ⊥
+WorksFor client (Broken lease) = ⊥
+
 -- ---- the rows of a trace
 
--- each open head that a row of the trace put is so
-abbrev pub AllOpened : (Head → Type 0) → CloudState → Type 0
-AllOpened Is t = (place : ℕ) (row : Landing) (client : ℕ) (head : Head) → slice_get t.trace place ≡ Some row → LandsOpen t row client head → Is head
+-- each open head that a row of the trace put is so, by its client
+abbrev pub AllOpened : (ℕ → Head → Type 0) → CloudState → Type 0
+AllOpened Is t = (place : ℕ) (row : Landing) (client : ℕ) (head : Head) → slice_get t.trace place ≡ Some row → LandsOpen t row client head → Is client head
 
 -- a state with these rows alone
 abbrev pub with_rows : CloudState → List Landing → CloudState
@@ -105,7 +123,7 @@ with_rows t rows = record t { trace = rows }
 
 -- behind the rows of an earlier state there are these: each names a version that is there, no two put open heads that agree in client, epoch and
 -- transaction, and each open head that one put is so
-pub record AddsOpened (Is : Head → Type 0) (start t : CloudState) : Type 0 where
+pub record AddsOpened (Is : ℕ → Head → Type 0) (start t : CloudState) : Type 0 where
   pub added : List Landing
   pub trace : t.trace ≡ start.trace ++ added
   pub placed : All (IsPlaced t.versions) added
@@ -113,15 +131,22 @@ pub record AddsOpened (Is : Head → Type 0) (start t : CloudState) : Type 0 whe
   pub opened : AllOpened Is (with_rows t added)
 
 -- of a cloud that is told
-pub record AddsOpenedTo (Is : Head → Type 0) (start : CloudState) (seen : Seen) : Type 0 where
+pub record AddsOpenedTo (Is : ℕ → Head → Type 0) (start : CloudState) (seen : Seen) : Type 0 where
   pub state : CloudState
   pub told : seen.state ≡ Some state
   pub adds : AddsOpened Is start state
 
--- what a session added that works on this, and it puts no head but of the number that it took
-pub record AddsOnce (start : CloudState) (w : Work) (seen : Seen) : Type 0 where
-  pub rows : AddsOpenedTo (MayHaveOpened w) start seen
-  pub takes : TakesNumber w
+-- an open head of a client may be there: the client was opened, and a session that works for it may have opened the head
+pub record MayBeThere (WasOpened : ℕ → Type 0) (sessions : Sessions) (client : ℕ) (head : Head) : Type 0 where
+  pub known : WasOpened client
+  pub own : (k : ℕ) → WorksFor client (sessions k).work → MayHaveOpened (sessions k).work head
+
+-- what sessions added of which no two work for one client, and each for one that was opened; none puts a head but of the number that it took
+pub record AddsApart (WasOpened : ℕ → Type 0) (start : CloudState) (sessions : Sessions) (seen : Seen) : Type 0 where
+  pub rows : AddsOpenedTo (MayBeThere WasOpened sessions) start seen
+  pub takes : (k : ℕ) → TakesNumber (sessions k).work
+  pub known : (k client : ℕ) → WorksFor client (sessions k).work → WasOpened client
+  pub apart : (j k client : ℕ) → WorksFor client (sessions j).work → WorksFor client (sessions k).work → j ≡ k
 
 -- no two of the rows behind those of an earlier state put open heads that agree in client, epoch and transaction
 pub record AddsNoneTwice (start : CloudState) (seen : Seen) : Type 0 where

@@ -31,4 +31,3 @@ pub mod OpenedLines
 pub mod Shown
 pub mod EachUnderWay
 pub mod ShownByLines
-pub mod OpenedShort

@@ -1,5 +1,5 @@
--- Each line of a shell opens no transaction twice, whatever was in the cloud before.
-use Rattle.std.proofs.Common.{◌≡◌, ◌+◌, ℕ, List, [], length, Some, Ok, Err, Result, refl, sym, subst, ◌∙◌, inl, inr, false, arith}
+-- Lines that open no client twice open no transaction twice, whatever was in the cloud before, and whatever their results.
+use Rattle.std.proofs.Common.{◌≡◌, ◌+◌, ℕ, List, [], ◌∷◌, ◌++◌, length, Some, Ok, Err, Result, refl, sym, ap, subst, ◌∙◌, ◌⊎◌, inl, inr, Bool, true, false, arith}
 use Rattle.db_base.specs.declared.refusal.Refused.{Refused}
 use Rattle.db_base.specs.declared.refusal.Refused.TheVariants as refused
 use Rattle.db_base.specs.declared.change.Change.{Change}
@@ -8,15 +8,15 @@ use Rattle.db_base.specs.declared.wish.Wish.TheVariants.{Plain}
 use Rattle.event_text.specs.declared.event.Event.{Event}
 use Rattle.event_text.specs.declared.event.Event.TheVariants as event
 use Rattle.reply_text.specs.declared.reply.Reply.{Reply}
+use Rattle.reply_text.specs.declared.reply.Reply.TheVariants as reply
 use Rattle.txn_buffer.specs.Noted.{Noted}
-use Rattle.head_codec.specs.declared.head.Head.{Head}
 use Rattle.page_cache.specs.Cache.{Cache}
 use Rattle.cloud_trait.specs.Caller.{Caller}
 use Rattle.cloud_trait.specs.Machine.{Goes, Ends}
 use Rattle.cloud_trait.specs.State.{CloudState}
 use Rattle.cloud_trait.specs.Seen.{Seen}
 use Rattle.cloud_trait.specs.declared.turn.Turn.{Turn}
-use Rattle.cloud_trait.specs.declared.turn.Turn.TheVariants.{More, Ended}
+use Rattle.cloud_trait.specs.declared.turn.Turn.TheVariants.{More}
 use Rattle.recover_run.specs.declared.home.Home.{Home}
 use Rattle.tree_walk.specs.Walk.{new_walk}
 use Rattle.commit_run.specs.Run.{home_of}
@@ -29,171 +29,140 @@ use Rattle.client_work.specs.declared.op.Op.TheVariants as op
 use Rattle.client_work.specs.declared.shown.Shown.{Shown}
 use Rattle.client_work.specs.declared.work.Work.{Work}
 use Rattle.client_work.specs.declared.work.Work.TheVariants as work
-use Rattle.client_work.specs.Session.{Acting, StepsSession, Begins, BeginsWith, BeginsOpening, HasInHand, CommitsIn, CommitsOf, CommitsNoted, ReadsOf, ReadsIn, ScansIn, stopped_work, paging_begun_by, folding_begun_by}
-use Rattle.cloud_facts.proofs.Book.Names.{at_same}
-use Rattle.replay_meaning.specs.Standing.{Line}
-use Rattle.session_facts.specs.Facts.{session_at}
-use Rattle.session_facts.specs.Opened.{IsOpenedBy, MayHaveOpened, TakesNumber, AddsOpenedTo, AddsOnce}
-use Rattle.session_facts.proofs.OpenedCalls.{Leads, scan_leads, stopped_leads, opened_same, opened_weaker, session_once}
+use Rattle.client_work.specs.Session.{Acting, closed_session, StepsSession, Begins, BeginsWith, BeginsOpening, HasInHand, CommitsIn, CommitsOf, CommitsNoted, ReadsOf, ReadsIn, ScansIn, old_lease, stopped_work, paging_begun_by, folding_begun_by}
+use Rattle.replay_meaning.specs.Standing.{Line, Closed, standing}
+use Rattle.session_facts.specs.Facts.{session_at, ActsAs}
+use Rattle.session_facts.specs.Sessions.Sessions.{Sessions}
+use Rattle.session_facts.specs.Opened.{MayHaveOpened, TakesNumber, WorksFor, AddsApart, AddsNoneTwice}
+use Rattle.session_facts.proofs.CallKinds.{IsSettlersRow}
+use Rattle.session_facts.proofs.LineLemmas.{line_of}
+use Rattle.session_facts.proofs.OpenedCalls.{Leads, LeadsHome, scan_leads, stopped_leads, away_leads, closed_leads, apart_changes, apart_more, apart_same, apart_rows, apart_none_twice, opening_apart, session_apart, settler_apart}
 use Rattle.session_facts.proofs.OpenedRuns.{RunsFrom, run_begins_from}
+use Rattle.session_facts.proofs.RunSteps.{RunsFor, IsRefusal, run_begins}
+use Rattle.session_facts.proofs.SettlerLemmas.{settler_row}
 use Rattle.world_audit.specs.Look.{Looked}
 use Rattle.world_core.specs.World.{World}
 use Rattle.world_core.specs.declared.asked.Request.{Request}
 use Rattle.world_core.specs.declared.asked.Request.TheVariants.{Begin, Note, Abort, Step, Run, Crash}
 use Rattle.world_core.specs.declared.asked.Asked.{Asked}
 use Rattle.world_core.specs.declared.asked.Asked.TheVariants.{Session, Wait, Report, Settle}
-use Rattle.world_core.specs.Asked.{bound_of, IsInsert, IsUpdate, IsDelete, IsOpening, IsReading, IsScanning, IsPaging, IsFolding, IsNoted, OfSession, Asks}
+use Rattle.world_core.specs.declared.world.WorldFault.{WorldFault}
+use Rattle.world_core.specs.Asked.{Asks}
 use Rattle.world_core.specs.Sessions.{Changes, NotesIn, AbortsIn}
-use Rattle.world_core.specs.Handled.{MakesNoCall, SetsWish, StepsLooked, Went, start, further, Runs, Does, Answers, Handled}
+use Rattle.world_core.specs.Handled.{Has, SetsWish, StepsLooked, RunsShort, MakesStep, Went, start, further, StopsShort, Runs, SettlesOn, Settles, Dies, Crashes, CrashesDone, Does, Answers, Handled}
 use Rattle.world_core.specs.Added.{WorldAdds}
-use Rattle.world_core.specs.Opened.{OpensFirst, IsShells, WorldOnce, WorldOpenedNone}
-use Rattle.world_core.proofs.AddedSteps.{IsAdding, adding_begins, went_adding}
-use Rattle.world_core.proofs.EveryLine.{does_own, asked_is}
-use Rattle.world_core.proofs.StandsLemmas.{changed_at, changed_was, no_memory}
+use Rattle.world_core.specs.Opened.{Opens, IsOpenedIn, OpenEachOnce, WorldApart}
+use Rattle.world_core.proofs.AddedSteps.{IsAdding, SettlerAdds, adding_begins, begun_way, settler_went, went_adding}
+use Rattle.world_core.proofs.StandsLemmas.{changed_at, changed_was, settler}
 
--- ---- what is no call
+-- ---- events that open clients
 
-pub once_stays : (first : CloudState) (w : Work) (before after : Seen) → ((x : CloudState) → before.state ≡ Some x → after.state ≡ Some x) → AddsOnce first w before → AddsOnce first w after
-once_stays first w before after stays h = record {
-  rows = record { state = h.rows.state; told = stays h.rows.state h.rows.told; adds = h.rows.adds };
-  takes = h.takes;
-}
+pub opened_more : (events : List Event) (e : Event) (client : ℕ) → IsOpenedIn events client → IsOpenedIn (events ++ e ∷ []) client
+opened_more [] e client h = absurd h
+opened_more (x ∷ events) e client (inl h) = inl h
+opened_more (x ∷ events) e client (inr h) = inr (opened_more events e client h)
 
-once_wished : (first : CloudState) (w : Work) (wish : Wish) (before after : Seen) → SetsWish wish before after → AddsOnce first w before → AddsOnce first w after
-once_wished first w wish before after sets h =
-    let s : CloudState = h.rows.state in
-    record {
-      rows = record {
-        state = record s { wish = wish };
-        told = sets.set s h.rows.told;
-        adds = opened_same (MayHaveOpened w) first s (record s { wish = wish }) refl refl h.rows.adds;
-      };
-      takes = h.takes;
-    }
+pub opened_last : (events : List Event) (e : Event) (client : ℕ) → Opens e client → IsOpenedIn (events ++ e ∷ []) client
+opened_last [] e client h = inl h
+opened_last (x ∷ events) e client h = inr (opened_last events e client h)
 
--- a line that changes neither the world nor the cloud
-once_same : (first : CloudState) (before after : Seen) (old new : World) → new ≡ old → after ≡ before → WorldOnce first old before → WorldOnce first new after
-once_same first before after old new same seen h =
-    subst (λ z. WorldOnce first z after) (sym same) (subst (WorldOnce first old) (sym seen) h)
+-- what the last of them opens no earlier one did
+pub opened_new : (events : List Event) (e : Event) (client : ℕ) → OpenEachOnce (events ++ e ∷ []) → Opens e client → IsOpenedIn events client → ⊥
+opened_new [] e client once opens h = absurd h
+opened_new (x ∷ events) e client once opens (inl h) = once.0 client h (opened_last events e client opens)
+opened_new (x ∷ events) e client once opens (inr h) = opened_new events e client once.1 opens h
 
--- the session that changed
-changed_first : (Does : Acting → Acting → Type 0) (old new : World) → (c : Changes 1 Does old.sessions new.sessions) → session_at new.sessions 1 ≡ c.after
-changed_first Does old new c = changed_at 1 Does old.sessions new.sessions c 1 ∙ at_same 1 c.after (session_at old.sessions) 1 refl
+opened_behind : (events more : List Event) (client : ℕ) → IsOpenedIn events client → IsOpenedIn (events ++ more) client
+opened_behind [] more client h = absurd h
+opened_behind (x ∷ events) more client (inl h) = inl h
+opened_behind (x ∷ events) more client (inr h) = inr (opened_behind events more client h)
 
--- a line of session 1 that makes no call
-once_quietly : (first : CloudState) (before after : Seen) (old new : World) (Does : Acting → Acting → Type 0) → MakesNoCall before after old new
-    → (c : Changes 1 Does old.sessions new.sessions) → (TakesNumber c.before.work → Leads (MayHaveOpened c.before.work) c.after.work) → WorldOnce first old before → WorldOnce first new after
-once_quietly first before after old new Does quiet c leads h =
-    subst (λ (a : Acting). AddsOnce first a.work after) (sym (changed_first Does old new c)) (subst (AddsOnce first c.after.work) (sym quiet.seen) (record {
-      rows = record {
-        state = was.rows.state;
-        told = was.rows.told;
-        adds = opened_weaker (MayHaveOpened c.before.work) (MayHaveOpened c.after.work) first was.rows.state so.0 was.rows.adds;
-      };
-      takes = so.1;
-    }))
-  where
-    was : AddsOnce first c.before.work before
-    was = subst (λ (a : Acting). AddsOnce first a.work before) (changed_was 1 Does old.sessions new.sessions c) h
+pub once_before : (events more : List Event) → OpenEachOnce (events ++ more) → OpenEachOnce events
+once_before [] more once = tt
+once_before (x ∷ events) more once = (λ client opens h. once.0 client opens (opened_behind events more client h), once_before events more once.1)
 
-    so : Leads (MayHaveOpened c.before.work) c.after.work
-    so = leads was.takes
-
--- ---- a step
-
-module _ (lines : List Line) (first : CloudState) (n : ℕ) (at : length lines + 1 ≡ n) where
-  abbrev who : Caller
-  who = record { session = 1; event = n }
-
-  -- its call under a wish, between two looks
-  pub once_called : (wish : Wish) (before from under to after : Seen) (old new : World) (turn : Turn Answer) → IsAdding lines first old before → Looked before from
-      → SetsWish wish from under → Changes 1 (λ a b. StepsSession who under to a b (Ok turn)) old.sessions new.sessions → Looked to after → WorldOnce first old before
-      → WorldOnce first new after
-  once_called wish before from under to after old new turn way look_before wishes session look_after h =
-      subst (λ (a : Acting). AddsOnce first a.work after) (sym (changed_first _ old new session))
-      (once_stays first session.after.work to after look_after.stays
-      (session_once lines who under to first (session_at old.sessions 1).work session.after.work turn (sym at) (way.acts 1).work own.work
-      (once_wished first (session_at old.sessions 1).work wish from under wishes (once_stays first (session_at old.sessions 1).work before from look_before.stays h))))
-    where
-      own : StepsSession who under to (session_at old.sessions 1) session.after (Ok turn)
-      own = subst (λ a. StepsSession who under to a session.after (Ok turn)) (sym (changed_was 1 _ old.sessions new.sessions session)) session.does
-
-  pub once_stepped : (wish : Wish) (before after : Seen) (old new : World) (turn : Turn Answer) → IsAdding lines first old before → StepsLooked who wish before after old new turn
-      → WorldOnce first old before → WorldOnce first new after
-  once_stepped wish before after old new turn way p h =
-      once_called wish before p.from p.under p.to after old new turn way p.look_before p.wishes p.session p.look_after h
-
-  pub once_went : (before : Seen) (old : World) (after : Seen) (new : World) → IsAdding lines first old before → Went who before old after new → WorldOnce first old before → WorldOnce first new after
-  once_went before old after new way start h = h
-  once_went before old after new way (further mid _ world _ went step) h =
-      once_stepped Plain mid after world new More (went_adding lines first who before old mid world (sym at) way went) step (once_went before old mid world way went h)
-
-  once_run : (r : Reply) (before after : Seen) (old new : World) → WorldAdds lines first old before → Runs n 1 before after old new (Ok r) → WorldOnce first old before → WorldOnce first new after
-  once_run r before after old new w (inl refuses) h = once_same first before after old new refuses.declines.world refuses.declines.seen h
-  once_run r before after old new w (inr (inl run)) h =
-      let way : IsAdding lines first old before = adding_begins lines first old before w in
-      let c = run.comes in
-      once_stepped Plain c.mid after c.world new (Ended run.answer) (went_adding lines first who before old c.mid c.world (sym at) way c.went) c.steps
-      (once_went before old c.mid c.world way c.went h)
-  once_run r before after old new w (inr (inr memory)) h = absurd (no_memory r memory.0)
+-- the line that begins opening a client is one that asks for it
+begins_opening : (e : Event) (k client : ℕ) → Asks e (Session k (Ok (Begin (op.Open client)))) → Opens e client
+begins_opening (event.Open session own) k client asks = let is : Begin (op.Open client) ≡ Begin (op.Open own) = asks.1.1 in cc
+begins_opening (event.Close session) k client asks = absurd (cc (asks.1))
+begins_opening (event.Renew session) k client asks = absurd (cc (asks.1))
+begins_opening (event.Commit session) k client asks = absurd (cc (asks.1))
+begins_opening (event.Abort session) k client asks = absurd (cc (asks.1))
+begins_opening (event.Read session tree key) k client asks = absurd (cc (asks.1.2))
+begins_opening (event.Scan session tree from to) k client asks = absurd (cc (asks.1.3))
+begins_opening (event.Page session tree page) k client asks = absurd (cc (asks.1.2))
+begins_opening (event.Tree session tree) k client asks = absurd (cc (asks.1.1))
+begins_opening (event.Run session) k client asks = absurd (cc (asks.1))
+begins_opening (event.Step session wish) k client asks = absurd (cc (asks.1))
+begins_opening (event.Crash session done) k client asks = absurd (cc (asks.1))
+begins_opening (event.Wait ticks) k client asks = absurd (cc)
+begins_opening (event.Report tree) k client asks = absurd (cc)
+begins_opening event.Settle k client asks = absurd (cc)
+begins_opening e k client asks = absurd asks.1
 
 -- ---- an operation begins
 
-same_session : (a b : Acting) → b ≡ a → TakesNumber a.work → Leads (MayHaveOpened a.work) b.work
-same_session a b e takes = subst (λ (z : Acting). Leads (MayHaveOpened a.work) z.work) (sym e) (λ head h. h, takes)
+same_session : (a b : Acting) → b ≡ a → TakesNumber a.work → Leads (λ client. WorksFor client a.work) (MayHaveOpened a.work) b.work
+same_session a b e takes = subst (λ (z : Acting). Leads (λ client. WorksFor client a.work) (MayHaveOpened a.work) z.work) (sym e) (λ head h. h, takes, λ client h. h)
 
-from_idle : (home : Home) (a : Acting) (w : Work) → a.work ≡ work.Idle home → Leads (IsOpenedBy home) w → Leads (MayHaveOpened a.work) w
-from_idle home a w e h = subst (λ x. Leads (MayHaveOpened x) w) (sym e) h
+from_idle : (home : Home) (a : Acting) (w : Work) → a.work ≡ work.Idle home → LeadsHome home w → Leads (λ client. WorksFor client a.work) (MayHaveOpened a.work) w
+from_idle home a w e h = subst (λ x. Leads (λ client. WorksFor client x) (MayHaveOpened x) w) (sym e) h
 
-to_work : (home : Home) (b w : Work) → b ≡ w → Leads (IsOpenedBy home) w → Leads (IsOpenedBy home) b
-to_work home b w e h = subst (Leads (IsOpenedBy home)) (sym e) h
+to_work : (home : Home) (b w : Work) → b ≡ w → LeadsHome home w → LeadsHome home b
+to_work home b w e h = subst (LeadsHome home) (sym e) h
 
 -- an operation of an open client
-with_home : (Effect : Home → Acting → Begun → Type 0) (a b : Acting) (result : Result Begun Refused) → ((home : Home) (begun : Begun) → Effect home b begun → Leads (IsOpenedBy home) b.work)
-    → BeginsWith Effect a b result → TakesNumber a.work → Leads (MayHaveOpened a.work) b.work
+with_home : (Effect : Home → Acting → Begun → Type 0) (a b : Acting) (result : Result Begun Refused) → ((home : Home) (begun : Begun) → Effect home b begun → LeadsHome home b.work)
+    → BeginsWith Effect a b result → TakesNumber a.work → Leads (λ client. WorksFor client a.work) (MayHaveOpened a.work) b.work
 with_home Effect a b (Ok begun) leads begins takes = from_idle begins.0 a b.work begins.1 (leads begins.0 begun begins.2)
 with_home Effect a b (Err (refused.Rule rule)) leads begins takes = same_session a b begins.1 takes
 with_home Effect a b (Err refused.Memory) leads begins takes = absurd begins
 
-in_hand : (own : Home → Work) (a b : Acting) (home : Home) (begun : Begun) → Leads (IsOpenedBy home) (own home) → HasInHand a (own home) b begun → Leads (IsOpenedBy home) b.work
-in_hand own a b home begun so has = subst (λ (z : Acting). Leads (IsOpenedBy home) z.work) (sym has.1) so
+in_hand : (own : Home → Work) (a b : Acting) (home : Home) (begun : Begun) → LeadsHome home (own home) → HasInHand a (own home) b begun → LeadsHome home b.work
+in_hand own a b home begun so has = subst (λ (z : Acting). LeadsHome home z.work) (sym has.1) so
 
 -- one that is in hand then
-hands : (own : Home → Work) (a b : Acting) (result : Result Begun Refused) → ((home : Home) → Leads (IsOpenedBy home) (own home)) → BeginsWith (λ home. HasInHand a (own home)) a b result
-    → TakesNumber a.work → Leads (MayHaveOpened a.work) b.work
+hands : (own : Home → Work) (a b : Acting) (result : Result Begun Refused) → ((home : Home) → LeadsHome home (own home)) → BeginsWith (λ home. HasInHand a (own home)) a b result
+    → TakesNumber a.work → Leads (λ client. WorksFor client a.work) (MayHaveOpened a.work) b.work
 hands own a b result so begins takes = with_home (λ home. HasInHand a (own home)) a b result (λ home begun. in_hand own a b home begun (so home)) begins takes
 
-commits_so : (home : Home) (buffer : List Noted) (c d : Cache) (w : Work) (begun : Begun) → CommitsOf home buffer c d w begun → Leads (IsOpenedBy home) w
+commits_so : (home : Home) (buffer : List Noted) (c d : Cache) (w : Work) (begun : Begun) → CommitsOf home buffer c d w begun → LeadsHome home w
 commits_so home buffer c d w Working commits =
     let go : RunsFrom home.head.epoch (home.attempt + 1) (Goes (commits.0, d)) = subst (RunsFrom home.head.epoch (home.attempt + 1)) commits.1 (run_begins_from home buffer c) in
+    let own : RunsFor IsRefusal buffer home.client (Goes (commits.0, d)) = subst (RunsFor IsRefusal buffer home.client) commits.1 (run_begins home buffer c) in
     let from = go.1 in
-    to_work home w (work.Committing commits.0) commits.2 (λ head h. (h.0 ∙ sym go.0, omega (arith, h.1, from)), go.2)
+    to_work home w (work.Committing commits.0) commits.2 (λ head h. (h.0 ∙ sym go.0, omega (arith, h.1, from)), go.2, λ client h. sym own.1 ∙ h)
 commits_so home buffer c d w (Answered (answer.Commit a)) commits =
     let end : RunsFrom home.head.epoch (home.attempt + 1) (Ends (commits.0, d) a) = subst (RunsFrom home.head.epoch (home.attempt + 1)) commits.1 (run_begins_from home buffer c) in
+    let own : RunsFor IsRefusal buffer home.client (Ends (commits.0, d) a) = subst (RunsFor IsRefusal buffer home.client) commits.1 (run_begins home buffer c) in
     let from = end.1 in
-    to_work home w (work.Idle (home_of commits.0)) commits.2 (λ head h. (h.0 ∙ sym end.0, omega (arith, h.1, from)), tt)
-commits_so home buffer c d w (Answered (answer.Trouble t)) commits = to_work home w (work.Broken home.lease) commits.1 (λ head h. tt, tt)
+    to_work home w (work.Idle (home_of commits.0)) commits.2 (λ head h. (h.0 ∙ sym end.0, omega (arith, h.1, from)), tt, λ client h. sym own.0 ∙ h)
+commits_so home buffer c d w (Answered (answer.Trouble t)) commits = to_work home w (work.Broken home.lease) commits.1 (λ head h. tt, tt, λ client h. absurd h)
 commits_so home buffer c d w (Answered a) commits = absurd commits
 
-commits_noted : (home : Home) (buffer : List Noted) (c d : Cache) (w : Work) (begun : Begun) → CommitsNoted home buffer c d w begun → Leads (IsOpenedBy home) w
-commits_noted home buffer c d w begun (inl nothing) = to_work home w (work.Idle home) nothing.work_is (λ head h. h, tt)
+commits_noted : (home : Home) (buffer : List Noted) (c d : Cache) (w : Work) (begun : Begun) → CommitsNoted home buffer c d w begun → LeadsHome home w
+commits_noted home buffer c d w begun (inl nothing) = to_work home w (work.Idle home) nothing.work_is (λ head h. h, tt, λ client h. h)
 commits_noted home buffer c d w begun (inr some) = commits_so home buffer c d w begun some.1
 
-reads_so : (home : Home) (tree : ℕ) (key : List ℕ) (c d : Cache) (w : Work) (shown : Shown) (begun : Begun) → ReadsOf home (new_walk tree (Some key) false) c d w shown begun → Leads (IsOpenedBy home) w
-reads_so home tree key c d w shown Working reads = to_work home w (work.Reading home reads.0) reads.2 (λ head h. h, tt)
-reads_so home tree key c d w shown (Answered answer.Value) reads = to_work home w (work.Idle home) reads.3 (λ head h. h, tt)
+reads_so : (home : Home) (tree : ℕ) (key : List ℕ) (c d : Cache) (w : Work) (shown : Shown) (begun : Begun) → ReadsOf home (new_walk tree (Some key) false) c d w shown begun → LeadsHome home w
+reads_so home tree key c d w shown Working reads = to_work home w (work.Reading home reads.0) reads.2 (λ head h. h, tt, λ client h. h)
+reads_so home tree key c d w shown (Answered answer.Value) reads = to_work home w (work.Idle home) reads.3 (λ head h. h, tt, λ client h. h)
 reads_so home tree key c d w shown (Answered (answer.Trouble t)) reads = to_work home w (stopped_work t home) reads.2 (stopped_leads t home)
 reads_so home tree key c d w shown (Answered a) reads = absurd reads
+
+-- what works for the same client as before may have opened no less, and puts no head but of the number that it took
+abbrev LeadsOn : Acting → Acting → Type 0
+LeadsOn a b = Leads (λ client. WorksFor client a.work) (MayHaveOpened a.work) b.work
 
 -- an operation that opens no client
 abbrev IsWithin : Op → Type 0
 IsWithin (op.Open client) = ⊥
 IsWithin o = Unit {0}
 
-begins_so : (o : Op) (a b : Acting) (result : Result Begun Refused) → IsWithin o → Begins o a b result → TakesNumber a.work → Leads (MayHaveOpened a.work) b.work
+begins_so : (o : Op) (a b : Acting) (result : Result Begun Refused) → IsWithin o → Begins o a b result → TakesNumber a.work → LeadsOn a b
 begins_so (op.Open client) a b result within begins takes = absurd within
-begins_so op.Close a b result within begins takes = hands (λ (h : Home). work.Closing h.lease) a b result (λ home. (λ head h. tt, tt)) begins takes
-begins_so op.Renew a b result within begins takes = hands (λ (h : Home). work.Renewing h) a b result (λ home. (λ head h. h, tt)) begins takes
+begins_so op.Close a b result within begins takes = hands (λ (h : Home). work.Closing h.lease) a b result (λ home. (λ head h. tt, tt, λ client h. absurd h)) begins takes
+begins_so op.Renew a b result within begins takes = hands (λ (h : Home). work.Renewing h) a b result (λ home. (λ head h. h, tt, λ client h. h)) begins takes
 begins_so op.Commit a b result within begins takes =
     with_home (CommitsIn a) a b result (λ home begun commits. commits_noted home a.buffer a.cache b.cache b.work begun commits.1) begins takes
 begins_so (op.Read tree key) a b result within begins takes =
@@ -201,118 +170,271 @@ begins_so (op.Read tree key) a b result within begins takes =
 begins_so (op.Scan tree low high) a b result within begins takes =
     with_home (ScansIn tree low high a) a b result
     (λ home begun scans. scan_leads home a.buffer (record { scan = scans.1.scan; pairs = [] }) b.cache scans.1.moved b.work b.shown scans.1.turn scans.1.follows) begins takes
-begins_so (op.Page tree page) a b result within begins takes = hands (paging_begun_by tree page) a b result (λ home. (λ head h. h, tt)) begins takes
-begins_so (op.Tree tree) a b result within begins takes = hands (folding_begun_by tree) a b result (λ home. (λ head h. h, tt)) begins takes
+begins_so (op.Page tree page) a b result within begins takes = hands (paging_begun_by tree page) a b result (λ home. (λ head h. h, tt, λ client h. h)) begins takes
+begins_so (op.Tree tree) a b result within begins takes = hands (folding_begun_by tree) a b result (λ home. (λ head h. h, tt, λ client h. h)) begins takes
 
 -- a change is noted, or all are dropped
-notes_so : (tree : ℕ) (change : Change) (a b : Acting) (noted : Result (Unit {0}) Refused) → NotesIn tree change a b noted → TakesNumber a.work → Leads (MayHaveOpened a.work) b.work
-notes_so tree change a b (Ok done) h takes = subst (λ (z : Acting). Leads (MayHaveOpened a.work) z.work) (sym h.0) (λ head k. k, takes)
+notes_so : (tree : ℕ) (change : Change) (a b : Acting) (noted : Result (Unit {0}) Refused) → NotesIn tree change a b noted → TakesNumber a.work → LeadsOn a b
+notes_so tree change a b (Ok done) h takes = subst (λ (z : Acting). LeadsOn a z) (sym h.0) (λ head k. k, takes, λ client k. k)
 notes_so tree change a b (Err why) h takes = same_session a b h.0 takes
 
-aborts_so : (a b : Acting) (dropped : Result (Unit {0}) Refused) → AbortsIn a b dropped → TakesNumber a.work → Leads (MayHaveOpened a.work) b.work
-aborts_so a b (Ok done) h takes = subst (λ (z : Acting). Leads (MayHaveOpened a.work) z.work) (sym h.0) (λ head k. k, takes)
+aborts_so : (a b : Acting) (dropped : Result (Unit {0}) Refused) → AbortsIn a b dropped → TakesNumber a.work → LeadsOn a b
+aborts_so a b (Ok done) h takes = subst (λ (z : Acting). LeadsOn a z) (sym h.0) (λ head k. k, takes, λ client k. k)
 aborts_so a b (Err why) h takes = same_session a b h.0 takes
 
--- ---- the lines of a shell
+-- ---- what is no call
 
--- what such a line asks of session 1
-abbrev pub IsAskable : Request → Type 0
-IsAskable (Begin o) = IsWithin o
-IsAskable (Note tree change) = Unit {0}
-IsAskable Abort = Unit {0}
-IsAskable Run = Unit {0}
-IsAskable (Step wish) = ⊥
-IsAskable (Crash done) = ⊥
+module _ (events : List Event) (first : CloudState) where
+  abbrev Was : ℕ → Type 0
+  Was = IsOpenedIn events
 
-pub noted_askable : (tree : ℕ) (Is : Result Change Refused → Type 0) (request : Request) → IsNoted tree Is (Ok request) → IsAskable request
-noted_askable tree Is (Note other change) noted = tt
-noted_askable tree Is (Begin o) noted = absurd noted
-noted_askable tree Is Abort noted = absurd noted
-noted_askable tree Is (Step wish) noted = absurd noted
-noted_askable tree Is Run noted = absurd noted
-noted_askable tree Is (Crash d) noted = absurd noted
+  seen_stays : (f : Sessions) (before after : Seen) → ((x : CloudState) → before.state ≡ Some x → after.state ≡ Some x) → AddsApart Was first f before → AddsApart Was first f after
+  seen_stays f before after stays h = apart_rows Was first f before after h h.rows.state (stays h.rows.state h.rows.told) refl refl
 
-pub is_askable : (request own : Request) → request ≡ own → IsAskable own → IsAskable request
-is_askable request own e may = subst IsAskable (sym e) may
+  wished : (f : Sessions) (wish : Wish) (before after : Seen) → SetsWish wish before after → AddsApart Was first f before → AddsApart Was first f after
+  wished f wish before after sets h = apart_rows Was first f before after h (record h.rows.state { wish = wish }) (sets.set h.rows.state h.rows.told) refl refl
 
-module _ (n : ℕ) (before after : Seen) (old new : World) (r : Reply) (lines : List Line) (first : CloudState) (at : length lines + 1 ≡ n) (w : WorldAdds lines first old before)
-    (h : WorldOnce first old before) where
-  does_once : (request : Request) → IsAskable request → Does n 1 request before after old new (Ok r) → WorldOnce first new after
-  does_once (Begin o) may done = once_quietly first before after old new _ done.0 done.1 (begins_so o done.1.before done.1.after done.1.does.begun may done.1.does.begins) h
-  does_once (Note tree change) may done = once_quietly first before after old new _ done.0 done.1 (notes_so tree change done.1.before done.1.after done.1.does.noted done.1.does.notes) h
-  does_once Abort may done = once_quietly first before after old new _ done.0 done.1 (aborts_so done.1.before done.1.after done.1.does.dropped done.1.does.drops) h
-  does_once Run may done = once_run lines first n at r before after old new w done h
-  does_once (Step wish) may done = absurd may
-  does_once (Crash d) may done = absurd may
+  -- a line that changes neither the world nor the cloud
+  nothing_done : (before after : Seen) (old new : World) → new ≡ old → after ≡ before → WorldApart events first old before → WorldApart events first new after
+  nothing_done before after old new same seen h = subst (λ z. WorldApart events first z after) (sym same) (subst (WorldApart events first old) (sym seen) h)
 
-  request_once : (k : ℕ) (Is : Result Request Refused → Type 0) (asked : Asked) → k ≡ 1 → ((request : Request) → Is (Ok request) → IsAskable request) → OfSession k Is asked
-      → Answers n asked before after old new (Ok r) → WorldOnce first new after
-  request_once k Is (Session number (Ok request)) own may belongs (inl p) =
-      does_once request (may request belongs.1) (subst (λ j. Does n j request before after old new (Ok r)) (belongs.0 ∙ own) p.1)
-  request_once k Is (Session number (Err why)) own may belongs (inl p) = once_same first before after old new p.1.world p.1.seen h
-  request_once k Is (Session number request) own may belongs (inr none) = once_same first before after old new none.declines.world none.declines.seen h
-  request_once k Is (Wait ticks) own may belongs answers = absurd belongs
-  request_once k Is (Report tree) own may belongs answers = absurd belongs
-  request_once k Is Settle own may belongs answers = absurd belongs
+  -- a session changes without a call
+  changes : (k : ℕ) (seen : Seen) (old new : World) (Does : Acting → Acting → Type 0) → (c : Changes k Does old.sessions new.sessions)
+      → (TakesNumber c.before.work → LeadsOn c.before c.after) → WorldApart events first old seen → WorldApart events first new seen
+  changes k seen old new Does c leads h =
+      let was : session_at old.sessions k ≡ c.before = changed_was k Does old.sessions new.sessions c in
+      let so : LeadsOn c.before c.after = leads (subst (λ (a : Acting). TakesNumber a.work) was (h.takes k)) in
+      apart_same Was first _ (session_at new.sessions) seen (changed_at k Does old.sessions new.sessions c)
+      (apart_changes Was (session_at old.sessions) k c.after first seen (subst (λ (a : Acting). LeadsOn a c.after) (sym was) so) h)
 
-  asked_once : (event : Event) (asked : Asked) → IsShells event → Asks event asked → Answers n asked before after old new (Ok r) → WorldOnce first new after
-  asked_once (event.Close k) asked own asks answers = request_once k _ asked own (λ request is. is_askable request _ (asked_is request (Begin op.Close) is) tt) asks answers
-  asked_once (event.Renew k) asked own asks answers = request_once k _ asked own (λ request is. is_askable request _ (asked_is request (Begin op.Renew) is) tt) asks answers
-  asked_once (event.Commit k) asked own asks answers = request_once k _ asked own (λ request is. is_askable request _ (asked_is request (Begin op.Commit) is) tt) asks answers
-  asked_once (event.Abort k) asked own asks answers = request_once k _ asked own (λ request is. is_askable request _ (asked_is request Abort is) tt) asks answers
-  asked_once (event.Run k) asked own asks answers = request_once k _ asked own (λ request is. is_askable request _ (asked_is request Run is) tt) asks answers
-  asked_once (event.Insert k tree key payload) asked own asks answers = request_once k _ asked own (noted_askable tree (IsInsert key payload)) asks answers
-  asked_once (event.Update k tree key payload) asked own asks answers = request_once k _ asked own (noted_askable tree (IsUpdate key payload)) asks answers
-  asked_once (event.Delete k tree key) asked own asks answers = request_once k _ asked own (noted_askable tree (IsDelete key)) asks answers
-  asked_once (event.Read k tree key) asked own asks answers = request_once k (IsReading tree key) asked own (λ request is. is_askable request (Begin (op.Read tree key)) is.2 tt) asks answers
-  asked_once (event.Scan k tree low high) asked own asks answers =
-      request_once k (IsScanning tree low high) asked own (λ request is. is_askable request (Begin (op.Scan tree (bound_of low) (bound_of high))) is.3 tt) asks answers
-  asked_once (event.Page k tree page) asked own asks answers = request_once k (IsPaging tree page) asked own (λ request is. is_askable request (Begin (op.Page tree page)) is.2 tt) asks answers
-  asked_once (event.Tree k tree) asked own asks answers = request_once k (IsFolding tree) asked own (λ request is. is_askable request (Begin (op.Tree tree)) is.1 tt) asks answers
-  asked_once event asked own asks answers = absurd own
+  quietly : (k : ℕ) (before after : Seen) (old new : World) (Does : Acting → Acting → Type 0) → after ≡ before → (c : Changes k Does old.sessions new.sessions)
+      → (TakesNumber c.before.work → LeadsOn c.before c.after) → WorldApart events first old before → WorldApart events first new after
+  quietly k before after old new Does same c leads h = subst (WorldApart events first new) (sym same) (changes k before old new Does c leads h)
+
+  -- it is closed
+  closes : (k : ℕ) (seen : Seen) (old new : World) → Has k closed_session old new → WorldApart events first old seen → WorldApart events first new seen
+  closes k seen old new has h = changes k seen old new _ has.session_is (λ takes. closed_leads _ _ _ (ap (λ (a : Acting). a.work) has.session_is.does)) h
+
+  -- ---- a step
+
+  module _ (lines : List Line) (n : ℕ) (at : length lines + 1 ≡ n) (k : ℕ) where
+    abbrev who : Caller
+    who = record { session = k; event = n }
+
+    -- its call under a wish, between two looks
+    called : (wish : Wish) (before from under to after : Seen) (old new : World) (turn : Turn Answer) → IsAdding lines first old before → Looked before from
+        → SetsWish wish from under → Changes k (λ a b. StepsSession who under to a b (Ok turn)) old.sessions new.sessions → Looked to after → WorldApart events first old before
+        → WorldApart events first new after
+    called wish before from under to after old new turn way look_before wishes session look_after h =
+        let f : Sessions = session_at old.sessions in
+        let own : StepsSession who under to (f k) session.after (Ok turn) =
+        subst (λ a. StepsSession who under to a session.after (Ok turn)) (sym (changed_was k _ old.sessions new.sessions session)) session.does in
+        apart_same Was first _ (session_at new.sessions) after (changed_at k _ old.sessions new.sessions session)
+        (seen_stays _ to after look_after.stays
+        (session_apart Was lines who under to first f session.after turn (sym at) (way.acts k).work own.work
+        (wished f wish from under wishes (seen_stays f before from look_before.stays h))))
+
+    stepped : (wish : Wish) (before after : Seen) (old new : World) (turn : Turn Answer) → IsAdding lines first old before → StepsLooked who wish before after old new turn
+        → WorldApart events first old before → WorldApart events first new after
+    stepped wish before after old new turn way p h = called wish before p.from p.under p.to after old new turn way p.look_before p.wishes p.session p.look_after h
+
+    went_on : (before : Seen) (old : World) (after : Seen) (new : World) → IsAdding lines first old before → Went who before old after new → WorldApart events first old before
+        → WorldApart events first new after
+    went_on before old after new way start h = h
+    went_on before old after new way (further mid _ world _ went step) h =
+        stepped Plain mid after world new More (went_adding lines first who before old mid world (sym at) way went) step (went_on before old mid world way went h)
+
+    -- memory ran out beside its call
+    ran_short : (wish : Wish) (before after : Seen) (old new : World) → IsAdding lines first old before → RunsShort who wish before after old new → WorldApart events first old before
+        → WorldApart events first new after
+    ran_short wish before after old new way (inl un) h =
+        apart_same Was first _ (session_at new.sessions) after (λ j. ap (λ (l : List Acting). session_at l j) un.sessions) (seen_stays _ before after un.looked.stays h)
+    ran_short wish before after old new way (inr p) h = called wish before p.from p.under p.to after old new p.turn way p.look_before p.wishes p.session p.look_after h
+
+    steps_once : (wish : Wish) (before after : Seen) (old new : World) (result : Result Reply WorldFault) → IsAdding lines first old before → MakesStep n k wish before after old new result
+        → WorldApart events first old before → WorldApart events first new after
+    steps_once wish before after old new result way (inl refuses) h = nothing_done before after old new refuses.declines.world refuses.declines.seen h
+    steps_once wish before after old new result way (inr (inl step)) h = stepped wish before after old new step.turn way step.steps h
+    steps_once wish before after old new result way (inr (inr memory)) h = ran_short wish before after old new way memory.1 h
+
+    stopped_short : (before after : Seen) (old new : World) → IsAdding lines first old before → StopsShort who before after old new → WorldApart events first old before
+        → WorldApart events first new after
+    stopped_short before after old new way s h =
+        ran_short Plain s.mid after s.world new (went_adding lines first who before old s.mid s.world (sym at) way s.went) s.short (went_on before old s.mid s.world way s.went h)
+
+    runs_once : (before after : Seen) (old new : World) (result : Result Reply WorldFault) → IsAdding lines first old before → Runs n k before after old new result
+        → WorldApart events first old before → WorldApart events first new after
+    runs_once before after old new result way (inl refuses) h = nothing_done before after old new refuses.declines.world refuses.declines.seen h
+    runs_once before after old new result way (inr (inl run)) h =
+        let c = run.comes in
+        stepped Plain c.mid after c.world new _ (went_adding lines first who before old c.mid c.world (sym at) way c.went) c.steps (went_on before old c.mid c.world way c.went h)
+    runs_once before after old new result way (inr (inr memory)) h = stopped_short before after old new way memory.1 h
+
+    -- ---- a session that dies
+
+    dies : (before after : Seen) (old new : World) (result : Result Reply WorldFault) → Dies k before after old new result → WorldApart events first old before
+        → WorldApart events first new after
+    dies before after old new result d h =
+        quietly k before after old new _ d.quiet.seen d.closed (λ takes. closed_leads _ _ _ (ap (λ (a : Acting). a.work) d.closed.does)) h
+
+    dies_done : (before after : Seen) (old new : World) (result : Result Reply WorldFault) → IsAdding lines first old before → CrashesDone who before after old new result
+        → WorldApart events first old before → WorldApart events first new after
+    dies_done before after old new result way (inl d) h = closes k after d.world new d.closes (stepped Plain before after old d.world d.turn way d.steps h)
+    dies_done before after old new result way (inr memory) h = ran_short Plain before after old new way memory.1 h
+
+    crashes_once : (done : Bool) (before after : Seen) (old new : World) (result : Result Reply WorldFault) → IsAdding lines first old before → Crashes n k done before after old new result
+        → WorldApart events first old before → WorldApart events first new after
+    crashes_once false before after old new result way d h = dies before after old new result d h
+    crashes_once true before after old new result way (inl idle) h = dies before after old new result idle.dies h
+    crashes_once true before after old new result way (inr d) h = dies_done before after old new result way d h
+
+  -- ---- a settling
+
+  module _ (lines : List Line) (n : ℕ) (at : length lines + 1 ≡ n) (others : Sessions) (closed : (standing lines 0).posture ≡ Closed) where
+    abbrev line : Line
+    line = line_of event.Settle reply.Called
+
+    abbrev all : List Line
+    all = lines ++ line ∷ []
+
+    row : IsSettlersRow all (settler n)
+    row = settler_row lines reply.Called (settler n) refl (sym at)
+
+    settler_called : (before from under to after : Seen) (old new : World) (turn : Turn Answer) → SettlerAdds n all first others old before → Looked before from
+        → SetsWish Plain from under → Changes 0 (λ a b. StepsSession (settler n) under to a b (Ok turn)) old.sessions new.sessions → Looked to after
+        → WorldApart events first old before → WorldApart events first new after
+    settler_called before from under to after old new turn way look_before wishes session look_after h =
+        let f : Sessions = session_at old.sessions in
+        let own : StepsSession (settler n) under to (f 0) session.after (Ok turn) =
+        subst (λ a. StepsSession (settler n) under to a session.after (Ok turn)) (sym (changed_was 0 _ old.sessions new.sessions session)) session.does in
+        apart_same Was first _ (session_at new.sessions) after (changed_at 0 _ old.sessions new.sessions session)
+        (seen_stays _ to after look_after.stays
+        (settler_apart Was lines line (settler n) under to first f session.after turn (sym at) way.works row closed own.work
+        (wished f Plain from under wishes (seen_stays f before from look_before.stays h))))
+
+    settler_on : (before : Seen) (old : World) (after : Seen) (new : World) → SettlerAdds n all first others old before → Went (settler n) before old after new
+        → WorldApart events first old before → WorldApart events first new after
+    settler_on before old after new way start h = h
+    settler_on before old after new way (further mid _ world _ went p) h =
+        settler_called mid p.from p.under p.to after world new More (settler_went n all first others row before old mid world way went) p.look_before p.wishes p.session p.look_after
+        (settler_on before old mid world way went h)
+
+    settler_short : (before after : Seen) (old new : World) → SettlerAdds n all first others old before → RunsShort (settler n) Plain before after old new
+        → WorldApart events first old before → WorldApart events first new after
+    settler_short before after old new way (inl un) h =
+        apart_same Was first _ (session_at new.sessions) after (λ j. ap (λ (l : List Acting). session_at l j) un.sessions) (seen_stays _ before after un.looked.stays h)
+    settler_short before after old new way (inr p) h = settler_called before p.from p.under p.to after old new p.turn way p.look_before p.wishes p.session p.look_after h
+
+    settles_on : (before after : Seen) (old new : World) (result : Result Reply WorldFault) → SettlerAdds n all first others old before → SettlesOn (settler n) before after old new result
+        → WorldApart events first old before → WorldApart events first new after
+    settles_on before after old new result way (inl s) h =
+        let c = s.comes in
+        let p = c.steps in
+        closes 0 after s.left new s.closes
+        (settler_called c.mid p.from p.under p.to after c.world s.left _ (settler_went n all first others row before old c.mid c.world way c.went) p.look_before p.wishes p.session p.look_after
+        (settler_on before old c.mid c.world way c.went h))
+    settles_on before after old new result way (inr memory) h =
+        let s = memory.1.stops in
+        closes 0 after memory.1.left new memory.1.closes
+        (settler_short s.mid after s.world memory.1.left (settler_went n all first others row before old s.mid s.world way s.went) s.short (settler_on before old s.mid s.world way s.went h))
+
+-- ---- every line
+
+module _ (events : List Event) (first : CloudState) (n : ℕ) (before after : Seen) (old new : World) (result : Result Reply WorldFault) (lines : List Line)
+    (at : length lines + 1 ≡ n) (w : WorldAdds lines first old before) (h : WorldApart events first old before) where
+  abbrev Apart : Type 0
+  Apart = WorldApart events first new after
+
+  way : IsAdding lines first old before
+  way = adding_begins lines first old before w
+
+  settles_so : Settles n before after old new result → Apart
+  settles_so (inl s) =
+      settles_on events first lines n at (session_at old.sessions) closed before after s.begun new result (begun_way lines first n reply.Called before old s.begun at w s.begins) s.settles
+      (changes events first 0 before old s.begun _ s.begins.session_is (λ takes. away_leads _ _ _ _ (ap (λ (a : Acting). a.work) s.begins.session_is.does) (λ head. tt) tt (λ client k. k)) h)
+    where
+      closed : (standing lines 0).posture ≡ Closed
+      closed = (subst (λ (a : Acting). ActsAs a (standing lines 0)) w.rests (w.acts 0)).work
+  settles_so (inr memory) = nothing_done events first before after old new memory.1.world memory.1.seen h
+
+  does_within : (k : ℕ) (o : Op) → IsWithin o → Does n k (Begin o) before after old new result → Apart
+  does_within k o within done = quietly events first k before after old new _ done.0.seen done.1 (begins_so o done.1.before done.1.after done.1.does.begun within done.1.does.begins) h
+
+  waits_so : (ticks : ℕ) → Answers n (Wait ticks) before after old new result → Apart
+  waits_so ticks (inl k) =
+      let waited = k.0.waited h.rows.state h.rows.told in
+      subst (λ z. WorldApart events first z after) (sym k.1)
+      (apart_rows _ first _ before after h waited.after waited.told (ap (λ (z : CloudState). z.versions) waited.rest) (ap (λ (z : CloudState). z.trace) waited.rest))
+  waits_so ticks (inr long) = nothing_done events first before after old new long.declines.world long.declines.seen h
+
+  -- ---- a client is opened
+
+  module _ (e : Event) (once : OpenEachOnce (events ++ e ∷ [])) where
+    abbrev Then : Type 0
+    Then = WorldApart (events ++ e ∷ []) first new after
+
+    with_more : Apart → Then
+    with_more k = apart_more _ _ first _ after (λ client. opened_more events e client) k
+
+    begins_one : (k client : ℕ) → Opens e client → after ≡ before → (c : Changes k (λ a b. (begun : Result Begun Refused) × BeginsOpening client a b begun) old.sessions new.sessions) → Then
+    begins_one k client opens same c = on c.does.0 c.does.1
+      where
+        f : Sessions
+        f = session_at old.sessions
+
+        on : (begun : Result Begun Refused) → BeginsOpening client c.before c.after begun → Then
+        on (Ok Working) begins =
+            subst (WorldApart (events ++ e ∷ []) first new) (sym same)
+            (apart_same _ first _ (session_at new.sessions) before (changed_at k _ old.sessions new.sessions c)
+            (apart_more _ _ first _ before known
+            (opening_apart (IsOpenedIn events) f k c.after client (old_lease c.before.work) (ap (λ (a : Acting). a.work) begins.1) (opened_new events e client once opens) first before h)))
+          where
+            known : (other : ℕ) → IsOpenedIn events other ⊎ (other ≡ client) → IsOpenedIn (events ++ e ∷ []) other
+            known other (inl k) = opened_more events e other k
+            known other (inr is) = subst (IsOpenedIn (events ++ e ∷ [])) (sym is) (opened_last events e client opens)
+        on (Ok (Answered a)) begins = absurd begins
+        on (Err (refused.Rule rule)) begins = with_more (quietly events first k before after old new _ same c (same_session c.before c.after begins.1) h)
+        on (Err refused.Memory) begins = absurd begins
+
+    opens_so : (k client : ℕ) → Opens e client → Does n k (Begin (op.Open client)) before after old new result → Then
+    opens_so k client opens done =
+        let c = done.1 in
+        begins_one k client opens done.0.seen (record { before = c.before; after = c.after; there = c.there; does = (c.does.begun, c.does.begins); rest = c.rest })
+
+    does_so : (k : ℕ) (request : Request) → ((client : ℕ) → request ≡ Begin (op.Open client) → Opens e client) → Does n k request before after old new result → Then
+    does_so k (Begin (op.Open client)) own done = opens_so k client (own client refl) done
+    does_so k (Begin op.Close) own done = with_more (does_within k op.Close tt done)
+    does_so k (Begin op.Renew) own done = with_more (does_within k op.Renew tt done)
+    does_so k (Begin op.Commit) own done = with_more (does_within k op.Commit tt done)
+    does_so k (Begin (op.Read tree key)) own done = with_more (does_within k (op.Read tree key) tt done)
+    does_so k (Begin (op.Scan tree low high)) own done = with_more (does_within k (op.Scan tree low high) tt done)
+    does_so k (Begin (op.Page tree page)) own done = with_more (does_within k (op.Page tree page) tt done)
+    does_so k (Begin (op.Tree tree)) own done = with_more (does_within k (op.Tree tree) tt done)
+    does_so k (Note tree change) own done =
+        with_more (quietly events first k before after old new _ done.0.seen done.1 (notes_so tree change done.1.before done.1.after done.1.does.noted done.1.does.notes) h)
+    does_so k Abort own done =
+        with_more (quietly events first k before after old new _ done.0.seen done.1 (aborts_so done.1.before done.1.after done.1.does.dropped done.1.does.drops) h)
+    does_so k (Step wish) own done = with_more (steps_once events first lines n at k wish before after old new result way done h)
+    does_so k Run own done = with_more (runs_once events first lines n at k before after old new result way done h)
+    does_so k (Crash d) own done = with_more (crashes_once events first lines n at k d before after old new result way done h)
+
+    asked_so : (asked : Asked) → Asks e asked → Answers n asked before after old new result → Then
+    asked_so (Session k (Ok request)) asks (inl p) =
+        does_so k request (λ client is. begins_opening e k client (subst (λ q. Asks e (Session k (Ok q))) is asks)) p.1
+    asked_so (Session k (Err why)) asks (inl p) = with_more (nothing_done events first before after old new p.1.world p.1.seen h)
+    asked_so (Session k request) asks (inr none) = with_more (nothing_done events first before after old new none.declines.world none.declines.seen h)
+    asked_so (Wait ticks) asks p = with_more (waits_so ticks p)
+    asked_so (Report tree) asks p =
+        with_more (subst (λ z. WorldApart events first z after) (sym p.world) (seen_stays events first _ before after p.looked.stays h))
+    asked_so Settle asks p = with_more (settles_so p)
 
 -- a line that was handled
-pub handled_once : (n : ℕ) (event : Event) (before after : Seen) (old new : World) (r : Reply) (lines : List Line) (first : CloudState) → length lines + 1 ≡ n → IsShells event
-    → Handled n event before after old new (Ok r) → WorldAdds lines first old before → WorldOnce first old before → WorldOnce first new after
-handled_once n event before after old new r lines first at own h w once = asked_once n before after old new r lines first at w once event h.asked own h.asks h.answers
+pub handled_apart : (n : ℕ) (e : Event) (before after : Seen) (old new : World) (result : Result Reply WorldFault) (events : List Event) (lines : List Line) (first : CloudState)
+    → length lines + 1 ≡ n → OpenEachOnce (events ++ e ∷ []) → Handled n e before after old new result → WorldAdds lines first old before
+    → WorldApart events first old before → WorldApart (events ++ e ∷ []) first new after
+handled_apart n e before after old new result events lines first at once handled w h =
+    asked_so events first n before after old new result lines at w h e once handled.asked handled.asks handled.answers
 
--- ---- the opening
-
-none_once : (first : CloudState) (w : Work) (seen : Seen) → TakesNumber w → AddsOpenedTo (λ (head : Head). ⊥) first seen → AddsOnce first w seen
-none_once first w seen takes h = record {
-  rows = record { state = h.state; told = h.told; adds = opened_weaker (λ (head : Head). ⊥) (MayHaveOpened w) first h.state (λ head never. absurd never) h.adds };
-  takes = takes;
-}
-
-opens_takes : (client : ℕ) (a b : Acting) (result : Result Begun Refused) → BeginsOpening client a b result → TakesNumber a.work → TakesNumber b.work
-opens_takes client a b (Ok Working) begins takes = subst (λ (z : Acting). TakesNumber z.work) (sym begins.1) tt
-opens_takes client a b (Ok (Answered x)) begins takes = absurd begins
-opens_takes client a b (Err (refused.Rule rule)) begins takes = subst (λ (z : Acting). TakesNumber z.work) (sym begins.1) takes
-opens_takes client a b (Err refused.Memory) begins takes = absurd begins
-
-module _ (n client : ℕ) (before after : Seen) (old new : World) (r : Reply) (first : CloudState) (none : WorldOpenedNone first old before) where
-  declined_once : new ≡ old → after ≡ before → WorldOnce first new after
-  declined_once same seen = once_same first before after old new same seen (none_once first (session_at old.sessions 1).work before none.1 none.0)
-
-  does_open : Does n 1 (Begin (op.Open client)) before after old new (Ok r) → WorldOnce first new after
-  does_open done =
-      let c = done.1 in
-      let takes = opens_takes client c.before c.after c.does.begun c.does.begins (subst (λ (a : Acting). TakesNumber a.work) (changed_was 1 _ old.sessions new.sessions c) none.1) in
-      subst (λ (a : Acting). AddsOnce first a.work after) (sym (changed_first _ old new c))
-      (none_once first c.after.work after takes (subst (AddsOpenedTo (λ (head : Head). ⊥) first) (sym done.0.seen) none.0))
-
-  open_once : (asked : Asked) → OfSession 1 (IsOpening client) asked → Answers n asked before after old new (Ok r) → WorldOnce first new after
-  open_once (Session number (Ok request)) belongs (inl p) =
-      does_open (does_own n 1 request (Begin (op.Open client)) before after old new r belongs.1.1 (subst (λ j. Does n j request before after old new (Ok r)) belongs.0 p.1))
-  open_once (Session number (Err why)) belongs (inl p) = declined_once p.1.world p.1.seen
-  open_once (Session number request) belongs (inr none) = declined_once none.declines.world none.declines.seen
-  open_once (Wait ticks) belongs answers = absurd belongs
-  open_once (Report tree) belongs answers = absurd belongs
-  open_once Settle belongs answers = absurd belongs
-
--- the line that opens session 1 before anything was opened
-pub opening_once : (n : ℕ) (opens : Event) (before after : Seen) (old new : World) (r : Reply) (first : CloudState) → OpensFirst opens → Handled n opens before after old new (Ok r)
-    → WorldOpenedNone first old before → WorldOnce first new after
-opening_once n opens before after old new r first (client, is) h none =
-    let own : Handled n (event.Open 1 client) before after old new (Ok r) = subst (λ e. Handled n e before after old new (Ok r)) is h in
-    open_once n client before after old new r first none own.asked own.asks own.answers
+-- no two rows that were added open one transaction
+pub none_twice : (events : List Event) (first : CloudState) (world : World) (seen : Seen) → WorldApart events first world seen → AddsNoneTwice first seen
+none_twice events first world seen h = apart_none_twice _ first _ seen h

@@ -36,12 +36,12 @@ fn fold_key<'a>(
 {
     let mut payload = old;
     let mut left = changes;
-    while let Some((x, rest)) = left.again().split() {
-        if !is_at(x, key) {
-            return (payload, left);
+    while let Some(x) = left.again().split() {
+        if !is_at(x.item, key) {
+            return (payload, x.all);
         }
-        payload = act(payload, &x.rec.change);
-        left = rest;
+        payload = act(payload, &x.item.rec.change);
+        left = x.rest;
     }
     (payload, left)
 }
@@ -144,9 +144,9 @@ pub(crate) fn next_step<'a>(records: Records<'a>, changes: Changes<'a>) -> Optio
             Some((record, behind)) => Some(Step {
                 record: Some(record),
                 records: behind,
-                changes,
+                changes: changes.ended(),
             }),
         },
-        Some((x, rest)) => Some(at_change(x, rest, changes, records)),
+        Some(first) => Some(at_change(first.item, first.rest, first.all, records)),
     }
 }

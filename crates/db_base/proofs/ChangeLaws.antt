@@ -1,9 +1,11 @@
 -- Two changes of one key in one.
-use Rattle.std.proofs.Common.{◌≡◌, ℕ, ◌+◌, ◌%◌, ◌^◌, ◌<◌, ◌==◌, Bool, true, false, if◌then◌else◌, length, Option, Some, None, refl, sym, ap, ◌∙◌, lit<, w64}
+use Rattle.std.proofs.Common.{◌≡◌, ℕ, ◌+◌, ◌%◌, ◌^◌, ◌==◌, Bool, true, false, if◌then◌else◌, length, Option, Some, None, refl, sym, ap, ◌∙◌, lit<, arith, w64}
 use Rattle.std.specs.Int.{to_be_bytes, from_be_bytes}
 use Rattle.std.proofs.Math.Nat.{mod-add-mod, add-mod-mod, add_assoc, mod-lt}
 use Rattle.std.proofs.lemmas.Nat.{from_be_bytes-to_be_bytes_8}
-use Rattle.db_base.specs.Change.{Value, act, added, net, plus}
+use Rattle.std.specs.Option.{IfSome}
+use Rattle.db_base.specs.Key.{IsPayload}
+use Rattle.db_base.specs.Change.{Value, act, added, net, payload_set_by, plus}
 use Rattle.db_base.specs.declared.change.Change.{Change}
 use Rattle.db_base.specs.declared.change.Change.TheVariants.{Insert, Update, Delete, Add}
 
@@ -44,3 +46,19 @@ act-act (Some p) (Update key payload) (Add other more) = refl
 act-act old (Delete key) (Add other more) = refl
 act-act None (Add key amount) (Add other more) = refl
 act-act (Some p) (Add key amount) (Add other more) = ap Some (plus-plus p amount more)
+
+plus-payload : (p : Value) (amount : ℕ) → IsPayload p → IsPayload (plus p amount)
+plus-payload p amount h = on (length p == 8)
+  where
+    on : (is : Bool) → IsPayload (if is then to_be_bytes w64 (added (from_be_bytes w64 p) amount) else p)
+    on true = omega arith
+    on false = h
+
+-- a change leaves a payload, where it brings one and finds one
+pub act-payload : (old : Option Value) (c : Change) → IfSome old IsPayload → IsPayload (payload_set_by c) → IfSome (act old c) IsPayload
+act-payload old (Insert key payload) was h = h
+act-payload None (Update key payload) was h = tt
+act-payload (Some p) (Update key payload) was h = h
+act-payload old (Delete key) was h = tt
+act-payload None (Add key amount) was h = tt
+act-payload (Some p) (Add key amount) was h = plus-payload p amount was

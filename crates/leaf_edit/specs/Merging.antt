@@ -3,8 +3,7 @@ use Rattle.std.specs.Prelude.{◌≡◌, ℕ, ◌+◌, ◌<◌, ◌≤◌, false
 use Rattle.std.specs.List.{AllByRecursion}
 use Rattle.std.specs.Option.{option_to_list, IfSome}
 use Rattle.db_base.specs.Key.{IsKey, IsPayload}
-use Rattle.std.proofs.Common.{Bor}
-use Rattle.db_base.specs.Change.{Value, key_of}
+use Rattle.db_base.specs.Change.{key_of}
 use Rattle.byte_format.specs.Order.{bytes_below}
 use Rattle.leaf_view.specs.Leaf.{Entry}
 use Rattle.leaf_view.specs.Fits.{Ascend, entry_below}
@@ -21,10 +20,6 @@ KeyBefore key (e ∷ es) = IsTrue (bytes_below key e.key)
 abbrev pub entry_at : List ℕ → Option (List ℕ) → Option Entry
 entry_at key None = None
 entry_at key (Some payload) = Some (record { key = key; payload = payload })
-
--- the record of a key and a value
-abbrev pub valued : Bor (List ℕ) × Value → Entry
-valued x = record { key = x.0.now; payload = x.1 }
 
 -- no item has a key below that of an earlier one
 abbrev pub Rises : List PuItem → Type 0

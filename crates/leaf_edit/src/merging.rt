@@ -6,9 +6,10 @@ ghost use Rattle.std.specs.Vec.{vec_capacity};
 ghost use Rattle.byte_format.specs.Adds.{Adds};
 ghost use Rattle.leaf_view.specs.Leaf.{IsLeaf};
 ghost use Rattle.log_codec.specs.Order.{IsOrdered};
+ghost use Rattle.leaf_view.specs.Shown.{valued};
 ghost use Rattle.leaf_edit.specs.Applied.{applied, applied_length};
 ghost use Rattle.leaf_edit.specs.Edited.{edited_by};
-ghost use Rattle.leaf_edit.specs.Merging.{AreChanges, AreRecords, IsSized, valued};
+ghost use Rattle.leaf_edit.specs.Merging.{AreChanges, AreRecords, IsSized};
 ghost use Rattle.leaf_edit.specs.Sizes.{entries_size, entry_size_of, fields_size, IsSize};
 ghost use Rattle.leaf_edit.specs.Spelled.{entries_bytes, entry_bytes_of, head_bytes};
 

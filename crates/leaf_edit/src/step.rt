@@ -5,8 +5,9 @@ ghost use Rattle.std.specs.Option.{option_map};
 ghost use Rattle.db_base.specs.Key.{IsKey, IsPayload};
 ghost use Rattle.db_base.specs.Change.{key_of, act, payload_set_by};
 ghost use Rattle.byte_format.specs.Order.{bytes_same};
+ghost use Rattle.leaf_view.specs.Shown.{valued};
 ghost use Rattle.leaf_edit.specs.Edited.{edited_by, with_payload};
-ghost use Rattle.leaf_edit.specs.Merging.{AllFrom, AreChanges, AreRecords, entry_at, Folds, KeyBefore, Steps, valued};
+ghost use Rattle.leaf_edit.specs.Merging.{AllFrom, AreChanges, AreRecords, entry_at, Folds, KeyBefore, Steps};
 
 use crate::changes::Changes;
 use byte_format::is_same;

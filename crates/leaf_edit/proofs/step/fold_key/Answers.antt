@@ -1,5 +1,4 @@
 use Rattle.std.proofs.Common.{◌≡◌, ◌∷◌, List, Option, ℕ, sym, subst, ◌∙◌}
-use Rattle.std.specs.Option.{option_copied}
 use Rattle.log_codec.specs.declared.record.PuItem.{PuItem}
 use Rattle.leaf_edit.specs.Merging.{Folds}
 use Rattle.leaf_edit.proofs.Folding.{IsFolding, step, end}

@@ -1,5 +1,4 @@
 use Rattle.std.proofs.Common.{length}
-use Rattle.std.specs.Option.{option_copied}
 use Rattle.leaf_edit.proofs.Folding.{IsFolding}
 use Rattle.leaf_edit.proofs.step.fold_key.Given as goal
 

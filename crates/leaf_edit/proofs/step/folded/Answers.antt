@@ -1,5 +1,4 @@
 use Rattle.std.proofs.Common.{◌∷◌, List, Option, ℕ, sym, subst, ◌∙◌, ap}
-use Rattle.std.specs.Option.{option_copied}
 use Rattle.db_base.specs.Change.{key_of, act}
 use Rattle.leaf_view.specs.Leaf.{Entry}
 use Rattle.leaf_edit.specs.Edited.{with_payload}

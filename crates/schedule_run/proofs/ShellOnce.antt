@@ -39,6 +39,7 @@ keyword_again word.Renew = refl
 keyword_again word.Insert = refl
 keyword_again word.Update = refl
 keyword_again word.Delete = refl
+keyword_again word.Add = refl
 keyword_again word.Commit = refl
 keyword_again word.Abort = refl
 keyword_again word.Read = refl
@@ -86,6 +87,7 @@ module _ (text : List ℕ) where
   of_shell (event.Insert k tree key payload) line = first_session (event.Insert k tree key payload) k _ _ line refl line.in_range.0
   of_shell (event.Update k tree key payload) line = first_session (event.Update k tree key payload) k _ _ line refl line.in_range.0
   of_shell (event.Delete k tree key) line = first_session (event.Delete k tree key) k _ _ line refl line.in_range.0
+  of_shell (event.Add k tree key amount) line = first_session (event.Add k tree key amount) k _ _ line refl line.in_range.0
   of_shell (event.Commit k) line = first_session (event.Commit k) k _ _ line refl line.in_range
   of_shell (event.Abort k) line = first_session (event.Abort k) k _ _ line refl line.in_range
   of_shell (event.Read k tree key) line = first_session (event.Read k tree key) k _ _ line refl line.in_range.0

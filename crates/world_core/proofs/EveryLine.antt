@@ -57,13 +57,16 @@ request_stands n k event Is Settle before after old new r lines t belongs answer
 -- ---- a change is noted
 
 pub insert_is : (key payload : List ℕ) → IsKey key → IsPayload payload → IsChange (Insert key payload)
-insert_is key payload k p = record { key = k; payload = p }
+insert_is key payload k p = record { key = k; payload = p; amount = lit< tt }
 
 pub update_is : (key payload : List ℕ) → IsKey key → IsPayload payload → IsChange (Update key payload)
-update_is key payload k p = record { key = k; payload = p }
+update_is key payload k p = record { key = k; payload = p; amount = lit< tt }
 
 pub delete_is : (key : List ℕ) → IsKey key → IsChange (Delete key)
-delete_is key k = record { key = k; payload = omega arith }
+delete_is key k = record { key = k; payload = omega arith; amount = lit< tt }
+
+pub add_is : (key : List ℕ) (amount : ℕ) → IsKey key → amount < 2 ^ 64 → IsChange (Add key amount)
+add_is key amount k fits = record { key = k; payload = omega arith; amount = fits }
 
 noted_line : (lines : List Line) (event : Event) (n k tree : ℕ) (change : Change) (request : Request) (before after : Seen) (old new : World) (r : Reply) (t : CloudState) (Is : Result Change Refused → Type 0)
     → session_of event ≡ k → ((q : Reply) (s : Standing) → after_own event q s ≡ notes_own tree change q s) → ((c : Change) → Is (Ok c) → (c ≡ change) × IsChange change)

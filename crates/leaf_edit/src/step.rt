@@ -5,7 +5,7 @@ ghost use Rattle.std.specs.Option.{option_map};
 ghost use Rattle.db_base.specs.Key.{IsKey, IsPayload};
 ghost use Rattle.db_base.specs.Change.{key_of, act, payload_set_by};
 ghost use Rattle.byte_format.specs.Order.{bytes_same};
-ghost use Rattle.leaf_view.specs.Shown.{valued};
+ghost use Rattle.leaf_view.specs.Shown.{shown, valued};
 ghost use Rattle.leaf_edit.specs.Edited.{edited_by, with_payload};
 ghost use Rattle.leaf_edit.specs.Merging.{AllFrom, AreChanges, AreRecords, entry_at, Folds, KeyBefore, Steps};
 
@@ -87,6 +87,13 @@ fn key_at(x: &PuItem) -> &[u8]
     x.rec.change.key().as_slice()
 }
 
+/// A record that stays as it is.
+fn kept<'a>(pair: (&'a [u8], &'a [u8])) -> (&'a [u8], Value<'a>)
+    ensures { valued result ≡ shown pair.entry }
+{
+    (pair.0, Value::of(pair.1))
+}
+
 /// The record of a key, where there is a payload.
 fn entry_at<'a>(key: &'a [u8], value: Option<Value<'a>>) -> Option<(&'a [u8], Value<'a>)>
     ensures { option_map valued result ≡ entry_at key.now value.entry }
@@ -123,7 +130,7 @@ fn at_change<'a>(
         None => folded(x, None, rest, records),
         Some((record, behind)) => match record.0.cmp(key_at(x)) {
             Ordering::Less => Step {
-                record: Some((record.0, Value::of(record.1))),
+                record: Some(kept(record)),
                 records: behind,
                 changes,
             },
@@ -144,7 +151,7 @@ pub(crate) fn next_step<'a>(records: Records<'a>, changes: Changes<'a>) -> Optio
         None => match records.split() {
             None => None,
             Some((record, behind)) => Some(Step {
-                record: Some((record.0, Value::of(record.1))),
+                record: Some(kept(record)),
                 records: behind,
                 changes: changes.ended(),
             }),

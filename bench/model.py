@@ -16,12 +16,14 @@ Usage: bench/model.py SCHEDULE REPLIES [..]     prints one line for each pair; s
 
 import sys
 
-NOTES = ("insert", "update", "delete")
+NOTES = ("insert", "update", "delete", "add")
 # What a change behind another one of its key comes to, within one transaction.
 NET = {
     ("insert", "insert"): "insert", ("insert", "update"): "insert", ("insert", "delete"): "delete",
     ("update", "insert"): "insert", ("update", "update"): "update", ("update", "delete"): "delete",
     ("delete", "insert"): "insert", ("delete", "update"): "delete", ("delete", "delete"): "delete",
+    ("insert", "add"): "insert", ("update", "add"): "update", ("delete", "add"): "delete", ("add", "add"): "add",
+    ("add", "insert"): "insert", ("add", "update"): "update", ("add", "delete"): "delete",
 }
 
 
@@ -34,6 +36,11 @@ def must(holds, what):
         raise Wrong(what)
 
 
+def plus(payload, amount):
+    """A payload of eight bytes with an amount added, modulo 2^64; another stays."""
+    return f"{(int(payload, 16) + int(amount)) % 2**64:016x}" if len(payload) == 16 else payload
+
+
 def fold(changes):
     """The records that changes come to."""
     records = {}
@@ -41,6 +48,8 @@ def fold(changes):
         what, key, *payload = change.split(" ")
         if what == "insert" or (what == "update" and key in records):
             records[key] = payload[0]
+        elif what == "add" and key in records:
+            records[key] = plus(records[key], payload[0])
         elif what == "delete":
             records.pop(key, None)
     return records

@@ -445,6 +445,7 @@ SHELL_WORDS = {
     "PAGE": ("a page, 1 and above", lambda text: (number_in(text) or 0) >= 1),
     "KEY": (f"a key of 1 to {MOST_KEY} bytes, two lower-case hexadecimal digits each", is_key),
     "PAYLOAD": (f"a payload of at most {MOST_PAYLOAD} bytes, two lower-case hexadecimal digits each, or -", is_payload),
+    "AMOUNT": ("a number of 64 bits without leading zeros", lambda text: number_in(text) is not None),
     "FROM": ("a key from which on to list, or - for the first", is_bound),
     "TO": ("a key below which to list, or - for no end", is_bound),
 }

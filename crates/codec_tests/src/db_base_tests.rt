@@ -165,7 +165,13 @@ fn an_addition_counts_around(rt: HostRuntime) {
     };
     let greatest: [u8; 8] = [255, 255, 255, 255, 255, 255, 255, 255];
     assert!(rt; makes(None, &two, None));
-    assert!(rt; makes(Some(&[0, 0, 0, 0, 0, 0, 0, 255]), &two, Some(&[0, 0, 0, 0, 0, 0, 1, 1])));
+    assert!(rt;
+        makes(
+            Some(&[0, 0, 0, 0, 0, 0, 0, 255]),
+            &two,
+            Some(&[0, 0, 0, 0, 0, 0, 1, 1])
+        )
+    );
     assert!(rt; makes(Some(&greatest), &two, Some(&[0, 0, 0, 0, 0, 0, 0, 1])));
     // A payload that has not eight bytes stays.
     assert!(rt; makes(Some(b"sevenby"), &two, Some(b"sevenby")));
@@ -181,7 +187,13 @@ fn raised(alloc: Global, change: Change, amount: u64) -> Option<Change> {
 }
 
 /// Whether a change and an addition behind it make this of that.
-fn raises(alloc: Global, change: Option<Change>, amount: u64, old: Option<&[u8]>, new: &[u8]) -> bool {
+fn raises(
+    alloc: Global,
+    change: Option<Change>,
+    amount: u64,
+    old: Option<&[u8]>,
+    new: &[u8],
+) -> bool {
     match change {
         Some(change) => match raised(alloc, change, amount) {
             Some(both) => makes(old, &both, Some(new)),
@@ -197,7 +209,15 @@ fn an_addition_joins_what_was_before(rt: HostRuntime) {
     let one: [u8; 8] = [0, 0, 0, 0, 0, 0, 0, 1];
     assert!(rt; raises(rt.alloc(), insert(rt.alloc(), &greatest), 2, None, &one));
     assert!(rt; raises(rt.alloc(), insert(rt.alloc(), b"v"), 2, None, b"v"));
-    assert!(rt; raises(rt.alloc(), addition(rt.alloc(), u64::MAX), 1, Some(&one), &one));
+    assert!(rt;
+        raises(
+            rt.alloc(),
+            addition(rt.alloc(), u64::MAX),
+            1,
+            Some(&one),
+            &one
+        )
+    );
 }
 
 /// Whether an update to a payload does nothing where there is no record.

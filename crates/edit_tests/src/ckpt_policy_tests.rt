@@ -114,8 +114,24 @@ fn each_role_picks_its_queues(rt: HostRuntime) {
     assert!(rt; is_due(rt.alloc(), Role::Writer, 2, one, &[]));
     assert!(rt; is_due(rt.alloc(), Role::Reader, 3, one, &[(1, 1)]));
     assert!(rt; is_due(rt.alloc(), Role::Reader, 4, one, &[]));
-    assert!(rt; is_due(rt.alloc(), Role::Watchdog, 3, one, &[(1, 1), (2, 0), (1, 0)]));
-    assert!(rt; is_due(rt.alloc(), Role::Watchdog, 56, one, &[(1, 1), (2, 0), (1, 0), (1, 2)]));
+    assert!(rt;
+        is_due(
+            rt.alloc(),
+            Role::Watchdog,
+            3,
+            one,
+            &[(1, 1), (2, 0), (1, 0)]
+        )
+    );
+    assert!(rt;
+        is_due(
+            rt.alloc(),
+            Role::Watchdog,
+            56,
+            one,
+            &[(1, 1), (2, 0), (1, 0), (1, 2)]
+        )
+    );
     assert!(rt; is_due(rt.alloc(), Role::Owner, 2, one, &[(1, 1)]));
     assert!(rt; is_due(rt.alloc(), Role::Owner, 2, two, &[(1, 0), (1, 2), (2, 0)]));
 }

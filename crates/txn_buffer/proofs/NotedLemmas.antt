@@ -186,6 +186,7 @@ at_place {S = S} m k (e ∷ es) start i w h = on (same_key k e.0) i h (λ j h. a
   where
     Deep : Type 0
     Deep = (j : ℕ) → position_from (same_key k) (start + 1) (keys_of es) ≡ Some (start + 1 + j) → written m es j w ≡ insert_entry same_key es k w
+
     on : (b : Bool) (i : ℕ) → cond b (Some start) (position_from (same_key k) (start + 1) (keys_of es)) ≡ Some (start + i) → Deep
         → written m (e ∷ es) i w ≡ cond b ((e.0, w) ∷ es) (e ∷ insert_entry same_key es k w)
     on true zero h deep = refl
@@ -241,6 +242,7 @@ joined m n k i change keys key index there value join = on (found_in (map noted_
   where
     is : lookup (same_key k) m.entries ≡ found_in (map noted_of m.entries) k.tree (key_of change)
     is = found k m.entries keys ∙ ap (found_in (map noted_of m.entries) k.tree) key
+
     on : (o : Option Change) → found_in (map noted_of m.entries) k.tree (key_of change) ≡ o
         → n.entries ≡ insert_entry same_key m.entries k (joined_to (found_in (map noted_of m.entries) k.tree (key_of change)) change)
     on None e = absurd (let bad : false ≡ true = sym (ap is_some (is ∙ e)) ∙ there in cc)
@@ -255,6 +257,7 @@ alone k es change keys key none = on (found_in (map noted_of es) k.tree (key_of 
   where
     is : lookup (same_key k) es ≡ found_in (map noted_of es) k.tree (key_of change)
     is = found k es keys ∙ ap (found_in (map noted_of es) k.tree) key
+
     on : (o : Option Change) → found_in (map noted_of es) k.tree (key_of change) ≡ o
         → insert_entry same_key es k change ≡ insert_entry same_key es k (joined_to (found_in (map noted_of es) k.tree (key_of change)) change)
     on None e = ap (λ (o : Option Change). insert_entry same_key es k (joined_to o change)) (sym e)

@@ -16,12 +16,14 @@ Usage: bench/model.py SCHEDULE REPLIES [..]     prints one line for each pair; s
 
 import sys
 
-NOTES = ("insert", "update", "delete")
+NOTES = ("insert", "update", "delete", "add")
 # What a change behind another one of its key comes to, within one transaction.
 NET = {
     ("insert", "insert"): "insert", ("insert", "update"): "insert", ("insert", "delete"): "delete",
     ("update", "insert"): "insert", ("update", "update"): "update", ("update", "delete"): "delete",
     ("delete", "insert"): "insert", ("delete", "update"): "delete", ("delete", "delete"): "delete",
+    ("insert", "add"): "insert", ("update", "add"): "update", ("delete", "add"): "delete", ("add", "add"): "add",
+    ("add", "insert"): "insert", ("add", "update"): "update", ("add", "delete"): "delete",
 }
 
 
@@ -34,6 +36,11 @@ def must(holds, what):
         raise Wrong(what)
 
 
+def plus(payload, amount):
+    """A payload of eight bytes with an amount added, modulo 2^64; another stays."""
+    return f"{(int(payload, 16) + int(amount)) % 2**64:016x}" if len(payload) == 16 else payload
+
+
 def fold(changes):
     """The records that changes come to."""
     records = {}
@@ -41,6 +48,8 @@ def fold(changes):
         what, key, *payload = change.split(" ")
         if what == "insert" or (what == "update" and key in records):
             records[key] = payload[0]
+        elif what == "add" and key in records:
+            records[key] = plus(records[key], payload[0])
         elif what == "delete":
             records.pop(key, None)
     return records
@@ -125,11 +134,20 @@ class Model:
             session.at_work = None
 
     def note(self, session, what, tree, key, *payload):
-        self.noted.setdefault((tree, key), set()).update(payload)
+        self.noted.setdefault((tree, key), set()).update([what] if what == "add" else payload)
         before = session.buffer.get((tree, key))
         if before:
-            what = NET[before.split(" ")[0], what]
+            first, _, *old = before.split(" ")
+            both = NET[first, what]
+            if what == "add" and old:
+                payload = [str((int(old[0]) + int(payload[0])) % 2**64) if first == "add" else plus(old[0], payload[0])]
+            what = both
         session.buffer[tree, key] = " ".join([what, key, *([] if what == "delete" else payload)])
+
+    def may_show(self, tree, key, payload):
+        """Whether somebody noted the payload, or it may be a sum."""
+        noted = self.noted.get((tree, key), ())
+        return payload in noted or ("add" in noted and len(payload) == 16)
 
     def attempt(self, session):
         number = self.attempts[session.client, session.epoch]
@@ -154,13 +172,13 @@ class Model:
                 must(word == "not-committed", said)
             session.buffer = {}
         elif session.at_work == "read" and word == "value":
-            must(rest[0] in self.noted.get(tuple(session.asked), ()), f"{said}: nobody noted it")
+            must(self.may_show(*session.asked, rest[0]), f"{said}: nobody noted it")
         elif session.at_work == "scan" and word == "scan":
             tree, low, high = session.asked
             keys = [it.split("=")[0] for it in rest[1:]]
             must(len(keys) == int(rest[0]) and keys == sorted(set(keys)), "a scan out of order")
             must(all((low == "-" or low <= it) and (high == "-" or it < high) for it in keys), "a scan out of its bounds")
-            must(all(it.split("=")[1] in self.noted.get((tree, it.split("=")[0]), ()) for it in rest[1:]), "a scan of what nobody noted")
+            must(all(self.may_show(tree, *it.split("=")) for it in rest[1:]), "a scan of what nobody noted")
 
     def report(self, tree, report):
         for attempt in [it for it in self.tried if it[0] in self.doubtful]:

@@ -92,21 +92,27 @@ class Reader:
 
 @dataclass(frozen=True)
 class Change:
-    """An insert, update or delete of a key."""
+    """An insert, update or delete of a key, or an addition to its payload."""
 
     what: str
     key: bytes
     payload: bytes = b""
+    amount: int = 0
 
     def __str__(self):
         words = [self.what, text_of(self.key)]
-        return " ".join(words if self.what == "delete" else [*words, text_of(self.payload)])
+        behind = {"delete": [], "add": [str(self.amount)]}
+        return " ".join([*words, *behind.get(self.what, [text_of(self.payload)])])
 
 
 def read_change(reader):
-    kind = reader.u8("a kind", 1, 3)
+    kind = reader.u8("a kind", 1, 4)
     key = reader.key()
-    return Change("delete", key) if kind == 3 else Change(("insert", "update")[kind - 1], key, reader.payload())
+    if kind == 3:
+        return Change("delete", key)
+    if kind == 4:
+        return Change("add", key, amount=reader.u64("an amount", 0))
+    return Change(("insert", "update")[kind - 1], key, reader.payload())
 
 
 @dataclass
@@ -409,6 +415,7 @@ SHELL_LINES = {
     "insert": ("TREE", "KEY", "PAYLOAD"),
     "update": ("TREE", "KEY", "PAYLOAD"),
     "delete": ("TREE", "KEY"),
+    "add": ("TREE", "KEY", "AMOUNT"),
     "commit": (),
     "abort": (),
     "read": ("TREE", "KEY"),
@@ -438,6 +445,7 @@ SHELL_WORDS = {
     "PAGE": ("a page, 1 and above", lambda text: (number_in(text) or 0) >= 1),
     "KEY": (f"a key of 1 to {MOST_KEY} bytes, two lower-case hexadecimal digits each", is_key),
     "PAYLOAD": (f"a payload of at most {MOST_PAYLOAD} bytes, two lower-case hexadecimal digits each, or -", is_payload),
+    "AMOUNT": ("a number of 64 bits without leading zeros", lambda text: number_in(text) is not None),
     "FROM": ("a key from which on to list, or - for the first", is_bound),
     "TO": ("a key below which to list, or - for no end", is_bound),
 }

@@ -1,23 +1,30 @@
 -- The format of a change, which log records and heads share.
-use Rattle.std.specs.Prelude.{ℕ, ◌==◌, not, Bool, List, Option, Some, None, if◌then◌else◌}
-use Rattle.std.specs.Int.{w8, w16}
-use Rattle.db_base.specs.Key.{IsKey, IsPayload}
+use Rattle.std.specs.Prelude.{ℕ, ◌-◌, ◌^◌, ◌==◌, nat_le, Bool, List, Option, Some, None, if◌then◌else◌}
+use Rattle.std.specs.Int.{w8, w16, w64}
 use Rattle.db_base.specs.declared.change.Change.{Change}
-use Rattle.db_base.specs.declared.change.Change.TheVariants.{Insert, Update, Delete}
+use Rattle.db_base.specs.declared.change.Change.TheVariants.{Insert, Update, Delete, Add}
 use Rattle.byte_format.specs.Format.{Format, Reading, number, text, ◌then◌, only_where, seen_as}
 
--- the kind, 1 Insert, 2 Update, 3 Delete; the key; the payload, but for Delete
-abbrev pub change_fields : Format (ℕ × (List ℕ × Option (List ℕ)))
-change_fields = number w8 1 3 then λ kind. text w8 1 64 then λ key. only_where (not (kind == 3)) (text w16 0 1024)
+-- whether a change of the kind has a payload
+abbrev pub has_payload : ℕ → Bool
+has_payload kind = nat_le kind 2
 
-abbrev pub change_of : ℕ × (List ℕ × Option (List ℕ)) → Change
-change_of (kind, (key, Some payload)) = if kind == 1 then Insert key payload else Update key payload
-change_of (kind, (key, None)) = Delete key
+-- the kind, 1 Insert, 2 Update, 3 Delete, 4 Add; the key; the payload of an insert or update; the amount of an addition
+abbrev pub change_fields : Format (ℕ × (List ℕ × (Option (List ℕ) × Option ℕ)))
+change_fields =
+    number w8 1 4 then λ kind. text w8 1 64 then λ key. only_where (has_payload kind) (text w16 0 1024) then λ payload.
+    only_where (kind == 4) (number w64 0 (2 ^ 64 - 1))
 
-abbrev pub fields_of_change : Change → ℕ × (List ℕ × Option (List ℕ))
-fields_of_change (Insert key payload) = (1, (key, Some payload))
-fields_of_change (Update key payload) = (2, (key, Some payload))
-fields_of_change (Delete key) = (3, (key, None))
+abbrev pub change_of : ℕ × (List ℕ × (Option (List ℕ) × Option ℕ)) → Change
+change_of (kind, (key, (Some payload, amount))) = if kind == 1 then Insert key payload else Update key payload
+change_of (kind, (key, (None, Some amount))) = Add key amount
+change_of (kind, (key, (None, None))) = Delete key
+
+abbrev pub fields_of_change : Change → ℕ × (List ℕ × (Option (List ℕ) × Option ℕ))
+fields_of_change (Insert key payload) = (1, (key, (Some payload, None)))
+fields_of_change (Update key payload) = (2, (key, (Some payload, None)))
+fields_of_change (Delete key) = (3, (key, (None, None)))
+fields_of_change (Add key amount) = (4, (key, (None, Some amount)))
 
 abbrev pub change_table : Format Change
 change_table = seen_as change_of fields_of_change change_fields
@@ -35,9 +42,3 @@ change_at = change_table.reading
 -- the format of a change
 abbrev pub change : Format Change
 change = record { fits = change_fits; spelling = change_bytes; reading = change_at }
-
--- the key is a key, and the payload a payload
-abbrev pub IsChange : Change → Type 0
-IsChange (Insert key payload) = IsKey key × IsPayload payload
-IsChange (Update key payload) = IsKey key × IsPayload payload
-IsChange (Delete key) = IsKey key

@@ -6,7 +6,7 @@ ghost use Rattle.byte_format.specs.Format.{text_at};
 ghost use Rattle.byte_format.specs.Gives.{GivesOwned};
 ghost use Rattle.change_codec.specs.Change.{change_at};
 
-use byte_format::{ReadFault, text8_at, text16_at, u8_at};
+use byte_format::{ReadFault, text8_at, text16_at, u8_at, u64_at};
 use db_base::change::Change;
 use db_base::key::{Key, Payload};
 use db_base::refusal::Refused;
@@ -41,10 +41,14 @@ fn payload_at(alloc: Global, bytes: &[u8]) -> Result<(Payload, &[u8]), ReadFault
 pub fn read_change(alloc: Global, bytes: &[u8]) -> Result<(Change, &[u8]), ReadFault>
     ensures { GivesOwned (λ x. (x.0, x.1.now)) result (change_at bytes.now) }
 {
-    let (kind, rest) = u8_at(bytes, 1, 3)?;
+    let (kind, rest) = u8_at(bytes, 1, 4)?;
     let (key, rest) = key_at(alloc, rest)?;
     if kind == 3 {
         return Ok((Change::Delete { key }, rest));
+    }
+    if kind == 4 {
+        let (amount, rest) = u64_at(rest, 0, u64::MAX)?;
+        return Ok((Change::Add { key, amount }, rest));
     }
     let (payload, rest) = payload_at(alloc, rest)?;
     if kind == 1 {

@@ -2,10 +2,11 @@
 
 ghost use Rattle.std.specs.Prelude.{◌≡◌, ◌++◌, OnOk, length};
 ghost use Rattle.std.specs.Int.{w8, to_be_bytes};
+ghost use Rattle.db_base.specs.Change.{IsChange};
 ghost use Rattle.db_base.specs.Key.{IsKey};
-ghost use Rattle.change_codec.specs.Change.{change_bytes, IsChange};
+ghost use Rattle.change_codec.specs.Change.{change_bytes};
 
-use byte_format::{try_add, try_add_text16};
+use byte_format::{try_add, try_add_text16, try_add_u64};
 use db_base::change::Change;
 use db_base::key::Key;
 use std::alloc::AllocError;
@@ -36,5 +37,9 @@ pub fn add_change(out: &mut Vec<u8>, change: &Change) -> Result<(), AllocError>
             try_add_text16(out, payload.as_slice())
         }
         Change::Delete { key } => add_key(out, 3, key),
+        Change::Add { key, amount } => {
+            add_key(out, 4, key)?;
+            try_add_u64(out, *amount)
+        }
     }
 }

@@ -13,6 +13,7 @@ use db_base::change::Change;
 use db_base::ids::TreeId;
 use db_base::pair::Pair;
 use db_base::refusal::Refused;
+use db_base::value::Value;
 use head_codec::head::Head;
 use log_codec::record::PuItem;
 use std::alloc::Global;
@@ -70,7 +71,7 @@ impl<H: Hand> SessionCalls for Session<H> {
         Session::applying(self)
     }
 
-    fn value(&self) -> Option<&[u8]> {
+    fn value(&self) -> Option<Value<'_>> {
         Session::value(self)
     }
 

@@ -16,6 +16,7 @@ use db_base::change::Change;
 use db_base::ids::TreeId;
 use db_base::pair::Pair;
 use db_base::refusal::{Refusal, Refused};
+use db_base::value::Value;
 use head_codec::head::Head;
 use log_codec::record::PuItem;
 use page_cache::PageCache;
@@ -190,8 +191,8 @@ impl<H: Hand> Session<H> {
     }
 
     /// The payload that the newest operation read, as the client sees it; none where it was no read, or where there is no record.
-    pub fn value(&self) -> Option<&[u8]>
-        ensures { option_copied result ≡ value_of self.now }
+    pub fn value(&self) -> Option<Value<'_>>
+        ensures { result ≡ value_of self.now }
     {
         self.work.value(&self.shown, &self.cache, &self.buffer)
     }

@@ -16,6 +16,7 @@ use db_base::change::Change;
 use db_base::ids::TreeId;
 use db_base::pair::Pair;
 use db_base::refusal::Refused;
+use db_base::value::Value;
 use head_codec::head::Head;
 use log_codec::record::PuItem;
 use std::alloc::Global;
@@ -83,8 +84,8 @@ pub trait SessionCalls: Drop {
         ensures { result.now ≡ applying_of (acting self.now).work };
 
     /// The payload that the newest operation read, as the client sees it; none where it was no read, or where there is no record.
-    fn value(&self) -> Option<&[u8]>
-        ensures { option_copied result ≡ value_of (acting self.now) };
+    fn value(&self) -> Option<Value<'_>>
+        ensures { result ≡ value_of (acting self.now) };
 
     /// The records that the newest operation listed, in the order of their keys; none where it was no scan.
     fn items(&self) -> &[Pair]

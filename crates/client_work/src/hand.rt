@@ -17,6 +17,7 @@ use cloud_trait::call::Call;
 use cloud_trait::cloud::Cloud;
 use cloud_trait::turn::Turn;
 use cloud_trait::who::Who;
+use db_base::value::Value;
 use head_codec::head::Head;
 use log_codec::record::PuItem;
 use page_cache::PageCache;
@@ -63,8 +64,8 @@ pub trait Hand: Drop {
         shown: &'a Shown,
         cache: &'a PageCache,
         buffer: &'a TxnBuffer,
-    ) -> Option<&'a [u8]>
-        ensures { option_copied result ≡ value_in (work self.now) shown.now cache.now buffer.now };
+    ) -> Option<Value<'a>>
+        ensures { result ≡ value_in (work self.now) shown.now cache.now buffer.now };
 
     /// Begins an operation that no rule bars: what is in hand then, what that shows, and what it came to.
     fn begin(

@@ -25,9 +25,9 @@ pub(crate) fn list_items(
     ensures { OnOk result (pairs.new ≡ pairs.old ++ map pair_of items.entry) }
 {
     let mut left = items;
-    while let Some((key, payload)) = left.take_first() {
+    while let Some((key, value)) = left.take_first() {
         let key = Blob::copy_of(alloc, key)?;
-        let payload = Blob::copy_of(alloc, payload)?;
+        let payload = Blob::copy_of(alloc, value.bytes())?;
         pairs.push(Pair { key, payload })?;
     }
     Ok(())

@@ -25,6 +25,7 @@ use cloud_trait::turn::Turn;
 use cloud_trait::who::Who;
 use commit_run::CommitRun;
 use db_base::trouble::Trouble;
+use db_base::value::Value;
 use head_codec::head::Head;
 use log_codec::record::PuItem;
 use page_cache::PageCache;
@@ -192,7 +193,7 @@ impl Hand for Work {
         shown: &'a Shown,
         cache: &'a PageCache,
         buffer: &'a TxnBuffer,
-    ) -> Option<&'a [u8]> {
+    ) -> Option<Value<'a>> {
         match (self, shown) {
             (Work::Idle(home), Shown::Read(read)) => {
                 read.value(cache, home.client, &home.head, buffer)

@@ -5,6 +5,7 @@ use db_base::ids::{ClientId, MsgId, PageId, SessionNo, TreeId};
 use db_base::key::{Key, Payload};
 use db_base::refusal::{Refusal, Refused};
 use db_base::text::Text;
+use db_base::value::Value;
 use db_base::wish::Positions;
 use std::alloc::Global;
 use std::process::Abort;
@@ -129,18 +130,100 @@ fn update(alloc: Global, payload: Payload) -> Option<Change> {
     }
 }
 
+/// Whether a change makes a payload of another; none is no record.
+fn makes(old: Option<&[u8]>, change: &Change, new: Option<&[u8]>) -> bool {
+    let old = match old {
+        Some(old) => Some(Value::of(old)),
+        None => None,
+    };
+    match act(old, change) {
+        Some(value) => new == Some(value.bytes()),
+        None => new.is_none(),
+    }
+}
+
 #[test]
 fn changes_act(rt: HostRuntime) {
     match insert(rt.alloc(), b"one") {
-        Some(insert) => assert!(rt; act(None, &insert) == Some(b"one".as_slice())),
+        Some(insert) => assert!(rt; makes(None, &insert, Some(b"one"))),
         None => rt.panic("no insert"),
     }
+}
+
+/// An addition to the payload of the key k.
+fn addition(alloc: Global, amount: u64) -> Option<Change> {
+    match Key::new(alloc, b"k") {
+        Ok(key) => Some(Change::Add { key, amount }),
+        Err(_) => None,
+    }
+}
+
+#[test]
+fn an_addition_counts_around(rt: HostRuntime) {
+    let Some(two) = addition(rt.alloc(), 2) else {
+        rt.panic("no addition")
+    };
+    let greatest: [u8; 8] = [255, 255, 255, 255, 255, 255, 255, 255];
+    assert!(rt; makes(None, &two, None));
+    assert!(rt;
+        makes(
+            Some(&[0, 0, 0, 0, 0, 0, 0, 255]),
+            &two,
+            Some(&[0, 0, 0, 0, 0, 0, 1, 1])
+        )
+    );
+    assert!(rt; makes(Some(&greatest), &two, Some(&[0, 0, 0, 0, 0, 0, 0, 1])));
+    // A payload that has not eight bytes stays.
+    assert!(rt; makes(Some(b"sevenby"), &two, Some(b"sevenby")));
+    assert!(rt; makes(Some(b"ninebytes"), &two, Some(b"ninebytes")));
+}
+
+/// What a change and an addition behind it come to.
+fn raised(alloc: Global, change: Change, amount: u64) -> Option<Change> {
+    match change.key().copied(alloc) {
+        Ok(key) => Some(net(change, Change::Add { key, amount })),
+        Err(_) => None,
+    }
+}
+
+/// Whether a change and an addition behind it make this of that.
+fn raises(
+    alloc: Global,
+    change: Option<Change>,
+    amount: u64,
+    old: Option<&[u8]>,
+    new: &[u8],
+) -> bool {
+    match change {
+        Some(change) => match raised(alloc, change, amount) {
+            Some(both) => makes(old, &both, Some(new)),
+            None => false,
+        },
+        None => false,
+    }
+}
+
+#[test]
+fn an_addition_joins_what_was_before(rt: HostRuntime) {
+    let greatest: [u8; 8] = [255, 255, 255, 255, 255, 255, 255, 255];
+    let one: [u8; 8] = [0, 0, 0, 0, 0, 0, 0, 1];
+    assert!(rt; raises(rt.alloc(), insert(rt.alloc(), &greatest), 2, None, &one));
+    assert!(rt; raises(rt.alloc(), insert(rt.alloc(), b"v"), 2, None, b"v"));
+    assert!(rt;
+        raises(
+            rt.alloc(),
+            addition(rt.alloc(), u64::MAX),
+            1,
+            Some(&one),
+            &one
+        )
+    );
 }
 
 /// Whether an update to a payload does nothing where there is no record.
 fn does_nothing(alloc: Global, payload: Payload) -> bool {
     match update(alloc, payload) {
-        Some(update) => act(None, &update).is_none(),
+        Some(update) => makes(None, &update, None),
         None => false,
     }
 }
@@ -164,7 +247,7 @@ fn joined(alloc: Global, insert: Change, payload: Payload) -> Option<Change> {
 /// Whether they come to the record of the payload.
 fn is_updated(alloc: Global, insert: Change, payload: Payload) -> bool {
     match joined(alloc, insert, payload) {
-        Some(both) => act(None, &both) == Some(b"two".as_slice()),
+        Some(both) => makes(None, &both, Some(b"two")),
         None => false,
     }
 }

@@ -5,7 +5,7 @@ use byte_format::{is_below, is_below_bound};
 use db_base::cursor::Cursor;
 use db_base::ids::{ClientId, PageId};
 use db_base::pair::EditFault;
-use node_codec::{Entries, InnerBuf, InnerView, TreeBuf, TreeView};
+use node_codec::{Entries, InnerBuf, InnerView, TreeBuf, TreeView, whole_cursor};
 use std::alloc::Global;
 use std::process::Abort;
 
@@ -250,7 +250,7 @@ fn first_root_is_written(rt: HostRuntime) {
 
 /// What the whole cursor of a root has for a client.
 fn cursor_of(alloc: Global, view: &TreeView<'_>, client: ClientId) -> Option<u64> {
-    match view.whole_cursor(alloc) {
+    match whole_cursor(view, alloc) {
         Ok(cursor) => Some(cursor.get(client)),
         Err(_) => None,
     }

@@ -2,9 +2,7 @@
 use Rattle.std.specs.Prelude.{ℕ, ◌||◌, Bool, true, false, List, [], ◌∷◌, ◌++◌, length, drop, Option, Some, None, if◌then◌else◌}
 use Rattle.std.specs.List.{list_any}
 use Rattle.std.specs.Option.{option_map_or}
-use Rattle.db_base.specs.Change.{key_of}
-use Rattle.db_base.specs.declared.change.Change.{Change}
-use Rattle.db_base.specs.declared.change.Change.TheVariants.{Insert, Update, Delete}
+use Rattle.db_base.specs.Change.{goes_to_leaf, key_of}
 use Rattle.head_codec.specs.declared.lists.Pending.{Pending}
 use Rattle.leaf_view.specs.Leaf.{Leaf}
 use Rattle.route_plan.specs.Queue.{is_pending_of}
@@ -20,18 +18,13 @@ pub record Plan : Type 0 where
 abbrev pub empty_plan : Plan
 empty_plan = record { pages = []; ended = [] }
 
-abbrev pub is_update : Change → Bool
-is_update (Insert key payload) = false
-is_update (Update key payload) = true
-is_update (Delete key) = false
-
 -- whether an entry is pending of a tree and key
 abbrev pub has_pending : List Pending → ℕ → List ℕ → Bool
 has_pending pending tree key = list_any (is_pending_of tree key) pending
 
--- whether a change seeks a leaf: an update does, and a change whose tree and key have a pending entry
+-- whether a change seeks a leaf: an update or an addition does, and a change whose tree and key have a pending entry
 abbrev pub seeks : List Pending → Noted → Bool
-seeks pending n = is_update n.change || has_pending pending n.tree (key_of n.change)
+seeks pending n = goes_to_leaf n.change || has_pending pending n.tree (key_of n.change)
 
 -- the page of a change that needs no walk: that of a leaf at which a walk ended and in whose range the key lies, and page 1
 -- where it seeks no leaf. None where it needs a walk

@@ -1,6 +1,6 @@
 ghost use Rattle.std.specs.Prelude.{◌≡◌, ◌≤◌, ◌++◌, IfOk, OnOk, OnErr, Some, length, drop, slice_get};
 ghost use Rattle.db_base.specs.Change.{key_of};
-ghost use Rattle.commit_plan.specs.Plan.{is_update, has_pending, seeks, page_without, page_next, pages_of};
+ghost use Rattle.commit_plan.specs.Plan.{has_pending, seeks, page_without, page_next, pages_of};
 
 use crate::ended::{EndedLeaf, ended_of, page_at};
 use db_base::change::Change;
@@ -26,16 +26,6 @@ impl Model for LeafPlan {
     ghost view = { λ p. record { pages = p.pages.items; ended = p.ended.items } };
 }
 
-fn is_update(change: &Change) -> bool
-    ensures { result ≡ is_update change.now }
-{
-    match change {
-        Change::Insert { .. } => false,
-        Change::Update { .. } => true,
-        Change::Delete { .. } => false,
-    }
-}
-
 /// Whether an entry is pending of a tree and key.
 fn has_pending(pending: &[Pending], tree: TreeId, key: &[u8]) -> bool
     ensures { result ≡ has_pending pending.now tree key.now }
@@ -54,7 +44,7 @@ fn page_without(
     ensures { result ≡ page_without pending.now ended.now (record { tree = tree; change = change.now }) }
 {
     let key = change.key().as_slice();
-    if is_update(change) || has_pending(pending, tree, key) {
+    if change.goes_to_leaf() || has_pending(pending, tree, key) {
         page_at(ended, tree, key)
     } else {
         Some(PageId::first())

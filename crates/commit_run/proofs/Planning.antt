@@ -12,7 +12,8 @@ use Rattle.txn_buffer.specs.Noted.{Noted}
 use Rattle.cloud_trait.specs.declared.answer.Answer.TheVariants.{Got}
 use Rattle.cloud_trait.specs.Ask.{Get}
 use Rattle.commit_plan.specs.Ended.{Ended, spans, page_at}
-use Rattle.commit_plan.specs.Plan.{is_update, has_pending, seeks, page_without, pages_of}
+use Rattle.db_base.specs.Change.{goes_to_leaf}
+use Rattle.commit_plan.specs.Plan.{has_pending, seeks, page_without, pages_of}
 use Rattle.commit_run.specs.Trips.{Trip}
 use Rattle.commit_run.specs.Meaning.{IsHeldAt, IsLeafOf, AreLeaves}
 use Rattle.commit_run.proofs.Knowing.{IsGotAt}
@@ -144,10 +145,10 @@ seeks_update : (a b : Bool) → a ≡ true → (a || b) ≡ true
 seeks_update true b e = refl
 seeks_update false b e = absurd (cc (e))
 
-page_held : (trips : List Trip) (pending : List Pending) (es : List Ended) (n : Noted) (page : ℕ) → AllByRecursion (IsGotAt trips) es → page_without pending es n ≡ Some page → is_update n.change ≡ true
+page_held : (trips : List Trip) (pending : List Pending) (es : List Ended) (n : Noted) (page : ℕ) → AllByRecursion (IsGotAt trips) es → page_without pending es n ≡ Some page → goes_to_leaf n.change ≡ true
     → IsLeafOf trips n page
 page_held trips pending es n page all e update =
-    let seeking : seeks pending n ≡ true = seeks_update (is_update n.change) (has_pending pending n.tree (key_of n.change)) update in
+    let seeking : seeks pending n ≡ true = seeks_update (goes_to_leaf n.change) (has_pending pending n.tree (key_of n.change)) update in
     inl (found_held trips n.tree (key_of n.change) page es all
     (sym (ap (λ (b : Bool). if b then page_at es n.tree (key_of n.change) else Some 1) seeking) ∙ e))
 

@@ -22,7 +22,7 @@ use Rattle.route_plan.specs.Prune.{pruned_by_leaf, pruned_by_tree}
 use Rattle.page_cache.specs.Cache.{Cache}
 use Rattle.page_cache.specs.Held.{as_leaf}
 use Rattle.tree_walk.specs.Walk.{Walk}
-use Rattle.commit_plan.specs.Plan.{is_update}
+use Rattle.db_base.specs.Change.{goes_to_leaf}
 use Rattle.commit_writes.specs.Writing.{Writing, routed_of, passes, is_spent}
 use Rattle.commit_writes.specs.Calls.{Calls, told}
 use Rattle.commit_run.specs.Run.{is_stale}
@@ -82,7 +82,7 @@ IsLeafOf trips n page = IsHeldAt trips n.tree page (key_of n.change) ⊎ ((page 
 abbrev pub AreLeaves : List Trip → List Noted → List ℕ → Type 0
 AreLeaves trips [] pages = Unit {0}
 AreLeaves trips (n ∷ changes) [] = Unit {0}
-AreLeaves trips (n ∷ changes) (page ∷ pages) = (is_update n.change ≡ true → IsLeafOf trips n page) × AreLeaves trips changes pages
+AreLeaves trips (n ∷ changes) (page ∷ pages) = (goes_to_leaf n.change ≡ true → IsLeafOf trips n page) × AreLeaves trips changes pages
 
 -- ---- behind the walks
 

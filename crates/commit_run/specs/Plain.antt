@@ -8,12 +8,12 @@ use Rattle.cloud_trait.specs.declared.turn.Turn.{Turn}
 use Rattle.cloud_trait.specs.declared.turn.Turn.TheVariants.{Ended}
 use Rattle.cloud_trait.specs.Machine.{Deed}
 use Rattle.recover_run.specs.declared.home.Home.{Home}
-use Rattle.commit_plan.specs.Plan.{is_update}
+use Rattle.db_base.specs.Change.{goes_to_leaf}
 use Rattle.commit_run.specs.Within.{IsNoGet}
 
 -- it is no update
 abbrev pub IsPlainChange : Noted → Type 0
-IsPlainChange n = is_update n.change ≡ false
+IsPlainChange n = goes_to_leaf n.change ≡ false
 
 pub record IsPlain (home : Home) (changes : List Noted) : Type 0 where
   pub pending : home.head.pending ≡ []

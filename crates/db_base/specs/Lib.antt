@@ -3,4 +3,5 @@ pub mod Cursor
 pub mod Ids
 pub mod Key
 pub mod Refusal
+pub mod Value
 pub mod Wish

@@ -1,8 +1,8 @@
 ghost use Rattle.std.specs.Prelude.{◌≡◌, ℕ, List, Option, IfOk};
-ghost use Rattle.std.specs.Option.{option_copied};
-ghost use Rattle.db_base.specs.Change.{key_of, act, net, IsChange};
+ghost use Rattle.db_base.specs.Change.{key_of, act, net, IsChange, Value as Bytes};
 
 use crate::key::{Key, Payload};
+use crate::value::Value;
 use std::alloc::{AllocError, Global};
 
 /// A change of one record. Changes are blind: they do not depend on a read.
@@ -14,6 +14,8 @@ pub enum Change {
     Update { key: Key, payload: Payload },
     /// Removes the record where it is there.
     Delete { key: Key },
+    /// Adds to the payload, modulo 2^64, where the key is there and the payload has eight bytes.
+    Add { key: Key, amount: u64 },
 }
 
 impl Drop for Change {
@@ -22,12 +24,15 @@ impl Drop for Change {
             Change::Insert { key: _, payload: _ } => {}
             Change::Update { key: _, payload: _ } => {}
             Change::Delete { key: _ } => {}
+            Change::Add { key: _, amount: _ } => {}
         }
     }
 }
 
 impl Change {
-    ghost use Rattle.db_base.specs.Change.{key_of, net};
+    ghost use Rattle.std.specs.Prelude.{List, ℕ};
+    ghost use Rattle.db_base.specs.Change.{key_of, goes_to_leaf, net};
+    ghost use Rattle.db_base.specs.declared.change.Change.TheVariants.{Add};
 
     /// The key of the record that it changes.
     pub fn key(&self) -> &Key
@@ -37,21 +42,48 @@ impl Change {
             Change::Insert { key, .. } => key,
             Change::Update { key, .. } => key,
             Change::Delete { key } => key,
+            Change::Add { key, .. } => key,
         }
     }
 
-    /// The one change with the effect of an earlier change of the same key and then this one. Takes no memory.
-    pub fn after(self, first: &Change) -> Change
-        requires { key_of first.now ≡ key_of self }
-        ensures { result ≡ net first.now self }
+    /// Whether it goes to the queue of a leaf, where its key has no pending entry.
+    pub fn goes_to_leaf(&self) -> bool
+        ensures { result ≡ goes_to_leaf self.now }
     {
         match self {
-            Change::Update { key, payload } => match first {
-                Change::Insert { .. } => Change::Insert { key, payload },
-                Change::Update { .. } => Change::Update { key, payload },
-                Change::Delete { .. } => Change::Delete { key },
+            Change::Insert { .. } => false,
+            Change::Update { .. } => true,
+            Change::Delete { .. } => false,
+            Change::Add { .. } => true,
+        }
+    }
+
+    /// Becomes the one change with its own effect and then that of a later change of the same key. Takes no memory.
+    pub fn join(&mut self, later: Change)
+        requires { key_of self.old ≡ key_of later }
+        ensures { self.new ≡ net self.old later }
+    {
+        match later {
+            Change::Update { key, payload } => match self {
+                Change::Insert { payload: old, .. } => *old = payload,
+                Change::Update { payload: old, .. } => *old = payload,
+                Change::Delete { .. } => {}
+                Change::Add { .. } => *self = Change::Update { key, payload },
             },
-            other => other,
+            Change::Add { key: _, amount } => self.add(amount),
+            other => *self = other,
+        }
+    }
+
+    // The effect of an addition behind it.
+    fn add(&mut self, more: u64)
+        ensures { (key : List ℕ) → self.new ≡ net self.old (Add key more) }
+    {
+        match self {
+            Change::Insert { payload, .. } => payload.add(more),
+            Change::Update { payload, .. } => payload.add(more),
+            Change::Delete { .. } => {}
+            Change::Add { amount, .. } => *amount = amount.wrapping_add(more),
         }
     }
 
@@ -72,21 +104,29 @@ impl Change {
             Change::Delete { key } => Change::Delete {
                 key: key.copied(alloc)?,
             },
+            Change::Add { key, amount } => Change::Add {
+                key: key.copied(alloc)?,
+                amount: *amount,
+            },
         })
     }
 }
 
 /// The payload of the change's key after it, from the payload before. Takes no memory.
-pub fn act<'a>(old: Option<&'a [u8]>, change: &'a Change) -> Option<&'a [u8]>
-    ensures { option_copied result ≡ act (option_copied old.entry) change.now }
+pub fn act<'a>(old: Option<Value<'a>>, change: &'a Change) -> Option<Value<'a>>
+    ensures { result ≡ act old.entry change.now }
 {
     match change {
-        Change::Insert { payload, .. } => Some(payload.as_slice()),
+        Change::Insert { payload, .. } => Some(Value::of(payload.as_slice())),
         Change::Update { payload, .. } => match old {
-            Some(_) => Some(payload.as_slice()),
+            Some(_) => Some(Value::of(payload.as_slice())),
             None => None,
         },
         Change::Delete { .. } => None,
+        Change::Add { amount, .. } => match old {
+            Some(value) => Some(value.plus(*amount)),
+            None => None,
+        },
     }
 }
 
@@ -95,10 +135,12 @@ pub fn net(first: Change, second: Change) -> Change
     requires { key_of first ≡ key_of second }
     ensures { result ≡ net first second }
 {
-    second.after(&first)
+    let mut both = first;
+    both.join(second);
+    both
 }
 
 /// Two changes of one key act as their net change.
 pub fn net_acts_as_both()
-    ensures { (old : Option (List ℕ)) (first second : Change) → act (act old first) second ≡ act old (net first second) }
+    ensures { (old : Option Bytes) (first second : Change) → act (act old first) second ≡ act old (net first second) }
 {}

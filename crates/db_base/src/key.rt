@@ -2,6 +2,7 @@ ghost use Rattle.std.specs.Prelude.{◌≡◌, ℕ, ◌<◌, ◌≤◌, ◌↔�
 ghost use Rattle.db_base.specs.Key.{IsKey, IsPayload};
 
 use crate::refusal::{Refusal, Refused};
+use crate::value::sum;
 use std::alloc::{AllocError, Global};
 use std::marker::Model;
 
@@ -96,6 +97,8 @@ impl Model for Payload {
 }
 
 impl Payload {
+    ghost use Rattle.db_base.specs.Change.{plus};
+
     /// A copy of the bytes as a payload.
     pub fn new(alloc: Global, bytes: &[u8]) -> Result<Payload, Refused>
         ensures ok { IfOk result (λ p. (p ≡ bytes.now) × IsPayload bytes.now) }
@@ -117,6 +120,15 @@ impl Payload {
         ensures is_payload { IsPayload self.now }
     {
         self.bytes.as_slice()
+    }
+
+    /// Adds an amount, modulo 2^64, where there are eight bytes; another payload stays. Takes no memory.
+    pub(crate) fn add(&mut self, amount: u64)
+        ensures { self.new ≡ plus self.old amount }
+    {
+        if let Some(bytes) = sum(self.bytes.as_slice(), amount) {
+            self.bytes.as_mut_slice().copy_from_slice(&bytes);
+        }
     }
 
     /// A copy.

@@ -12,4 +12,5 @@ pub mod refusal;
 pub mod sequence;
 pub mod text;
 pub mod trouble;
+pub mod value;
 pub mod wish;

@@ -1,6 +1,8 @@
-//! Tests of runs, of new leaves, of pieces and of routing.
+//! Tests of runs, of new leaves, of pieces, of routing and of what is due.
 #![tactic(auto)]
 
+#[cfg(test)]
+mod ckpt_policy_tests;
 #[cfg(test)]
 mod leaf_edit_tests;
 #[cfg(test)]

@@ -2,6 +2,7 @@ use db_base::change::Change;
 use db_base::ids::{ClientId, PageId, TreeId};
 use db_base::key::{Key, Payload};
 use db_base::names::QueueName;
+use db_base::value::Value;
 use head_codec::head::{Head, Phase};
 use head_codec::lists::{CounterList, Pending, QueueCount};
 use leaf_view::LeafView;
@@ -221,9 +222,9 @@ const SEEN: [(&str, Option<&str>); 4] = [
 ];
 
 /// Whether a record is of this payload, or there is none.
-fn is_payload(record: Option<&[u8]>, payload: Option<&str>) -> bool {
+fn is_payload(record: Option<Value<'_>>, payload: Option<&str>) -> bool {
     match (record, payload) {
-        (Some(record), Some(payload)) => record == payload.as_bytes(),
+        (Some(record), Some(payload)) => record.bytes() == payload.as_bytes(),
         (None, None) => true,
         _ => false,
     }

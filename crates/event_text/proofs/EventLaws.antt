@@ -14,13 +14,13 @@ use Rattle.db_base.specs.declared.wish.Wish.TheVariants.{Plain, Fail, Lost, Hide
 use Rattle.words.specs.declared.fault.TextFault.{TextFault}
 use Rattle.words.specs.declared.fault.TextFault.TheVariants.{NotInGrammar, Memory}
 use Rattle.words.specs.Word.{hexadecimal, AreBytes, AreNumbers, Reads, IsReadTo}
-use Rattle.words.specs.Line.{◌>>=◌, parts_of, text_of, word_at, number_at, end_at, numbers_of, one_of, two_of, place_of, record_of}
-use Rattle.words.proofs.Shapes.{bind_some, number_at-takes, number_at-again, end_at-takes, end_at-again, numbers_of-takes, numbers_of-again, one_of-takes, one_of-again, two_of-takes, two_of-again, place_of-takes, place_of-again, record_of-takes, record_of-again}
+use Rattle.words.specs.Line.{◌>>=◌, parts_of, text_of, word_at, number_at, end_at, numbers_of, one_of, two_of, place_of, record_of, sum_of}
+use Rattle.words.proofs.Shapes.{bind_some, number_at-takes, number_at-again, end_at-takes, end_at-again, numbers_of-takes, numbers_of-again, one_of-takes, one_of-again, two_of-takes, two_of-again, place_of-takes, place_of-again, record_of-takes, record_of-again, sum_of-takes, sum_of-again}
 use Rattle.words.proofs.Splitting.{all_lack, lacks, lacks-decimal, lacks-hexadecimal, parts_of-text_of, text_of-parts_of}
 use Rattle.event_text.specs.declared.event.Event.{Event}
 use Rattle.event_text.specs.declared.event.Event.TheVariants as event
 use Rattle.event_text.specs.declared.keyword.Keyword.{Keyword}
-use Rattle.event_text.specs.declared.keyword.Keyword.TheVariants.{Open, Close, Renew, Insert, Update, Delete, Commit, Abort, Read, Scan, Page, Tree, Step, Run, Crash, Wait, Report, Settle}
+use Rattle.event_text.specs.declared.keyword.Keyword.TheVariants.{Open, Close, Renew, Insert, Update, Delete, Add, Commit, Abort, Read, Scan, Page, Tree, Step, Run, Crash, Wait, Report, Settle}
 use Rattle.event_text.specs.Keyword.{keyword_of, keyword_text, keywords, is_shell}
 use Rattle.event_text.specs.Event.{wish_words, crash_words, event_words, line_of, spelling, IsWish, IsInRange, IsEvent, IsShellLine}
 use Rattle.event_text.specs.Reading.{alone, positions_of, wish_by, wish_of, done_of, event_by, session_event, event_behind, event_of_words, shell_event_of_words}
@@ -73,6 +73,7 @@ keyword_of-again Renew = refl
 keyword_of-again Insert = refl
 keyword_of-again Update = refl
 keyword_of-again Delete = refl
+keyword_of-again Add = refl
 keyword_of-again Commit = refl
 keyword_of-again Abort = refl
 keyword_of-again Read = refl
@@ -213,6 +214,10 @@ event_by-takes Delete session words e small h =
     let m = mapped (λ (x : ℕ × List ℕ). event.Delete session x.0 x.1) (place_of words) e h in
     let x = place_of-takes words m.0 m.1 in
     rw (← m.2) ((small, x.0, x.1), behind _ (behind _ x.2))
+event_by-takes Add session words e small h =
+    let m = mapped (λ (x : ℕ × List ℕ × ℕ). event.Add session x.0 x.1 x.2) (sum_of words) e h in
+    let x = sum_of-takes words m.0 m.1 in
+    rw (← m.2) ((small, x.0, x.1, x.2), behind _ (behind _ x.3))
 event_by-takes Commit session words e small h =
     let a = alone-takes (event.Commit session) e words h in
     rw (← a.0) (small, behind _ (behind _ a.1))
@@ -276,6 +281,7 @@ event_behind-takes Renew words e h = session_event-takes Renew words e h
 event_behind-takes Insert words e h = session_event-takes Insert words e h
 event_behind-takes Update words e h = session_event-takes Update words e h
 event_behind-takes Delete words e h = session_event-takes Delete words e h
+event_behind-takes Add words e h = session_event-takes Add words e h
 event_behind-takes Commit words e h = session_event-takes Commit words e h
 event_behind-takes Abort words e h = session_event-takes Abort words e h
 event_behind-takes Read words e h = session_event-takes Read words e h
@@ -304,6 +310,7 @@ event_of_words-again (event.Renew session) h = rw (number_at-again session [] h,
 event_of_words-again (event.Insert session tree key payload) h = rw (number_at-again session (decimal tree ∷ hexadecimal key ∷ hexadecimal payload ∷ []) h.0, record_of-again tree key payload h.1 h.2 h.3) refl
 event_of_words-again (event.Update session tree key payload) h = rw (number_at-again session (decimal tree ∷ hexadecimal key ∷ hexadecimal payload ∷ []) h.0, record_of-again tree key payload h.1 h.2 h.3) refl
 event_of_words-again (event.Delete session tree key) h = rw (number_at-again session (decimal tree ∷ hexadecimal key ∷ []) h.0, place_of-again tree key h.1 h.2) refl
+event_of_words-again (event.Add session tree key amount) h = rw (number_at-again session (decimal tree ∷ hexadecimal key ∷ decimal amount ∷ []) h.0, sum_of-again tree key amount h.1 h.2 h.3) refl
 event_of_words-again (event.Commit session) h = rw (number_at-again session [] h, alone-again (event.Commit session)) refl
 event_of_words-again (event.Abort session) h = rw (number_at-again session [] h, alone-again (event.Abort session)) refl
 event_of_words-again (event.Read session tree key) h = rw (number_at-again session (decimal tree ∷ hexadecimal key ∷ []) h.0, place_of-again tree key h.1 h.2) refl
@@ -349,6 +356,7 @@ event_lacks (event.Renew session) h = rw (lacks_number session h) refl
 event_lacks (event.Insert session tree key payload) h = rw (lacks_number session h.0, lacks_number tree h.1, lacks_bytes key h.2, lacks_bytes payload h.3) refl
 event_lacks (event.Update session tree key payload) h = rw (lacks_number session h.0, lacks_number tree h.1, lacks_bytes key h.2, lacks_bytes payload h.3) refl
 event_lacks (event.Delete session tree key) h = rw (lacks_number session h.0, lacks_number tree h.1, lacks_bytes key h.2) refl
+event_lacks (event.Add session tree key amount) h = rw (lacks_number session h.0, lacks_number tree h.1, lacks_bytes key h.2, lacks_number amount h.3) refl
 event_lacks (event.Commit session) h = rw (lacks_number session h) refl
 event_lacks (event.Abort session) h = rw (lacks_number session h) refl
 event_lacks (event.Read session tree key) h = rw (lacks_number session h.0, lacks_number tree h.1, lacks_bytes key h.2) refl
@@ -408,6 +416,7 @@ unfolding event_behind session_event
 shell_behind Insert h rest = rw (number_at-again 1 rest one_small) refl
 shell_behind Update h rest = rw (number_at-again 1 rest one_small) refl
 shell_behind Delete h rest = rw (number_at-again 1 rest one_small) refl
+shell_behind Add h rest = rw (number_at-again 1 rest one_small) refl
 shell_behind Commit h rest = rw (number_at-again 1 rest one_small) refl
 shell_behind Abort h rest = rw (number_at-again 1 rest one_small) refl
 shell_behind Read h rest = rw (number_at-again 1 rest one_small) refl

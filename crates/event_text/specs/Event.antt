@@ -9,7 +9,7 @@ use Rattle.words.specs.Line.{text_of}
 use Rattle.event_text.specs.declared.event.Event.{Event}
 use Rattle.event_text.specs.declared.keyword.Keyword.{Keyword}
 use Rattle.event_text.specs.Keyword.{keyword_text, is_shell}
-use Rattle.event_text.specs.declared.event.Event.TheVariants.{Open, Close, Renew, Insert, Update, Delete, Commit, Abort, Read, Scan, Page, Tree, Step, Run, Crash, Wait, Report, Settle}
+use Rattle.event_text.specs.declared.event.Event.TheVariants.{Open, Close, Renew, Insert, Update, Delete, Add, Commit, Abort, Read, Scan, Page, Tree, Step, Run, Crash, Wait, Report, Settle}
 
 -- the words of a wish
 abbrev pub wish_words : Wish → List (List ℕ)
@@ -33,6 +33,7 @@ event_words (Renew session) = codes "renew" ∷ decimal session ∷ []
 event_words (Insert session tree key payload) = codes "insert" ∷ decimal session ∷ decimal tree ∷ hexadecimal key ∷ hexadecimal payload ∷ []
 event_words (Update session tree key payload) = codes "update" ∷ decimal session ∷ decimal tree ∷ hexadecimal key ∷ hexadecimal payload ∷ []
 event_words (Delete session tree key) = codes "delete" ∷ decimal session ∷ decimal tree ∷ hexadecimal key ∷ []
+event_words (Add session tree key amount) = codes "add" ∷ decimal session ∷ decimal tree ∷ hexadecimal key ∷ decimal amount ∷ []
 event_words (Commit session) = codes "commit" ∷ decimal session ∷ []
 event_words (Abort session) = codes "abort" ∷ decimal session ∷ []
 event_words (Read session tree key) = codes "read" ∷ decimal session ∷ decimal tree ∷ hexadecimal key ∷ []
@@ -71,6 +72,7 @@ IsInRange (Renew session) = session < 2 ^ 64
 IsInRange (Insert session tree key payload) = (session < 2 ^ 64) × (tree < 2 ^ 64) × AreBytes key × AreBytes payload
 IsInRange (Update session tree key payload) = (session < 2 ^ 64) × (tree < 2 ^ 64) × AreBytes key × AreBytes payload
 IsInRange (Delete session tree key) = (session < 2 ^ 64) × (tree < 2 ^ 64) × AreBytes key
+IsInRange (Add session tree key amount) = (session < 2 ^ 64) × (tree < 2 ^ 64) × AreBytes key × (amount < 2 ^ 64)
 IsInRange (Commit session) = session < 2 ^ 64
 IsInRange (Abort session) = session < 2 ^ 64
 IsInRange (Read session tree key) = (session < 2 ^ 64) × (tree < 2 ^ 64) × AreBytes key

@@ -3,7 +3,7 @@ use Rattle.std.specs.Prelude.{ℕ, Bool, true, false, List, [], ◌∷◌, Optio
 use Rattle.std.specs.List.{find}
 use Rattle.std.specs.Str.{bytes_eq}
 use Rattle.event_text.specs.declared.keyword.Keyword.{Keyword}
-use Rattle.event_text.specs.declared.keyword.Keyword.TheVariants.{Open, Close, Renew, Insert, Update, Delete, Commit, Abort, Read, Scan, Page, Tree, Step, Run, Crash, Wait, Report, Settle}
+use Rattle.event_text.specs.declared.keyword.Keyword.TheVariants.{Open, Close, Renew, Insert, Update, Delete, Add, Commit, Abort, Read, Scan, Page, Tree, Step, Run, Crash, Wait, Report, Settle}
 
 -- the spelling of a keyword
 abbrev pub keyword_text : Keyword → List ℕ
@@ -13,6 +13,7 @@ keyword_text Renew = codes "renew"
 keyword_text Insert = codes "insert"
 keyword_text Update = codes "update"
 keyword_text Delete = codes "delete"
+keyword_text Add = codes "add"
 keyword_text Commit = codes "commit"
 keyword_text Abort = codes "abort"
 keyword_text Read = codes "read"
@@ -28,7 +29,7 @@ keyword_text Settle = codes "settle"
 
 -- all keywords
 abbrev pub keywords : List Keyword
-keywords = Open ∷ Close ∷ Renew ∷ Insert ∷ Update ∷ Delete ∷ Commit ∷ Abort ∷ Read ∷ Scan ∷ Page ∷ Tree ∷ Step ∷ Run ∷ Crash ∷ Wait ∷ Report ∷ Settle ∷ []
+keywords = Open ∷ Close ∷ Renew ∷ Insert ∷ Update ∷ Delete ∷ Add ∷ Commit ∷ Abort ∷ Read ∷ Scan ∷ Page ∷ Tree ∷ Step ∷ Run ∷ Crash ∷ Wait ∷ Report ∷ Settle ∷ []
 
 -- the keyword that a word spells
 abbrev pub keyword_of : List ℕ → Option Keyword
@@ -39,6 +40,7 @@ abbrev pub is_shell : Keyword → Bool
 is_shell Insert = true
 is_shell Update = true
 is_shell Delete = true
+is_shell Add = true
 is_shell Commit = true
 is_shell Abort = true
 is_shell Read = true

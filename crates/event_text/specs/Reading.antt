@@ -3,11 +3,11 @@ use Rattle.std.specs.Prelude.{ℕ, ◌≡◌, ◌&&◌, nat_le, Bool, true, fals
 use Rattle.std.specs.Str.{bytes_eq}
 use Rattle.db_base.specs.declared.wish.Wish.{Wish}
 use Rattle.db_base.specs.declared.wish.Wish.TheVariants.{Plain, Fail, Lost, Hide, Old, Give}
-use Rattle.words.specs.Line.{◌>>=◌, parts_of, word_at, number_at, end_at, numbers_of, one_of, two_of, place_of, record_of}
+use Rattle.words.specs.Line.{◌>>=◌, parts_of, word_at, number_at, end_at, numbers_of, one_of, two_of, place_of, record_of, sum_of}
 use Rattle.event_text.specs.declared.event.Event.{Event}
 use Rattle.event_text.specs.declared.event.Event.TheVariants as event
 use Rattle.event_text.specs.declared.keyword.Keyword.{Keyword}
-use Rattle.event_text.specs.declared.keyword.Keyword.TheVariants.{Open, Close, Renew, Insert, Update, Delete, Commit, Abort, Read, Scan, Page, Tree, Step, Run, Crash, Wait, Report, Settle}
+use Rattle.event_text.specs.declared.keyword.Keyword.TheVariants.{Open, Close, Renew, Insert, Update, Delete, Add, Commit, Abort, Read, Scan, Page, Tree, Step, Run, Crash, Wait, Report, Settle}
 use Rattle.event_text.specs.Keyword.{keyword_of, is_shell}
 
 -- a value where nothing is left
@@ -52,6 +52,7 @@ event_by Renew session words = alone (event.Renew session) words
 event_by Insert session words = option_map (λ x. event.Insert session x.0 x.1 x.2) (record_of words)
 event_by Update session words = option_map (λ x. event.Update session x.0 x.1 x.2) (record_of words)
 event_by Delete session words = option_map (λ x. event.Delete session x.0 x.1) (place_of words)
+event_by Add session words = option_map (λ x. event.Add session x.0 x.1 x.2) (sum_of words)
 event_by Commit session words = alone (event.Commit session) words
 event_by Abort session words = alone (event.Abort session) words
 event_by Read session words = option_map (λ x. event.Read session x.0 x.1) (place_of words)

@@ -36,6 +36,13 @@ pub enum Event {
         tree: u64,
         key: Blob,
     },
+    /// Notes an addition.
+    Add {
+        session: u64,
+        tree: u64,
+        key: Blob,
+        amount: u64,
+    },
     /// Begins a commit.
     Commit {
         session: u64,
@@ -119,6 +126,12 @@ impl Drop for Event {
                 session: _,
                 tree: _,
                 key: _,
+            } => {}
+            Event::Add {
+                session: _,
+                tree: _,
+                key: _,
+                amount: _,
             } => {}
             Event::Commit { session: _ } => {}
             Event::Abort { session: _ } => {}

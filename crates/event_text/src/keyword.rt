@@ -15,6 +15,8 @@ pub enum Keyword {
     Update,
     /// `delete`
     Delete,
+    /// `add`
+    Add,
     /// `commit`
     Commit,
     /// `abort`
@@ -42,13 +44,14 @@ pub enum Keyword {
 }
 
 /// All keywords.
-const KEYWORDS: [Keyword; 18] = [
+const KEYWORDS: [Keyword; 19] = [
     Keyword::Open,
     Keyword::Close,
     Keyword::Renew,
     Keyword::Insert,
     Keyword::Update,
     Keyword::Delete,
+    Keyword::Add,
     Keyword::Commit,
     Keyword::Abort,
     Keyword::Read,
@@ -77,6 +80,7 @@ impl Keyword {
             Keyword::Insert => "insert",
             Keyword::Update => "update",
             Keyword::Delete => "delete",
+            Keyword::Add => "add",
             Keyword::Commit => "commit",
             Keyword::Abort => "abort",
             Keyword::Read => "read",
@@ -109,7 +113,7 @@ impl Keyword {
         match self {
             Keyword::Insert | Keyword::Update | Keyword::Delete | Keyword::Commit => true,
             Keyword::Abort | Keyword::Read | Keyword::Scan | Keyword::Page => true,
-            Keyword::Tree | Keyword::Renew => true,
+            Keyword::Tree | Keyword::Renew | Keyword::Add => true,
             Keyword::Open | Keyword::Close | Keyword::Step | Keyword::Run => false,
             Keyword::Crash | Keyword::Wait | Keyword::Report | Keyword::Settle => false,
         }

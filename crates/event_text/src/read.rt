@@ -139,6 +139,15 @@ fn event_by(
             let (tree, key) = words.place(alloc)?;
             Ok(Event::Delete { session, tree, key })
         }
+        Keyword::Add => {
+            let (tree, key, amount) = words.sum(alloc)?;
+            Ok(Event::Add {
+                session,
+                tree,
+                key,
+                amount,
+            })
+        }
         Keyword::Commit => alone(Event::Commit { session }, words),
         Keyword::Abort => alone(Event::Abort { session }, words),
         Keyword::Read => {

@@ -77,6 +77,21 @@ fn place_line(
     Ok(line)
 }
 
+/// The line of an addition: a session, a tree, a key and an amount.
+fn add_line(
+    alloc: Global,
+    session: u64,
+    tree: u64,
+    key: &Blob,
+    amount: u64,
+) -> Result<String, AllocError>
+    ensures { IfOk result (λ line. string_bytes line ≡ line_of (codes "add" ∷ decimal session ∷ decimal tree ∷ hexadecimal key.now ∷ decimal amount ∷ [])) }
+{
+    let key = hexadecimal(alloc, key.as_slice())?;
+    let line = format!(in alloc; "add {session} {tree} {key} {amount}\n")?;
+    Ok(line)
+}
+
 /// The line of a keyword, a session, a tree and bytes twice.
 fn record_line(
     alloc: Global,
@@ -147,6 +162,12 @@ impl Event {
             Event::Delete { session, tree, key } => place_line(
                 alloc, "delete", *session, *tree, key,
             ),
+            Event::Add {
+                session,
+                tree,
+                key,
+                amount,
+            } => add_line(alloc, *session, *tree, key, *amount),
             Event::Commit { session } => number_line(alloc, "commit", *session),
             Event::Abort { session } => number_line(alloc, "abort", *session),
             Event::Read { session, tree, key } => place_line(alloc, "read", *session, *tree, key),

@@ -5,7 +5,7 @@ use Rattle.std.specs.Int.{w8}
 use Rattle.db_base.specs.Ids.{IsTree}
 use Rattle.byte_format.specs.Format.{Format, Reading, number, ◌then◌, behind, only_where, seen_as}
 use Rattle.byte_format.specs.Whole.{offset}
-use Rattle.change_codec.specs.Change.{IsChange}
+use Rattle.db_base.specs.Change.{IsChange}
 use Rattle.change_codec.specs.Number.{u64_from}
 use Rattle.change_codec.specs.Decoded.{decoded}
 use Rattle.head_codec.specs.declared.head.Head.{Head}

@@ -6,9 +6,11 @@ use Rattle.std.specs.declared.cmp.Ordering.{Ordering}
 use Rattle.std.specs.declared.cmp.Ordering.TheVariants.{Less, Equal, Greater}
 use Rattle.std.specs.Ordering.{ordering_reverse}
 use Rattle.std.proofs.lemmas.Cmp.{nat_list_cmp_total, tied_itself}
-use Rattle.db_base.specs.Change.{key_of, act, payload_set_by}
+use Rattle.std.specs.Option.{IfSome}
+use Rattle.db_base.specs.Change.{Value, key_of, act, payload_set_by}
+use Rattle.db_base.specs.Key.{IsPayload}
+use Rattle.db_base.proofs.ChangeLaws.{act-payload}
 use Rattle.db_base.specs.declared.change.Change.{Change}
-use Rattle.db_base.specs.declared.change.Change.TheVariants.{Insert, Update, Delete}
 use Rattle.byte_format.specs.Order.{bytes_cmp, bytes_below}
 use Rattle.leaf_view.specs.Leaf.{Entry}
 use Rattle.leaf_view.specs.Fits.{Ascend, entry_below}
@@ -42,31 +44,29 @@ edited-ascends before (e ∷ es) c h behind = on (bytes_cmp e.key (key_of c)) re
 
 -- ---- each record
 
--- what a change sets is its own payload
-pub act-sets : (old : Option (List ℕ)) (c : Change) (p : List ℕ) → act old c ≡ Some p → p ≡ payload_set_by c
-act-sets old (Insert key payload) p h = cc
-act-sets None (Update key payload) p h = absurd cc
-act-sets (Some q) (Update key payload) p h = cc
-act-sets old (Delete key) p h = absurd cc
+-- what holds of each record, and of one at the change's key whatever its payload
+record Holds (P : Entry → Type 0) (c : Change) : Type 0 where
+  pub sized : (e : Entry) → P e → IsPayload e.payload
+  pub change : IsPayload (payload_set_by c)
+  pub here : (p : Value) → IsPayload p → P (record { key = key_of c; payload = p })
 
-with_payload-all : (P : Entry → Type 0) (c : Change) (old : Option (List ℕ)) (es : List Entry)
-    → P (record { key = key_of c; payload = payload_set_by c }) → AllByRecursion P es → AllByRecursion P (with_payload (key_of c) (act old c) es)
-with_payload-all P c old es here all = on (act old c) refl
+with_payload-all : (P : Entry → Type 0) (c : Change) (old : Option Value) (es : List Entry) → Holds P c → IfSome old IsPayload
+    → AllByRecursion P es → AllByRecursion P (with_payload (key_of c) (act old c) es)
+with_payload-all P c old es h was all = on (act old c) (act-payload old c was h.change)
   where
-    on : (o : Option (List ℕ)) → act old c ≡ o → AllByRecursion P (with_payload (key_of c) o es)
-    on None e = all
-    on (Some p) e = (subst (λ q. P (record { key = key_of c; payload = q })) (sym (act-sets old c p e)) here, all)
+    on : (o : Option Value) → IfSome o IsPayload → AllByRecursion P (with_payload (key_of c) o es)
+    on None p = all
+    on (Some q) p = (h.here q p, all)
 
--- what holds of each record, and of the one that a change sets, holds of each behind it
-pub edited-all : (P : Entry → Type 0) (es : List Entry) (c : Change)
-    → P (record { key = key_of c; payload = payload_set_by c }) → AllByRecursion P es → AllByRecursion P (edited es c)
-edited-all P [] c here all = with_payload-all P c None [] here tt
-edited-all P (e ∷ es) c here all = on (bytes_cmp e.key (key_of c)) (edited-all P es c here all.1)
+-- what holds of each record holds of each behind a change
+edited-all : (P : Entry → Type 0) (es : List Entry) (c : Change) → Holds P c → AllByRecursion P es → AllByRecursion P (edited es c)
+edited-all P [] c h all = with_payload-all P c None [] h tt tt
+edited-all P (e ∷ es) c h all = on (bytes_cmp e.key (key_of c)) (edited-all P es c h all.1)
   where
     on : (o : Ordering) → AllByRecursion P (edited es c) → AllByRecursion P (edited_at o e es (edited es c) c)
     on Less again = (all.0, again)
-    on Equal again = with_payload-all P c (Some e.payload) es here all.1
-    on Greater again = with_payload-all P c None (e ∷ es) here all
+    on Equal again = with_payload-all P c (Some e.payload) es h (h.sized e all.0) all.1
+    on Greater again = with_payload-all P c None (e ∷ es) h tt all
 
 -- ---- a run of changes
 
@@ -74,12 +74,17 @@ pub edited_by-ascends : (es : List Entry) (xs : List PuItem) → Ascend entry_be
 edited_by-ascends es [] h = h
 edited_by-ascends es (x ∷ xs) h = edited_by-ascends (edited es x.rec.change) xs (edited-ascends None es x.rec.change h tt)
 
-abbrev pub Sets : (Entry → Type 0) → PuItem → Type 0
-Sets P x = P (record { key = key_of x.rec.change; payload = payload_set_by x.rec.change })
+-- an item leaves records of which this holds
+pub record Sets (P : Entry → Type 0) (x : PuItem) : Type 0 where
+  pub change : IsPayload (payload_set_by x.rec.change)
+  pub here : (p : Value) → IsPayload p → P (record { key = key_of x.rec.change; payload = p })
 
-pub edited_by-all : (P : Entry → Type 0) (es : List Entry) (xs : List PuItem) → AllByRecursion (Sets P) xs → AllByRecursion P es → AllByRecursion P (edited_by es xs)
-edited_by-all P es [] here all = all
-edited_by-all P es (x ∷ xs) here all = edited_by-all P (edited es x.rec.change) xs here.1 (edited-all P es x.rec.change here.0 all)
+pub edited_by-all : (P : Entry → Type 0) (es : List Entry) (xs : List PuItem) → ((e : Entry) → P e → IsPayload e.payload) → AllByRecursion (Sets P) xs
+    → AllByRecursion P es → AllByRecursion P (edited_by es xs)
+edited_by-all P es [] sized sets all = all
+edited_by-all P es (x ∷ xs) sized sets all =
+    edited_by-all P (edited es x.rec.change) xs sized sets.1
+    (edited-all P es x.rec.change (record { sized = sized; change = sets.0.change; here = sets.0.here }) all)
 
 -- ---- as it is merged
 

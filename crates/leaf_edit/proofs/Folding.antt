@@ -5,7 +5,7 @@ use Rattle.std.specs.declared.cmp.Ordering.{Ordering}
 use Rattle.std.specs.declared.cmp.Ordering.TheVariants.{Less, Equal, Greater}
 use Rattle.std.specs.Ordering.{is_lt, is_eq}
 use Rattle.db_base.specs.Key.{IsPayload}
-use Rattle.db_base.specs.Change.{key_of, act, payload_set_by}
+use Rattle.db_base.specs.Change.{key_of, act}
 use Rattle.db_base.specs.declared.change.Change.{Change}
 use Rattle.byte_format.specs.Order.{bytes_cmp, bytes_below, bytes_same}
 use Rattle.byte_format.proofs.OrderLemmas.{same_is}
@@ -15,7 +15,8 @@ use Rattle.leaf_edit.specs.Edited.{with_payload, edited_by}
 use Rattle.leaf_edit.specs.Merging.{KeyBefore, AreChanges, AllFrom, Folds}
 use Rattle.leaf_edit.proofs.Ascends.{greater_below}
 use Rattle.leaf_edit.proofs.InOrder.{above-from}
-use Rattle.leaf_edit.proofs.Edits.{acts, act-sets}
+use Rattle.db_base.proofs.ChangeLaws.{act-payload}
+use Rattle.leaf_edit.proofs.Edits.{acts}
 
 -- so far the changes of the key made `new` of `old`, and `rest` are left, none at a key below it
 pub record IsFolding (key : List ℕ) (old : Option (List ℕ)) (xs : List PuItem) (new : Option (List ℕ)) (rest : List PuItem) : Type 0 where
@@ -28,13 +29,6 @@ pub record IsFolding (key : List ℕ) (old : Option (List ℕ)) (xs : List PuIte
 pub start : (key : List ℕ) (old : Option (List ℕ)) (xs : List PuItem) → AreChanges xs → AllFrom key xs → IfSome old IsPayload → IsFolding key old xs old xs
 start key old xs changes from payload = record { is = λ es first. refl; from = from; changes = changes; shorter = omega arith; payload = payload }
 
-pub act-payload : (old : Option (List ℕ)) (c : Change) → IsPayload (payload_set_by c) → IfSome (act old c) IsPayload
-act-payload old c h = on (act old c) refl
-  where
-    on : (o : Option (List ℕ)) → act old c ≡ o → IfSome o IsPayload
-    on None e = tt
-    on (Some p) e = subst IsPayload (sym (act-sets old c p e)) h
-
 pub step : (key : List ℕ) (old : Option (List ℕ)) (xs : List PuItem) (new : Option (List ℕ)) (x : PuItem) (rest : List PuItem)
     → IsFolding key old xs new (x ∷ rest) → bytes_same (key_of x.rec.change) key ≡ true → IsFolding key old xs (act new x.rec.change) rest
 step key old xs new x rest h same = record {
@@ -42,7 +36,7 @@ step key old xs new x rest h same = record {
   from = h.from.1;
   changes = record { rise = h.changes.rise.1; items = h.changes.items.1 };
   shorter = omega (arith, h.shorter);
-  payload = act-payload new x.rec.change h.changes.items.0.change.payload;
+  payload = act-payload new x.rec.change h.payload h.changes.items.0.change.payload;
 }
 
 -- a key that is not below and not the same is above

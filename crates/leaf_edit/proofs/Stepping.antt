@@ -101,9 +101,12 @@ steps-equal rs e es cs cs' k k' known es' xs' split splits same is h =
     let C : List PuItem → Type 0 = λ cs. Steps (with_payload k (Some e.payload) es) cs known es' xs' in
     subst P (ap (λ k. record { key = k; payload = e.payload } ∷ es) (sym same') ∙ sym split) (subst C (sym splits) h)
 
--- no change is left
-pub steps-record : (rs : List Entry) (e : Entry) (es : List Entry) (cs : List PuItem) → rs ≡ e ∷ es → AreRecords rs → cs ≡ [] → Steps rs cs (Some e) es cs
-steps-record rs e es cs split h none =
-    let P : List Entry → Type 0 = λ rs. Steps rs cs (Some e) es cs in
+-- no change is left, and what is handed on is none too
+pub steps-record : (rs : List Entry) (e : Entry) (es : List Entry) (cs left : List PuItem) → rs ≡ e ∷ es → AreRecords rs → cs ≡ [] → left ≡ cs
+    → Steps rs cs (Some e) es left
+steps-record rs e es cs left split h none same =
+    let P : List Entry → Type 0 = λ rs. Steps rs cs (Some e) es left in
     let C : List PuItem → Type 0 = λ cs. Steps (e ∷ es) cs (Some e) es cs in
-    subst P (sym split) (subst C (sym none) (step-record e es [] (subst AreRecords split h) (record { rise = tt; items = tt }) tt))
+    let L : List PuItem → Type 0 = λ left. Steps (e ∷ es) cs (Some e) es left in
+    subst P (sym split)
+    (subst L (sym same) (subst C (sym none) (step-record e es [] (subst AreRecords split h) (record { rise = tt; items = tt }) tt)))

@@ -45,7 +45,10 @@ lacked-sets l queue (x ∷ xs) h = on (is_lacked l queue x) refl (lacked-sets l 
     here e =
         let p = and_parts (holds l key) (nat_lt (number_of l.done queue x.rec.client) x.rec.number) e in
         let q = and_parts _ (below_bound key l.high) p.0 in
-        record { key = h.0.change.key; payload = h.0.change.payload; from_low = q.0; to_high = q.1 }
+        record {
+          change = h.0.change.payload;
+          here = λ payload sized. record { key = h.0.change.key; payload = sized; from_low = q.0; to_high = q.1 };
+        }
 
     on : (b : Bool) → is_lacked l queue x ≡ b → AllByRecursion (Sets (IsEntryIn l.low l.high)) (lacked l queue xs)
         → AllByRecursion (Sets (IsEntryIn l.low l.high)) (cond b (x ∷ lacked l queue xs) (lacked l queue xs))
@@ -62,7 +65,7 @@ applied-formed l queue run small h ordered =
       high = h.high;
       done = raised-all l.done queue run small h.done items;
       done_ascends = raised-ascends l.done queue run h.done_ascends;
-      records = edited_by-all (IsEntryIn l.low l.high) l.records (lacked l queue run) (lacked-sets l queue run items) h.records;
+      records = edited_by-all (IsEntryIn l.low l.high) l.records (lacked l queue run) (λ e in_leaf. in_leaf.payload) (lacked-sets l queue run items) h.records;
       records_ascend = edited_by-ascends l.records (lacked l queue run) h.records_ascend;
     }
 

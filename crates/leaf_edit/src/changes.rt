@@ -31,6 +31,16 @@ ghost use Rattle.std.specs.Prelude.{◌≡◌, slice_index};
 ghost use Rattle.leaf_view.specs.Lookup.{AreNumbers};
 ghost use Rattle.leaf_edit.specs.Lacked.{is_lacked};
 
+/// The first of the items that a leaf lacks.
+#[derive(Drop)]
+pub(crate) struct First<'a> {
+    pub(crate) item: &'a PuItem,
+    /// Those behind it.
+    pub(crate) rest: Changes<'a>,
+    /// It and those behind it: nothing in front of it is looked at again.
+    pub(crate) all: Changes<'a>,
+}
+
 /// Whether the leaf lacks the item: its key is in the leaf's range, and its number is not applied.
 pub(crate) fn lacks(leaf: &LeafView<'_>, queue: u64, done: &Numbers, x: &PuItem) -> bool
     requires { AreNumbers leaf.now.done queue (λ client. slice_index done.now client) }
@@ -40,7 +50,7 @@ pub(crate) fn lacks(leaf: &LeafView<'_>, queue: u64, done: &Numbers, x: &PuItem)
 }
 
 impl<'a> Changes<'a> {
-    ghost use Rattle.std.specs.Prelude.{◌≡◌, [], ◌∷◌, slice_index, MatchOption};
+    ghost use Rattle.std.specs.Prelude.{◌≡◌, [], ◌∷◌, slice_index, IfSome, MatchOption};
     ghost use Rattle.leaf_view.specs.Lookup.{AreNumbers};
     ghost use Rattle.leaf_edit.specs.Lacked.{lacked};
 
@@ -74,9 +84,23 @@ impl<'a> Changes<'a> {
         }
     }
 
-    /// The first item, and those behind it.
-    pub(crate) fn split(self) -> Option<(&'a PuItem, Changes<'a>)>
-        ensures { MatchOption result (self.entry ≡ []) (λ x. self.entry ≡ x.0.now ∷ x.1) }
+    /// The same items at their end, where there are none.
+    pub(crate) fn ended(self) -> Changes<'a>
+        requires { self ≡ [] }
+        ensures { result ≡ self.entry }
+    {
+        Changes {
+            leaf: self.leaf,
+            queue: self.queue,
+            done: self.done,
+            rest: &[],
+        }
+    }
+
+    /// The first item, with those behind it.
+    pub(crate) fn split(self) -> Option<First<'a>>
+        ensures items { MatchOption result (self.entry ≡ []) (λ x. self.entry ≡ x.item.now ∷ x.rest) }
+        ensures all { IfSome result (λ x. x.all ≡ self.entry) }
     {
         let leaf = self.leaf;
         let queue = self.queue;
@@ -84,15 +108,21 @@ impl<'a> Changes<'a> {
         let mut left = self.rest;
         while let Some((x, rest)) = left.split_first() {
             if lacks(leaf, queue, done, x) {
-                return Some((
-                    x,
-                    Changes {
+                return Some(First {
+                    item: x,
+                    rest: Changes {
                         leaf,
                         queue,
                         done,
                         rest,
                     },
-                ));
+                    all: Changes {
+                        leaf,
+                        queue,
+                        done,
+                        rest: left,
+                    },
+                });
             }
             left = rest;
         }

@@ -4,9 +4,9 @@ ghost use Rattle.std.specs.Prelude.{◌≡◌, ◌+◌, ◌≤◌, ◌↔◌, []
 ghost use Rattle.std.specs.Option.{option_map};
 ghost use Rattle.std.specs.Vec.{vec_capacity};
 ghost use Rattle.byte_format.specs.Adds.{Adds};
-ghost use Rattle.leaf_view.specs.Shown.{shown};
 ghost use Rattle.leaf_view.specs.Leaf.{IsLeaf};
 ghost use Rattle.log_codec.specs.Order.{IsOrdered};
+ghost use Rattle.leaf_view.specs.Shown.{valued};
 ghost use Rattle.leaf_edit.specs.Applied.{applied, applied_length};
 ghost use Rattle.leaf_edit.specs.Edited.{edited_by};
 ghost use Rattle.leaf_edit.specs.Merging.{AreChanges, AreRecords, IsSized};
@@ -18,6 +18,7 @@ use crate::spell::{add_entry, add_fields, entry_len, fields_len, right_of};
 use crate::step::next_step;
 use crate::table::{add_table, table_len};
 use byte_format::add_u8;
+use db_base::value::Value;
 use leaf_view::{LeafView, Records};
 use log_codec::record::PuItem;
 
@@ -34,24 +35,24 @@ fn add_head(out: &mut Vec<u8>, leaf: &LeafView<'_>, version: u64)
 }
 
 /// How many bytes a record has, where there is one.
-fn record_len(next: Option<(&[u8], &[u8])>) -> usize
-    requires { IfSome (option_map shown next) IsSized }
-    ensures { result ≡ entry_size_of (option_map shown next.entry) }
+fn record_len(next: &Option<(&[u8], Value<'_>)>) -> usize
+    requires { IfSome (option_map valued next.now) IsSized }
+    ensures { result ≡ entry_size_of (option_map valued next.now) }
 {
     match next {
-        Some((key, payload)) => entry_len(key, payload),
+        Some((key, value)) => entry_len(key, value.bytes()),
         None => 0,
     }
 }
 
 /// Appends a record, where there is one.
-fn add_record(out: &mut Vec<u8>, next: Option<(&[u8], &[u8])>)
-    requires sized { IfSome (option_map shown next) IsSized }
-    requires room { vec_len out.old + entry_size_of (option_map shown next) ≤ vec_capacity out.old }
-    ensures { Adds out.old out.new (entry_bytes_of (option_map shown next.entry)) }
+fn add_record(out: &mut Vec<u8>, next: &Option<(&[u8], Value<'_>)>)
+    requires sized { IfSome (option_map valued next.now) IsSized }
+    requires room { vec_len out.old + entry_size_of (option_map valued next.now) ≤ vec_capacity out.old }
+    ensures { Adds out.old out.new (entry_bytes_of (option_map valued next.now)) }
 {
     match next {
-        Some((key, payload)) => add_entry(out, key, payload),
+        Some((key, value)) => add_entry(out, key, value.bytes()),
         None => (),
     }
 }
@@ -66,7 +67,7 @@ fn records_len<'a>(total: usize, records: Records<'a>, changes: Changes<'a>) -> 
     let mut left = records;
     let mut coming = changes;
     while let Some(step) = next_step(left.again(), coming.again()) {
-        sum = sum.checked_add(record_len(step.record))?;
+        sum = sum.checked_add(record_len(&step.record))?;
         left = step.records;
         coming = step.changes;
     }
@@ -83,7 +84,7 @@ fn add_records<'a>(out: &mut Vec<u8>, records: Records<'a>, changes: Changes<'a>
     let mut left = records;
     let mut coming = changes;
     while let Some(step) = next_step(left.again(), coming.again()) {
-        add_record(out, step.record);
+        add_record(out, &step.record);
         left = step.records;
         coming = step.changes;
     }

@@ -1,17 +1,18 @@
 //! Records and changes merged, one record at a time.
 
 ghost use Rattle.std.specs.Prelude.{◌≡◌, [], ◌∷◌, IfSome, MatchOption};
-ghost use Rattle.std.specs.Option.{option_copied, option_map};
+ghost use Rattle.std.specs.Option.{option_map};
 ghost use Rattle.db_base.specs.Key.{IsKey, IsPayload};
 ghost use Rattle.db_base.specs.Change.{key_of, act, payload_set_by};
 ghost use Rattle.byte_format.specs.Order.{bytes_same};
-ghost use Rattle.leaf_view.specs.Shown.{shown};
+ghost use Rattle.leaf_view.specs.Shown.{shown, valued};
 ghost use Rattle.leaf_edit.specs.Edited.{edited_by, with_payload};
 ghost use Rattle.leaf_edit.specs.Merging.{AllFrom, AreChanges, AreRecords, entry_at, Folds, KeyBefore, Steps};
 
 use crate::changes::Changes;
 use byte_format::is_same;
 use db_base::change::{Change, act};
+use db_base::value::Value;
 use leaf_view::Records;
 use log_codec::record::PuItem;
 use std::cmp::Ordering;
@@ -26,22 +27,22 @@ fn is_at(x: &PuItem, key: &[u8]) -> bool
 /// The payload of the key behind the changes of it that come first, and the changes behind those.
 fn fold_key<'a>(
     key: &[u8],
-    old: Option<&'a [u8]>,
+    old: Option<Value<'a>>,
     changes: Changes<'a>,
-) -> (Option<&'a [u8]>, Changes<'a>)
+) -> (Option<Value<'a>>, Changes<'a>)
     requires changes { AreChanges changes }
     requires from { AllFrom key.now changes }
-    requires payload { IfSome (option_copied old) IsPayload }
-    ensures { Folds key.now (option_copied old.entry) changes.entry (option_copied result.0) result.1 }
+    requires payload { IfSome old IsPayload }
+    ensures { Folds key.now old.entry changes.entry result.0 result.1 }
 {
     let mut payload = old;
     let mut left = changes;
-    while let Some((x, rest)) = left.again().split() {
-        if !is_at(x, key) {
-            return (payload, left);
+    while let Some(x) = left.again().split() {
+        if !is_at(x.item, key) {
+            return (payload, x.all);
         }
-        payload = act(payload, &x.rec.change);
-        left = rest;
+        payload = act(payload, &x.item.rec.change);
+        left = x.rest;
     }
     (payload, left)
 }
@@ -49,7 +50,7 @@ fn fold_key<'a>(
 /// What comes next, unless a change removed it, and what is left of the records and of the changes.
 #[derive(Drop)]
 pub(crate) struct Step<'a> {
-    pub(crate) record: Option<(&'a [u8], &'a [u8])>,
+    pub(crate) record: Option<(&'a [u8], Value<'a>)>,
     pub(crate) records: Records<'a>,
     pub(crate) changes: Changes<'a>,
 }
@@ -57,16 +58,16 @@ pub(crate) struct Step<'a> {
 /// The step at a key, from its payload, its first change and those behind that, and the records behind the key.
 fn folded<'a>(
     x: &'a PuItem,
-    old: Option<&'a [u8]>,
+    old: Option<Value<'a>>,
     rest: Changes<'a>,
     records: Records<'a>,
 ) -> Step<'a>
     requires records { AreRecords records }
     requires changes { AreChanges (x.now ∷ rest) }
     requires before { KeyBefore (key_of x.now.rec.change) records }
-    requires payload { IfSome (option_copied old) IsPayload }
-    ensures { Steps (with_payload (key_of x.now.rec.change) (option_copied old.entry) records.entry) (x.now ∷ rest.entry)
-        (option_map shown result.record) result.records result.changes }
+    requires payload { IfSome old IsPayload }
+    ensures { Steps (with_payload (key_of x.now.rec.change) old.entry records.entry) (x.now ∷ rest.entry)
+        (option_map valued result.record) result.records result.changes }
 {
     let key = key_at(x);
     let payload = act_sized(old, &x.rec.change);
@@ -86,21 +87,29 @@ fn key_at(x: &PuItem) -> &[u8]
     x.rec.change.key().as_slice()
 }
 
-/// The record of a key, where there is a payload.
-fn entry_at<'a>(key: &'a [u8], payload: Option<&'a [u8]>) -> Option<(&'a [u8], &'a [u8])>
-    ensures { option_map shown result ≡ entry_at key.now (option_copied payload.entry) }
+/// A record that stays as it is.
+fn kept<'a>(pair: (&'a [u8], &'a [u8])) -> (&'a [u8], Value<'a>)
+    ensures { valued result ≡ shown pair.entry }
 {
-    match payload {
-        Some(payload) => Some((key, payload)),
+    (pair.0, Value::of(pair.1))
+}
+
+/// The record of a key, where there is a payload.
+fn entry_at<'a>(key: &'a [u8], value: Option<Value<'a>>) -> Option<(&'a [u8], Value<'a>)>
+    ensures { option_map valued result ≡ entry_at key.now value.entry }
+{
+    match value {
+        Some(value) => Some((key, value)),
         None => None,
     }
 }
 
 /// The payload after a change, which is a payload where the one before is.
-fn act_sized<'a>(old: Option<&'a [u8]>, change: &'a Change) -> Option<&'a [u8]>
+fn act_sized<'a>(old: Option<Value<'a>>, change: &'a Change) -> Option<Value<'a>>
+    requires old { IfSome old IsPayload }
     requires payload { IsPayload (payload_set_by change.now) }
-    ensures act { option_copied result ≡ act (option_copied old.entry) change.now }
-    ensures payload { IfSome (option_copied result) IsPayload }
+    ensures act { result ≡ act old.entry change.now }
+    ensures payload { IfSome result IsPayload }
 {
     act(old, change)
 }
@@ -115,17 +124,17 @@ fn at_change<'a>(
     requires records { AreRecords records }
     requires split { changes ≡ x.now ∷ rest }
     requires changes { AreChanges changes }
-    ensures { Steps records.entry changes.entry (option_map shown result.record) result.records result.changes }
+    ensures { Steps records.entry changes.entry (option_map valued result.record) result.records result.changes }
 {
     match records.again().split() {
         None => folded(x, None, rest, records),
         Some((record, behind)) => match record.0.cmp(key_at(x)) {
             Ordering::Less => Step {
-                record: Some(record),
+                record: Some(kept(record)),
                 records: behind,
                 changes,
             },
-            Ordering::Equal => folded(x, Some(record.1), rest, behind),
+            Ordering::Equal => folded(x, Some(Value::of(record.1)), rest, behind),
             Ordering::Greater => folded(x, None, rest, records),
         },
     }
@@ -136,17 +145,17 @@ pub(crate) fn next_step<'a>(records: Records<'a>, changes: Changes<'a>) -> Optio
     requires records { AreRecords records }
     requires changes { AreChanges changes }
     ensures { MatchOption result (edited_by records.entry changes.entry ≡ [])
-        (λ s. Steps records.entry changes.entry (option_map shown s.record) s.records s.changes) }
+        (λ s. Steps records.entry changes.entry (option_map valued s.record) s.records s.changes) }
 {
     match changes.again().split() {
         None => match records.split() {
             None => None,
             Some((record, behind)) => Some(Step {
-                record: Some(record),
+                record: Some(kept(record)),
                 records: behind,
-                changes,
+                changes: changes.ended(),
             }),
         },
-        Some((x, rest)) => Some(at_change(x, rest, changes, records)),
+        Some(first) => Some(at_change(first.item, first.rest, first.all, records)),
     }
 }

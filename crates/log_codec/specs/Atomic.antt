@@ -5,7 +5,8 @@ use Rattle.db_base.specs.Ids.{IsClient, IsTree}
 use Rattle.db_base.specs.declared.change.Change.{Change}
 use Rattle.byte_format.specs.Format.{Format, Reading, number, ◌then◌, behind, seen_as}
 use Rattle.byte_format.specs.Whole.{offset}
-use Rattle.change_codec.specs.Change.{change, IsChange}
+use Rattle.db_base.specs.Change.{IsChange}
+use Rattle.change_codec.specs.Change.{change}
 use Rattle.change_codec.specs.Number.{u64_from, IsCount}
 use Rattle.change_codec.specs.Decoded.{decoded}
 use Rattle.log_codec.specs.declared.record.AtomicRec.{AtomicRec}

@@ -18,4 +18,4 @@ pub use inner_buf::InnerBuf;
 pub use inner_view::{InnerView, NotInner};
 pub use laws::{child_law, inner_laws, raised_law, tree_laws};
 pub use tree_buf::TreeBuf;
-pub use tree_view::{NotTree, TreeView};
+pub use tree_view::{NotTree, TreeView, whole_cursor};

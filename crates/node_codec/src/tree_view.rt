@@ -31,7 +31,7 @@ static NO_NUMBERS: [u8; 1] = [0];
 // A list of the one entry from the empty key to page 1.
 static FIRST_PAGE: [u8; 11] = [1, 0, 0, 0, 0, 0, 0, 0, 0, 1, 0];
 
-/// The root of a tree, read in place. `whole_cursor` takes memory; no other call does.
+/// The root of a tree, read in place. No call takes memory.
 #[derive(Drop)]
 pub struct TreeView<'a> {
     version: u64,
@@ -123,14 +123,6 @@ impl<'a> TreeView<'a> {
         number_in(self.cursor, client)
     }
 
-    /// The numbers of all clients, in memory of their own. Refused for memory alone.
-    pub fn whole_cursor(&self, alloc: Global) -> Result<Cursor, Refused>
-        ensures ok { IfOk result (λ c. c ≡ self.now.cursor) }
-        ensures memory { IfErr result (λ e. e ≡ Refused.Memory) }
-    {
-        cursor_of(alloc, self.cursor)
-    }
-
     /// The entry with the greatest low key that is at most the key.
     pub fn child(&self, key: &[u8]) -> (&'a [u8], PageId)
         ensures { child_of key.now self.now.entries ≡ Some (result.0.now, result.1) }
@@ -159,6 +151,13 @@ impl<'a> TreeView<'a> {
         }
     }
 
+    fn copy_cursor(&self, alloc: Global) -> Result<Cursor, Refused>
+        ensures ok { IfOk result (λ c. c ≡ self.now.cursor) }
+        ensures memory { IfErr result (λ e. e ≡ Refused.Memory) }
+    {
+        cursor_of(alloc, self.cursor)
+    }
+
     /// The bytes of the numbers by client and of the entries.
     pub(crate) fn lists(&self) -> (&'a [u8], &'a [u8])
         ensures parts { AreTreeParts self.now.next self.now.level result.0.now result.1.now }
@@ -166,4 +165,12 @@ impl<'a> TreeView<'a> {
     {
         (self.cursor, self.entries)
     }
+}
+
+/// The numbers of all clients, in memory of their own. Refused for memory alone.
+pub fn whole_cursor(tree: &TreeView<'_>, alloc: Global) -> Result<Cursor, Refused>
+    ensures ok { IfOk result (λ c. c ≡ tree.now.cursor) }
+    ensures memory { IfErr result (λ e. e ≡ Refused.Memory) }
+{
+    tree.copy_cursor(alloc)
 }

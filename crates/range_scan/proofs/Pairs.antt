@@ -18,8 +18,8 @@ use Rattle.byte_format.specs.Order.{bytes_cmp, bytes_same}
 use Rattle.byte_format.proofs.OrderLemmas.{same_is, same_itself}
 use Rattle.leaf_view.specs.Leaf.{Entry, Leaf}
 use Rattle.leaf_view.specs.Lookup.{payload_of, number_of}
-use Rattle.leaf_view.specs.Shown.{shown}
-use Rattle.db_base.specs.Change.{key_of}
+use Rattle.leaf_view.specs.Shown.{valued}
+use Rattle.db_base.specs.Change.{Value, key_of}
 use Rattle.head_codec.specs.declared.lists.Pending.{Pending}
 use Rattle.txn_buffer.specs.Noted.{Noted, found_in}
 use Rattle.route_plan.specs.Seen.{seen, is_lacked_by, after_pending, after_buffered}
@@ -28,16 +28,16 @@ use Rattle.range_scan.specs.Pairs.{Sight, BelowFirst, IsAscending, AreItems, is_
 -- ---- a pair in its place
 
 -- what a map of slices does to its entries
-pub shown_inserted : (es : List (Bor (List ℕ) × Bor (List ℕ))) (k v : Bor (List ℕ))
-    → map shown (insert_entry (λ (a b : Bor (List ℕ)). slice_cmp nat_cmp a.now b.now) es k v) ≡ put_pair (map shown es) k.now v.now
-shown_inserted [] k v = refl
-shown_inserted (e ∷ es) k v = on (bytes_cmp k.now e.0.now) (shown_inserted es k v) where
-  on : (o : Ordering) → map shown (insert_entry (λ (a b : Bor (List ℕ)). slice_cmp nat_cmp a.now b.now) es k v) ≡ put_pair (map shown es) k.now v.now
-      → map shown (match_ordering o ((k, v) ∷ e ∷ es) ((e.0, v) ∷ es) (e ∷ insert_entry (λ (a b : Bor (List ℕ)). slice_cmp nat_cmp a.now b.now) es k v))
-      ≡ match_ordering o (record { key = k.now; payload = v.now } ∷ shown e ∷ map shown es) (record { key = e.0.now; payload = v.now } ∷ map shown es) (shown e ∷ put_pair (map shown es) k.now v.now)
+pub valued_inserted : (es : List (Bor (List ℕ) × Value)) (k : Bor (List ℕ)) (v : Value)
+    → map valued (insert_entry (λ (a b : Bor (List ℕ)). slice_cmp nat_cmp a.now b.now) es k v) ≡ put_pair (map valued es) k.now v
+valued_inserted [] k v = refl
+valued_inserted (e ∷ es) k v = on (bytes_cmp k.now e.0.now) (valued_inserted es k v) where
+  on : (o : Ordering) → map valued (insert_entry (λ (a b : Bor (List ℕ)). slice_cmp nat_cmp a.now b.now) es k v) ≡ put_pair (map valued es) k.now v
+      → map valued (match_ordering o ((k, v) ∷ e ∷ es) ((e.0, v) ∷ es) (e ∷ insert_entry (λ (a b : Bor (List ℕ)). slice_cmp nat_cmp a.now b.now) es k v))
+      ≡ match_ordering o (record { key = k.now; payload = v } ∷ valued e ∷ map valued es) (record { key = e.0.now; payload = v } ∷ map valued es) (valued e ∷ put_pair (map valued es) k.now v)
   on Less h = refl
   on Equal h = refl
-  on Greater h = ap (λ (xs : List Entry). shown e ∷ xs) h
+  on Greater h = ap (λ (xs : List Entry). valued e ∷ xs) h
 
 put_below : (low key payload : List ℕ) (es : List Entry) → bytes_cmp low key ≡ Less → BelowFirst low es → BelowFirst low (put_pair es key payload)
 put_below low key payload [] below h = below
@@ -287,10 +287,10 @@ one_buffered s start now new buffer i n key at before is added =
 
 -- ---- what the code adds
 
-pub added : (s : Sight) (es new : List (Bor (List ℕ) × Bor (List ℕ))) (old : List Entry) (k v : Bor (List ℕ)) → Some v.now ≡ item_at s k.now → map shown es ≡ old
-    → new ≡ insert_entry (λ (a b : Bor (List ℕ)). slice_cmp nat_cmp a.now b.now) es k v → map shown new ≡ with_item s old k.now
+pub added : (s : Sight) (es new : List (Bor (List ℕ) × Value)) (old : List Entry) (k : Bor (List ℕ)) (v : Value) → Some v ≡ item_at s k.now → map valued es ≡ old
+    → new ≡ insert_entry (λ (a b : Bor (List ℕ)). slice_cmp nat_cmp a.now b.now) es k v → map valued new ≡ with_item s old k.now
 added s es new old k v is view e =
-    ap (map shown) e ∙ shown_inserted es k v ∙ ap (λ (x : List Entry). put_pair x k.now v.now) view ∙ ap (with_payload old k.now) is
+    ap (map valued) e ∙ valued_inserted es k v ∙ ap (λ (x : List Entry). put_pair x k.now v) view ∙ ap (with_payload old k.now) is
 
 pub are_listed : (s x : Sight) (a b c d records : List Entry) (pending : List Pending) → x ≡ s → a ≡ [] → records ≡ x.leaf.records → pending ≡ x.head.pending
     → b ≡ fold (with_item s) a (map (λ (e : Entry). e.key) records) → c ≡ fold (with_item s) b (map (λ (e : Pending). key_of e.change) pending)

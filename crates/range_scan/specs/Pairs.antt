@@ -3,7 +3,7 @@ use Rattle.std.specs.Prelude.{ℕ, ◌≡◌, ⊤, Bool, not, ◌&&◌, List, []
 use Rattle.std.specs.declared.cmp.Ordering.TheVariants.{Less}
 use Rattle.std.specs.Ordering.{match_ordering}
 use Rattle.byte_format.specs.Order.{bytes_cmp, bytes_below, below_bound}
-use Rattle.db_base.specs.Change.{key_of}
+use Rattle.db_base.specs.Change.{Value, key_of}
 use Rattle.head_codec.specs.declared.head.Head.{Head}
 use Rattle.leaf_view.specs.Leaf.{Entry, Leaf}
 use Rattle.leaf_view.specs.Lookup.{holds, payload_of}
@@ -28,7 +28,7 @@ abbrev pub is_listed : Sight → List ℕ → Bool
 is_listed s key = holds s.leaf key && (not (bytes_below key s.from) && below_bound key s.to)
 
 -- the payload that the client sees at such a key
-abbrev pub item_at : Sight → List ℕ → Option (List ℕ)
+abbrev pub item_at : Sight → List ℕ → Option Value
 item_at s key = if is_listed s key then seen s.leaf s.tree key s.client s.head s.buffer else None
 
 -- a key is below that of the first pair

@@ -2,10 +2,11 @@
 
 ghost use Rattle.std.specs.Prelude.{◌≡◌, ◌∷◌, [], fold, map, OnOk, IfOk, MatchOption};
 ghost use Rattle.db_base.specs.Change.{key_of};
-ghost use Rattle.leaf_view.specs.Shown.{shown};
+ghost use Rattle.leaf_view.specs.Shown.{valued};
 ghost use Rattle.range_scan.specs.Pairs.{AreItems, with_item, items_of};
 
 use crate::sight::Sight;
+use db_base::value::Value;
 use head_codec::lists::Pending;
 use leaf_view::Records;
 use std::alloc::{AllocError, Global};
@@ -15,7 +16,7 @@ use txn_buffer::buffer::TxnBuffer;
 
 /// The pairs of a leaf as a client sees them, borrowed, in key order.
 pub struct Items<'a> {
-    pairs: BTreeMap<&'a [u8], &'a [u8]>,
+    pairs: BTreeMap<&'a [u8], Value<'a>>,
 }
 
 impl<'a> Drop for Items<'a> {
@@ -27,11 +28,11 @@ impl<'a> Drop for Items<'a> {
 impl<'a> Model for Items<'a> {
     ghost use Rattle.std.specs.Prelude.{List, map};
     ghost use Rattle.leaf_view.specs.Leaf.{Entry};
-    ghost use Rattle.leaf_view.specs.Shown.{shown};
+    ghost use Rattle.leaf_view.specs.Shown.{valued};
 
     ghost Value = { List Entry };
 
-    ghost view = { λ x. map shown x.pairs.entries };
+    ghost view = { λ x. map valued x.pairs.entries };
 }
 
 impl<'a> Items<'a> {
@@ -48,10 +49,10 @@ impl<'a> Items<'a> {
     fn add(&mut self, sight: &Sight<'a>, key: &'a [u8]) -> Result<(), AllocError>
         ensures { OnOk result (self.new ≡ with_item sight.now self.old key.now) }
     {
-        let Some(payload) = sight.item(key) else {
+        let Some(value) = sight.item(key) else {
             return Ok(());
         };
-        self.pairs.insert(key, payload)?;
+        self.pairs.insert(key, value)?;
         Ok(())
     }
 
@@ -101,9 +102,9 @@ impl<'a> Items<'a> {
         Ok(items)
     }
 
-    /// Takes the first pair off, its key and its payload; none where none is left.
-    pub fn take_first(&mut self) -> Option<(&'a [u8], &'a [u8])>
-        ensures { MatchOption result (self.old ≡ []) (λ x. self.old ≡ shown x ∷ self.new) }
+    /// Takes the first pair off, its key and its value; none where none is left.
+    pub fn take_first(&mut self) -> Option<(&'a [u8], Value<'a>)>
+        ensures { MatchOption result (self.old ≡ []) (λ x. self.old ≡ valued x ∷ self.new) }
     {
         self.pairs.pop_first()
     }

@@ -1,11 +1,11 @@
 //! What a client sees at a key.
 
 ghost use Rattle.std.specs.Prelude.{◌≡◌};
-ghost use Rattle.std.specs.Option.{option_copied};
 ghost use Rattle.range_scan.specs.Pairs.{is_listed, item_at};
 
 use byte_format::{is_below, is_below_bound};
 use db_base::ids::{ClientId, TreeId};
+use db_base::value::Value;
 use head_codec::head::Head;
 use leaf_view::LeafView;
 use route_plan::seen::seen;
@@ -55,8 +55,8 @@ impl<'a> Sight<'a> {
     }
 
     /// The payload that the client sees at a key that is listed.
-    pub(crate) fn item(&self, key: &[u8]) -> Option<&'a [u8]>
-        ensures { option_copied result ≡ item_at self.now key.now }
+    pub(crate) fn item(&self, key: &[u8]) -> Option<Value<'a>>
+        ensures { result ≡ item_at self.now key.now }
     {
         if !self.is_listed(key) {
             return None;

@@ -1,5 +1,4 @@
 ghost use Rattle.std.specs.Prelude.{◌≡◌, ◌<◌, ◌+◌, ℕ, List, length, Some, false};
-ghost use Rattle.std.specs.Option.{option_copied};
 ghost use Rattle.cloud_trait.specs.Call.{ask_of};
 ghost use Rattle.cloud_trait.specs.Machine.{Deed};
 ghost use Rattle.tree_walk.specs.Moves.{Moves};
@@ -15,6 +14,7 @@ use cloud_trait::turn::Turn;
 use cloud_trait::who::Who;
 use db_base::ids::{ClientId, PageId, TreeId};
 use db_base::key::Key;
+use db_base::value::Value;
 use head_codec::head::Head;
 use page_cache::PageCache;
 use route_plan::seen::seen;
@@ -96,8 +96,8 @@ impl RecordRead {
         client: ClientId,
         head: &'a Head,
         buffer: &'a TxnBuffer,
-    ) -> Option<&'a [u8]>
-        ensures { option_copied result ≡ read_value self.now cache.now client head.now buffer.now }
+    ) -> Option<Value<'a>>
+        ensures { result ≡ read_value self.now cache.now client head.now buffer.now }
     {
         let leaf = cache.leaf(self.walk.object())?;
         let key = self.walk.sought();

@@ -1,7 +1,7 @@
 -- How a session stands after some lines and their replies. Nothing but the lines and replies is looked at.
 use Rattle.std.specs.Prelude.{ℕ, ◌-◌, ◌==◌, if◌then◌else◌, List, [], ◌∷◌, take}
 use Rattle.db_base.specs.declared.change.Change.{Change}
-use Rattle.db_base.specs.declared.change.Change.TheVariants.{Insert, Update, Delete}
+use Rattle.db_base.specs.declared.change.Change.TheVariants.{Insert, Update, Delete, Add}
 use Rattle.db_base.specs.declared.trouble.CommitAnswer.TheVariants.{NotCommitted, InDoubt, CommittedOpen}
 use Rattle.cloud_trait.specs.declared.state.Landing.{Landing}
 use Rattle.event_text.specs.declared.event.Event.{Event}
@@ -120,6 +120,7 @@ after_own (event.Renew session) reply s = begins Renewing reply s
 after_own (event.Insert session tree key payload) reply s = notes tree (Insert key payload) reply s
 after_own (event.Update session tree key payload) reply s = notes tree (Update key payload) reply s
 after_own (event.Delete session tree key) reply s = notes tree (Delete key) reply s
+after_own (event.Add session tree key amount) reply s = notes tree (Add key amount) reply s
 after_own (event.Commit session) reply s = begins_commit reply s
 after_own (event.Abort session) reply s = aborts reply s
 after_own (event.Read session tree key) reply s = begins (Reading tree key) reply s
@@ -141,6 +142,7 @@ session_of (event.Renew session) = session
 session_of (event.Insert session tree key payload) = session
 session_of (event.Update session tree key payload) = session
 session_of (event.Delete session tree key) = session
+session_of (event.Add session tree key amount) = session
 session_of (event.Commit session) = session
 session_of (event.Abort session) = session
 session_of (event.Read session tree key) = session

@@ -8,7 +8,7 @@ use Rattle.std.proofs.lemmas.Option.{same_Some, cond_some}
 use Rattle.std.proofs.lemmas.Slice.Eq.{bytes_eq-Decides}
 use Rattle.db_base.specs.Key.{IsKey, IsPayload}
 use Rattle.db_base.specs.declared.change.Change.{Change}
-use Rattle.db_base.specs.declared.change.Change.TheVariants.{Insert, Update, Delete}
+use Rattle.db_base.specs.declared.change.Change.TheVariants.{Insert, Update, Delete, Add}
 use Rattle.db_base.specs.declared.pair.Pair.{Pair}
 use Rattle.report_types.specs.declared.entry.Entry.{Entry}
 use Rattle.report_types.specs.declared.report.Report.{Report}
@@ -20,7 +20,7 @@ use Rattle.words.proofs.Shapes.{bind_some, number_at-takes, number_at-again, byt
 use Rattle.words.proofs.Splitting.{is_hex_byte, lacks-hexadecimal, parts_of-text_of, text_of-parts_of}
 use Rattle.reply_text.specs.Reply.{pair_word, pair_words, change_words, entry_words, section_lines}
 use Rattle.reply_reading.specs.Naming.{client_of, tree_alone}
-use Rattle.reply_reading.specs.Counted.{counted, pair_of, pair_by, scan_of, key_of, payload_of, key_alone, record_alone, change_by, change_of, entry_of, entry_by, named, count_at, section_at, left_of, report_of}
+use Rattle.reply_reading.specs.Counted.{counted, pair_of, pair_by, scan_of, key_of, payload_of, key_alone, record_alone, sum_alone, change_by, change_of, entry_of, entry_by, named, count_at, section_at, left_of, report_of}
 use Rattle.reply_text.specs.Grammar.{AreAll, IsRecord, IsBlindChange, IsEntryOf, IsListOf, IsReport}
 use Rattle.reply_reading.proofs.Steps.{behind, before, mapped, chosen, nothing, spelled, word_at-takes, word_at-none, refused}
 use Rattle.reply_reading.proofs.Visible.{visible, all_visible, both_true, visible_number, visible_bytes, visible-text_of, lack_spaces}
@@ -235,6 +235,25 @@ record_alone-again : (key payload : List ℕ) → IsKey key → AreBytes key →
 unfolding record_alone
 record_alone-again key payload k kb p pb = rw (bytes_at-again key (hexadecimal payload ∷ []) kb, bytes_at-again payload [] pb, end_at-again, key_of-again key k, payload_of-again payload p) refl
 
+sum_alone-takes : (words : List (List ℕ)) (x : List ℕ × ℕ) → sum_alone words ≡ Some x → (IsKey x.0 × AreBytes x.0) × (x.1 < 2 ^ 64) × (words ≡ hexadecimal x.0 ∷ decimal x.1 ∷ [])
+unfolding sum_alone
+sum_alone-takes words x e =
+    let a = bind_some (bytes_at words) _ x e in
+    let n = bind_some (number_at a.0.1) _ x a.2 in
+    let z = bind_some (end_at n.0.1) _ x n.2 in
+    let k = bind_some (key_of a.0.0) _ x z.2 in
+    let first = bytes_at-takes words a.0 a.1 in
+    let second = number_at-takes a.0.1 n.0 n.1 in
+    let end = end_at-takes n.0.1 z.0 z.1 in
+    let key = key_of-takes a.0.0 k.0 k.1 in
+    let key_bytes : AreBytes a.0.0 = first.0 in
+    let same : (k.0, n.0.0) ≡ x = same_Some (k.0, n.0.0) x k.2 in
+    rw (← same) ((key.1, rw key.0 at key_bytes), second.0, first.1 ∙ before a.0.1 (ap hexadecimal key.0) ∙ behind _ (second.1 ∙ behind _ end))
+
+sum_alone-again : (key : List ℕ) (amount : ℕ) → IsKey key → AreBytes key → amount < 2 ^ 64 → sum_alone (hexadecimal key ∷ decimal amount ∷ []) ≡ Some (key, amount)
+unfolding sum_alone
+sum_alone-again key amount k kb small = rw (bytes_at-again key (decimal amount ∷ []) kb, number_at-again amount [] small, end_at-again, key_of-again key k) refl
+
 change_by-takes : (kind : List ℕ) (words : List (List ℕ)) (c : Change) → change_by kind words ≡ Some c → IsBlindChange c × (kind ∷ words ≡ change_words c)
 unfolding change_by
 change_by-takes kind words c e =
@@ -244,7 +263,10 @@ change_by-takes kind words c e =
         | inl h ↦ update kind words c (spelled kind _ h.0) h.1
         | inr e2 ↦ elim (chosen (bytes_eq kind (codes "delete")) _ _ _ e2.1) [
           | inl h ↦ delete kind words c (spelled kind _ h.0) h.1
-          | inr e3 ↦ absurd (nothing c e3.1)
+          | inr e3 ↦ elim (chosen (bytes_eq kind (codes "add")) _ _ _ e3.1) [
+            | inl h ↦ add kind words c (spelled kind _ h.0) h.1
+            | inr e4 ↦ absurd (nothing c e4.1)
+          ]
         ]
       ]
     ]
@@ -267,6 +289,12 @@ change_by-takes kind words c e =
         let x = key_alone-takes words m.0 m.1 in
         rw (← m.2) (x.0, before words k ∙ behind _ x.1)
 
+    add : (kind : List ℕ) (words : List (List ℕ)) (c : Change) → kind ≡ codes "add" → option_map (λ x. Add x.0 x.1) (sum_alone words) ≡ Some c → IsBlindChange c × (kind ∷ words ≡ change_words c)
+    add kind words c k e =
+        let m = mapped (λ (x : List ℕ × ℕ). Add x.0 x.1) (sum_alone words) c e in
+        let x = sum_alone-takes words m.0 m.1 in
+        rw (← m.2) ((x.0, x.1), before words k ∙ behind _ x.2)
+
 change_of-takes : (words : List (List ℕ)) (c : Change) → change_of words ≡ Some c → IsBlindChange c × (words ≡ change_words c)
 unfolding change_of
 change_of-takes words c e =
@@ -279,11 +307,13 @@ unfolding change_of word_at change_by
 change_of-again (Insert key payload) h = rw (record_alone-again key payload h.0.0 h.0.1 h.1.0 h.1.1) refl
 change_of-again (Update key payload) h = rw (record_alone-again key payload h.0.0 h.0.1 h.1.0 h.1.1) refl
 change_of-again (Delete key) h = rw (key_alone-again key h.0 h.1) refl
+change_of-again (Add key amount) h = rw (sum_alone-again key amount h.0.0 h.0.1 h.1) refl
 
 visible_change : (c : Change) → IsBlindChange c → all_visible (change_words c) ≡ true
 visible_change (Insert key payload) h = rw (visible_bytes key h.0.1, visible_bytes payload h.1.1) refl
 visible_change (Update key payload) h = rw (visible_bytes key h.0.1, visible_bytes payload h.1.1) refl
 visible_change (Delete key) h = rw (visible_bytes key h.1) refl
+visible_change (Add key amount) h = rw (visible_bytes key h.0.1, visible_number amount h.1) refl
 
 -- ---- entries
 

@@ -2,7 +2,7 @@
 use Rattle.std.specs.Prelude.{ℕ, suc, zero, ◌&&◌, nat_le, List, [], ◌∷◌, length, codes, Option, Some, None, option_map, if◌then◌else◌}
 use Rattle.std.specs.Str.{bytes_eq}
 use Rattle.db_base.specs.declared.change.Change.{Change}
-use Rattle.db_base.specs.declared.change.Change.TheVariants.{Insert, Update, Delete}
+use Rattle.db_base.specs.declared.change.Change.TheVariants.{Insert, Update, Delete, Add}
 use Rattle.db_base.specs.declared.pair.Pair.{Pair}
 use Rattle.report_types.specs.declared.entry.Entry.{Entry}
 use Rattle.report_types.specs.declared.report.Report.{Report}
@@ -67,12 +67,22 @@ record_alone words = do
   payload ← payload_of second.0
   Some (key, payload)
 
+-- a key, an amount and nothing else
+unfoldable pub sum_alone : List (List ℕ) → Option (List ℕ × ℕ)
+sum_alone words = do
+  bytes ← bytes_at words
+  amount ← number_at bytes.1
+  end ← end_at amount.1
+  key ← key_of bytes.0
+  Some (key, amount.0)
+
 -- the change that a word begins
 unfoldable pub change_by : List ℕ → List (List ℕ) → Option Change
 change_by kind words =
     if bytes_eq kind (codes "insert") then option_map (λ x. Insert x.0 x.1) (record_alone words)
     else if bytes_eq kind (codes "update") then option_map (λ x. Update x.0 x.1) (record_alone words)
     else if bytes_eq kind (codes "delete") then option_map Delete (key_alone words)
+    else if bytes_eq kind (codes "add") then option_map (λ x. Add x.0 x.1) (sum_alone words)
     else None
 
 unfoldable pub change_of : List (List ℕ) → Option Change

@@ -1,6 +1,6 @@
 ghost use Rattle.std.specs.Prelude.{◌≡◌};
 ghost use Rattle.words.specs.Word.{Reads};
-ghost use Rattle.reply_reading.specs.Counted.{counted, pair_of, pair_by, scan_of, key_of, payload_of, key_alone, record_alone, change_by, change_of, entry_of, entry_by, named, count_at, section_at, left_of, report_of};
+ghost use Rattle.reply_reading.specs.Counted.{counted, pair_of, pair_by, scan_of, key_of, payload_of, key_alone, record_alone, sum_alone, change_by, change_of, entry_of, entry_by, named, count_at, section_at, left_of, report_of};
 
 use crate::read_name::{client_of, tree_alone};
 use db_base::blob::Blob;
@@ -108,6 +108,18 @@ fn record_alone(alloc: Global, words: Parts<'_>) -> Result<(Key, Payload), TextF
     Ok((key, payload))
 }
 
+/// A key, an amount and nothing else.
+#[tactic(auto, unfolding(crate::specs::Counted::sum_alone))]
+fn sum_alone(alloc: Global, words: Parts<'_>) -> Result<(Key, u64), TextFault>
+    ensures { Reads result (sum_alone words.entry) }
+{
+    let (key, words) = words.bytes(alloc)?;
+    let (amount, words) = words.number()?;
+    words.end()?;
+    let key = key_of(alloc, &key)?;
+    Ok((key, amount))
+}
+
 /// The change that a word begins.
 #[tactic(auto, unfolding(crate::specs::Counted::change_by))]
 fn change_by(alloc: Global, kind: &[u8], words: Parts<'_>) -> Result<Change, TextFault>
@@ -122,6 +134,9 @@ fn change_by(alloc: Global, kind: &[u8], words: Parts<'_>) -> Result<Change, Tex
     } else if kind == b"delete".as_slice() {
         let key = key_alone(alloc, words)?;
         Ok(Change::Delete { key })
+    } else if kind == b"add".as_slice() {
+        let (key, amount) = sum_alone(alloc, words)?;
+        Ok(Change::Add { key, amount })
     } else {
         Err(TextFault::NotInGrammar)
     }

@@ -3,7 +3,7 @@ use Rattle.std.proofs.Common.{◌≡◌, ℕ, List, [], ◌∷◌, ◌++◌, map
 use Rattle.std.specs.Fmt.{decimal}
 use Rattle.words.specs.Line.{text_of}
 use Rattle.db_base.specs.declared.change.Change.{Change}
-use Rattle.db_base.specs.declared.change.Change.TheVariants.{Insert, Update, Delete}
+use Rattle.db_base.specs.declared.change.Change.TheVariants.{Insert, Update, Delete, Add}
 use Rattle.db_base.specs.declared.trouble.Trouble.{Trouble}
 use Rattle.db_base.specs.declared.trouble.Trouble.TheVariants.{Failed, Late, Busy, Waiting, Stale, Absent, NotALeaf, Damaged, BadFence, Loop, Exhausted, Memory}
 use Rattle.report_types.specs.declared.entry.Entry.{Entry}
@@ -31,6 +31,7 @@ text_of_change : (word : List ℕ) (change : Change) → text_of 32 (word ∷ ch
 text_of_change word (Insert key payload) = refl
 text_of_change word (Update key payload) = refl
 text_of_change word (Delete key) = refl
+text_of_change word (Add key amount) = refl
 
 -- an entry's text ends with that of its change
 pub text_of_entry : (entry : Entry) → text_of 32 (entry_words entry) ≡ decimal entry.client ++ (32 ∷ (decimal entry.epoch ++ (32 ∷ (decimal entry.txn ++ (32 ∷ text_of 32 (change_words entry.change))))))

@@ -3,7 +3,7 @@ use Rattle.std.specs.Prelude.{ℕ, ◌≡◌, ◌<◌, ◌^◌, List, [], ◌∷
 use Rattle.db_base.specs.Ids.{IsClient, IsTree, IsPage}
 use Rattle.db_base.specs.Key.{IsKey, IsPayload}
 use Rattle.db_base.specs.declared.change.Change.{Change}
-use Rattle.db_base.specs.declared.change.Change.TheVariants.{Insert, Update, Delete}
+use Rattle.db_base.specs.declared.change.Change.TheVariants.{Insert, Update, Delete, Add}
 use Rattle.db_base.specs.declared.names.Lock.{Lock}
 use Rattle.db_base.specs.declared.names.Lock.TheVariants as lock
 use Rattle.db_base.specs.declared.names.ObjName.{ObjName}
@@ -77,11 +77,12 @@ IsCommit (CommittedOpen trouble) = IsTrouble trouble
 abbrev pub IsRecord : Pair → Type 0
 IsRecord pair = AreBytes pair.key × AreBytes pair.payload
 
--- a change of a key of 1 to 64 bytes, with a payload of at most 1,024
+-- a change of a key of 1 to 64 bytes, with a payload of at most 1,024, or an amount of 64 bits
 abbrev pub IsBlindChange : Change → Type 0
 IsBlindChange (Insert key payload) = (IsKey key × AreBytes key) × (IsPayload payload × AreBytes payload)
 IsBlindChange (Update key payload) = (IsKey key × AreBytes key) × (IsPayload payload × AreBytes payload)
 IsBlindChange (Delete key) = IsKey key × AreBytes key
+IsBlindChange (Add key amount) = (IsKey key × AreBytes key) × (amount < 2 ^ 64)
 
 -- an entry of the tree that is reported
 abbrev pub IsEntryOf : ℕ → Entry → Type 0

@@ -7,7 +7,7 @@ use Rattle.db_base.specs.Refusal.{number_of_refusal}
 use Rattle.db_base.specs.declared.refusal.Refusal.{Refusal}
 use Rattle.db_base.specs.declared.refusal.Refusal.TheVariants.{EmptyKey, LongKey, LongPayload, TooManyChanges, BadNumber, NotOpen, AtWork, Broken, AlreadyOpen, NotWorking}
 use Rattle.db_base.specs.declared.change.Change.{Change}
-use Rattle.db_base.specs.declared.change.Change.TheVariants.{Insert, Update, Delete}
+use Rattle.db_base.specs.declared.change.Change.TheVariants.{Insert, Update, Delete, Add}
 use Rattle.db_base.specs.declared.pair.Pair.{Pair}
 use Rattle.db_base.specs.declared.trouble.Counter.{Counter}
 use Rattle.db_base.specs.declared.trouble.Counter.TheVariants.{Epoch, Txn, Number, Version, Pages}
@@ -99,6 +99,7 @@ abbrev pub change_words : Change → List (List ℕ)
 change_words (Insert key payload) = codes "insert" ∷ hexadecimal key ∷ hexadecimal payload ∷ []
 change_words (Update key payload) = codes "update" ∷ hexadecimal key ∷ hexadecimal payload ∷ []
 change_words (Delete key) = codes "delete" ∷ hexadecimal key ∷ []
+change_words (Add key amount) = codes "add" ∷ hexadecimal key ∷ decimal amount ∷ []
 
 -- the words of an entry of a report
 abbrev pub entry_words : Entry → List (List ℕ)

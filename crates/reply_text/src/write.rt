@@ -95,6 +95,14 @@ fn record_text(alloc: Global, kind: &str, key: &[u8], payload: &[u8]) -> Result<
     format!(in alloc; "{kind} {key} {payload}")
 }
 
+/// An addition: a key and an amount.
+fn sum_text(alloc: Global, key: &[u8], amount: u64) -> Result<String, AllocError>
+    ensures { IfOk result (λ text. string_bytes text ≡ text_of 32 (codes "add" ∷ hexadecimal key.now ∷ decimal amount ∷ [])) }
+{
+    let key = hexadecimal(alloc, key)?;
+    format!(in alloc; "add {key} {amount}")
+}
+
 /// A low key that differs from what led to it.
 fn fence_text(alloc: Global, page: u64, expected: &Blob, found: &Blob) -> Result<String, TextFault>
     ensures ok { IfOk result (λ text. string_bytes text ≡ text_of 32 (codes "bad-fence" ∷ decimal page ∷ hexadecimal expected.now ∷ hexadecimal found.now ∷ [])) }
@@ -248,6 +256,7 @@ fn change_text(alloc: Global, change: &Change) -> Result<String, AllocError>
             payload.as_slice(),
         ),
         Change::Delete { key } => bytes_text(alloc, "delete", key.as_slice()),
+        Change::Add { key, amount } => sum_text(alloc, key.as_slice(), *amount),
     }
 }
 

@@ -2,9 +2,8 @@
 use Rattle.std.specs.Prelude.{ℕ, ◌==◌, ◌&&◌, Bool, List, reverse, find, Option, if◌then◌else◌}
 use Rattle.std.specs.Option.{option_map_or}
 use Rattle.std.specs.Str.{bytes_eq}
-use Rattle.db_base.specs.Change.{key_of}
+use Rattle.db_base.specs.Change.{goes_to_leaf, key_of}
 use Rattle.db_base.specs.declared.change.Change.{Change}
-use Rattle.db_base.specs.declared.change.Change.TheVariants.{Insert, Update, Delete}
 use Rattle.db_base.specs.declared.names.QueueName.{QueueName}
 use Rattle.db_base.specs.declared.names.QueueName.TheVariants.{TreePu, PagePu}
 use Rattle.head_codec.specs.declared.lists.Pending.{Pending}
@@ -26,11 +25,9 @@ is_pending_of tree key entry = (entry.tree == tree) && bytes_eq (key_of entry.ch
 abbrev pub last_pending : List Pending → ℕ → List ℕ → Option Pending
 last_pending pending tree key = find (is_pending_of tree key) (reverse pending)
 
--- the queue of a change whose key has no pending entry: an update goes to its leaf, an insert or delete to the tree
+-- the queue of a change whose key has no pending entry: its leaf's, or the tree's
 abbrev pub first_queue : Change → ℕ → ℕ
-first_queue (Insert key payload) leaf = 0
-first_queue (Update key payload) leaf = leaf
-first_queue (Delete key) leaf = 0
+first_queue change leaf = if goes_to_leaf change then leaf else 0
 
 -- the page of the queue that a change goes to: that of the last pending entry of its tree and key, where there is one
 abbrev pub queue_of : List Pending → ℕ → Change → ℕ → ℕ

@@ -1,7 +1,6 @@
 ghost use Rattle.std.specs.Prelude.{◌≡◌, find};
 ghost use Rattle.std.specs.Option.{option_copied};
-ghost use Rattle.db_base.specs.Change.{key_of};
-ghost use Rattle.route_plan.specs.Queue.{first_queue, is_counter_of, last_pending, number_of_queue, queue_of, queue_name};
+ghost use Rattle.route_plan.specs.Queue.{first_queue, is_counter_of, last_pending, number_of_queue, queue_name};
 
 use db_base::change::Change;
 use db_base::ids::{PageId, TreeId};
@@ -41,21 +40,7 @@ pub(crate) fn last_pending<'a>(
 pub(crate) fn first_queue(change: &Change, leaf: PageId) -> u64
     ensures { result ≡ first_queue change.now leaf }
 {
-    match change {
-        Change::Update { .. } => leaf.get(),
-        Change::Insert { .. } => 0,
-        Change::Delete { .. } => 0,
-    }
-}
-
-/// The page of the queue that a change goes to, 0 for the tree queue; `leaf` is where the client's walk to its key came to.
-pub fn queue_of(pending: &[Pending], tree: TreeId, change: &Change, leaf: PageId) -> u64
-    ensures { result ≡ queue_of pending.now tree change.now leaf }
-{
-    match last_pending(pending, tree, change.key().as_slice()) {
-        Some(entry) => entry.page,
-        None => first_queue(change, leaf),
-    }
+    if change.goes_to_leaf() { leaf.get() } else { 0 }
 }
 
 /// The name of the queue of a page, and for page 0 of the tree's queue.

@@ -1,10 +1,12 @@
 ghost use Rattle.std.specs.Prelude.{◌≡◌, filter, if◌then◌else◌};
 ghost use Rattle.std.specs.Option.{option_copied};
 ghost use Rattle.db_base.specs.Change.{act};
+ghost use Rattle.leaf_view.specs.Lookup.{payload_of};
 ghost use Rattle.route_plan.specs.Seen.{after_buffered, after_pending, is_lacked_by, seen};
 
 use db_base::change::{Change, act};
 use db_base::ids::{ClientId, TreeId};
+use db_base::value::Value;
 use head_codec::head::Head;
 use head_codec::lists::Pending;
 use leaf_view::LeafView;
@@ -27,14 +29,14 @@ fn is_lacked_by(
 
 /// The payload after a pending entry, where it is of the key and the leaf lacks it.
 fn after_entry<'a>(
-    payload: Option<&'a [u8]>,
+    payload: Option<Value<'a>>,
     view: &LeafView<'_>,
     client: ClientId,
     tree: TreeId,
     key: &[u8],
     entry: &'a Pending,
-) -> Option<&'a [u8]>
-    ensures { option_copied result ≡ (if is_lacked_by view.now client tree key.now entry.now then act (option_copied payload.entry) entry.now.change else option_copied payload.entry) }
+) -> Option<Value<'a>>
+    ensures { result ≡ (if is_lacked_by view.now client tree key.now entry.now then act payload.entry entry.now.change else payload.entry) }
 {
     if is_lacked_by(view, client, tree, key, entry) {
         act(payload, &entry.change)
@@ -45,14 +47,14 @@ fn after_entry<'a>(
 
 /// The payload after the pending entries of the key that the leaf lacks, in their order.
 fn after_pending<'a>(
-    payload: Option<&'a [u8]>,
+    payload: Option<Value<'a>>,
     view: &LeafView<'_>,
     tree: TreeId,
     key: &[u8],
     client: ClientId,
     pending: &'a [Pending],
-) -> Option<&'a [u8]>
-    ensures { option_copied result ≡ after_pending (option_copied payload.entry) (filter (is_lacked_by view.now client tree key.now) pending.now) }
+) -> Option<Value<'a>>
+    ensures { result ≡ after_pending payload.entry (filter (is_lacked_by view.now client tree key.now) pending.now) }
 {
     let mut payload = payload;
     let mut left = pending;
@@ -63,9 +65,19 @@ fn after_pending<'a>(
     payload
 }
 
+/// The payload of a key in the leaf.
+fn found<'a>(view: &LeafView<'a>, key: &[u8]) -> Option<Value<'a>>
+    ensures { result ≡ payload_of key.now view.now.records }
+{
+    match view.find(key) {
+        Some(payload) => Some(Value::of(payload)),
+        None => None,
+    }
+}
+
 /// The payload after the buffered change, where there is one.
-fn after_buffered<'a>(payload: Option<&'a [u8]>, change: Option<&'a Change>) -> Option<&'a [u8]>
-    ensures { option_copied result ≡ after_buffered (option_copied payload.entry) (option_copied change.entry) }
+fn after_buffered<'a>(payload: Option<Value<'a>>, change: Option<&'a Change>) -> Option<Value<'a>>
+    ensures { result ≡ after_buffered payload.entry (option_copied change.entry) }
 {
     match change {
         Some(change) => act(payload, change),
@@ -82,10 +94,10 @@ pub fn seen<'a>(
     client: ClientId,
     head: &'a Head,
     buffer: &'a TxnBuffer,
-) -> Option<&'a [u8]>
-    ensures { option_copied result ≡ seen view.now tree key.now client head.now buffer.now }
+) -> Option<Value<'a>>
+    ensures { result ≡ seen view.now tree key.now client head.now buffer.now }
 {
     let pending = head.pending.as_slice();
-    let committed = after_pending(view.find(key), view, tree, key, client, pending);
+    let committed = after_pending(found(view, key), view, tree, key, client, pending);
     after_buffered(committed, buffer.find(tree, key))
 }

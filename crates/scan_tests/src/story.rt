@@ -72,10 +72,10 @@ impl Story {
     pub(crate) fn pairs(&mut self, items: Items<'_>) -> Result<(), Fail> {
         let mut items = items;
         for _ in 0..1000u64 {
-            let Some((key, payload)) = items.take_first() else {
+            let Some((key, value)) = items.take_first() else {
                 return Ok(());
             };
-            self.pair(key, payload)?;
+            self.pair(key, value.bytes())?;
         }
         Err(Fail::from("more pairs than any tree of these tests has"))
     }

@@ -134,6 +134,7 @@ refused_own (event.Renew session) rule s = refl
 refused_own (event.Insert session tree key payload) rule s = refl
 refused_own (event.Update session tree key payload) rule s = refl
 refused_own (event.Delete session tree key) rule s = refl
+refused_own (event.Add session tree key amount) rule s = refl
 refused_own (event.Commit session) rule s = refl
 refused_own (event.Abort session) rule s = refl
 refused_own (event.Read session tree key) rule s = refl

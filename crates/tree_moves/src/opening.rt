@@ -18,7 +18,7 @@ use db_base::blob::Blob;
 use db_base::ids::TreeId;
 use db_base::names::{ObjName, Place, QueueName};
 use db_base::trouble::Trouble;
-use node_codec::TreeView;
+use node_codec::{TreeView, whole_cursor};
 use run_cursor::run::Run;
 use std::alloc::Global;
 use tree_parts::chart::Chart;
@@ -111,7 +111,7 @@ fn intake_of(
 ) -> Result<Intake, Fault>
     ensures { UnlessMemory (TakesIn (QueueName.TreePu tree) (tree_held root.now).cursor messages.now) result }
 {
-    match tree_view(root).whole_cursor(alloc) {
+    match whole_cursor(&tree_view(root), alloc) {
         Ok(cursor) => take_in(
             alloc,
             &QueueName::TreePu(tree),

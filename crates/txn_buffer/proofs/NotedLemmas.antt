@@ -1,15 +1,17 @@
 -- The list of noted changes, and the map of a buffer that is seen as it.
-use Rattle.std.proofs.Common.{◌≡◌, ℕ, ◌+◌, ◌≤◌, ◌<◌, Bool, true, false, ◌&&◌, cond, nat_eq, List, [], ◌∷◌, length, map, Option, Some, None, is_some, refl, sym, ap, ◌∙◌, subst, arith}
+use Rattle.std.proofs.Common.{◌≡◌, ℕ, zero, suc, ◌+◌, ◌≤◌, ◌<◌, Bool, true, false, ◌&&◌, cond, nat_eq, List, [], ◌∷◌, length, map, Option, Some, None, is_some, refl, sym, ap, ◌∙◌, subst, arith}
 use Rattle.std.specs.Str.{bytes_eq}
 use Rattle.std.specs.Bool.{Decides}
-use Rattle.std.specs.Map.{lookup}
+use Rattle.std.specs.List.{position_from, slice_get}
+use Rattle.std.proofs.lemmas.Iterator.Adapters.{position_from-zero}
+use Rattle.std.specs.Map.{keys_of, lookup}
 use Rattle.std.proofs.lemmas.List.{length-map}
 use Rattle.std.proofs.lemmas.Bool.Decides.{Decides-and, Decides-eqb}
 use Rattle.std.proofs.lemmas.Slice.Eq.{bytes_eq-Decides}
-use Rattle.indexmap.specs.IndexMap.{insert_entry}
+use Rattle.indexmap.specs.IndexMap.{IndexMap, index_of_by, insert_entry, values, with_entries, with_value_at}
 use Rattle.db_base.specs.Change.{key_of, net}
 use Rattle.db_base.specs.declared.change.Change.{Change}
-use Rattle.db_base.specs.declared.change.Change.TheVariants.{Insert, Update, Delete}
+use Rattle.db_base.specs.declared.change.Change.TheVariants.{Insert, Update, Delete, Add}
 use Rattle.txn_buffer.specs.Noted.{Noted, is_of, found_in, noted_in, AreDistinct, AreNoted}
 use Rattle.txn_buffer.specs.Kept.{noted_of, KeyMatches, KeysMatch, IsKept, joined_to}
 use Rattle.txn_buffer.specs.declared.noted_key.NotedKey.{NotedKey}
@@ -21,10 +23,15 @@ is_of-Decides tree key entry = Decides-and _ _ (Decides-eqb tree entry.tree) (by
 -- a net change is of the key of both
 pub key_of-net : (first second : Change) → key_of first ≡ key_of second → key_of (net first second) ≡ key_of second
 key_of-net first (Insert key payload) h = refl
-key_of-net (Insert old other) (Update key payload) h = refl
-key_of-net (Update old other) (Update key payload) h = refl
+key_of-net (Insert old other) (Update key payload) h = h
+key_of-net (Update old other) (Update key payload) h = h
 key_of-net (Delete old) (Update key payload) h = h
+key_of-net (Add old amount) (Update key payload) h = refl
 key_of-net first (Delete key) h = refl
+key_of-net (Insert old payload) (Add key amount) h = h
+key_of-net (Update old payload) (Add key amount) h = h
+key_of-net (Delete old) (Add key amount) h = h
+key_of-net (Add old amount) (Add key more) h = h
 
 -- what is found is of the key
 pub key_of-found : (list : List Noted) (tree : ℕ) (key : List ℕ) (change : Change) → found_in list tree key ≡ Some change → key_of change ≡ key
@@ -158,6 +165,44 @@ inserted k (e ∷ es) change keys key =
     on true false same rest = cc
     on false true same rest = cc
 
+later : (t : NotedKey → Bool) (ks : List NotedKey) (start n : ℕ) → position_from t start ks ≡ Some n → start ≤ n
+later t [] start n h = absurd cc
+later t (k ∷ ks) start n h = on (t k) h (λ h. later t ks (start + 1) n h)
+  where
+    on : (b : Bool) → cond b (Some start) (position_from t (start + 1) ks) ≡ Some n → (position_from t (start + 1) ks ≡ Some n → start + 1 ≤ n) → start ≤ n
+    on true h deep = let is : start ≡ n = cc in omega (arith, is)
+    on false h deep = let more : start + 1 ≤ n = deep h in omega (arith, more)
+
+-- the entries with the value at an index written
+written : {S : Type 0} → IndexMap NotedKey Change S → List (NotedKey × Change) → ℕ → Change → List (NotedKey × Change)
+written m es i w = (with_value_at (with_entries m es) i w).entries
+
+-- to write the value at the index of a key is to store it there
+at_place : {S : Type 0} (m : IndexMap NotedKey Change S) (k : NotedKey) (es : List (NotedKey × Change)) (start i : ℕ) (w : Change)
+    → position_from (same_key k) start (keys_of es) ≡ Some (start + i) → written m es i w ≡ insert_entry same_key es k w
+unfolding written
+at_place m k [] start i w h = absurd cc
+at_place {S = S} m k (e ∷ es) start i w h = on (same_key k e.0) i h (λ j h. at_place m k es (start + 1) j w h)
+  where
+    Deep : Type 0
+    Deep = (j : ℕ) → position_from (same_key k) (start + 1) (keys_of es) ≡ Some (start + 1 + j) → written m es j w ≡ insert_entry same_key es k w
+
+    on : (b : Bool) (i : ℕ) → cond b (Some start) (position_from (same_key k) (start + 1) (keys_of es)) ≡ Some (start + i) → Deep
+        → written m (e ∷ es) i w ≡ cond b ((e.0, w) ∷ es) (e ∷ insert_entry same_key es k w)
+    on true zero h deep = refl
+    on true (suc j) h deep = absurd (let is : start ≡ start + suc j = cc in omega (arith, is))
+    on false zero h deep = absurd (let more : start + 1 ≤ start + 0 = later (same_key k) (keys_of es) (start + 1) (start + 0) h in omega (arith, more))
+    on false (suc j) h deep =
+        let same : start + suc j ≡ start + 1 + j = omega arith in
+        ap (λ (l : List (NotedKey × Change)). e ∷ l) (deep j (h ∙ ap Some same))
+
+pub at_index : {S : Type 0} (m : IndexMap NotedKey Change S) (k : NotedKey) (i : ℕ) (w : Change) → index_of_by (same_key k) m ≡ Some i
+    → (with_value_at m i w).entries ≡ insert_entry same_key m.entries k w
+unfolding written
+at_index m k i w h =
+    let same : i ≡ 0 + i = omega arith in
+    at_place m k m.entries 0 i w (sym (position_from-zero (same_key k) (keys_of m.entries)) ∙ h ∙ ap Some same)
+
 -- a stored change of its key keeps each entry's key that of its change
 pub KeysMatch-inserted : (k : NotedKey) (es : List (NotedKey × Change)) (v : Change) → KeysMatch es → KeyMatches k v → KeysMatch (insert_entry same_key es k v)
 KeysMatch-inserted k [] v keys key = (key, tt)
@@ -187,3 +232,33 @@ IsKept-inserted k es change kept key short room = record {
       (key ∙ sym (key_of-joined (map noted_of es) k.tree change), short);
   noted = subst AreNoted (sym (inserted k es change kept.keys key)) (AreNoted-noted (map noted_of es) k.tree change kept.noted (λ none. rw length-map (room none)));
 }
+
+-- a change that is joined in its place is stored there
+pub joined : {S : Type 0} (m n : IndexMap NotedKey Change S) (k : NotedKey) (i : ℕ) (change : Change) → KeysMatch m.entries → k.key.items ≡ key_of change
+    → index_of_by (same_key k) m ≡ Some i → is_some (lookup (same_key k) m.entries) ≡ true → slice_get (values m) i ≡ lookup (same_key k) m.entries
+    → ((first : Change) → slice_get (values m) i ≡ Some first → n ≡ with_value_at m i (net first change))
+    → n.entries ≡ insert_entry same_key m.entries k (joined_to (found_in (map noted_of m.entries) k.tree (key_of change)) change)
+joined m n k i change keys key index there value join = on (found_in (map noted_of m.entries) k.tree (key_of change)) refl
+  where
+    is : lookup (same_key k) m.entries ≡ found_in (map noted_of m.entries) k.tree (key_of change)
+    is = found k m.entries keys ∙ ap (found_in (map noted_of m.entries) k.tree) key
+
+    on : (o : Option Change) → found_in (map noted_of m.entries) k.tree (key_of change) ≡ o
+        → n.entries ≡ insert_entry same_key m.entries k (joined_to (found_in (map noted_of m.entries) k.tree (key_of change)) change)
+    on None e = absurd (let bad : false ≡ true = sym (ap is_some (is ∙ e)) ∙ there in cc)
+    on (Some first) e =
+        ap (λ (x : IndexMap NotedKey Change _). x.entries) (join first (value ∙ is ∙ e)) ∙ at_index m k i (net first change) index
+        ∙ ap (λ (o : Option Change). insert_entry same_key m.entries k (joined_to o change)) (sym e)
+
+-- a change whose key is not there is stored as it is
+pub alone : (k : NotedKey) (es : List (NotedKey × Change)) (change : Change) → KeysMatch es → k.key.items ≡ key_of change → is_some (lookup (same_key k) es) ≡ false
+    → insert_entry same_key es k change ≡ insert_entry same_key es k (joined_to (found_in (map noted_of es) k.tree (key_of change)) change)
+alone k es change keys key none = on (found_in (map noted_of es) k.tree (key_of change)) refl
+  where
+    is : lookup (same_key k) es ≡ found_in (map noted_of es) k.tree (key_of change)
+    is = found k es keys ∙ ap (found_in (map noted_of es) k.tree) key
+
+    on : (o : Option Change) → found_in (map noted_of es) k.tree (key_of change) ≡ o
+        → insert_entry same_key es k change ≡ insert_entry same_key es k (joined_to (found_in (map noted_of es) k.tree (key_of change)) change)
+    on None e = ap (λ (o : Option Change). insert_entry same_key es k (joined_to o change)) (sym e)
+    on (Some first) e = absurd (let bad : true ≡ false = sym (ap is_some (is ∙ e)) ∙ none in cc)

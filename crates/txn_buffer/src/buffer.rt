@@ -2,7 +2,9 @@ ghost use Rattle.std.specs.Prelude.{◌≡◌, ℕ, ◌≤◌, ◌<◌, ◌↔�
 ghost use Rattle.std.specs.Option.{option_copied, option_map};
 ghost use Rattle.db_base.specs.Change.{key_of, net};
 ghost use Rattle.txn_buffer.specs.Noted.{Noted, found_in, noted_in, AreNoted};
-ghost use Rattle.txn_buffer.specs.Kept.{noted_of, KeysMatch, IsKept, joined_to};
+ghost use Rattle.db_base.specs.declared.change.Change.{Change as Noting};
+ghost use Rattle.indexmap.specs.IndexMap.{index_map_len, values, with_value_at};
+ghost use Rattle.txn_buffer.specs.Kept.{noted_of, KeysMatch, IsKept};
 
 use crate::noted_key::NotedKey;
 use db_base::change::Change;
@@ -52,16 +54,13 @@ fn lookup<'a>(changes: &'a IndexMap<NotedKey, Change>, key: &NotedKey) -> Option
     changes.get(key)
 }
 
-/// The change to store: the net change where one of its tree and key is there.
-fn joined(changes: &IndexMap<NotedKey, Change>, key: &NotedKey, change: Change) -> Change
-    requires keys { KeysMatch changes.now.entries }
-    requires of { key.now.key.items ≡ key_of change }
-    ensures { result ≡ joined_to (found_in (map noted_of changes.now.entries) key.now.tree (key_of change)) change }
+/// Joins a later change to the one at an index.
+fn join_at(changes: &mut IndexMap<NotedKey, Change>, index: usize, later: Change)
+    requires within { index < index_map_len changes.old }
+    requires of { (first : Noting) → slice_get (values changes.old) index ≡ Some first → key_of first ≡ key_of later }
+    ensures { (first : Noting) → slice_get (values changes.old) index ≡ Some first → changes.new ≡ with_value_at changes.old index (net first later) }
 {
-    match lookup(changes, key) {
-        Some(first) => change.after(first),
-        None => change,
-    }
+    changes[index].join(later);
 }
 
 /// Stores a change, joined to the one at its key where there is one.
@@ -79,10 +78,15 @@ fn store(
     ensures memory { IfErr result (λ e. e ≡ Refused.Memory) }
     ensures kept { IsKept changes.new.entries }
 {
-    let change = joined(changes, &key, change);
-    match changes.insert(key, change) {
-        Ok(_) => Ok(()),
-        Err(_) => Err(Refused::Memory),
+    match changes.get_index_of(&key) {
+        Some(index) => {
+            join_at(changes, index, change);
+            Ok(())
+        }
+        None => match changes.insert(key, change) {
+            Ok(_) => Ok(()),
+            Err(_) => Err(Refused::Memory),
+        },
     }
 }
 

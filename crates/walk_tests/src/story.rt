@@ -75,9 +75,9 @@ impl Story {
     }
 
     /// Adds the payload that was read.
-    pub(crate) fn value(&mut self, value: Option<&[u8]>) -> Result<(), Fail> {
+    pub(crate) fn value(&mut self, value: Option<Value<'_>>) -> Result<(), Fail> {
         match value {
-            Some(payload) => self.bytes(payload),
+            Some(value) => self.bytes(value.bytes()),
             None => self.line("none"),
         }
     }

@@ -3,7 +3,7 @@ use Rattle.std.proofs.Common.{◌≡◌, ℕ, ◌^◌, ◌<◌, List, [], ◌∷
 use Rattle.std.specs.Fmt.{decimal}
 use Rattle.std.proofs.lemmas.Option.{same_Some}
 use Rattle.words.specs.Word.{AreBytes, AreNumbers, hexadecimal, number_of, bytes_of}
-use Rattle.words.specs.Line.{◌>>=◌, with_left, number_at, bytes_at, end_at, numbers_of, one_of, two_of, three_of, place_of, record_of}
+use Rattle.words.specs.Line.{◌>>=◌, with_left, number_at, bytes_at, end_at, numbers_of, one_of, two_of, three_of, place_of, record_of, sum_of}
 use Rattle.words.proofs.Numerals.{number_of-takes, number_of-decimal}
 use Rattle.words.proofs.Hexadecimal.{bytes_of-takes, bytes_of-hexadecimal}
 
@@ -152,6 +152,24 @@ place_of-takes words x e =
 pub place_of-again : (n : ℕ) (bytes : List ℕ) → n < 2 ^ 64 → AreBytes bytes → place_of (decimal n ∷ hexadecimal bytes ∷ []) ≡ Some (n, bytes)
 unfolding place_of
 place_of-again n bytes p q = rw (number_at-again n (hexadecimal bytes ∷ []) p, bytes_at-again bytes [] q, end_at-again) refl
+
+pub sum_of-takes : (words : List (List ℕ)) (x : ℕ × List ℕ × ℕ) → sum_of words ≡ Some x → (x.0 < 2 ^ 64) × AreBytes x.1 × (x.2 < 2 ^ 64) × (words ≡ decimal x.0 ∷ hexadecimal x.1 ∷ decimal x.2 ∷ [])
+unfolding sum_of
+sum_of-takes words x e =
+    let a = bind_some (number_at words) _ x e in
+    let b = bind_some (bytes_at a.0.1) _ x a.2 in
+    let d = bind_some (number_at b.0.1) _ x b.2 in
+    let z = bind_some (end_at d.0.1) _ x d.2 in
+    let first = number_at-takes words a.0 a.1 in
+    let second = bytes_at-takes a.0.1 b.0 b.1 in
+    let third = number_at-takes b.0.1 d.0 d.1 in
+    let nothing = end_at-takes d.0.1 z.0 z.1 in
+    let same : (a.0.0, b.0.0, d.0.0) ≡ x = same_Some (a.0.0, b.0.0, d.0.0) x z.2 in
+    rw (← same) (first.0, second.0, third.0, first.1 ∙ behind _ (second.1 ∙ behind _ (third.1 ∙ behind _ nothing)))
+
+pub sum_of-again : (n : ℕ) (bytes : List ℕ) (amount : ℕ) → n < 2 ^ 64 → AreBytes bytes → amount < 2 ^ 64 → sum_of (decimal n ∷ hexadecimal bytes ∷ decimal amount ∷ []) ≡ Some (n, bytes, amount)
+unfolding sum_of
+sum_of-again n bytes amount o p q = rw (number_at-again n (hexadecimal bytes ∷ decimal amount ∷ []) o, bytes_at-again bytes (decimal amount ∷ []) p, number_at-again amount [] q, end_at-again) refl
 
 pub record_of-takes : (words : List (List ℕ)) (x : ℕ × List ℕ × List ℕ) → record_of words ≡ Some x → (x.0 < 2 ^ 64) × AreBytes x.1 × AreBytes x.2 × (words ≡ decimal x.0 ∷ hexadecimal x.1 ∷ hexadecimal x.2 ∷ [])
 unfolding record_of

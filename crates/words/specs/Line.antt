@@ -86,6 +86,15 @@ place_of words = do
   end ← end_at bytes.1
   Some (number.0, bytes.0)
 
+-- a number, bytes, a number, and nothing else
+unfoldable pub sum_of : List (List ℕ) → Option (ℕ × List ℕ × ℕ)
+sum_of words = do
+  number ← number_at words
+  bytes ← bytes_at number.1
+  amount ← number_at bytes.1
+  end ← end_at amount.1
+  Some (number.0, bytes.0, amount.0)
+
 -- a number, bytes twice, and nothing else
 unfoldable pub record_of : List (List ℕ) → Option (ℕ × List ℕ × List ℕ)
 record_of words = do

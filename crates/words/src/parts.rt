@@ -1,7 +1,7 @@
 ghost use Rattle.std.specs.Prelude.{◌≡◌, ◌↔◌, ◌∷◌, [], IfSome, IfNone};
 ghost use Rattle.std.specs.Option.{option_copied, option_map};
 ghost use Rattle.words.specs.Word.{Reads, ReadsBy};
-ghost use Rattle.words.specs.Line.{parts_of, parts_left, word_at, number_at, bytes_at, end_at, numbers_of, one_of, two_of, three_of, place_of, record_of};
+ghost use Rattle.words.specs.Line.{parts_of, parts_left, word_at, number_at, bytes_at, end_at, numbers_of, one_of, two_of, three_of, place_of, record_of, sum_of};
 
 use crate::bytes::bytes_of;
 use crate::fault::TextFault;
@@ -174,6 +174,18 @@ impl<'a> Parts<'a> {
         let (bytes, left) = left.bytes(alloc)?;
         left.end()?;
         Ok((number, bytes))
+    }
+
+    /// A number, bytes in hexadecimal, a number, and nothing else.
+    #[tactic(auto, unfolding(crate::specs::Line::sum_of))]
+    pub fn sum(self, alloc: Global) -> Result<(u64, Blob, u64), TextFault>
+        ensures { Reads result (sum_of self.entry) }
+    {
+        let (number, left) = self.number()?;
+        let (bytes, left) = left.bytes(alloc)?;
+        let (amount, left) = left.number()?;
+        left.end()?;
+        Ok((number, bytes, amount))
     }
 
     /// A number, bytes in hexadecimal twice, and nothing else.

@@ -2,7 +2,7 @@
 use Rattle.std.proofs.Common.{◌≡◌, ◌+◌, ◌≤◌, ℕ, List, [], ◌∷◌, ◌++◌, length, Ok, Err, Result, None, refl, sym, subst, inl, inr}
 use Rattle.db_base.specs.Ids.{IsSession}
 use Rattle.db_base.specs.declared.change.Change.{Change}
-use Rattle.db_base.specs.declared.change.Change.TheVariants.{Insert, Update, Delete}
+use Rattle.db_base.specs.declared.change.Change.TheVariants.{Insert, Update, Delete, Add}
 use Rattle.db_base.specs.declared.refusal.Refused.{Refused}
 use Rattle.db_base.specs.declared.refusal.Refused.TheVariants as refused
 use Rattle.event_text.specs.declared.event.Event.{Event}
@@ -23,7 +23,7 @@ use Rattle.world_core.specs.declared.asked.Request.{Request}
 use Rattle.world_core.specs.declared.asked.Request.TheVariants.{Begin, Note, Abort, Step, Run, Crash}
 use Rattle.world_core.specs.declared.asked.Asked.{Asked}
 use Rattle.world_core.specs.declared.asked.Asked.TheVariants.{Session, Wait, Report, Settle}
-use Rattle.world_core.specs.Asked.{bound_of, IsOpening, IsReading, IsScanning, IsPaging, IsFolding, IsInsert, IsUpdate, IsDelete, IsNoted, IsStep, OfSession, Asks}
+use Rattle.world_core.specs.Asked.{bound_of, IsOpening, IsReading, IsScanning, IsPaging, IsFolding, IsInsert, IsUpdate, IsDelete, IsAdd, IsNoted, IsStep, OfSession, Asks}
 use Rattle.world_core.specs.Replying.{done_reply}
 use Rattle.world_core.specs.Sessions.{NotesIn, AbortsIn}
 use Rattle.world_core.specs.Handled.{NotesChange, DropsChanges, Does, Answers, Handled}
@@ -127,6 +127,9 @@ module _ (n : ℕ) (before after : Seen) (old new : World) (r : Reply) (lines : 
       (λ q z. refl) (λ c h. h.0) w is done)
   asked_adds (event.Delete k tree key) asked asks answers = by_request k (event.Delete k tree key) (IsNoted tree (IsDelete key)) asked asks answers
       (λ request some is done. noted_adds lines (event.Delete k tree key) n k tree (Delete key) request before after old new r first (IsDelete key) refl some
+      (λ q z. refl) (λ c h. h.0) w is done)
+  asked_adds (event.Add k tree key amount) asked asks answers = by_request k (event.Add k tree key amount) (IsNoted tree (IsAdd key amount)) asked asks answers
+      (λ request some is done. noted_adds lines (event.Add k tree key amount) n k tree (Add key amount) request before after old new r first (IsAdd key amount) refl some
       (λ q z. refl) (λ c h. h.0) w is done)
   asked_adds (event.Read k tree key) asked asks answers = by_request k (event.Read k tree key) (IsReading tree key) asked asks answers
       (λ request some is done.

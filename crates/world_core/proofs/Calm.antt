@@ -58,7 +58,7 @@ use Rattle.world_core.specs.declared.asked.Request.{Request}
 use Rattle.world_core.specs.declared.asked.Request.TheVariants.{Begin, Note, Abort, Step, Run, Crash}
 use Rattle.world_core.specs.World.{World}
 use Rattle.world_core.specs.declared.world.WorldFault.{WorldFault}
-use Rattle.world_core.specs.Asked.{Asks, OfSession, IsOpening, IsReading, IsScanning, IsPaging, IsFolding, IsInsert, IsUpdate, IsDelete, IsNoted, IsStep, bound_of}
+use Rattle.world_core.specs.Asked.{Asks, OfSession, IsOpening, IsReading, IsScanning, IsPaging, IsFolding, IsInsert, IsUpdate, IsDelete, IsAdd, IsNoted, IsStep, bound_of}
 use Rattle.world_core.specs.Calm.{StepIsCalm, work_at, DoesWell, BeginsWell, RunsWell, StepsWell, SettlesWell, RepliesWell, AnswersWell}
 use Rattle.world_core.specs.EachStep.{EachWent, EachMade, EachRun, EachSettlingOn, EachSettling, EachDone, EachAsked}
 use Rattle.world_core.specs.Explained.{StepExplains}
@@ -645,6 +645,9 @@ module _ (lines : List Line) (n : ℕ) (before after : Seen) (old new : World) (
   asked_well (event.Delete k tree key) asked asks h calm explains sound well =
       request_well lines n k before after old new r t number told stands well u told_after (λ q. Unit {0}) (λ rule. tt) (IsNoted tree (IsDelete key)) asked asks h calm explains
       (λ request is does. noted_well lines n k before after old new r t number told stands well u told_after tree (IsDelete key) request is does)
+  asked_well (event.Add k tree key amount) asked asks h calm explains sound well =
+      request_well lines n k before after old new r t number told stands well u told_after (λ q. Unit {0}) (λ rule. tt) (IsNoted tree (IsAdd key amount)) asked asks h calm explains
+      (λ request is does. noted_well lines n k before after old new r t number told stands well u told_after tree (IsAdd key amount) request is does)
   asked_well (event.Abort k) asked asks h calm explains sound well =
       request_well lines n k before after old new r t number told stands well u told_after (λ q. Unit {0}) (λ rule. tt) (λ request. request ≡ Ok Abort) asked asks h calm explains
       (λ request is does. (

@@ -33,7 +33,7 @@ use Rattle.world_core.specs.declared.asked.Asked.TheVariants.{Session, Wait, Rep
 use Rattle.world_core.specs.declared.asked.Request.{Request}
 use Rattle.world_core.specs.declared.asked.Request.TheVariants.{Begin, Note, Abort, Step, Run, Crash}
 use Rattle.world_core.specs.declared.world.WorldFault.{WorldFault}
-use Rattle.world_core.specs.Asked.{Asks, OfSession, IsOpening, IsReading, IsScanning, IsPaging, IsFolding, IsInsert, IsUpdate, IsDelete, IsNoted, IsStep}
+use Rattle.world_core.specs.Asked.{Asks, OfSession, IsOpening, IsReading, IsScanning, IsPaging, IsFolding, IsInsert, IsUpdate, IsDelete, IsAdd, IsNoted, IsStep}
 use Rattle.world_core.specs.Handled.{Declines, BeginsOp, StepsLooked, MakesStep, Runs, Settles, SettlesOn, Crashes, Reports, Does, Answers}
 use Rattle.world_core.specs.Replying.{declined, done_reply, unsettled_reply, value_reply, RepliesTo, RepliesSettled, RepliesBegun, RepliesTurn}
 use Rattle.world_core.specs.Sessions.{Changes}
@@ -266,6 +266,7 @@ module _ (Holds : Posture → Work → CommitAnswer → Type 0) (nothing : SaysN
   asked_keeps (event.Insert k tree key payload) ends asked asks answers = of_session (event.Insert k tree key payload) ends (IsNoted tree (IsInsert key payload)) asked asks answers
   asked_keeps (event.Update k tree key payload) ends asked asks answers = of_session (event.Update k tree key payload) ends (IsNoted tree (IsUpdate key payload)) asked asks answers
   asked_keeps (event.Delete k tree key) ends asked asks answers = of_session (event.Delete k tree key) ends (IsNoted tree (IsDelete key)) asked asks answers
+  asked_keeps (event.Add k tree key amount) ends asked asks answers = of_session (event.Add k tree key amount) ends (IsNoted tree (IsAdd key amount)) asked asks answers
   asked_keeps (event.Close k) ends asked asks answers = of_session (event.Close k) ends (λ request. request ≡ Ok (Begin op.Close)) asked asks answers
   asked_keeps (event.Renew k) ends asked asks answers = of_session (event.Renew k) ends (λ request. request ≡ Ok (Begin op.Renew)) asked asks answers
   asked_keeps (event.Commit k) ends asked asks answers = of_session (event.Commit k) ends (λ request. request ≡ Ok (Begin op.Commit)) asked asks answers

@@ -351,6 +351,7 @@ own_session (event.Open session client) k request asks = sym asks.0
 own_session (event.Insert session tree key payload) k request asks = sym asks.0
 own_session (event.Update session tree key payload) k request asks = sym asks.0
 own_session (event.Delete session tree key) k request asks = sym asks.0
+own_session (event.Add session tree key amount) k request asks = sym asks.0
 own_session (event.Close session) k request asks = sym asks.0
 own_session (event.Renew session) k request asks = sym asks.0
 own_session (event.Commit session) k request asks = sym asks.0

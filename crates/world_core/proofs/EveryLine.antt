@@ -4,7 +4,7 @@ use Rattle.db_base.specs.Ids.{IsSession}
 use Rattle.db_base.specs.Change.{IsChange}
 use Rattle.db_base.specs.Key.{IsKey, IsPayload}
 use Rattle.db_base.specs.declared.change.Change.{Change}
-use Rattle.db_base.specs.declared.change.Change.TheVariants.{Insert, Update, Delete}
+use Rattle.db_base.specs.declared.change.Change.TheVariants.{Insert, Update, Delete, Add}
 use Rattle.db_base.specs.declared.refusal.Refused.{Refused}
 use Rattle.event_text.specs.declared.event.Event.{Event}
 use Rattle.event_text.specs.declared.event.Event.TheVariants as event
@@ -19,7 +19,7 @@ use Rattle.world_core.specs.declared.asked.Request.{Request}
 use Rattle.world_core.specs.declared.asked.Request.TheVariants.{Begin, Note, Abort, Step, Run, Crash}
 use Rattle.world_core.specs.declared.asked.Asked.{Asked}
 use Rattle.world_core.specs.declared.asked.Asked.TheVariants.{Session, Wait, Report, Settle}
-use Rattle.world_core.specs.Asked.{bound_of, IsOpening, IsReading, IsScanning, IsPaging, IsFolding, IsInsert, IsUpdate, IsDelete, IsNoted, IsStep, OfSession, Asks}
+use Rattle.world_core.specs.Asked.{bound_of, IsOpening, IsReading, IsScanning, IsPaging, IsFolding, IsInsert, IsUpdate, IsDelete, IsAdd, IsNoted, IsStep, OfSession, Asks}
 use Rattle.world_core.specs.Handled.{MakesNoCall, Does, Answers, Handled}
 use Rattle.world_core.proofs.Behind.{LinesStand, LineLeaves}
 use Rattle.world_core.proofs.StandsLemmas.{Ready, declines, runs, makes_step, crashes, settles, waits, reports}
@@ -56,13 +56,16 @@ request_stands n k event Is Settle before after old new r lines t belongs answer
 -- ---- a change is noted
 
 pub insert_is : (key payload : List ℕ) → IsKey key → IsPayload payload → IsChange (Insert key payload)
-insert_is key payload k p = record { key = k; payload = p }
+insert_is key payload k p = record { key = k; payload = p; amount = lit< tt }
 
 pub update_is : (key payload : List ℕ) → IsKey key → IsPayload payload → IsChange (Update key payload)
-update_is key payload k p = record { key = k; payload = p }
+update_is key payload k p = record { key = k; payload = p; amount = lit< tt }
 
 pub delete_is : (key : List ℕ) → IsKey key → IsChange (Delete key)
-delete_is key k = record { key = k; payload = omega arith }
+delete_is key k = record { key = k; payload = omega arith; amount = lit< tt }
+
+pub add_is : (key : List ℕ) (amount : ℕ) → IsKey key → amount < 2 ^ 64 → IsChange (Add key amount)
+add_is key amount k fits = record { key = k; payload = omega arith; amount = fits }
 
 noted_line : (lines : List Line) (event : Event) (n k tree : ℕ) (change : Change) (request : Request) (before after : Seen) (old new : World) (r : Reply) (t : CloudState) (Is : Result Change Refused → Type 0)
     → session_of event ≡ k → ((q : Reply) (s : Standing) → after_own event q s ≡ notes_own tree change q s) → ((c : Change) → Is (Ok c) → (c ≡ change) × IsChange change)
@@ -106,6 +109,10 @@ asked_stands n (event.Delete k tree key) asked before after old new r lines t as
     request_stands n k (event.Delete k tree key) (IsNoted tree (IsDelete key)) asked before after old new r lines t asks answers at told stands
     (λ request s is done. noted_line lines (event.Delete k tree key) n k tree (Delete key) request before after old new r t (IsDelete key) refl (λ q z. refl)
     (λ c h. (h.0, delete_is key h.1)) s is done)
+asked_stands n (event.Add k tree key amount) asked before after old new r lines t asks answers at told stands =
+    request_stands n k (event.Add k tree key amount) (IsNoted tree (IsAdd key amount)) asked before after old new r lines t asks answers at told stands
+    (λ request s is done. noted_line lines (event.Add k tree key amount) n k tree (Add key amount) request before after old new r t (IsAdd key amount) refl (λ q z. refl)
+    (λ c h. (h.0, add_is key amount h.1 h.2)) s is done)
 asked_stands n (event.Read k tree key) asked before after old new r lines t asks answers at told stands =
     request_stands n k (event.Read k tree key) (IsReading tree key) asked before after old new r lines t asks answers at told stands
     (λ request s is done.

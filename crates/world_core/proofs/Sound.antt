@@ -52,7 +52,7 @@ use Rattle.world_core.specs.declared.asked.Request.{Request}
 use Rattle.world_core.specs.declared.asked.Request.TheVariants.{Begin, Note, Abort, Step, Run, Crash}
 use Rattle.world_core.specs.World.{World}
 use Rattle.world_core.specs.declared.world.WorldFault.{WorldFault}
-use Rattle.world_core.specs.Asked.{Asks, OfSession, IsOpening, IsReading, IsScanning, IsPaging, IsFolding, IsInsert, IsUpdate, IsDelete, IsNoted, IsStep, bound_of}
+use Rattle.world_core.specs.Asked.{Asks, OfSession, IsOpening, IsReading, IsScanning, IsPaging, IsFolding, IsInsert, IsUpdate, IsDelete, IsAdd, IsNoted, IsStep, bound_of}
 use Rattle.world_core.specs.Handled.{Declines, BeginsOp, MakesNoCall, StepsLooked, MakesStep, Runs, SettlesOn, Settles, Crashes, Reports, Does, Answers, Handled}
 use Rattle.world_core.specs.Replying.{declined, done_reply, unsettled_reply, value_reply, RepliesTo, RepliesSettled, RepliesBegun, RepliesTurn}
 use Rattle.world_core.specs.Sessions.{Changes}
@@ -342,6 +342,9 @@ asked_sound n (event.Update k tree key payload) asked before after old new r lin
 asked_sound n (event.Delete k tree key) asked before after old new r lines t asks answers at told stands =
     request_sound lines n k before after old new r t at told stands (IsNoted tree (IsDelete key)) asked asks answers
     (noted_right lines n k before after old new r t at told stands tree (IsDelete key))
+asked_sound n (event.Add k tree key amount) asked before after old new r lines t asks answers at told stands =
+    request_sound lines n k before after old new r t at told stands (IsNoted tree (IsAdd key amount)) asked asks answers
+    (noted_right lines n k before after old new r t at told stands tree (IsAdd key amount))
 asked_sound n (event.Read k tree key) asked before after old new r lines t asks answers at told stands =
     request_sound lines n k before after old new r t at told stands (IsReading tree key) asked asks answers
     (λ request is. same_right lines n k before after old new r t at told stands request (Begin (op.Read tree key)) (ap (λ q. Ok q) is.2) is.0)

@@ -1,9 +1,9 @@
 -- What a line asks, and of which session.
-use Rattle.std.specs.Prelude.{ℕ, ◌≡◌, ◌≤◌, ◌<◌, List, [], ◌∷◌, length, ◌⊎◌, Option, Some, None, Result, Ok, Err}
+use Rattle.std.specs.Prelude.{ℕ, ◌≡◌, ◌≤◌, ◌<◌, ◌^◌, List, [], ◌∷◌, length, ◌⊎◌, Option, Some, None, Result, Ok, Err}
 use Rattle.db_base.specs.Ids.{IsClient, IsTree, IsPage}
 use Rattle.db_base.specs.Key.{IsKey, IsPayload}
 use Rattle.db_base.specs.declared.change.Change.{Change}
-use Rattle.db_base.specs.declared.change.Change.TheVariants.{Insert, Update, Delete}
+use Rattle.db_base.specs.declared.change.Change.TheVariants.{Insert, Update, Delete, Add}
 use Rattle.db_base.specs.declared.refusal.Refusal.{Refusal}
 use Rattle.db_base.specs.declared.refusal.Refusal.TheVariants as rule
 use Rattle.db_base.specs.declared.refusal.Refused.{Refused}
@@ -92,6 +92,11 @@ abbrev pub IsDelete : List ℕ → Result Change Refused → Type 0
 IsDelete key (Ok change) = (change ≡ Delete key) × IsKey key
 IsDelete key (Err why) = IsNoKey key why
 
+-- the addition to a key's payload, or the rule that the key breaks
+abbrev pub IsAdd : List ℕ → ℕ → Result Change Refused → Type 0
+IsAdd key amount (Ok change) = (change ≡ Add key amount) × IsKey key × (amount < 2 ^ 64)
+IsAdd key amount (Err why) = IsNoKey key why
+
 -- such a change of a tree is to be noted; it is refused by the number of the tree first
 abbrev pub IsNoted : ℕ → (Result Change Refused → Type 0) → Result Request Refused → Type 0
 IsNoted tree Is (Ok (Note t change)) = (t ≡ tree) × IsTree tree × Is (Ok change)
@@ -116,6 +121,7 @@ Asks (event.Open session client) asked = OfSession session (IsOpening client) as
 Asks (event.Insert session tree key payload) asked = OfSession session (IsNoted tree (IsInsert key payload)) asked
 Asks (event.Update session tree key payload) asked = OfSession session (IsNoted tree (IsUpdate key payload)) asked
 Asks (event.Delete session tree key) asked = OfSession session (IsNoted tree (IsDelete key)) asked
+Asks (event.Add session tree key amount) asked = OfSession session (IsNoted tree (IsAdd key amount)) asked
 Asks (event.Close session) asked = OfSession session (λ request. request ≡ Ok (Begin op.Close)) asked
 Asks (event.Renew session) asked = OfSession session (λ request. request ≡ Ok (Begin op.Renew)) asked
 Asks (event.Commit session) asked = OfSession session (λ request. request ≡ Ok (Begin op.Commit)) asked

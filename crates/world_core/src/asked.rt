@@ -1,7 +1,7 @@
 //! What a line asks, and of which session.
 
 ghost use Rattle.std.specs.Prelude.{◌≡◌};
-ghost use Rattle.world_core.specs.Asked.{Asks, IsBound, IsDelete, IsInsert, IsUpdate, IsOpening, IsReading, IsScanning, IsPaging, IsFolding, IsNoted, IsStep};
+ghost use Rattle.world_core.specs.Asked.{Asks, IsAdd, IsBound, IsDelete, IsInsert, IsUpdate, IsOpening, IsReading, IsScanning, IsPaging, IsFolding, IsNoted, IsStep};
 
 use client_work::op::Op;
 use db_base::blob::Blob;
@@ -65,6 +65,12 @@ impl Asked {
             Event::Delete { session, tree, key } => {
                 Asked::Session(*session, delete_noted(alloc, *tree, key))
             }
+            Event::Add {
+                session,
+                tree,
+                key,
+                amount,
+            } => Asked::Session(*session, add_noted(alloc, *tree, key, *amount)),
             Event::Close { session } => Asked::Session(*session, Ok(Request::Begin(Op::Close))),
             Event::Renew { session } => Asked::Session(*session, Ok(Request::Begin(Op::Renew))),
             Event::Commit { session } => Asked::Session(*session, Ok(Request::Begin(Op::Commit))),
@@ -232,6 +238,20 @@ fn delete_noted(alloc: Global, tree: u64, key: &Blob) -> Result<Request, Refused
     }
 }
 
+/// The addition to a key's payload in the tree of this number.
+fn add_noted(alloc: Global, tree: u64, key: &Blob, amount: u64) -> Result<Request, Refused>
+    ensures { IsNoted tree (IsAdd key.now amount) result }
+{
+    let tree = match TreeId::new(tree) {
+        Ok(tree) => tree,
+        Err(rule) => return Err(Refused::Rule(rule)),
+    };
+    match add_of(alloc, key, amount) {
+        Ok(change) => Ok(Request::Note(tree, change)),
+        Err(why) => Err(why),
+    }
+}
+
 /// The insert of a key and payload, where they are ones.
 fn insert_of(alloc: Global, key: &Blob, payload: &Blob) -> Result<Change, Refused>
     ensures { IsInsert key.now payload.now result }
@@ -256,4 +276,12 @@ fn delete_of(alloc: Global, key: &Blob) -> Result<Change, Refused>
 {
     let key = Key::new(alloc, key.as_slice())?;
     Ok(Change::Delete { key })
+}
+
+/// The addition to the payload of a key, where it is one.
+fn add_of(alloc: Global, key: &Blob, amount: u64) -> Result<Change, Refused>
+    ensures { IsAdd key.now amount result }
+{
+    let key = Key::new(alloc, key.as_slice())?;
+    Ok(Change::Add { key, amount })
 }

@@ -1,6 +1,7 @@
 -- The leaves that a commit plans with.
 use Rattle.std.proofs.Common.{◌≡◌, ◌+◌, ◌&&◌, ◌==◌, ◌⊎◌, inl, inr, ℕ, zero, suc, Bool, true, false, not, List, [], ◌∷◌, ◌++◌, length, drop, Option, Some, None, refl, sym, ap, subst, ◌∙◌, arith}
-use Rattle.std.specs.Prelude.{slice_get}
+use Rattle.std.specs.Prelude.{if◌then◌else◌, slice_get, IsTrue, ◌||◌}
+use Rattle.db_base.specs.Change.{goes_to_leaf, key_of}
 use Rattle.std.specs.Option.{option_map, option_map_or}
 use Rattle.std.proofs.lemmas.Bool.{and_parts, eqb-true}
 use Rattle.byte_format.specs.Order.{bytes_below, below_bound}
@@ -9,11 +10,10 @@ use Rattle.cloud_facts.specs.Chains.Chain.{ChainHolds}
 use Rattle.cloud_facts.proofs.Calls.Searching.{found}
 use Rattle.session_facts.specs.Commits.Committing.{MayCommit, IsLeafFor, AreLeavesFor}
 use Rattle.commit_plan.specs.Ended.{Ended, ended_of, spans, page_at, leaf_at}
-use Rattle.commit_plan.specs.Plan.{Plan, page_without, pages_of, advanced, with_leaf, with_page}
+use Rattle.commit_plan.specs.Plan.{Plan, has_pending, page_without, pages_of, advanced, with_leaf, with_page}
 use Rattle.session_facts.specs.CommitRuns.Running.{IsLinked, KnowsPlan}
 use Rattle.db_base.specs.Ids.{IsTree}
 use Rattle.db_base.specs.declared.change.Change.{Change}
-use Rattle.db_base.specs.declared.change.Change.TheVariants.{Insert, Update, Delete}
 use Rattle.head_codec.specs.declared.lists.Pending.{Pending}
 use Rattle.leaf_view.specs.Leaf.{Leaf}
 use Rattle.node_codec.proofs.NodeLemmas.{not_below_empty}
@@ -61,9 +61,12 @@ found_leaf book ended tree page key linked e = on (leaf_at ended tree key) refl 
 module _ (book : Book) (pending : List Pending) (ended : List Ended) (linked : (e : Ended) → IsIn ended e → IsLinked book e) where
   -- a change that needs no walk
   without_leaf : (tree page : ℕ) (change : Change) → page_without pending ended (record { tree = tree; change = change }) ≡ Some page → IsLeafFor book tree change page
-  without_leaf tree page (Insert key payload) e = tt
-  without_leaf tree page (Update key payload) e = found_leaf book ended tree page key linked e
-  without_leaf tree page (Delete key) e = tt
+  without_leaf tree page change e goes = found_leaf book ended tree page (key_of change) linked (sym (sought (goes_to_leaf change) goes) ∙ e)
+    where
+      sought : (b : Bool) → IsTrue b
+          → (if b || has_pending pending tree (key_of change) then page_at ended tree (key_of change) else Some 1) ≡ page_at ended tree (key_of change)
+      sought true h = refl
+      sought false h = absurd h
 
   planned_leaves : (changes : List Noted) → AreLeavesFor book changes (pages_of pending ended changes)
   planned_leaves [] place n page there paged = absurd (cc)
@@ -111,11 +114,9 @@ advanced_known book changes p pending k = record {
 
 -- page 1 is in the leaf chain of every tree, with the empty low key
 pub first_leaf_for : (st : Store) → ChainHolds st → (tree : ℕ) (change : Change) → IsTree tree → IsLeafFor st.book tree change 1
-first_leaf_for st chains tree (Insert key payload) is = tt
-first_leaf_for st chains tree (Update key payload) is =
+first_leaf_for st chains tree change is goes =
     let leaves = (chains tree is).levels.leaves in
-    record { link = first_link; linked = (zero, ap (λ (ls : List Link). slice_get ls 0) leaves.1); page_is = refl; low = not_below_empty key }
-first_leaf_for st chains tree (Delete key) is = tt
+    record { link = first_link; linked = (zero, ap (λ (ls : List Link). slice_get ls 0) leaves.1); page_is = refl; low = not_below_empty (key_of change) }
 
 -- the next change has page 1
 pub first_known : (st : Store) (changes : List Noted) (p : Plan) → ChainHolds st → MayCommit changes → KnowsPlan st.book changes p → KnowsPlan st.book changes (with_page p 1)

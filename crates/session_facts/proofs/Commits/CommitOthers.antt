@@ -12,7 +12,6 @@ use Rattle.commit_writes.specs.declared.stage.Stage.TheVariants.{Waiting, Loggin
 use Rattle.commit_writes.specs.Writing.{Writing}
 use Rattle.db_base.specs.Ids.{IsClient}
 use Rattle.db_base.specs.declared.change.Change.{Change}
-use Rattle.db_base.specs.declared.change.Change.TheVariants.{Insert, Update, Delete}
 use Rattle.db_base.specs.declared.names.Lock.TheVariants as lock
 use Rattle.head_codec.specs.declared.head.Head.{Head}
 use Rattle.head_codec.specs.declared.head.Phase.{Phase}
@@ -74,10 +73,8 @@ sent_others st su records upto p logged sent place r below there =
 
 -- what was a link is one
 leaf_others : (st su : Store) (tree page : ℕ) (change : Change) → Grows st su → IsLeafFor st.book tree change page → IsLeafFor su.book tree change page
-leaf_others st su tree page (Insert key payload) grows leaf = tt
-leaf_others st su tree page (Update key payload) grows leaf =
-    record { link = leaf.link; linked = grows.links tree 0 leaf.link leaf.linked; page_is = leaf.page_is; low = leaf.low }
-leaf_others st su tree page (Delete key) grows leaf = tt
+leaf_others st su tree page change grows leaf goes =
+    let l = leaf goes in record { link = l.link; linked = grows.links tree 0 l.link l.linked; page_is = l.page_is; low = l.low }
 
 pub leaves_others : (st su : Store) (changes : List Noted) (pages : List ℕ) → Grows st su → AreLeavesFor st.book changes pages → AreLeavesFor su.book changes pages
 leaves_others st su changes pages grows leaves place n page there paged = leaf_others st su n.tree page n.change grows (leaves place n page there paged)

@@ -1,9 +1,12 @@
 -- Changes that may be committed.
-use Rattle.std.proofs.Common.{◌≡◌, ◌≤◌, ℕ, Bool, true, false, cond, List, [], ◌∷◌, length, zero, suc, refl, subst, arith}
-use Rattle.db_base.specs.Change.{key_of, net, IsChange}
+use Rattle.std.proofs.Common.{◌≡◌, ◌+◌, ◌≤◌, ℕ, lit<, Bool, true, false, cond, List, [], ◌∷◌, length, zero, suc, Some, refl, subst, arith}
+use Rattle.db_base.specs.Change.{Value, key_of, net, plus, IsChange}
+use Rattle.db_base.specs.Key.{IsPayload}
+use Rattle.std.proofs.Math.Nat.{mod-lt}
+use Rattle.db_base.proofs.ChangeLaws.{act-payload}
 use Rattle.db_base.specs.Ids.{IsTree}
 use Rattle.db_base.specs.declared.change.Change.{Change}
-use Rattle.db_base.specs.declared.change.Change.TheVariants.{Insert, Update, Delete}
+use Rattle.db_base.specs.declared.change.Change.TheVariants.{Insert, Update, Delete, Add}
 use Rattle.cloud_facts.specs.Book.Records.{IsIn}
 use Rattle.cloud_facts.proofs.Book.Places.{in_none}
 use Rattle.txn_buffer.specs.Noted.{Noted, is_of, noted_in}
@@ -13,14 +16,23 @@ use Rattle.session_facts.specs.Commits.Committing.{MayCommit}
 pub may_none : MayCommit []
 may_none = record { noted = record { most = omega arith; distinct = tt }; each = λ n is. absurd (in_none [] n refl is) }
 
+sized : (payload : Value) (more : ℕ) → IsPayload payload → IsPayload (plus payload more)
+sized payload more h = act-payload (Some payload) (Add [] more) h (omega arith)
+
 net_is : (a b : Change) → IsChange a → IsChange b → IsChange (net a b)
 net_is a (Insert key payload) p q = q
-net_is (Insert key old) (Update other payload) p q = record { key = q.key; payload = q.payload }
-net_is (Update key old) (Update other payload) p q = record { key = q.key; payload = q.payload }
+net_is (Insert key old) (Update other payload) p q = record { key = p.key; payload = q.payload; amount = p.amount }
+net_is (Update key old) (Update other payload) p q = record { key = p.key; payload = q.payload; amount = p.amount }
 net_is (Delete key) (Update other payload) p q = p
+net_is (Add key amount) (Update other payload) p q = q
 net_is (Insert key old) (Delete other) p q = q
 net_is (Update key old) (Delete other) p q = q
 net_is (Delete key) (Delete other) p q = q
+net_is (Add key amount) (Delete other) p q = q
+net_is (Insert key payload) (Add other more) p q = record { key = p.key; payload = sized payload more p.payload; amount = p.amount }
+net_is (Update key payload) (Add other more) p q = record { key = p.key; payload = sized payload more p.payload; amount = p.amount }
+net_is (Delete key) (Add other more) p q = p
+net_is (Add key amount) (Add other more) p q = record { key = p.key; payload = p.payload; amount = mod-lt (amount + more) (lit< tt) }
 
 -- a change that is noted is of a tree, and is a change
 each_noted : (buffer : List Noted) (tree : ℕ) (change : Change) → IsTree tree → IsChange change → ((n : Noted) → IsIn buffer n → IsTree n.tree × IsChange n.change)

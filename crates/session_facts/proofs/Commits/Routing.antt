@@ -1,14 +1,13 @@
 -- The records of a commit.
-use Rattle.std.proofs.Common.{◌≡◌, ◌<◌, ◌≤◌, ◌⊎◌, inl, inr, ◌==◌, ℕ, zero, suc, true, false, List, [], ◌∷◌, ◌++◌, length, take, reverse, Option, Some, None, refl, sym, ap, subst, ◌∙◌, arith}
-use Rattle.std.specs.Prelude.{slice_get}
+use Rattle.std.proofs.Common.{◌≡◌, ◌<◌, ◌≤◌, ◌⊎◌, inl, inr, ◌==◌, ℕ, zero, suc, Bool, true, false, List, [], ◌∷◌, ◌++◌, length, take, reverse, Option, Some, None, refl, sym, ap, subst, ◌∙◌, arith}
+use Rattle.std.specs.Prelude.{if◌then◌else◌, slice_get, IsTrue}
 use Rattle.std.specs.Option.{option_map_or}
 use Rattle.std.proofs.lemmas.Bool.{and_parts, and_from, eqb-true, eq-eqb}
 use Rattle.std.proofs.lemmas.Slice.Eq.{bytes_eq-Decides}
 use Rattle.std.specs.Str.{bytes_eq}
 use Rattle.byte_format.specs.Order.{bytes_below}
-use Rattle.db_base.specs.Change.{key_of}
+use Rattle.db_base.specs.Change.{goes_to_leaf, key_of}
 use Rattle.db_base.specs.declared.change.Change.{Change}
-use Rattle.db_base.specs.declared.change.Change.TheVariants.{Insert, Update, Delete}
 use Rattle.head_codec.specs.declared.head.Head.{Head}
 use Rattle.head_codec.specs.declared.lists.Pending.{Pending}
 use Rattle.log_codec.specs.declared.record.AtomicRec.{AtomicRec}
@@ -103,9 +102,12 @@ is_pending tree key p tree_is key_is = and_from (p.tree == tree) (bytes_eq (key_
 -- a change without pending entries of its key goes to the tree's queue, or to that of a leaf whose low key is not above the key
 first_goes : (book : Book) (tree page : ℕ) (change : Change) (key : List ℕ) → key ≡ key_of change → IsLeafFor book tree change page
     → (first_queue change page ≡ 0) ⊎ IsLeafAtMost book tree (first_queue change page) key
-first_goes book tree page (Insert k payload) key same leaf = inl refl
-first_goes book tree page (Update k payload) key same leaf = inr (subst (λ l. IsLeafAtMost book tree page l) (sym same) leaf)
-first_goes book tree page (Delete k) key same leaf = inl refl
+first_goes book tree page change key same leaf = on (goes_to_leaf change) leaf
+  where
+    on : (b : Bool) → (IsTrue b → IsLeafAtMost book tree page (key_of change))
+        → ((if b then page else 0) ≡ 0) ⊎ IsLeafAtMost book tree (if b then page else 0) key
+    on true leaf = inr (subst (λ l. IsLeafAtMost book tree page l) (sym same) (leaf tt))
+    on false leaf = inl refl
 
 -- behind a head that is the newest but for pruned entries
 module _ (st : Store) (client : ℕ) (base : Head) (pruned : IsPruned st.tally client (st.tally.head client) base) (pends : HeadPends st client) (numbers : Numbers st) (tree : ℕ)

@@ -5,10 +5,6 @@ use Rattle.std.proofs.lemmas.Bool.{eqb-true, eqb-false}
 use Rattle.std.proofs.lemmas.List.{append-nil}
 use Rattle.std.proofs.lemmas.List.Elements.{All-from_recursion}
 use Rattle.byte_format.specs.Format.{greatest}
-use Rattle.change_codec.specs.Change.{IsChange as IsWritten}
-use Rattle.db_base.specs.Change.{IsChange}
-use Rattle.db_base.specs.declared.change.Change.{Change}
-use Rattle.db_base.specs.declared.change.Change.TheVariants.{Insert, Update, Delete}
 use Rattle.leaf_view.specs.Fits.{IsWellFormed, IsVersion}
 use Rattle.leaf_view.specs.Leaf.{Leaf}
 use Rattle.leaf_view.proofs.Split.{fits_leaf}
@@ -32,16 +28,11 @@ use Rattle.session_facts.proofs.Trees.LeafPieces.{leaf_parts_fit}
 
 -- ---- the run's items
 
-is_change : (c : Change) → IsWritten c → IsChange c
-is_change (Insert key payload) w = record { key = w.0; payload = w.1 }
-is_change (Update key payload) w = record { key = w.0; payload = w.1 }
-is_change (Delete key) w = record { key = w; payload = omega arith }
-
 -- a record of a queue has a spelling
 item_is : (st : Store) (tree queue : ℕ) (x : PuItem) → IsItemOf st tree queue x → IsItem x
 item_is st tree queue x i =
     let spelled : IsPuRecord x.rec = (pu_of-some i.sent.message.bytes x.rec i.sent.reads).0 in
-    record { change = is_change x.rec.change spelled.change; client = spelled.client; number = spelled.number.fits }
+    record { change = spelled.change; client = spelled.client; number = spelled.number.fits }
 
 each_by : {X : Type 0} (P : X → Type 0) (xs : List X) → ((x : X) → IsIn xs x → P x) → AllByRecursion P xs
 each_by P [] each = tt

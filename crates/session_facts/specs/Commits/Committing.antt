@@ -1,5 +1,5 @@
 -- What a commit knows of the cloud at each of its calls.
-use Rattle.std.specs.Prelude.{ℕ, ◌≡◌, ◌+◌, ◌<◌, ◌≤◌, ◌⊎◌, List, [], length, take}
+use Rattle.std.specs.Prelude.{ℕ, ◌≡◌, ◌+◌, ◌<◌, ◌≤◌, ◌⊎◌, List, [], length, take, IsTrue}
 use Rattle.cloud_facts.specs.Calls.Acting.{IsPruned}
 use Rattle.cloud_facts.specs.Calls.Others.{WasSentOn}
 use Rattle.cloud_trait.specs.Claim.{Claim, Lasts}
@@ -7,10 +7,9 @@ use Rattle.cloud_trait.specs.Machine.{Next, Goes, Ends, Stops}
 use Rattle.commit_writes.specs.declared.stage.Stage.{Stage}
 use Rattle.commit_writes.specs.declared.stage.Stage.TheVariants.{Waiting, Logging, Opening, Sending, Settling, Deleting, Finished}
 use Rattle.commit_writes.specs.Writing.{Writing, before_of}
-use Rattle.db_base.specs.Change.{IsChange}
+use Rattle.db_base.specs.Change.{goes_to_leaf, key_of, IsChange}
 use Rattle.db_base.specs.Ids.{IsClient, IsTree}
 use Rattle.db_base.specs.declared.change.Change.{Change}
-use Rattle.db_base.specs.declared.change.Change.TheVariants.{Insert, Update, Delete}
 use Rattle.db_base.specs.declared.names.Lock.TheVariants as lock
 use Rattle.db_base.specs.declared.trouble.CommitAnswer.{CommitAnswer}
 use Rattle.db_base.specs.declared.trouble.CommitAnswer.TheVariants.{Committed, NotCommitted, InDoubt, CommittedOpen}
@@ -65,11 +64,9 @@ AreMessagesOf st x ids = (id : ℕ) → IsIn ids id → IsMessageOf st x id
 
 -- ---- before the put that commits
 
--- an update goes to a leaf of the tree's chain whose low key is not above its key; other changes go to no leaf
+-- where a change goes to a leaf, that is one of the tree's chain whose low key is not above the change's
 abbrev pub IsLeafFor : Book → ℕ → Change → ℕ → Type 0
-IsLeafFor book tree (Insert key payload) page = Unit {0}
-IsLeafFor book tree (Update key payload) page = IsLeafAtMost book tree page key
-IsLeafFor book tree (Delete key) page = Unit {0}
+IsLeafFor book tree change page = IsTrue (goes_to_leaf change) → IsLeafAtMost book tree page (key_of change)
 
 -- pages are so for the changes at their places
 abbrev pub AreLeavesFor : Book → List Noted → List ℕ → Type 0

@@ -1,5 +1,4 @@
 use Rattle.std.proofs.Common.{◌∷◌, List, Option, ℕ, sym, subst, ◌∙◌, ap}
-use Rattle.std.specs.Option.{option_copied}
 use Rattle.db_base.specs.Change.{key_of, act}
 use Rattle.leaf_view.specs.Leaf.{Entry}
 use Rattle.leaf_edit.specs.Edited.{with_payload}
@@ -9,11 +8,11 @@ use Rattle.leaf_edit.proofs.step.folded.Goals as goal
 
 pub returns : goal.returns
 returns c =
-    let K : List ℕ → Type 0 = λ key. Folds key (option_copied c.act_sized-payload.result) c.args.rest (option_copied c.fold_key-changes.result.0) c.fold_key-changes.result.1 in
-    let P : Option (List ℕ) → Type 0 = λ payload. Folds (key_of c.args.x.now.rec.change) payload c.args.rest (option_copied c.fold_key-changes.result.0) c.fold_key-changes.result.1 in
-    let R : Option Entry → Type 0 = λ known. Steps (with_payload (key_of c.args.x.now.rec.change) (option_copied c.args.old) c.args.records) (c.args.x.now ∷ c.args.rest) known c.args.records c.fold_key-changes.result.1 in
-    let folds : Folds (key_of c.args.x.now.rec.change) (act (option_copied c.args.old) c.args.x.now.rec.change) c.args.rest (option_copied c.fold_key-changes.result.0) c.fold_key-changes.result.1 =
-    subst P c.act_sized-payload.ensures.act (subst K c.key_at-key.ensures.key c.fold_key-changes.ensures) in
-    subst R (ap (λ k. entry_at k (option_copied c.fold_key-changes.result.0)) (sym c.key_at-key.ensures.key) ∙ sym c.entry_at.ensures)
-    (step-folded (option_copied c.args.old) c.args.records c.args.x.now c.args.rest (option_copied c.fold_key-changes.result.0) c.fold_key-changes.result.1
+    let K : List ℕ → Type 0 = λ key. Folds key c.act_sized-payload.result c.args.rest c.fold_key-payload.result.0 c.fold_key-payload.result.1 in
+    let P : Option (List ℕ) → Type 0 = λ payload. Folds (key_of c.args.x.now.rec.change) payload c.args.rest c.fold_key-payload.result.0 c.fold_key-payload.result.1 in
+    let R : Option Entry → Type 0 = λ known. Steps (with_payload (key_of c.args.x.now.rec.change) c.args.old c.args.records) (c.args.x.now ∷ c.args.rest) known c.args.records c.fold_key-payload.result.1 in
+    let folds : Folds (key_of c.args.x.now.rec.change) (act c.args.old c.args.x.now.rec.change) c.args.rest c.fold_key-payload.result.0 c.fold_key-payload.result.1 =
+    subst P c.act_sized-payload.ensures.act (subst K c.key_at-key.ensures.key c.fold_key-payload.ensures) in
+    subst R (ap (λ k. entry_at k c.fold_key-payload.result.0) (sym c.key_at-key.ensures.key) ∙ sym c.entry_at.ensures)
+    (step-folded c.args.old c.args.records c.args.x.now c.args.rest c.fold_key-payload.result.0 c.fold_key-payload.result.1
     c.requires.records c.requires.before c.key_at-key.ensures.is_key folds)

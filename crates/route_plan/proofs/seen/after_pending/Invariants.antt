@@ -1,13 +1,12 @@
 use Rattle.std.proofs.Common.{◌≡◌, length}
 use Rattle.std.specs.Prelude.{filter}
-use Rattle.std.specs.Option.{option_copied}
 use Rattle.route_plan.specs.Seen.{after_pending, is_lacked_by}
 use Rattle.route_plan.proofs.seen.after_pending.Given as goal
 
 abbrev pub invariant-loop-entry : goal.invariant-loop-entry
 invariant-loop-entry l =
-    after_pending (option_copied l.payload) (filter (is_lacked_by l.view l.client l.tree l.key) l.left)
-    ≡ after_pending (option_copied l.initial.payload) (filter (is_lacked_by l.view l.client l.tree l.key) l.pending)
+    after_pending l.payload (filter (is_lacked_by l.view l.client l.tree l.key) l.left)
+    ≡ after_pending l.initial.payload (filter (is_lacked_by l.view l.client l.tree l.key) l.pending)
 
 abbrev pub decreases-loop-entry : goal.decreases-loop-entry
 decreases-loop-entry l = length l.left

@@ -2,7 +2,7 @@ use Rattle.node_codec.specs.Node.{plain_number}
 use Rattle.node_codec.specs.Tree.{tree_in}
 use Rattle.node_codec.proofs.PlainLemmas.{list_from_whole}
 use Rattle.node_codec.proofs.TreeLemmas.{tree_fits}
-use Rattle.node_codec.proofs.tree_view.TreeView.whole_cursor.Goals as goal
+use Rattle.node_codec.proofs.tree_view.TreeView.copy_cursor.Goals as goal
 
 pub cursor_of-requires-clause-listed : goal.cursor_of-requires-clause-listed
 cursor_of-requires-clause-listed c = list_from_whole plain_number c.self.inside.cursor.now c.self.invariant.cursor_list

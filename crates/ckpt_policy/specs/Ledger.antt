@@ -1,0 +1,22 @@
+-- A ledger, and the notes for which it stands.
+use Rattle.std.specs.Prelude.{◌≡◌, ℕ, ◌≤◌, List, map}
+use Rattle.ckpt_policy.specs.declared.counts.Counts.{Counts}
+use Rattle.ckpt_policy.specs.declared.note.Note.{Note}
+use Rattle.ckpt_policy.specs.declared.place.Place.{Place}
+use Rattle.ckpt_policy.specs.declared.role.Role.{Role}
+use Rattle.ckpt_policy.specs.Notes.{counts_at, known}
+
+-- by which rule, of which number, for which client it chooses; and its counts by place
+pub record Account : Type 0 where
+  pub role : Role
+  pub k : ℕ
+  pub client : ℕ
+  pub counts : List (Place × Counts)
+
+-- the numbers that are allowed: a writer's queue is then never longer than what one receive takes
+abbrev pub IsNumber : ℕ → Type 0
+IsNumber k = (1 ≤ k) × (k ≤ 56)
+
+-- it knows the queues that the notes name, in order, and of each what they say
+abbrev pub StandsFor : Account → List Note → Type 0
+StandsFor account notes = account.counts ≡ map (λ place. (place, counts_at notes place)) (known notes)

@@ -1,0 +1,5 @@
+pub mod Counting
+pub mod Notes
+pub mod Due
+pub mod Ledger
+pub mod Picking

@@ -1,0 +1,13 @@
+//! Which queues a session is to checkpoint, by what it sent, got and checkpointed before.
+#![tactic(auto)]
+
+mod counts;
+mod ledger;
+mod note;
+mod place;
+mod rank;
+mod role;
+
+pub use ledger::Ledger;
+pub use note::Note;
+pub use role::Role;

@@ -69,32 +69,9 @@ pub next_shells : (later : List (List ℕ)) (e : Event) → IsNextOf later e →
 next_shells [] e is client opens = subst (λ (x : Event). Opens x client) is opens
 next_shells (text ∷ texts) e is client opens = of_shell text e is client opens
 
-<<<<<<< HEAD
 -- behind its opening
 pub shell_once : (client : ℕ) (later : List Event) → OpenNone later → OpenEachOnce (event.Open 1 client ∷ later)
 shell_once client later none = (λ other opens h. none other h, none_once later none)
-=======
-  pub of_shell : (e : Event) → IsShellLine text e → IsShells e
-  of_shell (event.Renew k) line = first_session (event.Renew k) k _ _ line refl line.in_range
-  of_shell (event.Insert k tree key payload) line = first_session (event.Insert k tree key payload) k _ _ line refl line.in_range.0
-  of_shell (event.Update k tree key payload) line = first_session (event.Update k tree key payload) k _ _ line refl line.in_range.0
-  of_shell (event.Delete k tree key) line = first_session (event.Delete k tree key) k _ _ line refl line.in_range.0
-  of_shell (event.Add k tree key amount) line = first_session (event.Add k tree key amount) k _ _ line refl line.in_range.0
-  of_shell (event.Commit k) line = first_session (event.Commit k) k _ _ line refl line.in_range
-  of_shell (event.Abort k) line = first_session (event.Abort k) k _ _ line refl line.in_range
-  of_shell (event.Read k tree key) line = first_session (event.Read k tree key) k _ _ line refl line.in_range.0
-  of_shell (event.Scan k tree low high) line = first_session (event.Scan k tree low high) k _ _ line refl line.in_range.0
-  of_shell (event.Page k tree page) line = first_session (event.Page k tree page) k _ _ line refl line.in_range.0
-  of_shell (event.Tree k tree) line = first_session (event.Tree k tree) k _ _ line refl line.in_range.0
-  of_shell (event.Close k) line = absurd (never (event.Close k) word.Close _ line refl refl)
-  of_shell (event.Run k) line = absurd (never (event.Run k) word.Run _ line refl refl)
-  of_shell (event.Open k client) line = absurd (never (event.Open k client) word.Open _ line refl refl)
-  of_shell (event.Step k wish) line = absurd (never (event.Step k wish) word.Step _ line refl refl)
-  of_shell (event.Crash k done) line = absurd (never (event.Crash k done) word.Crash _ line refl refl)
-  of_shell (event.Wait ticks) line = absurd (never (event.Wait ticks) word.Wait _ line refl refl)
-  of_shell (event.Report tree) line = absurd (never (event.Report tree) word.Report _ line refl refl)
-  of_shell event.Settle line = absurd (never event.Settle word.Settle _ line refl refl)
->>>>>>> 79cc0f4e913de05ce30d515117a8c2d821b91f13
 
 -- ---- events that are run whole
 

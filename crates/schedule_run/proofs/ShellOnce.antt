@@ -19,25 +19,8 @@ use Rattle.schedule_run.proofs.OnceLemmas.{OpenNone, events_more, opened_either,
 -- ---- a shell's line opens no client
 
 keyword_again : (keyword : Keyword) → keyword_of (keyword_text keyword) ≡ Some keyword
-keyword_again word.Open = refl
-keyword_again word.Close = refl
-keyword_again word.Renew = refl
-keyword_again word.Insert = refl
-keyword_again word.Update = refl
-keyword_again word.Delete = refl
-keyword_again word.Add = refl
-keyword_again word.Commit = refl
-keyword_again word.Abort = refl
-keyword_again word.Read = refl
-keyword_again word.Scan = refl
-keyword_again word.Page = refl
-keyword_again word.Tree = refl
-keyword_again word.Step = refl
-keyword_again word.Run = refl
-keyword_again word.Crash = refl
-keyword_again word.Wait = refl
-keyword_again word.Report = refl
 keyword_again word.Settle = refl
+keyword_again keyword = refl
 
 first_word : List (List ℕ) → List ℕ
 first_word [] = []

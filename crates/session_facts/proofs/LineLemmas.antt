@@ -128,25 +128,8 @@ still_line lines event r sessions still acts n = subst (λ z. ActsAs (sessions n
 
 -- a refusal changes nothing of how a session stands
 pub refused_own : (event : Event) (rule : Refusal) (s : Standing) → after_own event (reply.Refused rule) s ≡ s
-refused_own (event.Open session client) rule s = refl
-refused_own (event.Close session) rule s = refl
-refused_own (event.Renew session) rule s = refl
-refused_own (event.Insert session tree key payload) rule s = refl
-refused_own (event.Update session tree key payload) rule s = refl
-refused_own (event.Delete session tree key) rule s = refl
-refused_own (event.Add session tree key amount) rule s = refl
-refused_own (event.Commit session) rule s = refl
-refused_own (event.Abort session) rule s = refl
-refused_own (event.Read session tree key) rule s = refl
-refused_own (event.Scan session tree from to) rule s = refl
-refused_own (event.Page session tree page) rule s = refl
-refused_own (event.Tree session tree) rule s = refl
-refused_own (event.Step session wish) rule s = refl
-refused_own (event.Run session) rule s = refl
-refused_own (event.Crash session done) rule s = refl
-refused_own (event.Wait ticks) rule s = refl
-refused_own (event.Report tree) rule s = refl
 refused_own event.Settle rule s = refl
+refused_own event rule s = refl
 
 -- a call leaves one session so that it stands as before
 pub acts_set : (lines : List Line) (k : ℕ) (sessions : Sessions) (new : Acting) → AllAct lines sessions → ActsAs new (standing lines k) → AllAct lines (at k new sessions)

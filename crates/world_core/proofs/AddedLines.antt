@@ -23,7 +23,7 @@ use Rattle.world_core.specs.declared.asked.Request.{Request}
 use Rattle.world_core.specs.declared.asked.Request.TheVariants.{Begin, Note, Abort, Step, Run, Crash}
 use Rattle.world_core.specs.declared.asked.Asked.{Asked}
 use Rattle.world_core.specs.declared.asked.Asked.TheVariants.{Session, Wait, Report, Settle}
-use Rattle.world_core.specs.Asked.{bound_of, IsOpening, IsReading, IsScanning, IsPaging, IsFolding, IsInsert, IsUpdate, IsDelete, IsAdd, IsNoted, IsStep, OfSession, Asks}
+use Rattle.world_core.specs.Asked.{change_noted, tree_noted, bound_of, IsOpening, IsReading, IsScanning, IsPaging, IsFolding, IsMade, IsNoted, IsStep, OfSession, Asks}
 use Rattle.world_core.specs.Replying.{done_reply}
 use Rattle.world_core.specs.Sessions.{NotesIn, AbortsIn}
 use Rattle.world_core.specs.Handled.{NotesChange, DropsChanges, Does, Answers, Handled}
@@ -119,18 +119,6 @@ module _ (n : ℕ) (before after : Seen) (old new : World) (r : Reply) (lines : 
       let h = does k request (Begin (op.Open client)) is.1 done in
       adds_quietly lines (event.Open k client) r k first before after old new _ refl some h.0 h.1
       (λ acts. (opens k client r lines h.1.before h.1.after h.1.does.begun acts h.1.does.begins h.1.does.replies).0) w)
-  asked_adds (event.Insert k tree key payload) asked asks answers = by_request k (event.Insert k tree key payload) (IsNoted tree (IsInsert key payload)) asked asks answers
-      (λ request some is done. noted_adds lines (event.Insert k tree key payload) n k tree (Insert key payload) request before after old new r first (IsInsert key payload) refl some
-      (λ q z. refl) (λ c h. h.0) w is done)
-  asked_adds (event.Update k tree key payload) asked asks answers = by_request k (event.Update k tree key payload) (IsNoted tree (IsUpdate key payload)) asked asks answers
-      (λ request some is done. noted_adds lines (event.Update k tree key payload) n k tree (Update key payload) request before after old new r first (IsUpdate key payload) refl some
-      (λ q z. refl) (λ c h. h.0) w is done)
-  asked_adds (event.Delete k tree key) asked asks answers = by_request k (event.Delete k tree key) (IsNoted tree (IsDelete key)) asked asks answers
-      (λ request some is done. noted_adds lines (event.Delete k tree key) n k tree (Delete key) request before after old new r first (IsDelete key) refl some
-      (λ q z. refl) (λ c h. h.0) w is done)
-  asked_adds (event.Add k tree key amount) asked asks answers = by_request k (event.Add k tree key amount) (IsNoted tree (IsAdd key amount)) asked asks answers
-      (λ request some is done. noted_adds lines (event.Add k tree key amount) n k tree (Add key amount) request before after old new r first (IsAdd key amount) refl some
-      (λ q z. refl) (λ c h. h.0) w is done)
   asked_adds (event.Read k tree key) asked asks answers = by_request k (event.Read k tree key) (IsReading tree key) asked asks answers
       (λ request some is done.
       let h = does k request (Begin (op.Read tree key)) is.2 done in
@@ -186,6 +174,9 @@ module _ (n : ℕ) (before after : Seen) (old new : World) (r : Reply) (lines : 
       adds_report lines first tree r before after old new w (subst (λ z. Answers n z before after old new (Ok r)) asks answers)
   asked_adds event.Settle asked asks answers =
       adds_settle lines first n r before after old new at w (subst (λ z. Answers n z before after old new (Ok r)) asks answers)
+  asked_adds e asked asks answers = by_request (session_of e) e (IsNoted (tree_noted e) (IsMade (change_noted e))) asked asks answers
+      (λ request some is done. noted_adds lines e n (session_of e) (tree_noted e) (change_noted e) request before after old new r first (IsMade (change_noted e)) refl some
+      (λ q z. refl) (λ c h. h.0) w is done)
 
 -- a line that was handled
 pub handled_adds : (n : ℕ) (event : Event) (before after : Seen) (old new : World) (r : Reply) (lines : List Line) (first : CloudState) → length lines + 1 ≡ n

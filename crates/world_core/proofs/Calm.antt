@@ -58,7 +58,7 @@ use Rattle.world_core.specs.declared.asked.Request.{Request}
 use Rattle.world_core.specs.declared.asked.Request.TheVariants.{Begin, Note, Abort, Step, Run, Crash}
 use Rattle.world_core.specs.World.{World}
 use Rattle.world_core.specs.declared.world.WorldFault.{WorldFault}
-use Rattle.world_core.specs.Asked.{Asks, OfSession, IsOpening, IsReading, IsScanning, IsPaging, IsFolding, IsInsert, IsUpdate, IsDelete, IsAdd, IsNoted, IsStep, bound_of}
+use Rattle.world_core.specs.Asked.{change_noted, tree_noted, Asks, OfSession, IsOpening, IsReading, IsScanning, IsPaging, IsFolding, IsMade, IsNoted, IsStep, bound_of}
 use Rattle.world_core.specs.Calm.{StepIsCalm, work_at, DoesWell, BeginsWell, RunsWell, StepsWell, SettlesWell, RepliesWell, AnswersWell}
 use Rattle.world_core.specs.EachStep.{EachWent, EachMade, EachRun, EachSettlingOn, EachSettling, EachDone, EachAsked}
 use Rattle.world_core.specs.Explained.{StepExplains}
@@ -636,18 +636,6 @@ module _ (lines : List Line) (n : ℕ) (before after : Seen) (old new : World) (
   asked_well (event.Tree k tree) asked asks h calm explains sound well =
       request_well lines n k before after old new r t number told stands well u told_after (BeginsWell u (Folding tree)) (λ rule. tt) (IsFolding tree) asked asks h calm explains
       (λ request is does. let d = as_asked lines n k before after old new r t number told stands well u told_after request (Begin (op.Tree tree)) (ap (λ q. Ok q) is.1) does in begins_well lines n k before after old new r t number told stands well u told_after (op.Tree tree) is.0 d.0.0.seen d.0.1)
-  asked_well (event.Insert k tree key payload) asked asks h calm explains sound well =
-      request_well lines n k before after old new r t number told stands well u told_after (λ q. Unit {0}) (λ rule. tt) (IsNoted tree (IsInsert key payload)) asked asks h calm explains
-      (λ request is does. noted_well lines n k before after old new r t number told stands well u told_after tree (IsInsert key payload) request is does)
-  asked_well (event.Update k tree key payload) asked asks h calm explains sound well =
-      request_well lines n k before after old new r t number told stands well u told_after (λ q. Unit {0}) (λ rule. tt) (IsNoted tree (IsUpdate key payload)) asked asks h calm explains
-      (λ request is does. noted_well lines n k before after old new r t number told stands well u told_after tree (IsUpdate key payload) request is does)
-  asked_well (event.Delete k tree key) asked asks h calm explains sound well =
-      request_well lines n k before after old new r t number told stands well u told_after (λ q. Unit {0}) (λ rule. tt) (IsNoted tree (IsDelete key)) asked asks h calm explains
-      (λ request is does. noted_well lines n k before after old new r t number told stands well u told_after tree (IsDelete key) request is does)
-  asked_well (event.Add k tree key amount) asked asks h calm explains sound well =
-      request_well lines n k before after old new r t number told stands well u told_after (λ q. Unit {0}) (λ rule. tt) (IsNoted tree (IsAdd key amount)) asked asks h calm explains
-      (λ request is does. noted_well lines n k before after old new r t number told stands well u told_after tree (IsAdd key amount) request is does)
   asked_well (event.Abort k) asked asks h calm explains sound well =
       request_well lines n k before after old new r t number told stands well u told_after (λ q. Unit {0}) (λ rule. tt) (λ request. request ≡ Ok Abort) asked asks h calm explains
       (λ request is does. (
@@ -688,6 +676,10 @@ module _ (lines : List Line) (n : ℕ) (before after : Seen) (old new : World) (
   asked_well event.Settle asked asks h calm explains sound well =
       let d = subst AnswersCalmly asks (h, calm, explains) in
       settles_well lines n before after old new r t u told told_after sound d.0 d.1 d.2
+  asked_well e asked asks h calm explains sound well =
+      request_well lines n (session_of e) before after old new r t number told stands well u told_after (λ q. Unit {0}) (λ rule. tt)
+      (IsNoted (tree_noted e) (IsMade (change_noted e))) asked asks h calm explains
+      (λ request is does. noted_well lines n (session_of e) before after old new r t number told stands well u told_after (tree_noted e) (IsMade (change_noted e)) request is does)
 
 pub well_after : (n : ℕ) (e : Event) (before after : Seen) (old new : World) (result : Result Reply WorldFault) → AnswersWell n e before after old new result
 well_after n e before after old new (Ok r) = λ lines t u number told told_after stands handled calm well.

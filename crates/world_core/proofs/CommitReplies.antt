@@ -33,7 +33,7 @@ use Rattle.world_core.specs.declared.asked.Asked.TheVariants.{Session, Wait, Rep
 use Rattle.world_core.specs.declared.asked.Request.{Request}
 use Rattle.world_core.specs.declared.asked.Request.TheVariants.{Begin, Note, Abort, Step, Run, Crash}
 use Rattle.world_core.specs.declared.world.WorldFault.{WorldFault}
-use Rattle.world_core.specs.Asked.{Asks, OfSession, IsOpening, IsReading, IsScanning, IsPaging, IsFolding, IsInsert, IsUpdate, IsDelete, IsAdd, IsNoted, IsStep}
+use Rattle.world_core.specs.Asked.{change_noted, tree_noted, Asks, OfSession, IsOpening, IsReading, IsScanning, IsPaging, IsFolding, IsMade, IsNoted, IsStep}
 use Rattle.world_core.specs.Handled.{Declines, BeginsOp, StepsLooked, MakesStep, Runs, Settles, SettlesOn, Crashes, Reports, Does, Answers}
 use Rattle.world_core.specs.Replying.{declined, done_reply, unsettled_reply, value_reply, RepliesTo, RepliesSettled, RepliesBegun, RepliesTurn}
 use Rattle.world_core.specs.Sessions.{Changes}
@@ -263,10 +263,6 @@ module _ (Holds : Posture → Work → CommitAnswer → Type 0) (nothing : SaysN
 
   pub asked_keeps : (e : Event) → EndsSo Holds lines n e after new → (asked : Asked) → Asks e asked → Answers n asked before after old new (Ok r) → KeptFor e
   asked_keeps (event.Open k client) ends asked asks answers = of_session (event.Open k client) ends (IsOpening client) asked asks answers
-  asked_keeps (event.Insert k tree key payload) ends asked asks answers = of_session (event.Insert k tree key payload) ends (IsNoted tree (IsInsert key payload)) asked asks answers
-  asked_keeps (event.Update k tree key payload) ends asked asks answers = of_session (event.Update k tree key payload) ends (IsNoted tree (IsUpdate key payload)) asked asks answers
-  asked_keeps (event.Delete k tree key) ends asked asks answers = of_session (event.Delete k tree key) ends (IsNoted tree (IsDelete key)) asked asks answers
-  asked_keeps (event.Add k tree key amount) ends asked asks answers = of_session (event.Add k tree key amount) ends (IsNoted tree (IsAdd key amount)) asked asks answers
   asked_keeps (event.Close k) ends asked asks answers = of_session (event.Close k) ends (λ request. request ≡ Ok (Begin op.Close)) asked asks answers
   asked_keeps (event.Renew k) ends asked asks answers = of_session (event.Renew k) ends (λ request. request ≡ Ok (Begin op.Renew)) asked asks answers
   asked_keeps (event.Commit k) ends asked asks answers = of_session (event.Commit k) ends (λ request. request ≡ Ok (Begin op.Commit)) asked asks answers
@@ -282,3 +278,4 @@ module _ (Holds : Posture → Work → CommitAnswer → Type 0) (nothing : SaysN
   asked_keeps (event.Report tree) ends asked asks answers =
       report_keeps Holds _ _ tree before after old new r (subst (λ z. Answers n z before after old new (Ok r)) asks answers)
   asked_keeps event.Settle ends asked asks answers = settle_keeps Holds _ _ n before after old new r (subst (λ z. Answers n z before after old new (Ok r)) asks answers)
+  asked_keeps e ends asked asks answers = of_session e ends (IsNoted (tree_noted e) (IsMade (change_noted e))) asked asks answers

@@ -347,25 +347,10 @@ begins_own lines k old t all =
 
 -- the session that a line names is the one that is asked
 own_session : (e : Event) (k : ℕ) (request : Result Request Refused) → Asks e (Session k request) → session_of e ≡ k
-own_session (event.Open session client) k request asks = sym asks.0
-own_session (event.Insert session tree key payload) k request asks = sym asks.0
-own_session (event.Update session tree key payload) k request asks = sym asks.0
-own_session (event.Delete session tree key) k request asks = sym asks.0
-own_session (event.Add session tree key amount) k request asks = sym asks.0
-own_session (event.Close session) k request asks = sym asks.0
-own_session (event.Renew session) k request asks = sym asks.0
-own_session (event.Commit session) k request asks = sym asks.0
-own_session (event.Abort session) k request asks = sym asks.0
-own_session (event.Read session tree key) k request asks = sym asks.0
-own_session (event.Scan session tree from to) k request asks = sym asks.0
-own_session (event.Page session tree page) k request asks = sym asks.0
-own_session (event.Tree session tree) k request asks = sym asks.0
-own_session (event.Run session) k request asks = sym asks.0
-own_session (event.Step session wish) k request asks = sym asks.0
-own_session (event.Crash session done) k request asks = sym asks.0
 own_session (event.Wait ticks) k request asks = absurd (cc (asks))
 own_session (event.Report tree) k request asks = absurd (cc (asks))
 own_session event.Settle k request asks = absurd (cc (asks))
+own_session e k request asks = sym asks.0
 
 -- ---- a line behind lines
 

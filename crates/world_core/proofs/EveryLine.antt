@@ -19,7 +19,7 @@ use Rattle.world_core.specs.declared.asked.Request.{Request}
 use Rattle.world_core.specs.declared.asked.Request.TheVariants.{Begin, Note, Abort, Step, Run, Crash}
 use Rattle.world_core.specs.declared.asked.Asked.{Asked}
 use Rattle.world_core.specs.declared.asked.Asked.TheVariants.{Session, Wait, Report, Settle}
-use Rattle.world_core.specs.Asked.{bound_of, IsOpening, IsReading, IsScanning, IsPaging, IsFolding, IsInsert, IsUpdate, IsDelete, IsAdd, IsNoted, IsStep, OfSession, Asks}
+use Rattle.world_core.specs.Asked.{change_noted, tree_noted, bound_of, IsOpening, IsReading, IsScanning, IsPaging, IsFolding, IsMade, IsNoted, IsStep, OfSession, Asks}
 use Rattle.world_core.specs.Handled.{MakesNoCall, Does, Answers, Handled}
 use Rattle.world_core.proofs.Behind.{LinesStand, LineLeaves}
 use Rattle.world_core.proofs.StandsLemmas.{Ready, declines, runs, makes_step, crashes, settles, waits, reports}
@@ -55,18 +55,6 @@ request_stands n k event Is Settle before after old new r lines t belongs answer
 
 -- ---- a change is noted
 
-pub insert_is : (key payload : List ℕ) → IsKey key → IsPayload payload → IsChange (Insert key payload)
-insert_is key payload k p = record { key = k; payload = p; amount = lit< tt }
-
-pub update_is : (key payload : List ℕ) → IsKey key → IsPayload payload → IsChange (Update key payload)
-update_is key payload k p = record { key = k; payload = p; amount = lit< tt }
-
-pub delete_is : (key : List ℕ) → IsKey key → IsChange (Delete key)
-delete_is key k = record { key = k; payload = omega arith; amount = lit< tt }
-
-pub add_is : (key : List ℕ) (amount : ℕ) → IsKey key → amount < 2 ^ 64 → IsChange (Add key amount)
-add_is key amount k fits = record { key = k; payload = omega arith; amount = fits }
-
 noted_line : (lines : List Line) (event : Event) (n k tree : ℕ) (change : Change) (request : Request) (before after : Seen) (old new : World) (r : Reply) (t : CloudState) (Is : Result Change Refused → Type 0)
     → session_of event ≡ k → ((q : Reply) (s : Standing) → after_own event q s ≡ notes_own tree change q s) → ((c : Change) → Is (Ok c) → (c ≡ change) × IsChange change)
     → Served lines n k t before old → IsNoted tree Is (Ok request) → Does n k request before after old new (Ok r) → LineLeaves (lines ++ line_of event r ∷ []) new after r
@@ -97,22 +85,6 @@ asked_stands n (event.Open k client) asked before after old new r lines t asks a
     (λ request s is done.
     let h = does_own n k request (Begin (op.Open client)) before after old new r is.1 done in
     opening_begun lines k client r before after old new t is.0 (ready_of lines (event.Open k client) n k before after old new t refl s h.0) h.1)
-asked_stands n (event.Insert k tree key payload) asked before after old new r lines t asks answers at told stands =
-    request_stands n k (event.Insert k tree key payload) (IsNoted tree (IsInsert key payload)) asked before after old new r lines t asks answers at told stands
-    (λ request s is done. noted_line lines (event.Insert k tree key payload) n k tree (Insert key payload) request before after old new r t (IsInsert key payload) refl (λ q z. refl)
-    (λ c h. (h.0, insert_is key payload h.1 h.2)) s is done)
-asked_stands n (event.Update k tree key payload) asked before after old new r lines t asks answers at told stands =
-    request_stands n k (event.Update k tree key payload) (IsNoted tree (IsUpdate key payload)) asked before after old new r lines t asks answers at told stands
-    (λ request s is done. noted_line lines (event.Update k tree key payload) n k tree (Update key payload) request before after old new r t (IsUpdate key payload) refl (λ q z. refl)
-    (λ c h. (h.0, update_is key payload h.1 h.2)) s is done)
-asked_stands n (event.Delete k tree key) asked before after old new r lines t asks answers at told stands =
-    request_stands n k (event.Delete k tree key) (IsNoted tree (IsDelete key)) asked before after old new r lines t asks answers at told stands
-    (λ request s is done. noted_line lines (event.Delete k tree key) n k tree (Delete key) request before after old new r t (IsDelete key) refl (λ q z. refl)
-    (λ c h. (h.0, delete_is key h.1)) s is done)
-asked_stands n (event.Add k tree key amount) asked before after old new r lines t asks answers at told stands =
-    request_stands n k (event.Add k tree key amount) (IsNoted tree (IsAdd key amount)) asked before after old new r lines t asks answers at told stands
-    (λ request s is done. noted_line lines (event.Add k tree key amount) n k tree (Add key amount) request before after old new r t (IsAdd key amount) refl (λ q z. refl)
-    (λ c h. (h.0, add_is key amount h.1 h.2)) s is done)
 asked_stands n (event.Read k tree key) asked before after old new r lines t asks answers at told stands =
     request_stands n k (event.Read k tree key) (IsReading tree key) asked before after old new r lines t asks answers at told stands
     (λ request s is done.
@@ -169,6 +141,10 @@ asked_stands n (event.Report tree) asked before after old new r lines t asks ans
     reports lines tree r before after old new t told stands (subst (λ z. Answers n z before after old new (Ok r)) asks answers)
 asked_stands n event.Settle asked before after old new r lines t asks answers at told stands =
     settles lines n r before after old new t at told stands (subst (λ z. Answers n z before after old new (Ok r)) asks answers)
+asked_stands n e asked before after old new r lines t asks answers at told stands =
+    request_stands n (session_of e) e (IsNoted (tree_noted e) (IsMade (change_noted e))) asked before after old new r lines t asks answers at told stands
+    (λ request s is done. noted_line lines e n (session_of e) (tree_noted e) (change_noted e) request before after old new r t (IsMade (change_noted e)) refl (λ q z. refl)
+    (λ c h. h) s is done)
 
 pub line_leaves : (n : ℕ) (event : Event) (before after : Seen) (old new : World) (r : Reply) → Handled n event before after old new (Ok r)
     → (lines : List Line) (t : CloudState) → length lines + 1 ≡ n → before.state ≡ Some t → LinesStand lines old t → LineLeaves (lines ++ line_of event r ∷ []) new after r

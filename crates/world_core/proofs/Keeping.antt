@@ -32,9 +32,9 @@ use Rattle.session_facts.specs.Commits.Committing.{MayCommit}
 use Rattle.session_facts.specs.Facts.{session_at, SettlerRests}
 use Rattle.session_facts.specs.Sessions.Sessions.{Sessions, SessionsStand, Goes as SessionGoes, IsRightOp}
 use Rattle.txn_buffer.specs.Noted.{Noted, noted_in}
-use Rattle.world_core.proofs.EveryLine.{insert_is, update_is, delete_is, add_is}
+use Rattle.replay_meaning.specs.Standing.{session_of}
 use Rattle.world_core.proofs.StandsLemmas.{changed_at, changed_was, changed_rests, went_rests, has_at, no_memory}
-use Rattle.world_core.specs.Asked.{bound_of, IsOpening, IsReading, IsScanning, IsPaging, IsFolding, IsInsert, IsUpdate, IsDelete, IsAdd, IsNoted, IsStep, OfSession, Asks}
+use Rattle.world_core.specs.Asked.{change_noted, tree_noted, bound_of, IsOpening, IsReading, IsScanning, IsPaging, IsFolding, IsMade, IsNoted, IsStep, OfSession, Asks}
 use Rattle.world_core.specs.Handled.{Declines, Has, BeginsOp, NotesChange, DropsChanges, MakesNoCall, StepsLooked, MakesStep, Went, start, further, Runs, SettlesOn, Settles, Dies, Crashes, Does, WaitsFor, WaitsTooLong, Reports, Answers, Handled}
 use Rattle.world_core.specs.Sessions.{Changes, NotesIn, AbortsIn}
 use Rattle.world_core.specs.Stands.{KeepsABook}
@@ -108,16 +108,6 @@ noted_right tree Is right (Err why) is = tt
 
 asks_right : (e : Event) (asked : Asked) → Asks e asked → AsksRight asked
 asks_right (event.Open k client) asked asks = of_session k (IsOpening client) (opening_right client) asked asks
-asks_right (event.Insert k tree key payload) asked asks =
-    of_session k (IsNoted tree (IsInsert key payload)) (noted_right tree (IsInsert key payload)
-    (λ c is. subst IsChange (sym is.0) (insert_is key payload is.1 is.2))) asked asks
-asks_right (event.Update k tree key payload) asked asks =
-    of_session k (IsNoted tree (IsUpdate key payload)) (noted_right tree (IsUpdate key payload)
-    (λ c is. subst IsChange (sym is.0) (update_is key payload is.1 is.2))) asked asks
-asks_right (event.Delete k tree key) asked asks =
-    of_session k (IsNoted tree (IsDelete key)) (noted_right tree (IsDelete key) (λ c is. subst IsChange (sym is.0) (delete_is key is.1))) asked asks
-asks_right (event.Add k tree key amount) asked asks =
-    of_session k (IsNoted tree (IsAdd key amount)) (noted_right tree (IsAdd key amount) (λ c is. subst IsChange (sym is.0) (add_is key amount is.1 is.2))) asked asks
 asks_right (event.Close k) asked asks = of_session k (λ request. request ≡ Ok (Begin op.Close)) (same_right (Begin op.Close) tt) asked asks
 asks_right (event.Renew k) asked asks = of_session k (λ request. request ≡ Ok (Begin op.Renew)) (same_right (Begin op.Renew) tt) asked asks
 asks_right (event.Commit k) asked asks = of_session k (λ request. request ≡ Ok (Begin op.Commit)) (same_right (Begin op.Commit) tt) asked asks
@@ -132,6 +122,8 @@ asks_right (event.Crash k done) asked asks = of_session k (λ request. request �
 asks_right (event.Wait ticks) asked asks = subst AsksRight (sym asks) tt
 asks_right (event.Report tree) asked asks = subst AsksRight (sym asks) tt
 asks_right event.Settle asked asks = subst AsksRight (sym asks) tt
+asks_right e asked asks =
+    of_session (session_of e) (IsNoted (tree_noted e) (IsMade (change_noted e))) (noted_right (tree_noted e) (IsMade (change_noted e)) (λ c is. subst IsChange (sym is.0) is.1)) asked asks
 
 -- ---- a world and a cloud on a book
 

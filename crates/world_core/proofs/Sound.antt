@@ -52,7 +52,7 @@ use Rattle.world_core.specs.declared.asked.Request.{Request}
 use Rattle.world_core.specs.declared.asked.Request.TheVariants.{Begin, Note, Abort, Step, Run, Crash}
 use Rattle.world_core.specs.World.{World}
 use Rattle.world_core.specs.declared.world.WorldFault.{WorldFault}
-use Rattle.world_core.specs.Asked.{Asks, OfSession, IsOpening, IsReading, IsScanning, IsPaging, IsFolding, IsInsert, IsUpdate, IsDelete, IsAdd, IsNoted, IsStep, bound_of}
+use Rattle.world_core.specs.Asked.{change_noted, tree_noted, Asks, OfSession, IsOpening, IsReading, IsScanning, IsPaging, IsFolding, IsMade, IsNoted, IsStep, bound_of}
 use Rattle.world_core.specs.Handled.{Declines, BeginsOp, MakesNoCall, StepsLooked, MakesStep, Runs, SettlesOn, Settles, Crashes, Reports, Does, Answers, Handled}
 use Rattle.world_core.specs.Replying.{declined, done_reply, unsettled_reply, value_reply, RepliesTo, RepliesSettled, RepliesBegun, RepliesTurn}
 use Rattle.world_core.specs.Sessions.{Changes}
@@ -333,18 +333,6 @@ asked_sound : (n : ℕ) (event : Event) (asked : Asked) (before after : Seen) (o
 asked_sound n (event.Open k client) asked before after old new r lines t asks answers at told stands =
     request_sound lines n k before after old new r t at told stands (IsOpening client) asked asks answers
     (λ request is. same_right lines n k before after old new r t at told stands request (Begin (op.Open client)) (ap (λ q. Ok q) is.1) is.0)
-asked_sound n (event.Insert k tree key payload) asked before after old new r lines t asks answers at told stands =
-    request_sound lines n k before after old new r t at told stands (IsNoted tree (IsInsert key payload)) asked asks answers
-    (noted_right lines n k before after old new r t at told stands tree (IsInsert key payload))
-asked_sound n (event.Update k tree key payload) asked before after old new r lines t asks answers at told stands =
-    request_sound lines n k before after old new r t at told stands (IsNoted tree (IsUpdate key payload)) asked asks answers
-    (noted_right lines n k before after old new r t at told stands tree (IsUpdate key payload))
-asked_sound n (event.Delete k tree key) asked before after old new r lines t asks answers at told stands =
-    request_sound lines n k before after old new r t at told stands (IsNoted tree (IsDelete key)) asked asks answers
-    (noted_right lines n k before after old new r t at told stands tree (IsDelete key))
-asked_sound n (event.Add k tree key amount) asked before after old new r lines t asks answers at told stands =
-    request_sound lines n k before after old new r t at told stands (IsNoted tree (IsAdd key amount)) asked asks answers
-    (noted_right lines n k before after old new r t at told stands tree (IsAdd key amount))
 asked_sound n (event.Read k tree key) asked before after old new r lines t asks answers at told stands =
     request_sound lines n k before after old new r t at told stands (IsReading tree key) asked asks answers
     (λ request is. same_right lines n k before after old new r t at told stands request (Begin (op.Read tree key)) (ap (λ q. Ok q) is.2) is.0)
@@ -387,6 +375,9 @@ asked_sound n (event.Report tree) asked before after old new r lines t asks answ
     report_sound lines tree r before after old new t told stands (subst (λ z. Answers n z before after old new (Ok r)) asks answers)
 asked_sound n event.Settle asked before after old new r lines t asks answers at told stands =
     settle_sound lines n before after old new r t at told stands (subst (λ z. Answers n z before after old new (Ok r)) asks answers)
+asked_sound n e asked before after old new r lines t asks answers at told stands =
+    request_sound lines n (session_of e) before after old new r t at told stands (IsNoted (tree_noted e) (IsMade (change_noted e))) asked asks answers
+    (noted_right lines n (session_of e) before after old new r t at told stands (tree_noted e) (IsMade (change_noted e)))
 
 pub sound_after : (n : ℕ) (event : Event) (before after : Seen) (old new : World) (result : Result Reply WorldFault)
     → Handled n event before after old new result → AnswersSoundly n event before after old new result

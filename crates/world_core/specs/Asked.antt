@@ -1,7 +1,8 @@
 -- What a line asks, and of which session.
-use Rattle.std.specs.Prelude.{ℕ, ◌≡◌, ◌≤◌, ◌<◌, ◌^◌, List, [], ◌∷◌, length, ◌⊎◌, Option, Some, None, Result, Ok, Err}
+use Rattle.std.specs.Prelude.{ℕ, ◌≡◌, ◌≤◌, ◌<◌, List, [], ◌∷◌, length, ◌⊎◌, Option, Some, None, Result, Ok, Err}
 use Rattle.db_base.specs.Ids.{IsClient, IsTree, IsPage}
-use Rattle.db_base.specs.Key.{IsKey, IsPayload}
+use Rattle.db_base.specs.Key.{IsKey}
+use Rattle.db_base.specs.Change.{IsChange}
 use Rattle.db_base.specs.declared.change.Change.{Change}
 use Rattle.db_base.specs.declared.change.Change.TheVariants.{Insert, Update, Delete, Add}
 use Rattle.db_base.specs.declared.refusal.Refusal.{Refusal}
@@ -11,6 +12,7 @@ use Rattle.db_base.specs.declared.refusal.Refused.TheVariants as refused
 use Rattle.event_text.specs.declared.event.Event.{Event}
 use Rattle.event_text.specs.declared.event.Event.TheVariants as event
 use Rattle.client_work.specs.declared.op.Op.TheVariants as op
+use Rattle.replay_meaning.specs.Standing.{session_of}
 use Rattle.world_core.specs.declared.asked.Request.{Request}
 use Rattle.world_core.specs.declared.asked.Request.TheVariants.{Begin, Note, Abort, Step, Run, Crash}
 use Rattle.world_core.specs.declared.asked.Asked.{Asked}
@@ -75,27 +77,34 @@ RecordRefused key payload rule.LongKey = 64 < length key
 RecordRefused key payload rule.LongPayload = IsKey key × (1024 < length payload)
 RecordRefused key payload r = ⊥
 
--- the insert of a key and a payload, or the rule that these break
-abbrev pub IsInsert : List ℕ → List ℕ → Result Change Refused → Type 0
-IsInsert key payload (Ok change) = (change ≡ Insert key payload) × IsKey key × IsPayload payload
-IsInsert key payload (Err (refused.Rule r)) = RecordRefused key payload r
-IsInsert key payload (Err refused.Memory) = Unit {0}
+-- the rule that refuses the parts of a change, where it does
+abbrev pub PartsRefused : Change → Refusal → Type 0
+PartsRefused (Insert key payload) r = RecordRefused key payload r
+PartsRefused (Update key payload) r = RecordRefused key payload r
+PartsRefused (Delete key) r = KeyRefused key r
+PartsRefused (Add key amount) r = KeyRefused key r
 
--- the update of a key by a payload, or the rule that these break
-abbrev pub IsUpdate : List ℕ → List ℕ → Result Change Refused → Type 0
-IsUpdate key payload (Ok change) = (change ≡ Update key payload) × IsKey key × IsPayload payload
-IsUpdate key payload (Err (refused.Rule r)) = RecordRefused key payload r
-IsUpdate key payload (Err refused.Memory) = Unit {0}
+-- the change of these parts, or the rule that they break, or there is no memory for a copy of them
+abbrev pub IsMade : Change → Result Change Refused → Type 0
+IsMade change (Ok made) = (made ≡ change) × IsChange change
+IsMade change (Err (refused.Rule r)) = PartsRefused change r
+IsMade change (Err refused.Memory) = Unit {0}
 
--- the deletion of a key, or the rule that it breaks
-abbrev pub IsDelete : List ℕ → Result Change Refused → Type 0
-IsDelete key (Ok change) = (change ≡ Delete key) × IsKey key
-IsDelete key (Err why) = IsNoKey key why
+-- the tree of a line that notes a change
+abbrev pub tree_noted : Event → ℕ
+tree_noted (event.Insert session tree key payload) = tree
+tree_noted (event.Update session tree key payload) = tree
+tree_noted (event.Delete session tree key) = tree
+tree_noted (event.Add session tree key amount) = tree
+tree_noted e = 0
 
--- the addition to a key's payload, or the rule that the key breaks
-abbrev pub IsAdd : List ℕ → ℕ → Result Change Refused → Type 0
-IsAdd key amount (Ok change) = (change ≡ Add key amount) × IsKey key × (amount < 2 ^ 64)
-IsAdd key amount (Err why) = IsNoKey key why
+-- the change that such a line notes
+abbrev pub change_noted : Event → Change
+change_noted (event.Insert session tree key payload) = Insert key payload
+change_noted (event.Update session tree key payload) = Update key payload
+change_noted (event.Delete session tree key) = Delete key
+change_noted (event.Add session tree key amount) = Add key amount
+change_noted e = Delete []
 
 -- such a change of a tree is to be noted; it is refused by the number of the tree first
 abbrev pub IsNoted : ℕ → (Result Change Refused → Type 0) → Result Request Refused → Type 0
@@ -115,13 +124,9 @@ OfSession number Is (Wait ticks) = ⊥
 OfSession number Is (Report tree) = ⊥
 OfSession number Is Settle = ⊥
 
--- what a line asks
+-- what a line asks; the last of these are the lines that note a change
 abbrev pub Asks : Event → Asked → Type 0
 Asks (event.Open session client) asked = OfSession session (IsOpening client) asked
-Asks (event.Insert session tree key payload) asked = OfSession session (IsNoted tree (IsInsert key payload)) asked
-Asks (event.Update session tree key payload) asked = OfSession session (IsNoted tree (IsUpdate key payload)) asked
-Asks (event.Delete session tree key) asked = OfSession session (IsNoted tree (IsDelete key)) asked
-Asks (event.Add session tree key amount) asked = OfSession session (IsNoted tree (IsAdd key amount)) asked
 Asks (event.Close session) asked = OfSession session (λ request. request ≡ Ok (Begin op.Close)) asked
 Asks (event.Renew session) asked = OfSession session (λ request. request ≡ Ok (Begin op.Renew)) asked
 Asks (event.Commit session) asked = OfSession session (λ request. request ≡ Ok (Begin op.Commit)) asked
@@ -136,3 +141,4 @@ Asks (event.Crash session done) asked = OfSession session (λ request. request �
 Asks (event.Wait ticks) asked = asked ≡ Wait ticks
 Asks (event.Report tree) asked = asked ≡ Report tree
 Asks event.Settle asked = asked ≡ Settle
+Asks e asked = OfSession (session_of e) (IsNoted (tree_noted e) (IsMade (change_noted e))) asked

@@ -1,7 +1,8 @@
 //! What a line asks, and of which session.
 
 ghost use Rattle.std.specs.Prelude.{◌≡◌};
-ghost use Rattle.world_core.specs.Asked.{Asks, IsAdd, IsBound, IsDelete, IsInsert, IsUpdate, IsOpening, IsReading, IsScanning, IsPaging, IsFolding, IsNoted, IsStep};
+ghost use Rattle.world_core.specs.Asked.{Asks, IsBound, IsMade, IsOpening, IsReading, IsScanning, IsPaging, IsFolding, IsNoted, IsStep};
+ghost use Rattle.db_base.specs.declared.change.Change.TheVariants.{Insert, Update, Delete, Add};
 
 use client_work::op::Op;
 use db_base::blob::Blob;
@@ -198,7 +199,7 @@ fn step_of(alloc: Global, wish: &Wish) -> Result<Request, Refused>
 
 /// The insert of a key and payload into the tree of this number.
 fn insert_noted(alloc: Global, tree: u64, key: &Blob, payload: &Blob) -> Result<Request, Refused>
-    ensures { IsNoted tree (IsInsert key.now payload.now) result }
+    ensures { IsNoted tree (IsMade (Insert key.now payload.now)) result }
 {
     let tree = match TreeId::new(tree) {
         Ok(tree) => tree,
@@ -212,7 +213,7 @@ fn insert_noted(alloc: Global, tree: u64, key: &Blob, payload: &Blob) -> Result<
 
 /// The update of a key by a payload in the tree of this number.
 fn update_noted(alloc: Global, tree: u64, key: &Blob, payload: &Blob) -> Result<Request, Refused>
-    ensures { IsNoted tree (IsUpdate key.now payload.now) result }
+    ensures { IsNoted tree (IsMade (Update key.now payload.now)) result }
 {
     let tree = match TreeId::new(tree) {
         Ok(tree) => tree,
@@ -226,7 +227,7 @@ fn update_noted(alloc: Global, tree: u64, key: &Blob, payload: &Blob) -> Result<
 
 /// The deletion of a key in the tree of this number.
 fn delete_noted(alloc: Global, tree: u64, key: &Blob) -> Result<Request, Refused>
-    ensures { IsNoted tree (IsDelete key.now) result }
+    ensures { IsNoted tree (IsMade (Delete key.now)) result }
 {
     let tree = match TreeId::new(tree) {
         Ok(tree) => tree,
@@ -240,7 +241,7 @@ fn delete_noted(alloc: Global, tree: u64, key: &Blob) -> Result<Request, Refused
 
 /// The addition to a key's payload in the tree of this number.
 fn add_noted(alloc: Global, tree: u64, key: &Blob, amount: u64) -> Result<Request, Refused>
-    ensures { IsNoted tree (IsAdd key.now amount) result }
+    ensures { IsNoted tree (IsMade (Add key.now amount)) result }
 {
     let tree = match TreeId::new(tree) {
         Ok(tree) => tree,
@@ -254,7 +255,7 @@ fn add_noted(alloc: Global, tree: u64, key: &Blob, amount: u64) -> Result<Reques
 
 /// The insert of a key and payload, where they are ones.
 fn insert_of(alloc: Global, key: &Blob, payload: &Blob) -> Result<Change, Refused>
-    ensures { IsInsert key.now payload.now result }
+    ensures { IsMade (Insert key.now payload.now) result }
 {
     let key = Key::new(alloc, key.as_slice())?;
     let payload = Payload::new(alloc, payload.as_slice())?;
@@ -263,7 +264,7 @@ fn insert_of(alloc: Global, key: &Blob, payload: &Blob) -> Result<Change, Refuse
 
 /// The update of a key by a payload, where they are ones.
 fn update_of(alloc: Global, key: &Blob, payload: &Blob) -> Result<Change, Refused>
-    ensures { IsUpdate key.now payload.now result }
+    ensures { IsMade (Update key.now payload.now) result }
 {
     let key = Key::new(alloc, key.as_slice())?;
     let payload = Payload::new(alloc, payload.as_slice())?;
@@ -272,7 +273,7 @@ fn update_of(alloc: Global, key: &Blob, payload: &Blob) -> Result<Change, Refuse
 
 /// The deletion of a key, where it is one.
 fn delete_of(alloc: Global, key: &Blob) -> Result<Change, Refused>
-    ensures { IsDelete key.now result }
+    ensures { IsMade (Delete key.now) result }
 {
     let key = Key::new(alloc, key.as_slice())?;
     Ok(Change::Delete { key })
@@ -280,7 +281,7 @@ fn delete_of(alloc: Global, key: &Blob) -> Result<Change, Refused>
 
 /// The addition to the payload of a key, where it is one.
 fn add_of(alloc: Global, key: &Blob, amount: u64) -> Result<Change, Refused>
-    ensures { IsAdd key.now amount result }
+    ensures { IsMade (Add key.now amount) result }
 {
     let key = Key::new(alloc, key.as_slice())?;
     Ok(Change::Add { key, amount })

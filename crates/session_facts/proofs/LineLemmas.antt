@@ -129,7 +129,7 @@ still_line lines event r sessions still acts n = subst (λ z. ActsAs (sessions n
 -- a refusal changes nothing of how a session stands
 pub refused_own : (event : Event) (rule : Refusal) (s : Standing) → after_own event (reply.Refused rule) s ≡ s
 refused_own event.Settle rule s = refl
-refused_own event rule s = refl
+refused_own e rule s = refl
 
 -- a call leaves one session so that it stands as before
 pub acts_set : (lines : List Line) (k : ℕ) (sessions : Sessions) (new : Acting) → AllAct lines sessions → ActsAs new (standing lines k) → AllAct lines (at k new sessions)

@@ -5,6 +5,7 @@ use cloud_trait::call::Call;
 use cloud_trait::turn::Turn;
 use db_base::ids::PageId;
 use db_base::trouble::Trouble;
+use db_base::value::Value;
 use reply_text::write::trouble_text;
 use std::alloc::Global;
 use std::test::Fail;

@@ -1,14 +1,13 @@
 //! What the cloud answers: mostly what fits, and at its rate a lie or a fault.
 
-use crate::objects::{HEADS, LIES};
-use crate::witness::Witness;
+use crate::objects::{HEADS, LEAF_1, LEAF_2, LEAF_3, LEAF_4, LIES, NODE_7, NODE_8, ROOT};
 use cloud_trait::message::Message;
 use db_base::blob::Blob;
 use db_base::ids::MsgId;
 use db_base::names::{ObjName, QueueName};
+use db_base::trouble::Trouble;
 use sched_gen::draws::Draws;
 use std::alloc::{AllocError, Global};
-use tree_bytes::{LEAF_1, LEAF_2, LEAF_3, LEAF_4, NODE_7, NODE_8, ROOT};
 
 /// How a call fares.
 #[derive(Clone, Copy, PartialEq, Eq)]
@@ -25,14 +24,32 @@ pub(crate) enum Fate {
     Starves,
 }
 
+/// The causes that the answers since the begin of a machine showed.
+#[derive(Clone, Copy)]
+struct Causes {
+    failed: bool,
+    late: bool,
+    held: bool,
+    starved: bool,
+    told: bool,
+}
+
+/// No cause.
+const NONE: Causes = Causes {
+    failed: false,
+    late: false,
+    held: false,
+    starved: false,
+    told: false,
+};
+
 /// The generator with what it answered.
 #[derive(Drop)]
 pub(crate) struct Liar {
     alloc: Global,
     draws: Draws,
     rate: u64,
-    /// What it answered.
-    pub(crate) witness: Witness,
+    causes: Causes,
     /// The leases that were given out and did not come back.
     pub(crate) owed: u64,
 }
@@ -87,8 +104,27 @@ impl Liar {
                 2 => 64,
                 _ => 1024,
             },
-            witness: Witness::new(alloc),
+            causes: NONE,
             owed: 0,
+        }
+    }
+
+    /// Begins anew with the causes. What objects and messages told stays, since caches and heads keep it.
+    pub(crate) fn forget(&mut self) {
+        self.causes = Causes {
+            told: self.causes.told,
+            ..NONE
+        };
+    }
+
+    /// Whether an answer showed what a machine stopped for.
+    pub(crate) fn shows(&self, trouble: &Trouble) -> bool {
+        match trouble {
+            Trouble::Failed => self.causes.failed,
+            Trouble::Late { end: _, now: _ } => self.causes.late,
+            Trouble::Busy { lock: _, until: _ } => self.causes.held,
+            Trouble::Memory => self.causes.starved,
+            _ => self.causes.told,
         }
     }
 
@@ -98,32 +134,25 @@ impl Liar {
 
     /// How the next call fares.
     pub(crate) fn fate(&mut self) -> Fate {
-        self.witness.call();
-        let fate = self.luck();
-        match fate {
-            Fate::Fails => self.witness.fail(),
-            Fate::Starves => self.witness.starve(),
-            Fate::Fits | Fate::Lies | Fate::Misses => {}
-        }
-        fate
-    }
-
-    /// How a call or a message of a list fares.
-    fn luck(&mut self) -> Fate {
         if self.rate == 0 || self.draws.draw() % self.rate != 0 {
             return Fate::Fits;
         }
         match self.draws.draw() % 16 {
-            0 => Fate::Starves,
-            1 | 2 => Fate::Fails,
-            3 | 4 | 5 => Fate::Misses,
+            0 => {
+                self.causes.starved = true;
+                Fate::Starves
+            }
+            1 | 2 => {
+                self.causes.failed = true;
+                Fate::Fails
+            }
+            3 | 4 | 5 => {
+                self.causes.late = true;
+                self.causes.held = true;
+                Fate::Misses
+            }
             _ => Fate::Lies,
         }
-    }
-
-    /// One of two.
-    pub(crate) fn tosses(&mut self) -> bool {
-        self.draws.draw() % 2 == 0
     }
 
     /// One of the lies, or no byte.
@@ -174,16 +203,7 @@ impl Liar {
 
     /// What a get answers.
     pub(crate) fn object(&mut self, name: ObjName, fate: Fate) -> Result<Option<Blob>, AllocError> {
-        let answer = self.chosen(name, fate)?;
-        let bytes = match &answer {
-            Some(bytes) => Some(bytes.as_slice()),
-            None => None,
-        };
-        self.witness.answer(name, bytes, fate == Fate::Fits)?;
-        Ok(answer)
-    }
-
-    fn chosen(&mut self, name: ObjName, fate: Fate) -> Result<Option<Blob>, AllocError> {
+        self.causes.told = true;
         if fate == Fate::Misses {
             return Ok(None);
         }
@@ -226,6 +246,7 @@ impl Liar {
         most: u16,
         fate: Fate,
     ) -> Result<Vec<Message>, AllocError> {
+        self.causes.told = true;
         let count = self.count(most);
         let mut messages = Vec::new(self.alloc);
         for index in 0..count {
@@ -235,18 +256,19 @@ impl Liar {
         Ok(messages)
     }
 
-    /// A message, which the witness notes.
     fn one_of(&mut self, queue: &QueueName, index: u16, fate: Fate) -> Result<Message, AllocError> {
         let number = (index % 250) as u8 + 1;
-        let (id, own) = if fate == Fate::Fits {
-            (MsgId::new(u64::from(number)), fate)
-        } else {
-            (self.id(), self.luck())
-        };
+        if fate == Fate::Fits {
+            let bytes = self.message(queue, number, fate)?;
+            return Ok(Message {
+                id: MsgId::new(u64::from(number)),
+                bytes,
+            });
+        }
+        let id = self.id();
+        let own = self.fate();
         let bytes = self.message(queue, number, own)?;
-        let message = Message { id, bytes };
-        self.witness.deliver(*queue, &message, own == Fate::Fits)?;
-        Ok(message)
+        Ok(Message { id, bytes })
     }
 
     /// The id of a message, some of them the greatest.

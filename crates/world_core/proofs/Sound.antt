@@ -14,7 +14,7 @@ use Rattle.cloud_facts.specs.Calls.Standing.{StandsUnder}
 use Rattle.cloud_trait.specs.Caller.{Caller}
 use Rattle.cloud_trait.specs.Seen.{Seen}
 use Rattle.cloud_trait.specs.State.{CloudState}
-use Rattle.world_audit.specs.Stop.{Stopped}
+use Rattle.world_audit.specs.Stop.{Stopped as StopsReport}
 use Rattle.cloud_trait.specs.declared.turn.Turn.{Turn}
 use Rattle.cloud_trait.specs.declared.turn.Turn.TheVariants.{More, Ended, Stopped}
 use Rattle.session_facts.specs.CommitRuns.Stopping.{MayEnd}
@@ -322,7 +322,7 @@ report_sound lines tree (reply.Trouble q) before after old new t told stands h =
     on false sees =
         let found = h.reply.2.found sees in
         failed q h.reply.1 (only_slips t (store_of stands.holds.book stands.holds.order t) tree refl cloud.holds.chains h.reply.0 cloud.decodes q
-        (subst (λ (s : CloudState). Stopped s tree q) (found.told t told) found.reported))
+        (subst (λ (s : CloudState). StopsReport s tree q) (found.told t told) found.reported))
 report_sound lines tree r before after old new t told stands h = tt
 
 -- ---- every line

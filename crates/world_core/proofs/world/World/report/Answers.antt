@@ -1,5 +1,5 @@
 use Rattle.std.proofs.Common.{refl, sym, subst, inr}
-use Rattle.std.specs.Prelude.{Ok, Err}
+use Rattle.std.specs.Prelude.{Err}
 use Rattle.world_audit.specs.Finding.{Finds}
 use Rattle.world_core.specs.World.{World}
 use Rattle.world_core.specs.Handled.{ReportReply}

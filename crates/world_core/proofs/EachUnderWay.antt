@@ -24,9 +24,9 @@ use Rattle.world_core.proofs.StandsLemmas.{IsUnderWay, way_begins, went_on}
 
 module _ (Holds : StepFact) (lines : List Line)
     (own : (who : Caller) (wish : Wish) (before after : Seen) (old new : World) (turn : Turn Answer) → who.event ≡ length lines + 1 → IsUnderWay lines old before
-        → (p : StepsLooked who wish before after old new turn) → Holds who wish before after old new turn p)
+    → (p : StepsLooked who wish before after old new turn) → Holds who wish before after old new turn p)
     (settles : (n : ℕ) (before after : Seen) (old new : World) (result : Result Reply WorldFault) (h : Settles n before after old new result)
-        → EachSettling Holds n before after old new result h) where
+    → EachSettling Holds n before after old new result h) where
   went_each : (who : Caller) (before : Seen) (old : World) (after : Seen) (new : World) → who.event ≡ length lines + 1 → IsUnderWay lines old before
       → (went : Went who before old after new) → EachWent Holds who before old after new went
   went_each who before old after new number way start = tt

@@ -15,7 +15,7 @@ use Rattle.leaf_view.specs.Lookup.{holds}
 use Rattle.leaf_view.proofs.Split.{records_fit}
 use Rattle.leaf_edit.specs.Applied.{applied}
 use Rattle.leaf_edit.specs.Lacked.{is_lacked, lacked}
-use Rattle.leaf_edit.proofs.Edits.{Sets, edited_by-all}
+use Rattle.tree_ckpt.proofs.Keyed.{edited_by-keys}
 use Rattle.log_codec.specs.declared.record.PuItem.{PuItem}
 use Rattle.leaf_fold.specs.declared.plan.LeafPlan.{LeafPlan}
 use Rattle.node_codec.specs.Inner.{Inner, inner_of}
@@ -154,8 +154,14 @@ node_piece_holds root page bytes n ls placing entries level l spelt put h =
 -- ---- a leaf
 
 -- a record's key is from a low key on and below a bound
+abbrev IsWithin : List ℕ → Option (List ℕ) → List ℕ → Type 0
+IsWithin low high key = (bytes_below key low ≡ false) × (below_bound key high ≡ true)
+
 abbrev KeyWithin : List ℕ → Option (List ℕ) → Rec → Type 0
-KeyWithin low high e = (bytes_below e.key low ≡ false) × (below_bound e.key high ≡ true)
+KeyWithin low high e = IsWithin low high e.key
+
+abbrev SetsWithin : List ℕ → Option (List ℕ) → PuItem → Type 0
+SetsWithin low high x = IsWithin low high (key_of x.rec.change)
 
 turned_false : (b : Bool) → not b ≡ true → b ≡ false
 turned_false true e = absurd (cc (e))
@@ -190,17 +196,17 @@ held_within : (page : ℕ) (l : Leaf) (got : Option (List ℕ)) → HoldsLeaf pa
 held_within page l (Some bytes) h = read_within bytes l h
 held_within page l None h = subst (λ (k : Leaf). AllByRecursion (KeyWithin k.low k.high) k.records) (sym h.1) tt
 
-lacked_within : (l : Leaf) (run : List PuItem) → AllByRecursion (Sets (KeyWithin l.low l.high)) (lacked l 0 run)
+lacked_within : (l : Leaf) (run : List PuItem) → AllByRecursion (SetsWithin l.low l.high) (lacked l 0 run)
 lacked_within l [] = tt
 lacked_within l (x ∷ xs) = on (is_lacked l 0 x) refl (lacked_within l xs) where
-  here : is_lacked l 0 x ≡ true → Sets (KeyWithin l.low l.high) x
+  here : is_lacked l 0 x ≡ true → SetsWithin l.low l.high x
   here e =
       let p = and_both (holds l (key_of x.rec.change)) _ e in
       let q = and_both (not (bytes_below (key_of x.rec.change) l.low)) (below_bound (key_of x.rec.change) l.high) p.0 in
       (turned_false (bytes_below (key_of x.rec.change) l.low) q.0, q.1)
 
-  on : (b : Bool) → is_lacked l 0 x ≡ b → AllByRecursion (Sets (KeyWithin l.low l.high)) (lacked l 0 xs)
-      → AllByRecursion (Sets (KeyWithin l.low l.high)) (cond b (x ∷ lacked l 0 xs) (lacked l 0 xs))
+  on : (b : Bool) → is_lacked l 0 x ≡ b → AllByRecursion (SetsWithin l.low l.high) (lacked l 0 xs)
+      → AllByRecursion (SetsWithin l.low l.high) (cond b (x ∷ lacked l 0 xs) (lacked l 0 xs))
   on true e again = (here e, again)
   on false e again = again
 
@@ -211,6 +217,6 @@ leaf_piece_holds root page l got run p level m holding put h =
     let e = low_of level m p.entries h in
     let x = new_low record_key put.first (part_of_leaf (applied l 0 run)) page e.0 put.pieces put.cut (subst (λ (es : List NewEntry). IsAmong e.0 es) put.entries e.1) in
     let all : AllByRecursion (KeyWithin l.low l.high) (applied l 0 run).records =
-    edited_by-all (KeyWithin l.low l.high) l.records (lacked l 0 run) (lacked_within l run) (held_within page l got holding) in
+    edited_by-keys (IsWithin l.low l.high) l.records (lacked l 0 run) (lacked_within l run) (held_within page l got holding) in
     let within : KeyWithin l.low l.high x.0 = among_all (KeyWithin l.low l.high) x.0 (applied l 0 run).records all x.1 in
     ap (holds l) (e.2 ∙ x.2) ∙ (ap (λ (b : Bool). not b && below_bound x.0.key l.high) within.0 ∙ within.1)

@@ -9,6 +9,7 @@ pub mod Fits
 pub mod Roots
 pub mod Sound
 pub mod Under
+pub mod Keyed
 pub mod Inside
 pub mod Above
 pub mod Charts

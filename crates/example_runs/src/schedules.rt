@@ -5,7 +5,7 @@ use crate::output::output;
 use std::io;
 
 /// Their names, the shortest walks first.
-const NAMES: [&str; 16] = [
+const NAMES: [&str; 17] = [
     "first-path",
     "two-transactions",
     "three-trees",
@@ -15,6 +15,7 @@ const NAMES: [&str; 16] = [
     "late-holder",
     "lease-ends",
     "two-writers",
+    "counter",
     "old-read",
     "two-hundred-keys",
     "late-update",

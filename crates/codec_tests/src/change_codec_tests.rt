@@ -9,11 +9,16 @@ const UPDATE: [u8; 5] = [2, 1, 0x6b, 0, 0];
 
 const DELETE: [u8; 4] = [3, 2, 0x6b, 0x6c];
 
+/// Of 256.
+const ADD: [u8; 11] = [4, 1, 0x6b, 0, 0, 0, 0, 0, 0, 1, 0];
+
 /// Bytes that begin with no change, and how many are left from the field on that fails.
-const REFUSED: [(&[u8], usize); 13] = [
+const REFUSED: [(&[u8], usize); 15] = [
     (&[], 0),
     (&[0, 1, 0x6b, 0, 0], 5),
-    (&[4, 1, 0x6b, 0, 0], 5),
+    (&[5, 1, 0x6b, 0, 0], 5),
+    (&[4, 1, 0x6b, 0, 0], 2),
+    (&[4, 1, 0x6b, 0, 0, 0, 0, 0, 0, 1], 7),
     (&[1], 0),
     (&[1, 0, 0, 0], 3),
     (&[3, 65, 0x6b], 2),
@@ -68,6 +73,7 @@ fn changes(rt: HostRuntime) {
     assert!(rt; is_written_back(rt.alloc(), &INSERT));
     assert!(rt; is_written_back(rt.alloc(), &UPDATE));
     assert!(rt; is_written_back(rt.alloc(), &DELETE));
+    assert!(rt; is_written_back(rt.alloc(), &ADD));
     assert!(rt; are_refused(rt.alloc(), &REFUSED));
     assert!(rt; client_of(64).get() == 64 && tree_of(16).get() == 16);
 }

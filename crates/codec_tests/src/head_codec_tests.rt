@@ -55,7 +55,7 @@ const CUTS: [(usize, u64); 18] = [
 ];
 
 /// A place in HEAD, the byte that stands there instead, and where that is refused. Place 63 is behind the end.
-const HEAD_CHANGES: [(usize, u8, u64); 21] = [
+const HEAD_CHANGES: [(usize, u8, u64); 22] = [
     (0, 0x49, 0),
     (1, 2, 1),
     (9, 0, 2),
@@ -70,7 +70,8 @@ const HEAD_CHANGES: [(usize, u8, u64); 21] = [
     (39, 0, 39),
     (39, 17, 39),
     (55, 0, 48),
-    (56, 4, 56),
+    (56, 5, 56),
+    (56, 4, 59),
     (57, 0, 57),
     (60, 3, 59),
     (60, 2, 63),

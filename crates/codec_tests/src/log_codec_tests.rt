@@ -30,7 +30,7 @@ const PU_CUTS: [(usize, u64); 9] = [
 ];
 
 /// A place in PU, the byte that stands there instead, and where that is refused. Place 33 is behind the end.
-const PU_CHANGES: [(usize, u8, u64); 15] = [
+const PU_CHANGES: [(usize, u8, u64); 16] = [
     (0, 0x41, 0),
     (1, 2, 1),
     (2, 0, 2),
@@ -39,7 +39,8 @@ const PU_CHANGES: [(usize, u8, u64); 15] = [
     (18, 0, 11),
     (26, 0, 19),
     (27, 0, 27),
-    (27, 4, 27),
+    (27, 5, 27),
+    (27, 4, 30),
     (27, 3, 30),
     (28, 0, 28),
     (28, 65, 28),
@@ -64,7 +65,7 @@ const ATOMIC_CUTS: [(usize, u64); 13] = [
     (43, 41),
 ];
 
-const ATOMIC_CHANGES: [(usize, u8, u64); 17] = [
+const ATOMIC_CHANGES: [(usize, u8, u64); 19] = [
     (0, 0x50, 0),
     (1, 0, 1),
     (2, 0, 2),
@@ -79,6 +80,8 @@ const ATOMIC_CHANGES: [(usize, u8, u64); 17] = [
     (37, 0, 30),
     (38, 0, 38),
     (38, 3, 41),
+    (38, 4, 41),
+    (38, 5, 38),
     (39, 0, 39),
     (42, 2, 41),
     (44, 1, 44),

@@ -66,7 +66,7 @@ module _ (book : Book) (pending : List Pending) (ended : List Ended) (linked : (
       sought : (b : Bool) → IsTrue b
           → (if b || has_pending pending tree (key_of change) then page_at ended tree (key_of change) else Some 1) ≡ page_at ended tree (key_of change)
       sought true h = refl
-      sought false h = absurd h
+      sought false h = absurd (cc)
 
   planned_leaves : (changes : List Noted) → AreLeavesFor book changes (pages_of pending ended changes)
   planned_leaves [] place n page there paged = absurd (cc)

@@ -106,7 +106,7 @@ first_goes book tree page change key same leaf = on (goes_to_leaf change) leaf
   where
     on : (b : Bool) → (IsTrue b → IsLeafAtMost book tree page (key_of change))
         → ((if b then page else 0) ≡ 0) ⊎ IsLeafAtMost book tree (if b then page else 0) key
-    on true leaf = inr (subst (λ l. IsLeafAtMost book tree page l) (sym same) (leaf tt))
+    on true leaf = inr (subst (λ l. IsLeafAtMost book tree page l) (sym same) (leaf refl))
     on false leaf = inl refl
 
 -- behind a head that is the newest but for pruned entries

@@ -38,7 +38,7 @@ module _ (Holds : StepFact) (lines : List Line)
   module _ (n : ℕ) (before after : Seen) (old new : World) (result : Result Reply WorldFault) (t : CloudState) (number : length lines + 1 ≡ n) (told : before.state ≡ Some t)
       (stands : WorldStands lines old t) where
     way : IsUnderWay lines old before
-    way = way_begins lines before old t told stands
+    way = way_begins lines before old t told stands.by_lines
 
     abbrev who : ℕ → Caller
     who k = record { session = k; event = n }

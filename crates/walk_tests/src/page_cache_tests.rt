@@ -1,10 +1,11 @@
-use crate::objects::{LEAF, NODE_7, ROOT};
+use crate::objects::LEAF;
 use crate::store::object;
 use crate::story::Story;
 use db_base::blob::Blob;
 use page_cache::PageCache;
 use std::alloc::Global;
 use std::test::Fail;
+use tree_bytes::{NODE_7, ROOT};
 
 /// What is done with a cache.
 #[derive(Clone, Copy)]

@@ -1,7 +1,6 @@
 //! A session of client 1 that reads tree 1 of a cloud in memory.
 
 use crate::machine::run;
-use crate::objects::{LEAF_1, LEAF_2, LEAF_3, LEAF_4, NODE_7, NODE_8, ROOT};
 use crate::script::{Reader, Step, play_all};
 use crate::store::{put, tree};
 use crate::story::Story;
@@ -15,6 +14,7 @@ use page_cache::PageCache;
 use record_read::RecordRead;
 use std::alloc::Global;
 use std::test::Fail;
+use tree_bytes::{LEAF_1, LEAF_2, LEAF_3, LEAF_4, NODE_7, NODE_8, ROOT};
 use tree_walk::Walk;
 use txn_buffer::buffer::TxnBuffer;
 

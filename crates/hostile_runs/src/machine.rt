@@ -1,6 +1,8 @@
 //! The machines as one kind of thing, and what is wanted of each.
 
 use crate::hostile_cloud::Hostile;
+use crate::tally::Tally;
+use crate::witness::Witness;
 use cloud_trait::cloud::Cloud;
 use cloud_trait::turn::Turn;
 use cloud_trait::who::Who;
@@ -16,11 +18,14 @@ use std::alloc::Global;
 use tree_ckpt::TreeCkpt;
 use tree_walk::Walk;
 
-/// The most calls of a machine.
+/// The most calls of a machine whose bound the cloud's state gives.
 const MOST_CALLS: u64 = 10_000;
 
 /// A machine.
 pub(crate) trait Machine {
+    /// The most calls that it may make, by what it was answered.
+    fn most(witness: &Witness) -> u64;
+
     /// Does the local work before the first call.
     fn begin(&mut self, alloc: Global, cache: &mut PageCache) -> Turn<u64>;
 
@@ -49,17 +54,29 @@ pub(crate) fn ends<M: Machine, H: Hostile>(
     bench: &Bench,
     cloud: &mut H,
     cache: &mut PageCache,
+    tally: &mut Tally,
 ) -> bool {
     cloud.begin();
     let owed = cloud.owed();
     let mut turn = machine.begin(bench.alloc, cache);
     for _ in 0..MOST_CALLS {
         if is_over(&turn) {
-            return is_right(cloud, owed, &turn);
+            note(tally, &turn);
+            return cloud.witness().calls() <= M::most(cloud.witness())
+                && is_right(cloud, owed, &turn);
         }
         turn = machine.make(bench.alloc, cloud, bench.who, cache);
     }
     false
+}
+
+/// Notes an end.
+fn note(tally: &mut Tally, turn: &Turn<u64>) {
+    match turn {
+        Turn::More => {}
+        Turn::Ended(_) => tally.end(),
+        Turn::Stopped(trouble) => tally.stop(trouble),
+    }
 }
 
 /// Whether no call follows.
@@ -72,7 +89,8 @@ fn is_right<H: Hostile>(cloud: &H, owed: u64, turn: &Turn<u64>) -> bool {
     match turn {
         Turn::More => false,
         Turn::Ended(kept) => cloud.owed() == owed.saturating_add(*kept),
-        Turn::Stopped(trouble) => cloud.shows(trouble) && is_given_back(cloud, owed, trouble),
+        Turn::Stopped(trouble) => cloud.witness().shows(trouble)
+            && is_given_back(cloud, owed, trouble),
     }
 }
 
@@ -91,6 +109,11 @@ fn keeping<A: Drop>(turn: Turn<A>, kept: u64) -> Turn<u64> {
 }
 
 impl Machine for Walk {
+    // The tree object, and each page once.
+    fn most(witness: &Witness) -> u64 {
+        1u64.saturating_add(witness.pages())
+    }
+
     fn begin(&mut self, alloc: Global, cache: &mut PageCache) -> Turn<u64> {
         keeping(self.ready(alloc, cache), 0)
     }
@@ -107,6 +130,11 @@ impl Machine for Walk {
 }
 
 impl Machine for RangeScan {
+    // The tree object, and each page once.
+    fn most(witness: &Witness) -> u64 {
+        1u64.saturating_add(witness.pages())
+    }
+
     fn begin(&mut self, alloc: Global, cache: &mut PageCache) -> Turn<u64> {
         keeping(self.ready(alloc, cache), 0)
     }
@@ -128,6 +156,15 @@ impl Machine for RangeScan {
 }
 
 impl Machine for RecoverRun {
+    // Seven, four for each message received, and one for each record of an open head.
+    fn most(witness: &Witness) -> u64 {
+        witness
+            .ids()
+            .saturating_mul(4)
+            .saturating_add(7)
+            .saturating_add(witness.open_count())
+    }
+
     fn begin(&mut self, _alloc: Global, _cache: &mut PageCache) -> Turn<u64> {
         Turn::More
     }
@@ -157,6 +194,13 @@ fn committing(turn: Turn<CommitAnswer>) -> Turn<u64> {
 }
 
 impl Machine for CommitRun {
+    // Three walks, one for each change and one for the head, and three for each of two changes beside two.
+    fn most(witness: &Witness) -> u64 {
+        1u64.saturating_add(witness.pages())
+            .saturating_mul(3)
+            .saturating_add(8)
+    }
+
     fn begin(&mut self, alloc: Global, cache: &mut PageCache) -> Turn<u64> {
         committing(self.ready(alloc, cache))
     }
@@ -173,6 +217,16 @@ impl Machine for CommitRun {
 }
 
 impl Machine for PageCkpt {
+    // Five, one for each message received, and four for each page right of its own.
+    fn most(witness: &Witness) -> u64 {
+        witness
+            .pages()
+            .saturating_sub(1)
+            .saturating_mul(4)
+            .saturating_add(5)
+            .saturating_add(witness.ids())
+    }
+
     fn begin(&mut self, _alloc: Global, _cache: &mut PageCache) -> Turn<u64> {
         Turn::More
     }
@@ -189,6 +243,11 @@ impl Machine for PageCkpt {
 }
 
 impl Machine for TreeCkpt {
+    // Its bound is by the tree that a state tells, and this one tells none.
+    fn most(_witness: &Witness) -> u64 {
+        MOST_CALLS
+    }
+
     fn begin(&mut self, _alloc: Global, _cache: &mut PageCache) -> Turn<u64> {
         Turn::More
     }
@@ -205,6 +264,11 @@ impl Machine for TreeCkpt {
 }
 
 impl Machine for SettleRun {
+    // Its bound is by the store that a state tells, and this one tells none.
+    fn most(_witness: &Witness) -> u64 {
+        MOST_CALLS
+    }
+
     fn begin(&mut self, _alloc: Global, _cache: &mut PageCache) -> Turn<u64> {
         Turn::More
     }

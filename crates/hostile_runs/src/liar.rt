@@ -1,13 +1,14 @@
 //! What the cloud answers: mostly what fits, and at its rate a lie or a fault.
 
-use crate::objects::{HEADS, LEAF_1, LEAF_2, LEAF_3, LEAF_4, LIES, NODE_7, NODE_8, ROOT};
+use crate::objects::{HEADS, LIES};
+use crate::witness::Witness;
 use cloud_trait::message::Message;
 use db_base::blob::Blob;
 use db_base::ids::MsgId;
 use db_base::names::{ObjName, QueueName};
-use db_base::trouble::Trouble;
 use sched_gen::draws::Draws;
 use std::alloc::{AllocError, Global};
+use tree_bytes::{LEAF_1, LEAF_2, LEAF_3, LEAF_4, NODE_7, NODE_8, ROOT};
 
 /// How a call fares.
 #[derive(Clone, Copy, PartialEq, Eq)]
@@ -24,32 +25,14 @@ pub(crate) enum Fate {
     Starves,
 }
 
-/// The causes that the answers since the begin of a machine showed.
-#[derive(Clone, Copy)]
-struct Causes {
-    failed: bool,
-    late: bool,
-    held: bool,
-    starved: bool,
-    told: bool,
-}
-
-/// No cause.
-const NONE: Causes = Causes {
-    failed: false,
-    late: false,
-    held: false,
-    starved: false,
-    told: false,
-};
-
 /// The generator with what it answered.
 #[derive(Drop)]
 pub(crate) struct Liar {
     alloc: Global,
     draws: Draws,
     rate: u64,
-    causes: Causes,
+    /// What it answered.
+    pub(crate) witness: Witness,
     /// The leases that were given out and did not come back.
     pub(crate) owed: u64,
 }
@@ -104,27 +87,8 @@ impl Liar {
                 2 => 64,
                 _ => 1024,
             },
-            causes: NONE,
+            witness: Witness::new(alloc),
             owed: 0,
-        }
-    }
-
-    /// Begins anew with the causes. What objects and messages told stays, since caches and heads keep it.
-    pub(crate) fn forget(&mut self) {
-        self.causes = Causes {
-            told: self.causes.told,
-            ..NONE
-        };
-    }
-
-    /// Whether an answer showed what a machine stopped for.
-    pub(crate) fn shows(&self, trouble: &Trouble) -> bool {
-        match trouble {
-            Trouble::Failed => self.causes.failed,
-            Trouble::Late { end: _, now: _ } => self.causes.late,
-            Trouble::Busy { lock: _, until: _ } => self.causes.held,
-            Trouble::Memory => self.causes.starved,
-            _ => self.causes.told,
         }
     }
 
@@ -134,25 +98,32 @@ impl Liar {
 
     /// How the next call fares.
     pub(crate) fn fate(&mut self) -> Fate {
+        self.witness.call();
+        let fate = self.luck();
+        match fate {
+            Fate::Fails => self.witness.fail(),
+            Fate::Starves => self.witness.starve(),
+            Fate::Fits | Fate::Lies | Fate::Misses => {}
+        }
+        fate
+    }
+
+    /// How a call or a message of a list fares.
+    fn luck(&mut self) -> Fate {
         if self.rate == 0 || self.draws.draw() % self.rate != 0 {
             return Fate::Fits;
         }
         match self.draws.draw() % 16 {
-            0 => {
-                self.causes.starved = true;
-                Fate::Starves
-            }
-            1 | 2 => {
-                self.causes.failed = true;
-                Fate::Fails
-            }
-            3 | 4 | 5 => {
-                self.causes.late = true;
-                self.causes.held = true;
-                Fate::Misses
-            }
+            0 => Fate::Starves,
+            1 | 2 => Fate::Fails,
+            3 | 4 | 5 => Fate::Misses,
             _ => Fate::Lies,
         }
+    }
+
+    /// One of two.
+    pub(crate) fn tosses(&mut self) -> bool {
+        self.draws.draw() % 2 == 0
     }
 
     /// One of the lies, or no byte.
@@ -193,30 +164,48 @@ impl Liar {
     }
 
     /// A copy of bytes, which a lie spoils.
-    fn copy(&mut self, bytes: &[u8], fate: Fate) -> Result<Blob, AllocError> {
+    fn copy(&mut self, bytes: &[u8], fate: Fate) -> Result<Vec<u8>, AllocError> {
         let mut copy = bytes.to_vec(self.alloc)?;
         if fate == Fate::Lies {
             self.spoil(&mut copy);
         }
-        Ok(Blob::of(copy))
+        Ok(copy)
     }
 
     /// What a get answers.
     pub(crate) fn object(&mut self, name: ObjName, fate: Fate) -> Result<Option<Blob>, AllocError> {
-        self.causes.told = true;
         if fate == Fate::Misses {
+            self.witness.lack(name)?;
             return Ok(None);
         }
+        let bytes = self.chosen(name, fate)?;
+        Ok(Some(self.noted(&name, bytes, fate)?))
+    }
+
+    /// The object of a name, which the witness notes.
+    fn noted(&mut self, name: &ObjName, bytes: Vec<u8>, fate: Fate) -> Result<Blob, AllocError> {
+        let object = Blob::of(bytes);
+        self.witness.answer(name, &object, fate == Fate::Fits)?;
+        Ok(object)
+    }
+
+    /// The object of a name, or of a lie one of the lies or what is spoiled.
+    fn chosen(&mut self, name: ObjName, fate: Fate) -> Result<Vec<u8>, AllocError> {
         let bytes = self.truth(name);
         if fate == Fate::Lies && self.draws.draw() % 2 == 0 {
             let lie = self.lie();
-            return Ok(Some(self.copy(lie, Fate::Fits)?));
+            return self.copy(lie, Fate::Fits);
         }
-        Ok(Some(self.copy(bytes, fate)?))
+        self.copy(bytes, fate)
     }
 
     /// The bytes of a message of this number.
-    fn message(&mut self, queue: &QueueName, number: u8, fate: Fate) -> Result<Blob, AllocError> {
+    fn message(
+        &mut self,
+        queue: &QueueName,
+        number: u8,
+        fate: Fate,
+    ) -> Result<Vec<u8>, AllocError> {
         let (one, two) = (self.small(), self.small());
         match queue {
             QueueName::Atomic(_) => {
@@ -246,7 +235,6 @@ impl Liar {
         most: u16,
         fate: Fate,
     ) -> Result<Vec<Message>, AllocError> {
-        self.causes.told = true;
         let count = self.count(most);
         let mut messages = Vec::new(self.alloc);
         for index in 0..count {
@@ -256,19 +244,21 @@ impl Liar {
         Ok(messages)
     }
 
+    /// A message, which the witness notes.
     fn one_of(&mut self, queue: &QueueName, index: u16, fate: Fate) -> Result<Message, AllocError> {
         let number = (index % 250) as u8 + 1;
-        if fate == Fate::Fits {
-            let bytes = self.message(queue, number, fate)?;
-            return Ok(Message {
-                id: MsgId::new(u64::from(number)),
-                bytes,
-            });
-        }
-        let id = self.id();
-        let own = self.fate();
+        let (id, own) = if fate == Fate::Fits {
+            (MsgId::new(u64::from(number)), fate)
+        } else {
+            (self.id(), self.luck())
+        };
         let bytes = self.message(queue, number, own)?;
-        Ok(Message { id, bytes })
+        self.witness
+            .deliver(*queue, id, bytes.len(), own == Fate::Fits)?;
+        Ok(Message {
+            id,
+            bytes: Blob::of(bytes),
+        })
     }
 
     /// The id of a message, some of them the greatest.

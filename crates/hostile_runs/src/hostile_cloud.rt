@@ -3,6 +3,7 @@
 ghost use Rattle.std.specs.Prelude.{◌≡◌, ◌<◌};
 
 use crate::liar::{Fate, Liar};
+use crate::witness::Witness;
 use cloud_trait::cloud::Cloud;
 use cloud_trait::fault::{CloudFault, HeldFault};
 use cloud_trait::grant::Grant;
@@ -12,16 +13,15 @@ use cloud_trait::who::Who;
 use db_base::blob::Blob;
 use db_base::ids::MsgId;
 use db_base::names::{Lock, ObjName, QueueName};
-use db_base::trouble::Trouble;
 use std::alloc::Global;
 
-/// A cloud that tells a test what it answered.
+/// A cloud that tells what it answered.
 pub(crate) trait Hostile: Cloud {
     /// A machine begins.
     fn begin(&mut self);
 
-    /// Whether an answer since then showed the trouble.
-    fn shows(&self, trouble: &Trouble) -> bool;
+    /// What it answered.
+    fn witness(&self) -> &Witness;
 
     /// How many leases were given out and did not come back.
     fn owed(&self) -> u64;
@@ -66,11 +66,11 @@ impl HostileCloud {
 
 impl Hostile for HostileCloud {
     fn begin(&mut self) {
-        self.liar.forget();
+        self.liar.witness.begin();
     }
 
-    fn shows(&self, trouble: &Trouble) -> bool {
-        self.liar.shows(trouble)
+    fn witness(&self) -> &Witness {
+        &self.liar.witness
     }
 
     fn owed(&self) -> u64 {
@@ -89,6 +89,7 @@ impl Cloud for HostileCloud {
     }
 
     fn get(&mut self, _who: Who, name: ObjName) -> Result<Option<Blob>, CloudFault> {
+        self.liar.witness.ask(name)?;
         match self.liar.fate() {
             Fate::Fails => Err(self.faults.add()),
             Fate::Starves => Err(CloudFault::Memory),
@@ -102,16 +103,21 @@ impl Cloud for HostileCloud {
         name: ObjName,
         lease: &Lease,
     ) -> Result<Option<Blob>, HeldFault> {
+        self.liar.witness.ask(name)?;
         match self.liar.fate() {
             Fate::Fails => match self.faults.add() {
                 CloudFault::Failed => Err(HeldFault::Failed),
                 CloudFault::Memory => Err(HeldFault::Memory),
             },
             Fate::Starves => Err(HeldFault::Memory),
-            Fate::Misses => Err(HeldFault::Late {
-                end: lease.end(),
-                now: lease.end(),
-            }),
+            Fate::Misses if self.liar.tosses() => Ok(self.liar.object(name, Fate::Misses)?),
+            Fate::Misses => {
+                self.liar.witness.miss(lease.end(), lease.end());
+                Err(HeldFault::Late {
+                    end: lease.end(),
+                    now: lease.end(),
+                })
+            }
             fate => Ok(self.liar.object(name, fate)?),
         }
     }
@@ -130,10 +136,13 @@ impl Cloud for HostileCloud {
                 CloudFault::Memory => Err(HeldFault::Memory),
             },
             Fate::Starves => Err(HeldFault::Memory),
-            Fate::Misses => Err(HeldFault::Late {
-                end: first.end(),
-                now: u64::MAX,
-            }),
+            Fate::Misses => {
+                self.liar.witness.miss(first.end(), u64::MAX);
+                Err(HeldFault::Late {
+                    end: first.end(),
+                    now: u64::MAX,
+                })
+            }
             _ => Ok(()),
         }
     }
@@ -178,7 +187,10 @@ impl Cloud for HostileCloud {
         match self.liar.fate() {
             Fate::Fails => Err(self.faults.add()),
             Fate::Starves => Err(CloudFault::Memory),
-            Fate::Misses => Ok(Grant::Held(ticks)),
+            Fate::Misses => {
+                self.liar.witness.hold(lock, ticks);
+                Ok(Grant::Held(ticks))
+            }
             _ => {
                 self.liar.owed = self.liar.owed.wrapping_add(1);
                 Ok(Grant::Given(Lease::given(lock, 1, ticks)))
@@ -187,6 +199,7 @@ impl Cloud for HostileCloud {
     }
 
     fn renew(&mut self, _who: Who, lease: &mut Lease, ticks: u64) -> Result<(), HeldFault> {
+        self.liar.witness.call();
         lease.extend(ticks);
         Ok(())
     }

@@ -1,5 +1,8 @@
+//! The machines, one after the other under one cloud.
+
 use crate::hostile_cloud::{Hostile, HostileCloud};
 use crate::machine::{Bench, ends};
+use crate::tally::Tally;
 use cloud_trait::who::Who;
 use commit_run::CommitRun;
 use db_base::change::Change;
@@ -13,15 +16,12 @@ use recover_run::recover::RecoverRun;
 use recover_run::stage::Aim;
 use settle_run::SettleRun;
 use std::alloc::Global;
-use std::process::Abort;
 use tree_ckpt::TreeCkpt;
 use tree_walk::Walk;
 use txn_buffer::buffer::TxnBuffer;
 
-/// How many clouds there are. Each has six machines under it, and each seventh one a settling besides.
-const CLOUDS: u64 = 1000;
-
-fn bench(alloc: Global) -> Option<Bench> {
+/// Who runs machines.
+pub(crate) fn bench(alloc: Global) -> Option<Bench> {
     let (Ok(session), Ok(client), Ok(tree)) = (SessionNo::new(3), ClientId::new(1), TreeId::new(1))
     else {
         return None;
@@ -65,33 +65,55 @@ fn notes(changes: &mut TxnBuffer, bench: &Bench, change: Option<Change>) -> bool
 }
 
 /// Whether a walk to a key is right.
-fn walks<H: Hostile>(bench: &Bench, cloud: &mut H, cache: &mut PageCache, number: u64) -> bool {
+fn walks<H: Hostile>(
+    bench: &Bench,
+    cloud: &mut H,
+    cache: &mut PageCache,
+    number: u64,
+    tally: &mut Tally,
+) -> bool {
     let to = key(bench.alloc, b'a' + (number % 26) as u8);
     let mut walk = Walk::new(bench.alloc, bench.tree, to, number % 2 == 0);
-    ends(&mut walk, bench, cloud, cache)
+    ends(&mut walk, bench, cloud, cache, tally)
 }
 
 /// Whether a scan of the whole tree is right.
-fn scans<H: Hostile>(bench: &Bench, cloud: &mut H, cache: &mut PageCache) -> bool {
+fn scans<H: Hostile>(
+    bench: &Bench,
+    cloud: &mut H,
+    cache: &mut PageCache,
+    tally: &mut Tally,
+) -> bool {
     let mut scan = RangeScan::new(bench.alloc, bench.tree, None, None);
-    ends(&mut scan, bench, cloud, cache)
+    ends(&mut scan, bench, cloud, cache, tally)
 }
 
 /// Whether an opening is right, and where it opens the client a commit.
-fn opens<H: Hostile>(bench: &Bench, cloud: &mut H, cache: &mut PageCache) -> bool {
+fn opens<H: Hostile>(
+    bench: &Bench,
+    cloud: &mut H,
+    cache: &mut PageCache,
+    tally: &mut Tally,
+) -> bool {
     let mut opening = RecoverRun::new(bench.alloc, bench.client, Aim::Opening, None);
-    if !ends(&mut opening, bench, cloud, cache) {
+    if !ends(&mut opening, bench, cloud, cache, tally) {
         return false;
     }
     match opening.finish() {
-        Some(home) => buffers(bench, cloud, cache, home),
+        Some(home) => buffers(bench, cloud, cache, home, tally),
         None => true,
     }
 }
 
-fn buffers<H: Hostile>(bench: &Bench, cloud: &mut H, cache: &mut PageCache, home: Home) -> bool {
+fn buffers<H: Hostile>(
+    bench: &Bench,
+    cloud: &mut H,
+    cache: &mut PageCache,
+    home: Home,
+    tally: &mut Tally,
+) -> bool {
     match TxnBuffer::new(bench.alloc) {
-        Ok(changes) => commits(bench, cloud, cache, home, changes),
+        Ok(changes) => commits(bench, cloud, cache, home, changes, tally),
         Err(_) => false,
     }
 }
@@ -103,6 +125,7 @@ fn commits<H: Hostile>(
     cache: &mut PageCache,
     home: Home,
     changes: TxnBuffer,
+    tally: &mut Tally,
 ) -> bool {
     let mut changes = changes;
     let is_noted = notes(&mut changes, bench, insert(bench.alloc))
@@ -111,58 +134,71 @@ fn commits<H: Hostile>(
         return false;
     }
     let mut commit = CommitRun::new(bench.alloc, home, changes);
-    let is_right = ends(&mut commit, bench, cloud, cache);
+    let is_right = ends(&mut commit, bench, cloud, cache, tally);
     let _released = cloud.release(bench.who, commit.finish().into_lease());
     is_right
 }
 
 /// Whether a checkpoint of a page is right.
-fn folds<H: Hostile>(bench: &Bench, cloud: &mut H, cache: &mut PageCache, number: u64) -> bool {
+fn folds<H: Hostile>(
+    bench: &Bench,
+    cloud: &mut H,
+    cache: &mut PageCache,
+    number: u64,
+    tally: &mut Tally,
+) -> bool {
     match PageId::new(1 + number % 8) {
         Ok(page) => {
             let mut checkpoint = PageCkpt::new(bench.alloc, bench.tree, page);
-            ends(&mut checkpoint, bench, cloud, cache)
+            ends(&mut checkpoint, bench, cloud, cache, tally)
         }
         Err(_) => false,
     }
 }
 
 /// Whether a checkpoint of the tree is right.
-fn folds_all<H: Hostile>(bench: &Bench, cloud: &mut H, cache: &mut PageCache) -> bool {
+fn folds_all<H: Hostile>(
+    bench: &Bench,
+    cloud: &mut H,
+    cache: &mut PageCache,
+    tally: &mut Tally,
+) -> bool {
     let mut checkpoint = TreeCkpt::new(bench.alloc, bench.tree);
-    ends(&mut checkpoint, bench, cloud, cache)
+    ends(&mut checkpoint, bench, cloud, cache, tally)
 }
 
 /// Whether a settling is right.
-fn settles<H: Hostile>(bench: &Bench, cloud: &mut H, cache: &mut PageCache) -> bool {
+fn settles<H: Hostile>(
+    bench: &Bench,
+    cloud: &mut H,
+    cache: &mut PageCache,
+    tally: &mut Tally,
+) -> bool {
     let mut settling = SettleRun::new(bench.alloc);
-    ends(&mut settling, bench, cloud, cache)
+    ends(&mut settling, bench, cloud, cache, tally)
 }
 
 /// Whether every machine is right under a cloud.
-fn all_end<H: Hostile>(bench: &Bench, cloud: &mut H, cache: &mut PageCache, number: u64) -> bool {
-    walks(bench, cloud, cache, number)
-        && scans(bench, cloud, cache)
-        && opens(bench, cloud, cache)
-        && folds(bench, cloud, cache, number)
-        && folds_all(bench, cloud, cache)
-        && (number % 7 != 0 || settles(bench, cloud, cache))
+fn all_end<H: Hostile>(
+    bench: &Bench,
+    cloud: &mut H,
+    cache: &mut PageCache,
+    number: u64,
+    tally: &mut Tally,
+) -> bool {
+    walks(bench, cloud, cache, number, tally)
+        && scans(bench, cloud, cache, tally)
+        && opens(bench, cloud, cache, tally)
+        && folds(bench, cloud, cache, number, tally)
+        && folds_all(bench, cloud, cache, tally)
+        && (number % 7 != 0 || settles(bench, cloud, cache, tally))
 }
 
-fn is_withstood(bench: &Bench, number: u64) -> bool {
+/// Whether every machine is right under the cloud of a number.
+pub(crate) fn is_withstood(bench: &Bench, number: u64, tally: &mut Tally) -> bool {
     let mut cloud = HostileCloud::new(bench.alloc, number);
     match PageCache::new(bench.alloc) {
-        Ok(mut cache) => all_end(bench, &mut cloud, &mut cache, number),
+        Ok(mut cache) => all_end(bench, &mut cloud, &mut cache, number, tally),
         Err(_) => false,
-    }
-}
-
-#[test]
-fn every_machine_ends_under_a_cloud_that_lies(rt: HostRuntime) {
-    let Some(bench) = bench(rt.alloc()) else {
-        rt.panic("no names")
-    };
-    for number in 0..CLOUDS {
-        assert!(rt; is_withstood(&bench, number), "cloud {number}");
     }
 }

@@ -9,8 +9,7 @@ use Rattle.cloud_trait.specs.declared.turn.Turn.{Turn}
 use Rattle.cloud_trait.specs.declared.turn.Turn.TheVariants.{More, Ended, Stopped}
 use Rattle.cloud_trait.specs.Caller.{Caller}
 use Rattle.cloud_trait.specs.Seen.{Seen}
-use Rattle.cloud_trait.specs.Weather.{Makes}
-use Rattle.cloud_trait.specs.Machine.{Next, Goes, Ends, Stops, Deed, Came, IsMade}
+use Rattle.cloud_trait.specs.Machine.{Next, Goes, Ends, Stops, Deed, Came, IsMade, Steps}
 use Rattle.db_base.specs.Ids.{IsClient, IsTree}
 use Rattle.recover_run.specs.Ids.{has_id, new_ids}
 use Rattle.recover_run.specs.Recovery.{Recovery}
@@ -19,7 +18,7 @@ use Rattle.settle_run.specs.declared.part.Part.{Part}
 use Rattle.settle_run.specs.declared.part.Part.TheVariants.{Client, Tree, Page}
 use Rattle.settle_run.specs.declared.settled.Settled.{Settled}
 use Rattle.settle_run.specs.Parts.{part_ask, part_again, part_received, PartLeads, PartWent}
-use Rattle.settle_run.specs.Settling.{Settling, new_settling, settle_ask, SettleLeads, passed, is_visited}
+use Rattle.settle_run.specs.Settling.{Settling, new_settling, settle_ask, SettleLeads, KeepsSettling, passed, is_visited}
 use Rattle.settle_run.specs.Standing.{AreReturned}
 use Rattle.settle_run.specs.Stepped.{PartStepped}
 use Rattle.tree_ckpt.specs.Making.{Making}
@@ -27,6 +26,10 @@ use Rattle.tree_ckpt.specs.Making.{Making}
 -- the settling came here from its first call on by these calls, the newest first
 abbrev pub Went : List Deed → Settling → Type 0
 Went h s = Came settle_ask SettleLeads new_settling h s
+
+-- the call of a step, as it was answered
+abbrev pub deed_of : Caller → Settling → Answer → Seen → Seen → Deed
+deed_of who s answer before after = record { who = who; ask = settle_ask s; answer = answer; before = before; after = after }
 
 -- ---- whole parts
 
@@ -114,15 +117,6 @@ MeansTurn h left More = Unit {0}
 MeansTurn h left (Ended answer) = IsSettled h left answer
 MeansTurn h left (Stopped t) = Unit {0}
 
--- what a step means by the whole run, the calls so far with this step's; and before an end each lease that they took was given back by a call
-pub record Meant (who : Caller) (before after : Seen) (old new : Settling) (turn : Turn Settled) : Type 0 where
-  pub answer : Answer
-  pub made : Makes who (settle_ask old) answer before after
-  pub means : (h : List Deed) → Went h old
-      → MeansTurn (record { who = who; ask = settle_ask old; answer = answer; before = before; after = after } ∷ h) new turn
-  pub returned : (h : List Deed) → Went h old
-      → AreReturned (record { who = who; ask = settle_ask old; answer = answer; before = before; after = after } ∷ h) turn
-
 -- ---- stops
 
 -- the part at work stopped so
@@ -188,14 +182,20 @@ Follows s next More = (t : Trouble) → MustStop s next t → ⊥
 Follows s next (Ended answer) = (t : Trouble) → MustStop s next t → ⊥
 Follows s next (Stopped t) = t ≢ trouble.Memory → MustStop s next t
 
--- Why a step stops, by what the cloud answered: the machine of the part at work took its step by that answer, and its contract tells the cause of each
--- trouble that it keeps or answers (`stepped`); the settling stops by where that step came to (`follows`). Want of memory is free.
-pub record Causes (who : Caller) (before after : Seen) (old : Settling) (turn : Turn Settled) : Type 0 where
-  pub answer : Answer
-  pub made : Makes who (settle_ask old) answer before after
-  pub tells : Tells old answer turn
-  pub exact : StopsExactly old answer turn
+-- ---- a step
+
+-- What a step of a settling is, all of it by the one answer that the cloud gave. The code made the call in hand and took the step that this answer leads
+-- to (`did`), and so did the machine of the part at work, whose contract tells the cause of each trouble that it keeps or answers (`stepped`). The
+-- settling stops by where that step came to (`follows`), as the part at work shows (`tells`), and nowhere else (`exact`); want of memory is free.
+-- Whichever calls it came by, its end tells what they were with this one (`means`), and before an end each lease that they took was given back by a
+-- call (`returned`).
+pub record Stepped (who : Caller) (before after : Seen) (old new : Settling) (turn : Turn Settled) : Type 0 where
+  pub did : Steps settle_ask SettleLeads KeepsSettling who before after old new turn
   pub part : Part
   pub part_turn : Turn ℕ
-  pub stepped : PartStepped who before after old.part answer part part_turn
+  pub stepped : PartStepped who before after old.part did.answer part part_turn
   pub follows : Follows old (next_of part part_turn) turn
+  pub tells : Tells old did.answer turn
+  pub exact : StopsExactly old did.answer turn
+  pub means : (h : List Deed) → Went h old → MeansTurn (deed_of who old did.answer before after ∷ h) new turn
+  pub returned : (h : List Deed) → Went h old → AreReturned (deed_of who old did.answer before after ∷ h) turn

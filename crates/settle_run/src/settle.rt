@@ -2,7 +2,7 @@
 
 ghost use Rattle.std.specs.Prelude.{◌≡◌, ◌<◌, ◌≤◌, ◌^◌, List, [], length};
 ghost use Rattle.cloud_trait.specs.Call.{ask_of};
-ghost use Rattle.cloud_trait.specs.Machine.{Took, Steps, Deed};
+ghost use Rattle.cloud_trait.specs.Machine.{Took, Deed};
 ghost use Rattle.settle_run.specs.Parts.{part_of_tree};
 ghost use Rattle.settle_run.specs.Settling.{behind_client};
 
@@ -52,9 +52,9 @@ impl Model for SettleRun {
 impl SettleRun {
     ghost use Rattle.settle_run.specs.Parts.{part_applying, IsSoundPart};
     ghost use Rattle.settle_run.specs.Ending.{calls_left};
-    ghost use Rattle.settle_run.specs.Meaning.{Went, Meant, Causes};
+    ghost use Rattle.settle_run.specs.Meaning.{Went, Stepped};
     ghost use Rattle.settle_run.specs.Standing.{Holds, GivesBack};
-    ghost use Rattle.settle_run.specs.Settling.{Settling, new_settling, settle_ask, SettleLeads, KeepsSettling, SamePart, after_turn, ended_by, passed, goes_on, to_page, goes_right, behind_tree, is_visited};
+    ghost use Rattle.settle_run.specs.Settling.{Settling, new_settling, settle_ask, SamePart, after_turn, ended_by, passed, goes_on, to_page, goes_right, behind_tree, is_visited};
 
     /// A settling before its first call. Takes no memory.
     pub fn new(alloc: Global) -> SettleRun
@@ -200,7 +200,8 @@ impl SettleRun {
 
     /// Makes the call in hand, and does the local work up to the next one.
     pub fn step<C: Cloud>(&mut self, alloc: Global, cloud: &mut C, who: Who) -> Turn<Settled>
-        ensures steps { Steps settle_ask SettleLeads KeepsSettling who (C.seen cloud.old) (C.seen cloud.new) self.old self.new result }
+        // The call in hand was made, and all that follows from its one answer.
+        ensures steps { Stepped who (C.seen cloud.old) (C.seen cloud.new) self.old self.new result }
         // A recovery at work has the bytes in hand that it is to put or send.
         ensures sound { IsSoundPart self.old.part }
         // Each step that goes on leaves fewer calls.
@@ -209,10 +210,6 @@ impl SettleRun {
         ensures holds { (h : List Deed) → Went h self.old → Holds h self.old }
         // Before an end all leases are given back.
         ensures gives_back { (h : List Deed) → Went h self.old → GivesBack self.new result }
-        // At its end these parts ran, in this order, and all calls are counted.
-        ensures means { Meant who (C.seen cloud.old) (C.seen cloud.new) self.old self.new result }
-        // A trouble that it answers is that of the part at work, or shown by how that ended.
-        ensures causes { Causes who (C.seen cloud.old) (C.seen cloud.new) self.old result }
     {
         let turn = self.part.step(alloc, cloud, who);
         let next = self.follow(alloc, turn);

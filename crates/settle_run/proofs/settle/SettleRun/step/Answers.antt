@@ -1,9 +1,9 @@
 use Rattle.std.proofs.Common.{◌≡◌, ◌<◌, List, refl, subst}
 use Rattle.cloud_trait.specs.declared.turn.Turn.TheVariants.{More}
-use Rattle.cloud_trait.specs.Machine.{Deed, Steps}
+use Rattle.cloud_trait.specs.Machine.{Deed}
 use Rattle.settle_run.specs.Ending.{calls_left}
-use Rattle.settle_run.specs.Meaning.{Went, Meant, Causes}
-use Rattle.settle_run.specs.Settling.{Settling, settle_ask, SettleLeads, KeepsSettling}
+use Rattle.settle_run.specs.Meaning.{Went, Stepped, deed_of}
+use Rattle.settle_run.specs.Settling.{Settling}
 use Rattle.settle_run.specs.Standing.{GivesBack}
 use Rattle.settle_run.specs.contracts.settle.SettleRun.{the_view}
 use Rattle.settle_run.proofs.Causing.{took_tells, took_exact, took_follows}
@@ -16,13 +16,26 @@ use Rattle.settle_run.proofs.settle.SettleRun.step.Goals as goal
 pub returns-clause-steps : goal.returns-clause-steps
 returns-clause-steps g c =
     let s = c.step-turn.ensures.steps.did in
+    let goes = followed (the_view c.self.inside) c.follow-next.new.self c.step-turn.new.self s.answer c.step-turn.result c.follow-next.result s.took c.follow-next.ensures in
+    let before = g.C.Cloud.seen c.args.cloud.now in
+    let after = g.C.Cloud.seen c.step-turn.new.cloud in
     subst
-    (λ (old : Settling). Steps settle_ask SettleLeads KeepsSettling c.args.who (g.C.Cloud.seen c.args.cloud.now) (g.C.Cloud.seen c.step-turn.new.cloud) old c.follow-next.new.self c.follow-next.result)
+    (λ (old : Settling). Stepped c.args.who before after old c.follow-next.new.self c.follow-next.result)
     c.self.view_is
     (record {
-      answer = s.answer;
-      made = s.made;
-      took = followed (the_view c.self.inside) c.follow-next.new.self c.step-turn.new.self s.answer c.step-turn.result c.follow-next.result s.took c.follow-next.ensures;
+      did = record { answer = s.answer; made = s.made; took = goes };
+      part = c.step-turn.new.self;
+      part_turn = c.step-turn.result;
+      stepped = c.step-turn.ensures.steps.stepped;
+      follows = took_follows (the_view c.self.inside) c.follow-next.new.self c.step-turn.new.self c.step-turn.result c.follow-next.result c.follow-next.ensures;
+      tells = took_tells (the_view c.self.inside) c.follow-next.new.self s.answer c.follow-next.result goes;
+      exact = took_exact (the_view c.self.inside) c.follow-next.new.self s.answer c.follow-next.result goes;
+      means = λ h went.
+          took_means h (deed_of c.args.who (the_view c.self.inside) s.answer before after) (the_view c.self.inside) c.follow-next.new.self c.follow-next.result
+          (went_stands h (the_view c.self.inside) went) refl s.made goes;
+      returned = λ h went.
+          took_returns h (deed_of c.args.who (the_view c.self.inside) s.answer before after) (the_view c.self.inside) c.follow-next.new.self c.follow-next.result
+          (went_stands h (the_view c.self.inside) went) refl s.made goes;
     })
 
 pub returns-clause-less : goal.returns-clause-less
@@ -49,43 +62,3 @@ returns-clause-gives_back g c =
     let own = own_calls h (the_view c.self.inside) went in
     took_gives (the_view c.self.inside) c.follow-next.new.self c.step-turn.new.self own.0 s.answer c.step-turn.result c.follow-next.result own.1 s.made.fits
     s.took c.follow-next.ensures)
-
-pub returns-clause-means : goal.returns-clause-means
-returns-clause-means g c =
-    let s = c.step-turn.ensures.steps.did in
-    subst
-    (λ (old : Settling). Meant c.args.who (g.C.Cloud.seen c.args.cloud.now) (g.C.Cloud.seen c.step-turn.new.cloud) old c.follow-next.new.self c.follow-next.result)
-    c.self.view_is
-    (record {
-      answer = s.answer;
-      made = s.made;
-      means = λ h went.
-          took_means h
-          (record { who = c.args.who; ask = settle_ask (the_view c.self.inside); answer = s.answer; before = g.C.Cloud.seen c.args.cloud.now; after = g.C.Cloud.seen c.step-turn.new.cloud })
-          (the_view c.self.inside) c.follow-next.new.self c.follow-next.result (went_stands h (the_view c.self.inside) went) refl s.made
-          (followed (the_view c.self.inside) c.follow-next.new.self c.step-turn.new.self s.answer c.step-turn.result c.follow-next.result s.took c.follow-next.ensures);
-      returned = λ h went.
-          took_returns h
-          (record { who = c.args.who; ask = settle_ask (the_view c.self.inside); answer = s.answer; before = g.C.Cloud.seen c.args.cloud.now; after = g.C.Cloud.seen c.step-turn.new.cloud })
-          (the_view c.self.inside) c.follow-next.new.self c.follow-next.result (went_stands h (the_view c.self.inside) went) refl s.made
-          (followed (the_view c.self.inside) c.follow-next.new.self c.step-turn.new.self s.answer c.step-turn.result c.follow-next.result s.took c.follow-next.ensures);
-    })
-
-pub returns-clause-causes : goal.returns-clause-causes
-returns-clause-causes g c =
-    let s = c.step-turn.ensures.steps.did in
-    subst
-    (λ (old : Settling). Causes c.args.who (g.C.Cloud.seen c.args.cloud.now) (g.C.Cloud.seen c.step-turn.new.cloud) old c.follow-next.result)
-    c.self.view_is
-    (record {
-      answer = s.answer;
-      made = s.made;
-      part = c.step-turn.new.self;
-      part_turn = c.step-turn.result;
-      stepped = c.step-turn.ensures.steps.stepped;
-      follows = took_follows (the_view c.self.inside) c.follow-next.new.self c.step-turn.new.self c.step-turn.result c.follow-next.result c.follow-next.ensures;
-      exact = took_exact (the_view c.self.inside) c.follow-next.new.self s.answer c.follow-next.result
-          (followed (the_view c.self.inside) c.follow-next.new.self c.step-turn.new.self s.answer c.step-turn.result c.follow-next.result s.took c.follow-next.ensures);
-      tells = took_tells (the_view c.self.inside) c.follow-next.new.self s.answer c.follow-next.result
-          (followed (the_view c.self.inside) c.follow-next.new.self c.step-turn.new.self s.answer c.step-turn.result c.follow-next.result s.took c.follow-next.ensures);
-    })

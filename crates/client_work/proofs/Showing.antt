@@ -1,11 +1,9 @@
 -- A step of a session shows what its operation read, and a scan in hand is under way behind it.
-use Rattle.std.proofs.Common.{◌≡◌, ◌⊎◌, inl, inr, ℕ, Bool, true, false, List, [], ◌∷◌, ◌++◌, Option, Some, None, Result, Ok, Err, refl, ap, sym, subst, ◌∙◌}
+use Rattle.std.proofs.Common.{◌≡◌, inl, inr, ℕ, Bool, true, false, List, [], ◌∷◌, ◌++◌, Option, Some, None, Ok, refl, ap, sym, subst, ◌∙◌}
 use Rattle.std.specs.Prelude.{map, if◌then◌else◌, unwrap_or}
 use Rattle.std.specs.List.{AllByRecursion}
 use Rattle.db_base.specs.declared.names.ObjName.TheVariants as object
 use Rattle.db_base.specs.declared.pair.Pair.{Pair}
-use Rattle.db_base.specs.declared.refusal.Refused.{Refused}
-use Rattle.db_base.specs.declared.refusal.Refused.TheVariants as refused
 use Rattle.db_base.specs.declared.trouble.Trouble.{Trouble}
 use Rattle.db_base.specs.declared.trouble.Trouble.TheVariants as trouble
 use Rattle.db_base.specs.declared.trouble.CommitAnswer.{CommitAnswer}
@@ -14,22 +12,20 @@ use Rattle.leaf_view.specs.Leaf.{Entry, Leaf}
 use Rattle.leaf_view.specs.Lookup.{holds}
 use Rattle.route_plan.specs.Seen.{seen}
 use Rattle.txn_buffer.specs.Noted.{Noted}
-use Rattle.cloud_trait.specs.declared.answer.Answer.{Answer as Heard}
 use Rattle.cloud_trait.specs.declared.turn.Turn.{Turn}
 use Rattle.cloud_trait.specs.declared.turn.Turn.TheVariants.{More, Ended, Stopped}
 use Rattle.cloud_trait.specs.Ask.{Get}
 use Rattle.cloud_trait.specs.Caller.{Caller}
-use Rattle.cloud_trait.specs.Machine.{Goes}
 use Rattle.cloud_trait.specs.Seen.{Seen}
-use Rattle.page_cache.specs.Cache.{Cache, kept_at}
+use Rattle.page_cache.specs.Cache.{Cache}
 use Rattle.page_cache.specs.Held.{leaf_at, as_leaf}
 use Rattle.tree_walk.specs.Moves.{Moves}
 use Rattle.tree_walk.specs.Walk.{Walk, new_walk, sought, object_of, IsAtLeaf, HasAim}
 use Rattle.tree_walk.specs.Stepped.{Stepped as StepsWalk}
 use Rattle.range_scan.specs.Scan.{Scan, scan_object, scan_ready, goes_on, moved_on}
 use Rattle.range_scan.specs.Listing.{Range, range_of, scan_of, Move, Scanned, IsAt, leaves_of, AreMeeting}
-use Rattle.range_scan.specs.Pairs.{Sight, AreItems, AreItemsIn, sight_of}
-use Rattle.range_scan.specs.Whole.{Listed, leaves_in, all_pairs, IsListed}
+use Rattle.range_scan.specs.Pairs.{AreItems, AreItemsIn, sight_of}
+use Rattle.range_scan.specs.Whole.{Listed, all_pairs, IsListed}
 use Rattle.range_scan.specs.Stepped.{Stepped as StepsScan}
 use Rattle.range_scan.proofs.Exactness.{NeverEnds, ready_unended}
 use Rattle.range_scan.proofs.Fences.{read_is_fenced}
@@ -45,10 +41,9 @@ use Rattle.client_work.specs.declared.listing.Listing.{Listing}
 use Rattle.client_work.specs.declared.op.Op.{Op}
 use Rattle.client_work.specs.declared.op.Op.TheVariants as op
 use Rattle.client_work.specs.declared.shown.Shown.{Shown}
-use Rattle.client_work.specs.declared.shown.Shown.TheVariants.{Nothing, Read, Listed as ListedShown}
 use Rattle.client_work.specs.declared.work.Work.{Work}
 use Rattle.client_work.specs.declared.work.Work.TheVariants.{Closed, Idle, Opening, Committing, Reading, Scanning, Paging, Folding, Closing, Renewing, Settling, Broken}
-use Rattle.client_work.specs.Session.{Acting, Begins, BeginsWith, HasInHand, CommitsOf, CommitsNoted, ReadsOf, ScansOf, Follows, ListsLeaf, IsListed as ListsAll, StepsAt, ShowsAt, StepsOpening, StepsCommit, StepsReading, StepsPaging, StepsFolding, StepsSettling, StepsClosing, StepsRenewing, ReadsBy, StepsScanning, ShowsWhole, stopped_work, opened_work, committed_work, opening_of, old_lease, paging_begun_by, folding_begun_by, noted_behind, shown_behind, rule_of, value_in, items_in}
+use Rattle.client_work.specs.Session.{Acting, Begins, HasInHand, CommitsOf, CommitsNoted, ReadsOf, ScansOf, Follows, ListsLeaf, StepsAt, ShowsAt, ReadsBy, StepsScanning, ShowsWhole, stopped_work, opened_work, committed_work, opening_of, old_lease, paging_begun_by, folding_begun_by, noted_behind, shown_behind, rule_of, value_in, items_in}
 use Rattle.client_work.specs.Showing.{ShowsValue, pair_of, sight_in, IsSeen, Lists, IsUnderWay, ShowsRecords, IsKnown, read_deed, scan_deed}
 
 -- ---- what is no scan
@@ -110,7 +105,7 @@ module _ (who : Caller) (before after : Seen) where
   work_plain (Renewing home) left (Ended (answer.Trouble k)) o p = plain_as left (stopped_work k p.0) p.2 (stopped_plain k p.0)
   work_plain (Renewing home) left turn o p = absurd p
   work_plain (Settling m) left More o p = plain_as left (Settling p.1.0) p.1.2 tt
-  work_plain (Settling m) left (Ended (answer.Settled n)) o p = plain_as left Closed p.1.3 tt
+  work_plain (Settling m) left (Ended (answer.Settled n)) o p = plain_as left Closed p.1.2 tt
   work_plain (Settling m) left (Ended (answer.Trouble k)) o p = plain_as left Closed p.1.2 tt
   work_plain (Settling m) left turn o p = absurd p.1
   work_plain Closed left turn o p = absurd p

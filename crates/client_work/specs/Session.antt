@@ -49,9 +49,9 @@ use Rattle.tree_moves.specs.Work.{applying_in}
 use Rattle.tree_ckpt.specs.Ending.{calls_in}
 use Rattle.tree_ckpt.specs.Making.{Making, new_making, making_ask, MakingLeads, KeepsLeases as KeepsTreeLeases}
 use Rattle.settle_run.specs.Ending.{calls_left as settling_left}
-use Rattle.settle_run.specs.Meaning.{Meant}
+use Rattle.settle_run.specs.Meaning.{Stepped as SettlingStepped}
 use Rattle.settle_run.specs.Parts.{part_applying, IsSoundPart}
-use Rattle.settle_run.specs.Settling.{Settling as SettlingState, new_settling, settle_ask, SettleLeads, KeepsSettling}
+use Rattle.settle_run.specs.Settling.{Settling as SettlingState, new_settling, settle_ask}
 use Rattle.client_work.specs.declared.listing.Listing.{Listing}
 use Rattle.client_work.specs.declared.shown.Shown.{Shown}
 use Rattle.client_work.specs.declared.shown.Shown.TheVariants.{Nothing, Read, Listed}
@@ -375,11 +375,11 @@ StepsFolding home who before after old work turn = ⊥
 -- one step of a settling, and what it leaves in hand; at its end all its parts ran and all its calls are counted
 abbrev pub StepsSettling : Caller → Seen → Seen → SettlingState → Work → Turn Answer → Type 0
 StepsSettling who before after old work More =
-    (m : SettlingState) × Steps settle_ask SettleLeads KeepsSettling who before after old m More × (work ≡ Settling m) × (settling_left m < settling_left old)
+    (m : SettlingState) × SettlingStepped who before after old m More × (work ≡ Settling m) × (settling_left m < settling_left old)
 StepsSettling who before after old work (Ended (answer.Settled n)) =
-    (m : SettlingState) × Steps settle_ask SettleLeads KeepsSettling who before after old m (Ended n) × Meant who before after old m (Ended n) × (work ≡ Closed)
+    (m : SettlingState) × SettlingStepped who before after old m (Ended n) × (work ≡ Closed)
 StepsSettling who before after old work (Ended (answer.Trouble k)) =
-    (m : SettlingState) × Steps settle_ask SettleLeads KeepsSettling who before after old m (Stopped k) × (work ≡ Closed)
+    (m : SettlingState) × SettlingStepped who before after old m (Stopped k) × (work ≡ Closed)
 StepsSettling who before after old work turn = ⊥
 
 -- a lease is given back: what the call answered, and what that comes to

@@ -58,7 +58,7 @@ settle_asks lines row w settles own sound ask e = absurd settles
 
 -- a settling that goes on is one
 pub settling_goes : (who : Caller) (before after : Seen) (w new : Work) → StepsAt who before after w new More → IsSettling w → IsSettling new
-settling_goes who before after (Settling m) new p is = subst IsSettling (sym p.1.2) (settling_stays m p.1.0 p.1.1.answer p.1.1.took is)
+settling_goes who before after (Settling m) new p is = subst IsSettling (sym p.1.2) (settling_stays m p.1.0 p.1.1.did.answer p.1.1.did.took is)
 settling_goes who before after w new p is = absurd is
 
 -- how the session of a row within a line stands after the lines before it

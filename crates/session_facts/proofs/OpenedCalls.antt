@@ -425,7 +425,7 @@ step_leads who before after (Broken lease) new turn s acts p = absurd p
 -- what the settler leads to works for no client
 settles_lead : (who : Caller) (before after : Seen) (w new : Work) (turn : Turn Answer) → IsSettling w → StepsAt who before after w new turn → LeadsFrom w new
 settles_lead who before after (Settling m) new More settles (sound, p) = away_leads _ _ (Settling p.0) new p.2 (λ head. tt) tt (λ client h. h)
-settles_lead who before after (Settling m) new (Ended (answer.Settled n)) settles (sound, p) = closed_leads _ _ new p.3
+settles_lead who before after (Settling m) new (Ended (answer.Settled n)) settles (sound, p) = closed_leads _ _ new p.2
 settles_lead who before after (Settling m) new (Ended (answer.Trouble k)) settles (sound, p) = closed_leads _ _ new p.2
 settles_lead who before after (Settling m) new turn settles p = absurd p.1
 settles_lead who before after w new turn settles p = absurd settles

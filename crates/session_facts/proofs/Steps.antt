@@ -88,9 +88,9 @@ made_call who before after (Closing lease) new turn p = absurd p
 made_call who before after (Renewing home) new (Ended (answer.Renewed end)) p = record { ask = Renew home.lease 600; answer = p.1.answer; hand = refl; made = p.1.made }
 made_call who before after (Renewing home) new (Ended (answer.Trouble k)) p = record { ask = Renew home.lease 600; answer = p.1.answer; hand = refl; made = p.1.made }
 made_call who before after (Renewing home) new turn p = absurd p
-made_call who before after (Settling m) new More p = record { ask = settle_ask m; answer = p.1.1.answer; hand = refl; made = p.1.1.made }
-made_call who before after (Settling m) new (Ended (answer.Settled n)) p = record { ask = settle_ask m; answer = p.1.1.answer; hand = refl; made = p.1.1.made }
-made_call who before after (Settling m) new (Ended (answer.Trouble k)) p = record { ask = settle_ask m; answer = p.1.1.answer; hand = refl; made = p.1.1.made }
+made_call who before after (Settling m) new More p = record { ask = settle_ask m; answer = p.1.1.did.answer; hand = refl; made = p.1.1.did.made }
+made_call who before after (Settling m) new (Ended (answer.Settled n)) p = record { ask = settle_ask m; answer = p.1.1.did.answer; hand = refl; made = p.1.1.did.made }
+made_call who before after (Settling m) new (Ended (answer.Trouble k)) p = record { ask = settle_ask m; answer = p.1.1.did.answer; hand = refl; made = p.1.1.did.made }
 made_call who before after (Settling m) new turn p = absurd p.1
 made_call who before after Closed new turn p = absurd p
 made_call who before after (Idle home) new turn p = absurd p

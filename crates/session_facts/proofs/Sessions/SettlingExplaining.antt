@@ -100,11 +100,11 @@ module _ (who : Caller) (before after : Seen) (s t : CloudState) (book : Book) (
 
     pub settling_explains : (work : Work) (turn : Turn Answer) → (steps : StepsSettling who before after m work turn) → settling_reply who before after m work turn steps ≢ Memory
         → Explains (settle_ask m) before.counts after.counts s t (Settling m) work turn
-    settling_explains work More (n, steps, to, less) found = subst (λ (w : Work). Explained w More) (sym to) (goes_on steps.answer steps.made found n steps.took)
-    settling_explains work (Ended (answer.Settled x)) (n, steps, meant, to) found =
-        subst (λ (w : Work). Explained w (Ended (answer.Settled x))) (sym to) (ends steps.answer steps.made found n x steps.took)
+    settling_explains work More (n, steps, to, less) found = subst (λ (w : Work). Explained w More) (sym to) (goes_on steps.did.answer steps.did.made found n steps.did.took)
+    settling_explains work (Ended (answer.Settled x)) (n, steps, to) found =
+        subst (λ (w : Work). Explained w (Ended (answer.Settled x))) (sym to) (ends steps.did.answer steps.did.made found n x steps.did.took)
     settling_explains work (Ended (answer.Trouble k)) (n, steps, to) found =
-        subst (λ (w : Work). Explained w (Ended (answer.Trouble k))) (sym to) (stops steps.answer steps.made found n k steps.took.0)
+        subst (λ (w : Work). Explained w (Ended (answer.Trouble k))) (sym to) (stops steps.did.answer steps.did.made found n k steps.did.took.0)
     settling_explains work (Stopped k) never found = absurd never
     settling_explains work (Ended answer.Closed) never found = absurd never
     settling_explains work (Ended (answer.Renewed end)) never found = absurd never

@@ -87,9 +87,9 @@ module _ (who : Caller) (before after : Seen) (book : Book) (order : List Entry)
     }
 
   pub settling_step : (work : Work) (turn : Turn Answer) → StepsSettling who before after m work turn → Stepped work
-  settling_step work More (n, steps, is, less) = subst Stepped (sym is) (goes_on steps.answer steps.made n steps.took)
-  settling_step work (Ended (answer.Settled n)) (left, steps, meant, is) = subst Stepped (sym is) (ends steps.answer steps.made)
-  settling_step work (Ended (answer.Trouble k)) (left, steps, is) = subst Stepped (sym is) (ends steps.answer steps.made)
+  settling_step work More (n, steps, is, less) = subst Stepped (sym is) (goes_on steps.did.answer steps.did.made n steps.did.took)
+  settling_step work (Ended (answer.Settled n)) (left, steps, is) = subst Stepped (sym is) (ends steps.did.answer steps.did.made)
+  settling_step work (Ended (answer.Trouble k)) (left, steps, is) = subst Stepped (sym is) (ends steps.did.answer steps.did.made)
   settling_step work (Stopped k) never = absurd never
   settling_step work (Ended answer.Closed) never = absurd never
   settling_step work (Ended (answer.Renewed end)) never = absurd never

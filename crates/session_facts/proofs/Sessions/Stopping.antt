@@ -177,9 +177,9 @@ module _ (who : Caller) (before after : Seen) (s t : CloudState) (book : Book) (
 
   settling_may : (m : SettlingState) → old ≡ Settling m → (work : Work) (k : Trouble) → StepsSettling who before after m work (Ended (answer.Trouble k)) → MayAnswer (Settling m) k
   settling_may m is work k (n, steps, closed) =
-      let call = called (settle_ask m) steps.answer steps.made in
+      let call = called (settle_ask m) steps.did.answer steps.did.made in
       or_memory (MayAnswer (Settling m)) k tt
-      (λ other. settling_stops who s t book order stand.parts steps.answer m (setting_at (Settling m) is call.later) (known_now (Settling m) is) call n k (steps.took.0 other))
+      (λ other. settling_stops who s t book order stand.parts steps.did.answer m (setting_at (Settling m) is call.later) (known_now (Settling m) is) call n k (steps.did.took.0 other))
 
   -- ---- the whole
 

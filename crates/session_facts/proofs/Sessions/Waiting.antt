@@ -110,18 +110,18 @@ module _ (who : Caller) (before after : Seen) (s t : CloudState) where
     pub settling_waits : (work : Work) (turn : Turn Answer) → StepsSettling who before after m work turn → trouble_of_part m.part ≡ None → (have need : ℕ)
         → Meets work turn (trouble.Waiting have need) → Withheld ⊎ WaitsLate work turn t.now
     settling_waits work More (n, steps, is, less) none have need (inl kept) =
-        on (waits_by steps.answer steps.made (Goes n) steps.took none have need (sym (ap trouble_in is) ∙ kept))
+        on (waits_by steps.did.answer steps.did.made (Goes n) steps.did.took none have need (sym (ap trouble_in is) ∙ kept))
       where
         on : Withheld ⊎ SettlingGivesBack (Goes n) t.now → Withheld ⊎ WaitsLate work More t.now
         on (inl rose) = inl rose
         on (inr late) = inr (gives_back work (settle_ask n) t.now (ap ask_of_work is) late)
     settling_waits work More (n, steps, is, less) none have need (inr now) = absurd (never_some (trouble.Waiting have need) now)
-    settling_waits work (Ended (answer.Settled x)) (n, steps, meant, is) none have need (inl kept) = absurd (never_some (trouble.Waiting have need) (sym (ap trouble_in is) ∙ kept))
-    settling_waits work (Ended (answer.Settled x)) (n, steps, meant, is) none have need (inr now) = absurd (never_some (trouble.Waiting have need) now)
+    settling_waits work (Ended (answer.Settled x)) (n, steps, is) none have need (inl kept) = absurd (never_some (trouble.Waiting have need) (sym (ap trouble_in is) ∙ kept))
+    settling_waits work (Ended (answer.Settled x)) (n, steps, is) none have need (inr now) = absurd (never_some (trouble.Waiting have need) now)
     settling_waits work (Ended (answer.Trouble q)) (n, steps, is) none have need (inl kept) = absurd (never_some (trouble.Waiting have need) (sym (ap trouble_in is) ∙ kept))
     settling_waits work (Ended (answer.Trouble q)) (n, steps, is) none have need (inr now) =
         let same : q ≡ trouble.Waiting have need = cc (now) in
-        only (waits_by steps.answer steps.made (Stops n q) (steps.took.0 (λ (e : q ≡ trouble.Memory). cc (same, e))) none have need same)
+        only (waits_by steps.did.answer steps.did.made (Stops n q) (steps.did.took.0 (λ (e : q ≡ trouble.Memory). cc (same, e))) none have need same)
       where
         only : Withheld ⊎ ⊥ → Withheld ⊎ WaitsLate work (Ended (answer.Trouble q)) t.now
         only (inl rose) = inl rose

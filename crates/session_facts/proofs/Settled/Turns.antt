@@ -60,11 +60,11 @@ stepped : (who : Caller) (before after : Seen) (buffer : List Noted) (old : Work
     → (p : StepsAt who before after old new turn) → (q : ShowsAt who before after buffer old c d new shown turn) → (m : Settling) → old ≡ work.Settling m
     → IsStep who before after m (reply_at who before after buffer old c d new shown turn p q) new turn
 stepped who before after buffer (work.Settling k) c d new shown More p q m e =
-    subst (λ (x : Settling). IsStep who before after x p.1.1.answer new More) (same_settling k m e) (p.1.1.made, (p.1.0, (p.1.1.took, p.1.2)))
+    subst (λ (x : Settling). IsStep who before after x p.1.1.did.answer new More) (same_settling k m e) (p.1.1.did.made, (p.1.0, (p.1.1.did.took, p.1.2)))
 stepped who before after buffer (work.Settling k) c d new shown (Ended (answer.Settled x)) p q m e =
-    subst (λ (y : Settling). IsStep who before after y p.1.1.answer new (Ended (answer.Settled x))) (same_settling k m e) (p.1.1.made, (p.1.0, p.1.1.took))
+    subst (λ (y : Settling). IsStep who before after y p.1.1.did.answer new (Ended (answer.Settled x))) (same_settling k m e) (p.1.1.did.made, (p.1.0, p.1.1.did.took))
 stepped who before after buffer (work.Settling k) c d new shown (Ended (answer.Trouble t)) p q m e =
-    subst (λ (y : Settling). IsStep who before after y p.1.1.answer new (Ended (answer.Trouble t))) (same_settling k m e) (p.1.1.made, tt)
+    subst (λ (y : Settling). IsStep who before after y p.1.1.did.answer new (Ended (answer.Trouble t))) (same_settling k m e) (p.1.1.did.made, tt)
 stepped who before after buffer (work.Settling k) c d new shown turn p q m e = absurd p.1
 stepped who before after buffer (work.Opening r) c d new shown turn p q m e = absurd (cc (e))
 stepped who before after buffer (work.Committing r) c d new shown turn p q m e = absurd (cc (e))

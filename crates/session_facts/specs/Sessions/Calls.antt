@@ -73,9 +73,9 @@ renewing_reply home who before after work (Ended (answer.Trouble k)) p = p.1.ans
 renewing_reply home who before after work turn p = absurd p
 
 abbrev pub settling_reply : (who : Caller) (before after : Seen) (m : SettlingState) (work : Work) (turn : Turn Answer) → StepsSettling who before after m work turn → Reply
-settling_reply who before after m work More p = p.1.answer
-settling_reply who before after m work (Ended (answer.Settled n)) p = p.1.answer
-settling_reply who before after m work (Ended (answer.Trouble k)) p = p.1.answer
+settling_reply who before after m work More p = p.1.did.answer
+settling_reply who before after m work (Ended (answer.Settled n)) p = p.1.did.answer
+settling_reply who before after m work (Ended (answer.Trouble k)) p = p.1.did.answer
 settling_reply who before after m work turn p = absurd p
 
 -- whatever was at work

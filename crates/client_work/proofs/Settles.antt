@@ -14,7 +14,7 @@ use Rattle.client_work.specs.Settling.{IsSettling, IsUntold}
 
 -- what is seen of a cloud but for what it tells
 abbrev untold : Seen → Seen
-untold s = record { counts = s.counts; state = None; heard = None }
+untold s = record { counts = s.counts; state = None; heard = None; shown = None }
 
 none_some : {A : Type 0} (a : A) → (let o : Option A = None in o ≡ Some a) → ⊥
 none_some a e = cc
@@ -28,6 +28,7 @@ made_untold who ask a before after m = record {
   dark = m.dark;
   failed = m.failed;
   memory = m.memory;
+  shown = λ p e. absurd (none_some p e);
   state = λ s e. absurd (none_some s e);
 }
 

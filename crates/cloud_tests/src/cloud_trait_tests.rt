@@ -27,7 +27,7 @@ impl Cloud for Silent {
     ghost use Rattle.std.specs.Prelude.{None};
     ghost use Rattle.cloud_trait.specs.Seen.{Seen};
 
-    ghost seen = { λ c. record { counts = record { faults = c.faults; withheld = 0; stale = 0; dark = 0 }; state = None; heard = None } };
+    ghost seen = { λ c. record { counts = record { faults = c.faults; withheld = 0; stale = 0; dark = 0 }; state = None; heard = None; shown = None } };
 
     fn now(&self) -> u64 {
         0

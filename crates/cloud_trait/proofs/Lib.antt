@@ -1,6 +1,7 @@
 pub mod EffectLemmas
 pub mod NameLemmas
 pub mod RowLemmas
+pub mod ShowingLemmas
 pub mod StateLemmas
 pub mod TracedLemmas
 pub mod UptoLemmas

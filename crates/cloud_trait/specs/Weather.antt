@@ -1,11 +1,13 @@
 -- What each service call may answer, and what it leaves: one table.
 use Rattle.std.specs.Prelude.{ℕ, ◌≡◌, ◌+◌, ◌≤◌, ◌<◌, ◌⊎◌, length, Option, Some, All, IsSomeAnd}
+use Rattle.db_base.specs.declared.names.ObjName.{ObjName}
 use Rattle.cloud_trait.specs.declared.answer.Answer.{Answer}
 use Rattle.cloud_trait.specs.declared.answer.Answer.TheVariants.{Got, Sent, Received, Done, Given, Held, Renewed, Late, Failed, Memory}
 use Rattle.cloud_trait.specs.Caller.{Caller}
 use Rattle.cloud_trait.specs.Claim.{Claim, Lasts, IsOver, extended}
-use Rattle.cloud_trait.specs.State.{CloudState, Counts, newest, version_at, called, end_after, lease_given}
-use Rattle.cloud_trait.specs.Seen.{Seen}
+use Rattle.cloud_trait.specs.State.{CloudState, Counts, put_at, newest, version_at, called, end_after, lease_given}
+use Rattle.cloud_trait.specs.Names.{object_cmp}
+use Rattle.cloud_trait.specs.Seen.{Seen, Showing}
 use Rattle.cloud_trait.specs.Delivery.{WasSent, IsDelivering}
 use Rattle.cloud_trait.specs.Ask.{Ask, Get, GetHeld, PutHeld, Send, Receive, Delete, Take, Renew, Release, Lands}
 
@@ -74,6 +76,16 @@ pub record Leaves (who : Caller) (ask : Ask) (answer : Answer) (c d : Counts) (s
   pub later : s.now ≤ after.now
   pub row : Weather who ask answer c d (called who after.now s) after
 
+-- what a call may leave of what looks show: all, or of a put all but its object, which has the new bytes
+abbrev pub LeavesShown : Ask → Showing → Showing → Type 0
+LeavesShown (PutHeld put bytes one two) p q =
+    ((name : ObjName) → q name ≡ p name) ⊎ ((name : ObjName) → q name ≡ put_at object_cmp p put (Some bytes) name)
+LeavesShown ask p q = (name : ObjName) → q name ≡ p name
+
+-- where the cloud tells what looks show, it tells it after a call too, and that is what the call may leave
+abbrev pub GoesOnShowing : Ask → Option Showing → Option Showing → Type 0
+GoesOnShowing ask old new = (p : Showing) → old ≡ Some p → (q : Showing) × (new ≡ Some q) × LeavesShown ask p q
+
 -- what one service call is, by what it asked and answered: where the cloud tells what it answered, that is the answer; want
 -- of memory raises no count
 pub record Makes (who : Caller) (ask : Ask) (answer : Answer) (old new : Seen) : Type 0 where
@@ -83,6 +95,7 @@ pub record Makes (who : Caller) (ask : Ask) (answer : Answer) (old new : Seen) :
   pub dark : new.counts.dark ≡ old.counts.dark
   pub failed : answer ≡ Failed → Rose old.counts.faults new.counts.faults
   pub memory : answer ≡ Memory → new.counts ≡ old.counts
+  pub shown : GoesOnShowing ask old.shown new.shown
   pub state : (s : CloudState) → old.state ≡ Some s → Leaves who ask answer old.counts new.counts s new.state
 
 -- what a failed renewal leaves of a told state and of the lease: both as they were, or both renewed

@@ -7,7 +7,7 @@ ghost use Rattle.cloud_trait.specs.State.{CloudState, newest};
 ghost use Rattle.cloud_trait.specs.Seen.{Seen};
 ghost use Rattle.cloud_trait.specs.Delivery.{unmarked};
 ghost use Rattle.cloud_trait.specs.Weather.{Makes, RenewsLease};
-ghost use Rattle.cloud_trait.specs.Bench.{Waits, Looks, IsNoCall, has_bytes};
+ghost use Rattle.cloud_trait.specs.Bench.{Waits, Looks, IsNoCall, IsShown, IsShownToHave, has_bytes};
 
 use crate::fault::{CloudFault, HeldFault};
 use crate::grant::Grant;
@@ -22,7 +22,7 @@ use db_base::wish::Wish;
 /// What a client has: an object store with old reads, queues that withhold, repeat and reorder, and locks
 /// with leases. A call that failed may have landed.
 pub trait Cloud {
-    /// What is seen of it: the counts, which never fall, and the state and the newest answer where it tells them.
+    /// What is seen of it: the counts, which never fall, and the state, the newest answer and what looks show where it tells them.
     ghost seen: { Self → Seen };
 
     /// The clock, in ticks.
@@ -95,12 +95,14 @@ pub trait Bench: Cloud {
     /// Looks at the newest version of an object.
     fn peek(&mut self, name: ObjName) -> Result<Option<Blob>, CloudFault>
         ensures looks { Looks result (Self.seen self.old) (Self.seen self.new) }
-        ensures newest { (s : CloudState) → (Self.seen self.old).state ≡ Some s → IfOk result (λ v. v ≡ newest s name) };
+        ensures newest { (s : CloudState) → (Self.seen self.old).state ≡ Some s → IfOk result (λ v. v ≡ newest s name) }
+        ensures shown { IfOk result (IsShown (Self.seen self.old) name) };
 
     /// Looks whether the newest version of an object has these bytes.
     fn has(&mut self, name: ObjName, bytes: &[u8]) -> Result<bool, CloudFault>
         ensures looks { Looks result (Self.seen self.old) (Self.seen self.new) }
-        ensures newest { (s : CloudState) → (Self.seen self.old).state ≡ Some s → IfOk result (λ is. is ≡ has_bytes (newest s name) bytes.now) };
+        ensures newest { (s : CloudState) → (Self.seen self.old).state ≡ Some s → IfOk result (λ is. is ≡ has_bytes (newest s name) bytes.now) }
+        ensures shown { IfOk result (IsShownToHave (Self.seen self.old) name bytes.now) };
 
     /// Counts the messages of a queue that are not deleted.
     fn backlog(&mut self, queue: QueueName) -> Result<u64, CloudFault>

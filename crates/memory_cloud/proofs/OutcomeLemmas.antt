@@ -26,6 +26,7 @@ use Rattle.cloud_trait.specs.Delivery.{unmarked, unmarked_from, WasSent}
 use Rattle.cloud_trait.specs.Ask.{Ask, Get, GetHeld, PutHeld, Send, Receive, Delete, Take, Renew, Release, effect, Lands}
 use Rattle.cloud_trait.specs.Weather.{Weather, Fits, Makes, Leaves, Rises, RenewsBoth, RenewsLease}
 use Rattle.cloud_trait.proofs.RowLemmas.{row_rest}
+use Rattle.cloud_trait.proofs.ShowingLemmas.{row_shows}
 use Rattle.memory_cloud.specs.Choice.{chosen}
 use Rattle.memory_cloud.specs.Outcome.{late, may_land, plain_answer, in_time, old_version, positions_of, answer_in, state_in, counts_in, one_fault, one_withheld, one_stale, end_if_over, end_of_second, Obeys, lease_in}
 use Rattle.memory_cloud.specs.declared.mood.Mood.{Mood}
@@ -37,7 +38,7 @@ over_cases P end now over lasts = elim (leb_tells end now) [ inl w ↦ subst P (
 
 -- what is seen of a cloud that tells its state and not its answers
 abbrev told : Counts → CloudState → Seen
-told c s = record { counts = c; state = Some s; heard = None }
+told c s = record { counts = c; state = Some s; heard = None; shown = Some (newest s) }
 
 -- a row of the table, with all that a call says beside it
 record IsRow (who : Caller) (ask : Ask) (a : Answer) (c d : Counts) (b t : CloudState) : Type 0 where
@@ -243,6 +244,7 @@ obeys_makes m who ask a c d s t o =
       dark = r.dark;
       failed = r.failed;
       memory = r.memory;
+      shown = row_shows who ask a c d (called who s.now s) t r.row;
       state = λ u e. (let same : s ≡ u = cc in subst Q same leaves);
     }
 
@@ -293,12 +295,12 @@ obeys_renews m who l n ticks a c d s t (inl o) never e =
 
 -- what is seen of a cloud in which foreign bytes were planted, or none
 abbrev seen_in : Bool → Counts → CloudState → Seen
-seen_in planted c s = record { counts = c; state = cond planted None (Some s); heard = None }
+seen_in planted c s = record { counts = c; state = cond planted None (Some s); heard = None; shown = Some (newest s) }
 
 -- where the state is not told, less is said of a call
 untold_makes : (planted : Bool) (who : Caller) (ask : Ask) (a : Answer) (c d : Counts) (s t : CloudState) → Makes who ask a (told c s) (told d t) → Makes who ask a (seen_in planted c s) (seen_in planted d t)
 untold_makes false who ask a c d s t m = m
-untold_makes true who ask a c d s t m = record { fits = m.fits; heard = m.heard; counts = m.counts; dark = m.dark; failed = m.failed; memory = m.memory; state = λ u e. absurd (cc (e)) }
+untold_makes true who ask a c d s t m = record { fits = m.fits; heard = m.heard; counts = m.counts; dark = m.dark; failed = m.failed; memory = m.memory; shown = m.shown; state = λ u e. absurd (cc (e)) }
 
 untold_renews : (planted : Bool) (who : Caller) (ticks : ℕ) (l n : Claim) (a : Answer) (c d : Counts) (s t : CloudState) → RenewsLease who ticks l n a (told c s) (told d t) → RenewsLease who ticks l n a (seen_in planted c s) (seen_in planted d t)
 untold_renews false who ticks l n a c d s t r = r

@@ -1,7 +1,7 @@
 -- What the cloud in memory tells of itself.
 use Rattle.std.specs.Prelude.{ℕ, ◌≡◌, ◌+◌, min, Bool, cond, List, Option, Some, None}
 use Rattle.std.specs.Option.{option_map}
-use Rattle.cloud_trait.specs.State.{CloudState, Counts, greatest}
+use Rattle.cloud_trait.specs.State.{CloudState, Counts, greatest, newest}
 use Rattle.cloud_trait.specs.Caller.{Caller}
 use Rattle.cloud_trait.specs.Seen.{Seen}
 use Rattle.memory_cloud.specs.Maps.{versions_in, messages_in, hold_in}
@@ -42,9 +42,9 @@ is_planted c = c.planted
 abbrev pub told_state : MemoryCloud → Option CloudState
 told_state c = cond (is_planted c) None (Some (state_of c))
 
--- what is seen of it; it does not tell what it answered
+-- what is seen of it: a look at an object shows its newest version, planted or not; it does not tell what it answered
 abbrev pub seen_of : MemoryCloud → Seen
-seen_of c = record { counts = counts_of c; state = told_state c; heard = None }
+seen_of c = record { counts = counts_of c; state = told_state c; heard = None; shown = Some (newest (state_of c)) }
 
 -- the number of its next service call, from 1
 abbrev pub next_call : MemoryCloud → ℕ

@@ -6,7 +6,7 @@ ghost use Rattle.cloud_trait.specs.Ask.{Get, GetHeld, PutHeld, Send, Receive, De
 ghost use Rattle.cloud_trait.specs.State.{CloudState, called, newest, end_after, greatest};
 ghost use Rattle.cloud_trait.specs.Delivery.{unmarked};
 ghost use Rattle.cloud_trait.specs.Weather.{Makes, RenewsLease};
-ghost use Rattle.cloud_trait.specs.Bench.{Waits, Looks, IsNoCall, has_bytes};
+ghost use Rattle.cloud_trait.specs.Bench.{Waits, Looks, IsNoCall, IsShown, IsShownToHave, has_bytes};
 ghost use Rattle.cloud_trait.specs.declared.fault.CloudFault.{CloudFault};
 ghost use Rattle.memory_cloud.specs.Memory.{state_of, counts_of, is_planted, told_state, seen_of, next_mood, CountsCall, MakesNoCall};
 ghost use Rattle.memory_cloud.specs.Outcome.{Obeys, lease_in};
@@ -158,6 +158,7 @@ impl Bench for MemoryCloud {
     fn peek(&mut self, name: ObjName) -> Result<Option<Blob>, CloudFault>
         ensures looks { Looks result (seen_of self.old) (seen_of self.new) }
         ensures newest { (s : CloudState) → told_state self.old ≡ Some s → IfOk result (λ v. v ≡ newest s name) }
+        ensures shown { IfOk result (IsShown (seen_of self.old) name) }
         ensures call { MakesNoCall self.old self.new }
         ensures planted { is_planted self.new ≡ is_planted self.old }
     {
@@ -173,6 +174,7 @@ impl Bench for MemoryCloud {
     fn has(&mut self, name: ObjName, bytes: &[u8]) -> Result<bool, CloudFault>
         ensures looks { Looks result (seen_of self.old) (seen_of self.new) }
         ensures newest { (s : CloudState) → told_state self.old ≡ Some s → IfOk result (λ is. is ≡ has_bytes (newest s name) bytes.now) }
+        ensures shown { IfOk result (IsShownToHave (seen_of self.old) name bytes.now) }
         ensures no_memory { (e : CloudFault) → result ≢ Err e }
         ensures call { MakesNoCall self.old self.new }
         ensures planted { is_planted self.new ≡ is_planted self.old }

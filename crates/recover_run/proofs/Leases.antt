@@ -392,7 +392,7 @@ next_stands client aim old d h r next went asks fits leads =
 -- a deed that asked and answered this
 abbrev asked : Ask → Answer → Deed
 asked q a =
-    let none : Seen = record { counts = record { faults = 0; withheld = 0; stale = 0; dark = 0 }; state = None; heard = None } in
+    let none : Seen = record { counts = record { faults = 0; withheld = 0; stale = 0; dark = 0 }; state = None; heard = None; shown = None } in
     record { who = record { session = 0; event = 0 }; ask = q; answer = a; before = none; after = none }
 
 pub stands_gives : (client : ℕ) (aim : Aim) (old : Option Claim) (h : List Deed) (r n : Recovery) (a : Answer) (turn : Turn RecoverAnswer) → Went client aim old h r

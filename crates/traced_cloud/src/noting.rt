@@ -8,7 +8,7 @@ ghost use Rattle.cloud_trait.specs.Ask.{Get, GetHeld, PutHeld, Send, Receive, De
 ghost use Rattle.cloud_trait.specs.State.{CloudState, newest};
 ghost use Rattle.cloud_trait.specs.Delivery.{unmarked};
 ghost use Rattle.cloud_trait.specs.Weather.{Makes, RenewsLease};
-ghost use Rattle.cloud_trait.specs.Bench.{Waits, Looks, IsNoCall, has_bytes};
+ghost use Rattle.cloud_trait.specs.Bench.{Waits, Looks, IsNoCall, IsShown, IsShownToHave, has_bytes};
 ghost use Rattle.traced_cloud.specs.Note.{note_of};
 ghost use Rattle.traced_cloud.specs.Notes.{Adds};
 
@@ -262,6 +262,7 @@ impl<C: Bench> Bench for NotingCloud<C> {
     fn peek(&mut self, name: ObjName) -> Result<Option<Blob>, CloudFault>
         ensures looks { Looks result (C.seen self.old.cloud) (C.seen self.new.cloud) }
         ensures newest { (s : CloudState) → (C.seen self.old.cloud).state ≡ Some s → IfOk result (λ v. v ≡ newest s name) }
+        ensures shown { IfOk result (IsShown (C.seen self.old.cloud) name) }
         ensures noted { self.new.trace ≡ self.old.trace }
     {
         self.cloud.peek(name)
@@ -270,6 +271,7 @@ impl<C: Bench> Bench for NotingCloud<C> {
     fn has(&mut self, name: ObjName, bytes: &[u8]) -> Result<bool, CloudFault>
         ensures looks { Looks result (C.seen self.old.cloud) (C.seen self.new.cloud) }
         ensures newest { (s : CloudState) → (C.seen self.old.cloud).state ≡ Some s → IfOk result (λ is. is ≡ has_bytes (newest s name) bytes.now) }
+        ensures shown { IfOk result (IsShownToHave (C.seen self.old.cloud) name bytes.now) }
         ensures noted { self.new.trace ≡ self.old.trace }
     {
         self.cloud.has(name, bytes)

@@ -10,7 +10,7 @@ use Rattle.db_base.specs.declared.pair.Pair.{Pair}
 use Rattle.db_base.specs.declared.trouble.Trouble.{Trouble}
 use Rattle.db_base.specs.declared.trouble.Trouble.TheVariants as trouble
 use Rattle.db_base.specs.declared.wish.Wish.TheVariants.{Plain}
-use Rattle.cloud_trait.specs.Seen.{Seen}
+use Rattle.cloud_trait.specs.Seen.{Seen, Showing}
 use Rattle.cloud_trait.specs.State.{CloudState, newest, newest_of, never_taken}
 use Rattle.cloud_trait.specs.declared.state.Version.{Version}
 use Rattle.report_types.specs.declared.entry.Entry.{Entry}
@@ -20,7 +20,8 @@ use Rattle.world_audit.specs.Counts.{heads_upto, open_count, head_in, IsNextPage
 use Rattle.world_audit.specs.Look.{Looked}
 use Rattle.world_audit.specs.Walk.{Adds}
 use Rattle.world_audit.specs.Stop.{Comes, Passes, StopsWalk, SlipOr, ChainStops, HeadsRead, IsHeadOrNone, SpellsNoHead, HeadStops, SpellsNoRoot, RootStops}
-use Rattle.world_audit.specs.Finding.{Shown, LeavesFound, HeadsFound, RootFound, IsReported, Finds}
+use Rattle.world_audit.specs.Finding.{IsSeenBy, IsAsTold, Shown, LeavesFound, HeadsFound, RootFound, IsReported, Finds}
+use Rattle.world_audit.proofs.Looks.{told_stays}
 use Rattle.world_audit.proofs.Stops.{comes_first, comes_on, chain_ends, heads_first, heads_on, heads_all, leaves_stop, heads_stop, root_stops}
 use Rattle.world_audit.proofs.Chains.{walk_first, walk_on, walk_ends}
 use Rattle.world_audit.proofs.Totals.{heads_none, heads_more}
@@ -65,7 +66,7 @@ answers_more object Among More looks at bytes s each new there a number is = on 
 
 -- what looks at some objects show, where what they answered shows it
 shown_by : (before : Seen) (object : ℕ → ObjName) (Among : ℕ → Type 0) (looks : ℕ → Bytes) (Holds : CloudState → Type 0)
-    → ((s : CloudState) → before.state ≡ Some s → Answers object Among looks s) → ((s : CloudState) → Answers object Among looks s → Holds s)
+    → ((s : CloudState) → IsAsTold before s → Answers object Among looks s) → ((s : CloudState) → Answers object Among looks s → Holds s)
     → Shown before object Holds
 shown_by before object Among looks Holds told holds = record {
   told = λ s h. holds s (told s h);
@@ -79,14 +80,14 @@ shown_always before object Holds holds = record { told = λ s h. holds s; looks 
 
 -- what later looks show
 pub shown_behind : (before mid : Seen) (object : ℕ → ObjName) (Holds : CloudState → Type 0) → Looked before mid → Shown mid object Holds → Shown before object Holds
-shown_behind before mid object Holds behind h = record { told = λ s e. h.told s (behind.stays s e); looks = h.looks; shown = h.shown }
+shown_behind before mid object Holds behind h = record { told = λ s e. h.told s (told_stays before mid s behind e); looks = h.looks; shown = h.shown }
 
 -- ---- leaves
 
 -- a walk over pages that it looked at comes to a page, with what it is to find there and the records so far
 pub record Reaches (before : Seen) (tree : ℕ) (pages : List ℕ) (page : ℕ) (low : List ℕ) (records : List Pair) : Type 0 where
   pub looks : ℕ → Bytes
-  pub told : (s : CloudState) → before.state ≡ Some s → Answers (object.Page tree) (Contains pages) looks s
+  pub told : (s : CloudState) → IsAsTold before s → Answers (object.Page tree) (Contains pages) looks s
   pub comes : (s : CloudState) → Answers (object.Page tree) (Contains pages) looks s → Comes s tree pages page low × Walked s tree page records
 
 contains_none : (page : ℕ) → Contains [] page → ⊥
@@ -141,11 +142,11 @@ module _ (before : Seen) (tree : ℕ) (pages : List ℕ) (page : ℕ) (low : Lis
         why = subst (StopsWalk tree pages page low (newest s (object.Page tree page))) (sym loop.0) (refl, loop.1);
       }))))
 
-  module _ (bytes : Bytes) (is_page : IsPage page) (first : Contains pages page → ⊥) (seen : (s : CloudState) → before.state ≡ Some s → bytes ≡ newest s (object.Page tree page)) where
+  module _ (bytes : Bytes) (is_page : IsPage page) (first : Contains pages page → ⊥) (seen : (s : CloudState) → IsAsTold before s → bytes ≡ newest s (object.Page tree page)) where
     looks_on : ℕ → Bytes
     looks_on = with_look here.looks page bytes
 
-    told_on : (s : CloudState) → before.state ≡ Some s → Answers (object.Page tree) (Contains (pages ++ page ∷ [])) looks_on s
+    told_on : (s : CloudState) → IsAsTold before s → Answers (object.Page tree) (Contains (pages ++ page ∷ [])) looks_on s
     unfolding looks_on
     told_on s h = answers_more (object.Page tree) (Contains pages) (Contains (pages ++ page ∷ [])) here.looks page bytes s (contains_or pages page) first (sym (seen s h)) (here.told s h)
 
@@ -195,7 +196,7 @@ IsUpto upto client = (1 ≤ client) × (client ≤ upto)
 -- the heads of the clients up to a number read, and so many of them are open
 pub record Totals (before : Seen) (tree : ℕ) (committed : List Entry) (upto heads : ℕ) : Type 0 where
   pub looks : ℕ → Bytes
-  pub told : (s : CloudState) → before.state ≡ Some s → Answers object.Head (IsUpto upto) looks s
+  pub told : (s : CloudState) → IsAsTold before s → Answers object.Head (IsUpto upto) looks s
   pub counts : (s : CloudState) → Answers object.Head (IsUpto upto) looks s → (heads ≡ heads_upto s tree committed upto) × HeadsRead s (upto + 1)
 
 pub totals_none : (before : Seen) (tree : ℕ) (committed : List Entry) → Totals before tree committed 0 0
@@ -220,7 +221,7 @@ heads_end before tree committed heads t = shown_by before object.Head (IsUpto 64
     (λ s a. let c = t.counts s a in (c.0, heads_all s c.1))
 
 module _ (before : Seen) (tree : ℕ) (committed : List Entry) (number heads client : ℕ) (bytes : Bytes) (here : Totals before tree committed number heads)
-    (is : client ≡ number + 1) (seen : (s : CloudState) → before.state ≡ Some s → bytes ≡ newest s (object.Head client)) where
+    (is : client ≡ number + 1) (seen : (s : CloudState) → IsAsTold before s → bytes ≡ newest s (object.Head client)) where
   heads_looks : ℕ → Bytes
   heads_looks = with_look here.looks client bytes
 
@@ -240,7 +241,7 @@ module _ (before : Seen) (tree : ℕ) (committed : List Entry) (number heads cli
       on (inl below) = inl (u.0, omega (arith, below, is))
       on (inr at) = inr (omega (arith, at, is, u.1))
 
-  told_more : (s : CloudState) → before.state ≡ Some s → Answers object.Head (IsUpto (number + 1)) heads_looks s
+  told_more : (s : CloudState) → IsAsTold before s → Answers object.Head (IsUpto (number + 1)) heads_looks s
   unfolding heads_looks
   told_more s h = answers_more object.Head (IsUpto number) (IsUpto (number + 1)) here.looks client bytes s either new (sym (seen s h)) (here.told s h)
 
@@ -274,7 +275,7 @@ module _ (before : Seen) (tree : ℕ) (committed : List Entry) (number heads cli
 
 -- ---- the root
 
-module _ (before : Seen) (tree : ℕ) (bytes : Bytes) (seen : (s : CloudState) → before.state ≡ Some s → bytes ≡ newest s (object.Tree tree)) where
+module _ (before : Seen) (tree : ℕ) (bytes : Bytes) (seen : (s : CloudState) → IsAsTold before s → bytes ≡ newest s (object.Tree tree)) where
   root_by : (Holds : CloudState → Type 0) → ((s : CloudState) → bytes ≡ newest s (object.Tree tree) → Holds s) → Shown before object.Tree Holds
   root_by Holds holds = record {
     told = λ s h. holds s (seen s h);
@@ -309,15 +310,16 @@ unfolding version_of
 newest_is None = refl
 newest_is (Some bytes) = refl
 
-versions_of : (ℕ → Bytes) → (ℕ → Bytes) → (ℕ → Bytes) → ObjName → List Version
-versions_of leaves heads roots (object.Page tree page) = version_of (leaves page)
-versions_of leaves heads roots (object.Head client) = version_of (heads client)
-versions_of leaves heads roots (object.Tree tree) = version_of (roots tree)
+-- what looks answered, object by object
+answers_of : (ℕ → Bytes) → (ℕ → Bytes) → (ℕ → Bytes) → Showing
+answers_of leaves heads roots (object.Page tree page) = leaves page
+answers_of leaves heads roots (object.Head client) = heads client
+answers_of leaves heads roots (object.Tree tree) = roots tree
 
--- a state that has answers as its newest versions
-abbrev answering : (ℕ → Bytes) → (ℕ → Bytes) → (ℕ → Bytes) → CloudState
-answering leaves heads roots = record {
-  versions = versions_of leaves heads roots;
+-- a state that has this as its newest versions
+abbrev showing : Showing → CloudState
+showing shown = record {
+  versions = λ name. version_of (shown name);
   messages = λ queue. [];
   locks = λ lock. never_taken;
   now = 0;
@@ -327,19 +329,45 @@ answering leaves heads roots = record {
   last = None;
 }
 
+-- a state that has answers as its newest versions
+abbrev answering : (ℕ → Bytes) → (ℕ → Bytes) → (ℕ → Bytes) → CloudState
+answering leaves heads roots = showing (answers_of leaves heads roots)
+
+same : (p q : Showing) → (let o : Option Showing = Some p in o ≡ Some q) → p ≡ q
+same p q e = cc
+
 pub finds : (tree : ℕ) (before : Seen) (result : Result Report Trouble) (Leaves Heads Root : CloudState → Type 0)
     → Shown before (object.Page tree) Leaves → Shown before object.Head Heads → Shown before object.Tree Root
     → ((s : CloudState) → Leaves s → Heads s → Root s → IsReported s tree result) → Finds tree before result
-unfolding versions_of
+unfolding answers_of
 finds tree before result Leaves Heads Root a b c all = on before.state refl
   where
-    on : (o : Option CloudState) → before.state ≡ o → Finds tree before result
-    on (Some s) is = record { looks = s; told = λ x h. (let e : Some s ≡ Some x = sym is ∙ h in cc); reported = all s (a.told s is) (b.told s is) (c.told s is) }
-    on None is = let s : CloudState = answering a.looks b.looks c.looks in record {
+    -- where no state is told, by what the cloud tells that looks show, or else by what they answered
+    untold : before.state ≡ None → (o : Option Showing) → before.shown ≡ o → Finds tree before result
+    untold none (Some p) is =
+        let s : CloudState = showing p in
+        let as_told : IsAsTold before s = inr (p, is, λ name. newest_is (p name)) in
+        record {
+          looks = s;
+          told = λ x h. (let e : None ≡ Some x = sym none ∙ h in cc);
+          shown = λ q n h. (let e : Some p ≡ Some q = sym is ∙ h in subst (λ (x : Showing). IsSeenBy x s) (same p q e) (λ name. newest_is (p name)));
+          reported = all s (a.told s as_told) (b.told s as_told) (c.told s as_told);
+        }
+    untold none None is = let s : CloudState = answering a.looks b.looks c.looks in record {
       looks = s;
-      told = λ x h. (let e : None ≡ Some x = sym is ∙ h in cc);
+      told = λ x h. (let e : None ≡ Some x = sym none ∙ h in cc);
+      shown = λ q n h. (let e : None ≡ Some q = sym is ∙ h in cc);
       reported = all s (a.shown s (λ n. newest_is (a.looks n))) (b.shown s (λ n. newest_is (b.looks n))) (c.shown s (λ n. newest_is (c.looks n)));
     }
+
+    on : (o : Option CloudState) → before.state ≡ o → Finds tree before result
+    on (Some s) is = record {
+      looks = s;
+      told = λ x h. (let e : Some s ≡ Some x = sym is ∙ h in cc);
+      shown = λ q n h. (let e : Some s ≡ None = sym is ∙ n in cc);
+      reported = all s (a.told s (inl is)) (b.told s (inl is)) (c.told s (inl is));
+    }
+    on None is = untold is before.shown refl
 
 module _ (tree : ℕ) (before : Seen) (result : Result Report Trouble) where
   abbrev Any : CloudState → Type 0

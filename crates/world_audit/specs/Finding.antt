@@ -1,9 +1,9 @@
 -- What a report found, by the answers of its looks.
-use Rattle.std.specs.Prelude.{ℕ, ◌≡◌, List, Option, Some, Result, Ok, Err}
+use Rattle.std.specs.Prelude.{ℕ, ◌≡◌, ◌⊎◌, List, Option, Some, None, Result, Ok, Err}
 use Rattle.db_base.specs.declared.names.ObjName.{ObjName}
 use Rattle.db_base.specs.declared.pair.Pair.{Pair}
 use Rattle.db_base.specs.declared.trouble.Trouble.{Trouble}
-use Rattle.cloud_trait.specs.Seen.{Seen}
+use Rattle.cloud_trait.specs.Seen.{Seen, Showing}
 use Rattle.cloud_trait.specs.State.{CloudState, newest}
 use Rattle.report_types.specs.declared.entry.Entry.{Entry}
 use Rattle.report_types.specs.declared.report.Report.{Report}
@@ -11,10 +11,18 @@ use Rattle.tree_meaning.specs.Chain.{Walked}
 use Rattle.world_audit.specs.Counts.{heads_upto}
 use Rattle.world_audit.specs.Stop.{SlipOr, ChainStops, ChainIsWhole, HeadStops, AllHeadsRead, RootStops, RootReads, Stopped}
 
--- looks at the objects of a kind show something of a state: it holds of the told one, and of each whose newest versions are
--- what the looks answered
+-- the newest versions of a state are what looks show
+abbrev pub IsSeenBy : Showing → CloudState → Type 0
+IsSeenBy shown s = (name : ObjName) → newest s name ≡ shown name
+
+-- a state is as the cloud tells: the told one, or one whose newest versions are what the cloud tells that looks show
+abbrev pub IsAsTold : Seen → CloudState → Type 0
+IsAsTold before s = (before.state ≡ Some s) ⊎ ((shown : Showing) × (before.shown ≡ Some shown) × IsSeenBy shown s)
+
+-- looks at the objects of a kind show something of a state: it holds of each that is as the cloud tells, and of each whose
+-- newest versions are what the looks answered
 pub record Shown (before : Seen) (object : ℕ → ObjName) (Holds : CloudState → Type 0) : Type 0 where
-  pub told : (s : CloudState) → before.state ≡ Some s → Holds s
+  pub told : (s : CloudState) → IsAsTold before s → Holds s
   pub looks : ℕ → Option (List ℕ)
   pub shown : (s : CloudState) → ((number : ℕ) → newest s (object number) ≡ looks number) → Holds s
 
@@ -46,9 +54,10 @@ abbrev pub IsReported : CloudState → ℕ → Result Report Trouble → Type 0
 IsReported s tree (Ok r) = ShowsWhole s tree r
 IsReported s tree (Err trouble) = Stopped s tree trouble
 
--- what the looks of a report answered are the newest versions of some state, of the told one where one is told, and by that
--- state it shows the tree whole or tells why it stopped
+-- what the looks of a report answered are the newest versions of some state: of the told one where one is told, and else, where
+-- the cloud tells what looks show, of one whose newest versions are that. By that state it shows the tree whole or tells why it stopped
 pub record Finds (tree : ℕ) (before : Seen) (result : Result Report Trouble) : Type 0 where
   pub looks : CloudState
   pub told : (s : CloudState) → before.state ≡ Some s → looks ≡ s
+  pub shown : (shown : Showing) → before.state ≡ None → before.shown ≡ Some shown → IsSeenBy shown looks
   pub reported : IsReported looks tree result

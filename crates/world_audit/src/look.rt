@@ -2,6 +2,7 @@
 
 ghost use Rattle.std.specs.Prelude.{◌≡◌, ◌⊎◌, Some, length, IfOk, IfErr};
 ghost use Rattle.cloud_trait.specs.State.{CloudState, newest};
+ghost use Rattle.cloud_trait.specs.Bench.{IsShown};
 ghost use Rattle.cloud_trait.specs.Delivery.{unmarked};
 ghost use Rattle.world_audit.specs.Look.{Looked, FailsDark};
 
@@ -17,6 +18,7 @@ pub(crate) fn peek<C: Bench>(cloud: &mut C, name: ObjName) -> Result<Option<Blob
     ensures failed { FailsDark result (C.seen cloud.old) (C.seen cloud.new) }
     ensures only { IfErr result (λ e. (e ≡ Trouble.Failed) ⊎ (e ≡ Trouble.Memory)) }
     ensures newest { (s : CloudState) → (C.seen cloud.old).state ≡ Some s → IfOk result (λ v. v ≡ newest s name) }
+    ensures shown { IfOk result (IsShown (C.seen cloud.old) name) }
 {
     match cloud.peek(name) {
         Ok(bytes) => Ok(bytes),

@@ -284,7 +284,7 @@ pub record Shows (tree : ℕ) (s : Option CloudState) (audit : Audited) (r : Rep
   pub messages : (x : CloudState) → s ≡ Some x → AreWaiting x tree r.messages
 
 -- why a tree has no report: a trouble stopped it, which is a failure only where a look failed in it or an earlier one blinded the audit, and
--- which else is by what its looks answered: the newest versions of some state, of the told one where one is told; a blinded one failed
+-- which else is by what its looks answered: the told state where one is told, and else what the cloud tells that looks show; a blinded one failed
 pub record StopsBy (tree : ℕ) (before after : Seen) (blind : Bool) (t : Trouble) : Type 0 where
   pub failed : t ≡ trouble.Failed → (blind ≡ true) ⊎ Rose before.counts.dark after.counts.dark
   pub found : blind ≡ false → Finds tree before (Err t)

@@ -3,7 +3,7 @@ use Rattle.db_base.specs.declared.names.QueueName.{QueueName}
 use Rattle.std.specs.Prelude.{ℕ, length}
 use Rattle.std.proofs.lemmas.Result.{err_from_is_err_and}
 use Rattle.cloud_trait.specs.Delivery.{unmarked}
-use Rattle.world_audit.proofs.Looks.{looked_on}
+use Rattle.world_audit.proofs.Looks.{looked_on, told_newest}
 use Rattle.world_audit.proofs.Totals.{messages_none, messages_more}
 use Rattle.world_audit.proofs.Answered.{root_read, root_slip, root_stops_here}
 use Rattle.world_audit.proofs.backlogs.messages.Goals as goal
@@ -22,10 +22,10 @@ loop-page-preserved g c = (
 pub returns-in_err-next-clause-found : goal.returns-in_err-next-clause-found
 returns-in_err-next-clause-found g c =
     let p = err_from_is_err_and c.from_residual-in_err-next.result c.from_residual-in_err-next.ensures.1 in
-    root_stops_here _ c.args.tree c.in_ok-bytes.bytes c.in_ok-bytes.ensures.newest c.from_residual-in_err-next.result c.in_err-next.field-0.0 (rw (p.1, p.2) refl) c.in_err-next.ensures.err
+    root_stops_here _ c.args.tree c.in_ok-bytes.bytes (told_newest (g.C.Cloud.seen c.args.cloud.now) _ c.in_ok-bytes.bytes c.in_ok-bytes.ensures.newest c.in_ok-bytes.ensures.shown) c.from_residual-in_err-next.result c.in_err-next.field-0.0 (rw (p.1, p.2) refl) c.in_err-next.ensures.err
 
 pub returns-clause-found : goal.returns-clause-found
-returns-clause-found g c = root_read _ c.args.tree c.in_ok-bytes.bytes c.in_ok-bytes.ensures.newest c.loop-page.sum c.in_ok-next.next c.in_ok-next.ensures.ok
+returns-clause-found g c = root_read _ c.args.tree c.in_ok-bytes.bytes (told_newest (g.C.Cloud.seen c.args.cloud.now) _ c.in_ok-bytes.bytes c.in_ok-bytes.ensures.newest c.in_ok-bytes.ensures.shown) c.loop-page.sum c.in_ok-next.next c.in_ok-next.ensures.ok
 
 pub returns-in_err-bytes-clause-found : goal.returns-in_err-bytes-clause-found
 returns-in_err-bytes-clause-found g c =

@@ -144,19 +144,9 @@ const WRITES: [(&[&str], &[u8], Status, &[&str]); 4] = [
         &["shell", "1", "db"],
         b"insert 1 6b 76\ncommit\n",
         Status::Done,
-        &[
-            "0 opened 1\n",
-            "1 noted\n",
-            "2 committed 1\n",
-            "3 closed\n",
-        ],
+        &["0 opened 1\n", "1 noted\n", "2 committed 1\n", "3 closed\n"],
     ),
-    (
-        &["settle", "db"],
-        b"",
-        Status::Done,
-        &["1 settled 320\n"],
-    ),
+    (&["settle", "db"], b"", Status::Done, &["1 settled 320\n"]),
     (
         &["gen", "1", "0"],
         b"",

@@ -29,7 +29,7 @@ use Rattle.schedule_run.proofs.OnceLemmas.{once_nothing}
 use Rattle.schedule_run.specs.Run.{AsksWithin, WasWithin, ReadWhole, Replays, replay_unread, replay_went, RunsShell, shell_unread, shell_went, Ran}
 
 -- where no read was made, nothing was read
-pub reads_nothing : (source : Written) → WasWithin source source
+pub reads_nothing : (source : Told) → WasWithin source source
 reads_nothing source = record { bytes = []; taken = λ all e. (all, e, refl); within = omega arith }
 
 -- an input that was read is the source to its end

@@ -4,6 +4,7 @@ use Rattle.std.specs.Prelude.{Result, codes}
 use Rattle.cloud_trait.specs.Seen.{Seen}
 use Rattle.command_words.specs.Words.{shape_of}
 use Rattle.db_io.specs.Content.{Told}
+use Rattle.db_io.specs.Writes.{Written}
 use Rattle.line_io.specs.Output.{WasWritten}
 use Rattle.line_io.specs.declared.output.OutputFault.{OutputFault}
 use Rattle.schedule_run.specs.Run.{Ran, Replays}
@@ -15,7 +16,7 @@ use Rattle.traced_cloud.specs.Woven.{woven}
 use Rattle.call_trace.specs.Trace.{Writes, writes_all, after}
 
 -- a text that is the weave was written
-pub writes_so : (form : Form) (replies others : List (List ℕ)) (notes : List Note) (status : Status) (written now_written : Told) (text bytes : List ℕ)
+pub writes_so : (form : Form) (replies others : List (List ℕ)) (notes : List Note) (status : Status) (written now_written : Written) (text bytes : List ℕ)
     (ended : Result (Unit {0}) OutputFault) → others ≡ replies → text ≡ woven form 1 others notes → bytes ≡ text
     → WasWritten written now_written bytes ended → Writes form replies notes status (after status ended) written now_written
 writes_so form replies others notes status written now_written text bytes ended e f h w =

@@ -2,6 +2,7 @@
 use Rattle.std.specs.Prelude.{ℕ, ◌≡◌, false, List, [], Result, Ok, Err}
 use Rattle.cloud_trait.specs.Seen.{Seen}
 use Rattle.db_io.specs.Content.{Told}
+use Rattle.db_io.specs.Writes.{Written}
 use Rattle.line_io.specs.Output.{WasWritten}
 use Rattle.line_io.specs.declared.output.OutputFault.{OutputFault}
 use Rattle.schedule_run.specs.Run.{Replays}
@@ -20,14 +21,14 @@ after status (Ok done) = status
 after status (Err fault) = status_of_output fault
 
 -- replies with the calls behind them were written, or memory ran out before and nothing was
-pub data Writes (form : Form) (replies : List (List ℕ)) (notes : List Note) (status result : Status) (written now_written : Told) : Type 0 where
+pub data Writes (form : Form) (replies : List (List ℕ)) (notes : List Note) (status result : Status) (written now_written : Written) : Type 0 where
   writes_all : (ended : Result (Unit {0}) OutputFault) → result ≡ after status ended
       → WasWritten written now_written (woven form 1 replies notes) ended → Writes form replies notes status result written now_written
   writes_none : result ≡ Memory → now_written ≡ written → Writes form replies notes status result written now_written
 
 -- the lines were replayed over a cloud, and the replies were written, each with the calls behind it that were noted of its line; or memory ran
 -- out, and nothing was written
-pub data Traces (form : Form) (result : Status) (left rest written now_written : Told) (noted : Notes) (start now : Seen) : Type 0 where
+pub data Traces (form : Form) (result : Status) (left rest : Told) (written now_written : Written) (noted : Notes) (start now : Seen) : Type 0 where
   traces_all : (status : Status) (replies : List (List ℕ)) → noted.short ≡ false
       → Replays status left rest (told_of []) (told_of replies) start now
       → Writes form replies noted.made status result written now_written → Traces form result left rest written now_written noted start now

@@ -1,10 +1,9 @@
--- What a source and a sink tell, and what a read and a write do to it.
+-- What a source tells, and what a read does to it.
 use Rattle.std.specs.Prelude.{◌≡◌, ℕ, ◌<◌, ◌≤◌, List, [], ◌++◌, length, Option, Some, None, Result, Ok, Err}
 use Rattle.db_io.specs.declared.fault.IoFault.{IoFault}
 use Rattle.db_io.specs.declared.fault.IoFault.TheVariants.{Failed, Memory}
 
--- its content, where it tells it, and how many of its calls failed: the content of a source is what it will give from
--- here on, that of a sink what was written to it
+-- what it will give from here on, where it tells it, and how many of its calls failed
 pub record Told : Type 0 where
   pub content : Option (List ℕ)
   pub faults : ℕ
@@ -18,15 +17,6 @@ abbrev pub Takes : Told → Told → List ℕ → Type 0
 Takes old new bytes = (all : List ℕ) → old.content ≡ Some all
     → (rest : List ℕ) × (new.content ≡ Some rest) × (all ≡ bytes ++ rest)
 
--- content that is told grows by these bytes
-abbrev pub Adds : Told → Told → List ℕ → Type 0
-Adds old new bytes = (all : List ℕ) → old.content ≡ Some all → new.content ≡ Some (all ++ bytes)
-
--- content that is told grows by the first of these bytes, by all of them, or by none
-abbrev pub AddsPrefix : Told → Told → List ℕ → Type 0
-AddsPrefix old new bytes = (all : List ℕ) → old.content ≡ Some all
-    → (front : List ℕ) × (back : List ℕ) × (bytes ≡ front ++ back) × (new.content ≡ Some (all ++ front))
-
 -- a read gave so many bytes, at most so many, which came from the content; none where some were wanted says that the content was at its end
 pub record Gives (old new : List ℕ) (before after : Told) (most count : ℕ) : Type 0 where
   pub bytes : List ℕ
@@ -37,7 +27,7 @@ pub record Gives (old new : List ℕ) (before after : Told) (most count : ℕ) :
   pub end : count ≡ 0 → 0 < most → (all : List ℕ) → before.content ≡ Some all → all ≡ []
 
 -- the count of faults rises where a call failed, and stands at every other answer
-abbrev pub Counts : {A : Type 0} → Result A IoFault → Told → Told → Type 0
-Counts (Ok answer) old new = new.faults ≡ old.faults
-Counts (Err Failed) old new = old.faults < new.faults
-Counts (Err Memory) old new = new.faults ≡ old.faults
+abbrev pub Counts : {A : Type 0} → Result A IoFault → ℕ → ℕ → Type 0
+Counts (Ok answer) old new = new ≡ old
+Counts (Err Failed) old new = old < new
+Counts (Err Memory) old new = new ≡ old

@@ -2,6 +2,7 @@
 #![tactic(auto)]
 
 pub mod fault;
+pub mod laws;
 pub mod memory_sink;
 pub mod memory_source;
 pub mod sink;

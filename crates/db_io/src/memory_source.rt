@@ -31,10 +31,10 @@ impl Drop for MemorySource {
 }
 
 impl Model for MemorySource {
-    ghost use Rattle.std.specs.Prelude.{◌≤◌, drop, vec_len};
+    ghost use Rattle.std.specs.Prelude.{◌≤◌, ℕ, List, drop, vec_len};
     ghost use Rattle.db_io.specs.MemoryEnd.{MemoryEnd};
 
-    ghost Value = { MemoryEnd };
+    ghost Value = { MemoryEnd (List ℕ) };
 
     ghost view = { λ s. record {
       content = drop s.at s.bytes.items;
@@ -78,7 +78,7 @@ impl Source for MemorySource {
         ensures err { OnErr result
             ((into.new ≡ into.old)
             × ((told_by self.new).content ≡ (told_by self.old).content)) }
-        ensures counts { Counts result (told_by self.old) (told_by self.new) }
+        ensures counts { Counts result (told_by self.old).faults (told_by self.new).faults }
         ensures many { IfOk result (λ n. n ≡ min max (length self.old.content)) }
         ensures fails { FailsByNumber result self.old self.new }
     {

@@ -15,5 +15,5 @@ pub trait Source {
         ensures gives { IfOk result (Gives into.old into.new (told self.old) (told self.new) max) }
         ensures err { OnErr result
             ((into.new ≡ into.old) × ((told self.new).content ≡ (told self.old).content)) }
-        ensures counts { Counts result (told self.old) (told self.new) };
+        ensures counts { Counts result (told self.old).faults (told self.new).faults };
 }

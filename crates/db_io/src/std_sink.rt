@@ -1,5 +1,5 @@
 ghost use Rattle.std.specs.Prelude.{◌≡◌};
-ghost use Rattle.db_io.specs.Content.{faults_alone};
+ghost use Rattle.db_io.specs.Writes.{untold};
 
 use crate::fault::IoFault;
 use crate::sink::Sink;
@@ -7,7 +7,7 @@ use std::io;
 use std::io::Write;
 use std::marker::Model;
 
-/// A sink over std's writer, seen as the number of its faults. It tells nothing of content.
+/// A sink over std's writer, seen as the number of its faults. It tells nothing of its writes.
 #[derive(Drop)]
 pub struct StdSink<W: Write> {
     writer: W,
@@ -38,7 +38,7 @@ fn write_whole<W: Write>(writer: &mut W, bytes: &[u8]) -> io::Result<()> {
 }
 
 impl<W: Write> Sink for StdSink<W> {
-    ghost told = { faults_alone };
+    ghost told = { untold };
 
     fn write(&mut self, bytes: &[u8]) -> Result<(), IoFault> {
         if self.faults == u64::MAX {

@@ -1,4 +1,4 @@
-use crate::script::{gives, takes};
+use crate::script::{are_writes, gives, takes};
 use db_base::blob::Blob;
 use db_io::fault::IoFault;
 use db_io::memory_sink::MemorySink;
@@ -89,7 +89,11 @@ const MEMORY_WRITES: &[(&str, Result<(), IoFault>)] = &[
 
 fn memory_sink_takes(alloc: Global) -> bool {
     match MemorySink::new(alloc, &[2]) {
-        Ok(mut sink) => takes(&mut sink, MEMORY_WRITES) && sink.written() == b"abef".as_slice(),
+        Ok(mut sink) => {
+            takes(&mut sink, MEMORY_WRITES)
+                && are_writes(sink.writes(), &["ab", "ef"])
+                && sink.written() == b"abef".as_slice()
+        }
         Err(_) => false,
     }
 }

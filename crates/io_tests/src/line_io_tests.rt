@@ -1,3 +1,4 @@
+use crate::script::are_writes;
 use db_io::memory_sink::MemorySink;
 use db_io::memory_source::MemorySource;
 use db_io::sink::Sink;
@@ -110,6 +111,7 @@ fn splits_and_writes(alloc: Global) -> bool {
         Ok(mut sink) => {
             writes_lines(&mut sink, TEXT, LINES)
                 && fails_to_write(&mut sink, b"more")
+                && are_writes(sink.writes(), LINES)
                 && sink.written() == TEXT
         }
         Err(_) => false,

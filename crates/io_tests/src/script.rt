@@ -38,3 +38,18 @@ pub(crate) fn takes<O: Sink>(sink: &mut O, rows: &[(&str, Result<(), IoFault>)])
     }
     true
 }
+
+/// Whether these are the writes, in their order.
+pub(crate) fn are_writes(writes: &[Blob], wanted: &[&str]) -> bool {
+    let mut rest = writes;
+    for piece in wanted {
+        let Some((write, behind)) = rest.split_first() else {
+            return false;
+        };
+        if write.as_slice() != piece.as_bytes() {
+            return false;
+        }
+        rest = behind;
+    }
+    rest.is_empty()
+}

@@ -81,7 +81,7 @@ wants a b c bytes reading short same faults = record {
 
 -- each fault of a read ends the input by its own
 pub stops : (a b c : Told) (bytes : List ℕ) (fault : IoFault) → IsReading a b bytes → length bytes ≤ MAX_INPUT
-    → c.content ≡ b.content → Counts {A = ℕ} (Err fault) b c → WasRead a c (Err (input_fault fault))
+    → c.content ≡ b.content → Counts {A = ℕ} (Err fault) b.faults c.faults → WasRead a c (Err (input_fault fault))
 stops a b c bytes io.Failed reading short same counts = fails a b c bytes reading short same counts
 stops a b c bytes io.Memory reading short same counts = wants a b c bytes reading short same counts
 

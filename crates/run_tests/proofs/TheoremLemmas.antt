@@ -6,6 +6,7 @@ use Rattle.cloud_trait.specs.Seen.{Seen}
 use Rattle.cloud_trait.specs.State.{CloudState, IsEmptyCloud}
 use Rattle.command_words.specs.Words.{shape_of}
 use Rattle.db_io.specs.Content.{Told}
+use Rattle.db_io.specs.Writes.{Written}
 use Rattle.line_io.specs.declared.input.InputFault.{InputFault}
 use Rattle.line_io.specs.declared.input.InputFault.TheVariants as input
 use Rattle.run_text.specs.Written.{replies}
@@ -29,8 +30,8 @@ fault_never line.BadLine e = absurd (cc)
 fault_never line.WriteFault e = absurd (cc)
 fault_never line.Memory e = absurd (cc)
 
-module _ (text written : List ℕ) (left rest w u : Told) (start now : Seen) (s : CloudState) (content : left.content ≡ Some text) (empty : w.content ≡ Some [])
-    (is : u.content ≡ Some written) (told : start.state ≡ Some s) (fresh : IsEmptyCloud s) where
+module _ (text : List ℕ) (written : List (List ℕ)) (left rest : Told) (w u : Written) (start now : Seen) (s : CloudState) (content : left.content ≡ Some text)
+    (empty : w.writes ≡ Some []) (is : u.writes ≡ Some written) (told : start.state ≡ Some s) (fresh : IsEmptyCloud s) where
   went_whole : WentThrough text (Ok tt) w u start now → IsReplayOf text written
   went_whole h =
       let keeps = h.theorem s told fresh in

@@ -8,12 +8,12 @@ use Rattle.run_text.specs.Written.{replies}
 use Rattle.schedule_run.specs.Answered.{ReportsAreRight, RepliesAreSound, ActsByTheLines, AcknowledgedStay}
 use Rattle.schedule_run.specs.Replayed.{AreSpelled}
 
--- a text was replayed whole, and what was written are the replies to its lines: by the state in which these left some cloud every report among them is
+-- a text was replayed whole, and the writes are the replies to its lines, each in one: by the state in which these left some cloud every report among them is
 -- right, every reply is sound, what was put and sent is what the lines allow, and what was acknowledged stays committed
-pub record IsReplayOf (text written : List ℕ) : Type 0 where
+pub record IsReplayOf (text : List ℕ) (writes : List (List ℕ)) : Type 0 where
   pub lines : List Line
   pub spelled : AreSpelled (lines_of text) lines
-  pub wrote : written ≡ replies lines
+  pub wrote : writes ≡ replies lines
   pub cloud : CloudState
   pub right : ReportsAreRight lines cloud
   pub sound : RepliesAreSound lines

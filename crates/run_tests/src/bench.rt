@@ -1,6 +1,7 @@
 //! Whether a command ends with a status and writes what it must.
 
 use cloud_trait::cloud::Bench;
+use db_base::blob::Blob;
 use db_io::memory_sink::MemorySink;
 use db_io::memory_source::MemorySource;
 use memory_cloud::memory::MemoryCloud;
@@ -75,6 +76,49 @@ fn runs_over<C: Bench>(
         }
         Err(_) => false,
     }
+}
+
+/// Whether these are the writes, in their order.
+pub(crate) fn are_writes(writes: &[Blob], wanted: &[&str]) -> bool {
+    let mut rest = writes;
+    for text in wanted {
+        let Some((write, behind)) = rest.split_first() else {
+            return false;
+        };
+        if write.as_slice() != text.as_bytes() {
+            return false;
+        }
+        rest = behind;
+    }
+    rest.is_empty()
+}
+
+/// Whether a command over an empty cloud in memory ends with this status, and has made these writes and no other one.
+fn writes_each(
+    alloc: Global,
+    words: &[&str],
+    input: &[u8],
+    status: Status,
+    texts: &[&str],
+) -> bool {
+    let mut cloud = MemoryCloud::new(alloc);
+    match MemorySink::new(alloc, &[]) {
+        Ok(mut sink) => {
+            ended_by(alloc, words, input, &[], &mut sink, &mut cloud) == status
+                && are_writes(sink.writes(), texts)
+        }
+        Err(_) => false,
+    }
+}
+
+/// Whether each command, over an empty cloud each, ends and writes as its row says.
+pub(crate) fn all_write_each(alloc: Global, rows: &[(&[&str], &[u8], Status, &[&str])]) -> bool {
+    for (words, input, status, texts) in rows {
+        if !writes_each(alloc, words, input, *status, texts) {
+            return false;
+        }
+    }
+    true
 }
 
 /// Whether each command over this cloud, one after the other, ends and writes as its row says.

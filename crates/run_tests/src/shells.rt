@@ -1,6 +1,6 @@
 //! Shells, settlings and generated schedules.
 
-use crate::bench::{all_run, all_run_over};
+use crate::bench::{all_run, all_run_over, all_write_each};
 use folder_cloud::{FolderCloud, Ticks};
 use schedule_run::status::Status;
 use std::fs;
@@ -124,4 +124,38 @@ const BESIDE: [(&[&str], &[u8], Status, &[u8]); 2] = [
 #[test]
 fn settles_nothing_beside_an_open_client(rt: HostRuntime) {
     assert!(rt; all_run(rt.alloc(), &BESIDE));
+}
+
+/// Each command over a cloud of its own, with its writes: one for each reply, refusal and summary.
+const WRITES: [(&[&str], &[u8], Status, &[&str]); 4] = [
+    (
+        &["replay"],
+        b"open 2 2\nrun 2\nclose 2\nrun 2\nfoo\n",
+        Status::BadLine,
+        &[
+            "1 begun\n",
+            "2 opened 1\n",
+            "3 begun\n",
+            "4 closed\n",
+            "bad line 5\n",
+        ],
+    ),
+    (
+        &["shell", "1", "db"],
+        b"insert 1 6b 76\ncommit\n",
+        Status::Done,
+        &["0 opened 1\n", "1 noted\n", "2 committed 1\n", "3 closed\n"],
+    ),
+    (&["settle", "db"], b"", Status::Done, &["1 settled 320\n"]),
+    (
+        &["gen", "1", "0"],
+        b"",
+        Status::Done,
+        &["events 17\ncommitted 0\norder 0\ncontents 0\nsettled 328\nleft 0 0\n"],
+    ),
+];
+
+#[test]
+fn writes_each_text_in_one_write(rt: HostRuntime) {
+    assert!(rt; all_write_each(rt.alloc(), &WRITES));
 }

@@ -5,6 +5,7 @@ use Rattle.cloud_trait.specs.Seen.{Seen}
 use Rattle.command_words.specs.declared.shape.Shape.{Shape}
 use Rattle.command_words.specs.declared.shape.Shape.TheVariants.{Replay, Gen, Shell, Settle}
 use Rattle.db_io.specs.Content.{Told, Takes}
+use Rattle.db_io.specs.Writes.{Written}
 use Rattle.event_text.specs.declared.event.Event.{Event}
 use Rattle.event_text.specs.Event.{IsEvent, IsShellLine}
 use Rattle.line_io.specs.declared.input.InputFault.{InputFault}
@@ -62,7 +63,7 @@ unread_not_done input.ReadFault e = absurd (cc)
 unread_not_done input.TooLong e = absurd (cc)
 unread_not_done input.Memory e = absurd (cc)
 
-replay_lines_good : (ended : Result (Unit {0}) LineFault) (text : List ℕ) (w u : Told) (s t : Seen) → status.Done ≡ ended_as status_of_line ended
+replay_lines_good : (ended : Result (Unit {0}) LineFault) (text : List ℕ) (w u : Written) (s t : Seen) → status.Done ≡ ended_as status_of_line ended
     → ReplayWent ended text w u s t → HasBadLine text → ⊥
 replay_lines_good (Ok done) text w u s t e went bad =
     let all = all_of (lines_of text) went.earlier went.later bad.earlier bad.later bad.line went.at went.so.0 bad.at in
@@ -72,7 +73,7 @@ replay_lines_good (Err line.BadLine) text w u s t e went bad = absurd (cc)
 replay_lines_good (Err line.WriteFault) text w u s t e went bad = absurd (cc)
 replay_lines_good (Err line.Memory) text w u s t e went bad = absurd (cc)
 
-shell_lines_good : (client : ℕ) (ended : Result (Unit {0}) ShellFault) (text : List ℕ) (w u : Told) (s t : Seen) → status.Done ≡ ended_as status_of_shell ended
+shell_lines_good : (client : ℕ) (ended : Result (Unit {0}) ShellFault) (text : List ℕ) (w u : Written) (s t : Seen) → status.Done ≡ ended_as status_of_shell ended
     → ShellWent client text ended w u s t → HasBadShellLine text → ⊥
 shell_lines_good client (Ok done) text w u s t e went bad =
     let all = all_of (lines_of text) went.earlier went.later bad.earlier bad.later bad.line went.at went.so.0 bad.at in
@@ -83,17 +84,17 @@ shell_lines_good client (Err shell.BadLine) text w u s t e went bad = absurd (cc
 shell_lines_good client (Err shell.WriteFault) text w u s t e went bad = absurd (cc)
 shell_lines_good client (Err shell.Memory) text w u s t e went bad = absurd (cc)
 
-replay_good : (left rest w u : Told) (s t : Seen) → IsKnown left → Replays status.Done left rest w u s t → WasBad HasBadLine left rest → ⊥
+replay_good : (left rest : Told) (w u : Written) (s t : Seen) → IsKnown left → Replays status.Done left rest w u s t → WasBad HasBadLine left rest → ⊥
 replay_good left rest w u s t known (replay_unread fault e nothing) bad = unread_not_done fault e
 replay_good left rest w u s t known (replay_went read ended e went) bad =
     replay_lines_good ended read.bytes w u s t e went (subst HasBadLine (same_bytes left rest read.bytes bad.bytes known read.taken bad.taken) bad.bad)
 
-shell_good : (client : ℕ) (left rest w u : Told) (s t : Seen) → IsKnown left → RunsShell client status.Done left rest w u s t → WasBad HasBadShellLine left rest → ⊥
+shell_good : (client : ℕ) (left rest : Told) (w u : Written) (s t : Seen) → IsKnown left → RunsShell client status.Done left rest w u s t → WasBad HasBadShellLine left rest → ⊥
 shell_good client left rest w u s t known (shell_unread fault e nothing) bad = unread_not_done fault e
 shell_good client left rest w u s t known (shell_went read ended e went) bad =
     shell_lines_good client ended read.bytes w u s t e went (subst HasBadShellLine (same_bytes left rest read.bytes bad.bytes known read.taken bad.taken) bad.bad)
 
-all_good : (shape : Shape) (left rest w u : Told) (s t : Seen) → IsKnown left → Ran (Some shape) status.Done left rest w u s t → ReadBadLine (Some shape) left rest → ⊥
+all_good : (shape : Shape) (left rest : Told) (w u : Written) (s t : Seen) → IsKnown left → Ran (Some shape) status.Done left rest w u s t → ReadBadLine (Some shape) left rest → ⊥
 all_good Replay left rest w u s t known ran bad = replay_good left rest w u s t known ran bad
 all_good (Gen number count) left rest w u s t known ran bad = bad.bad
 all_good (Shell client dir) left rest w u s t known ran bad = shell_good client left rest w u s t known ran bad
@@ -102,7 +103,7 @@ all_good (Settle dir) left rest w u s t known ran bad = bad.bad
 -- ---- what each status but Done comes of
 
 -- the causes of the statuses
-pub record Caused (asked : Option Shape) (result : Status) (left rest written now_written : Told) : Type 0 where
+pub record Caused (asked : Option Shape) (result : Status) (left rest : Told) (written now_written : Written) : Type 0 where
   pub bad_words : result ≡ status.BadWords → ⊥
   pub read_fault : result ≡ status.ReadFault → left.faults < rest.faults
   pub too_long : result ≡ status.TooLong → WasTooLong left rest
@@ -112,14 +113,14 @@ pub record Caused (asked : Option Shape) (result : Status) (left rest written no
   pub not_opened : result ≡ status.NotOpened → AsksForShell asked
 
 -- this status is one of those with which it may end
-is_one : (wanted : Status) (shape : Shape) (result : Status) (w u : Told) (s t : Seen) → result ≡ wanted → EndsWith wanted (Some shape) result w u s t
+is_one : (wanted : Status) (shape : Shape) (result : Status) (w u : Written) (s t : Seen) → result ≡ wanted → EndsWith wanted (Some shape) result w u s t
 is_one wanted Replay result w u s t e = inl e
 is_one wanted (Gen number count) result w u s t e = inl e
 is_one wanted (Shell client dir) result w u s t e = inl (inl e)
 is_one wanted (Settle dir) result w u s t e = inl (inl e)
 
 -- so is want of memory
-pub out_of_memory : (wanted : Status) (asked : Option Shape) (w u : Told) (s t : Seen) → EndsWith wanted asked status.Memory w u s t
+pub out_of_memory : (wanted : Status) (asked : Option Shape) (w u : Written) (s t : Seen) → EndsWith wanted asked status.Memory w u s t
 out_of_memory wanted (Some Replay) w u s t = inr refl
 out_of_memory wanted (Some (Gen number count)) w u s t = inr refl
 out_of_memory wanted (Some (Shell client dir)) w u s t = inl (inr refl)
@@ -127,14 +128,14 @@ out_of_memory wanted (Some (Settle dir)) w u s t = inl (inr refl)
 out_of_memory wanted None w u s t = tt
 
 -- a settling that ended so stopped
-stopped : (ended : Result (Unit {0}) SettleFault) (w u : Told) (s t : Seen) → status.NotSettled ≡ ended_as status_of_settle ended
+stopped : (ended : Result (Unit {0}) SettleFault) (w u : Written) (s t : Seen) → status.NotSettled ≡ ended_as status_of_settle ended
     → SettleEnded ended w u s t → SettleEnded (Err settle.NotSettled) w u s t
 stopped (Ok done) w u s t e so = absurd (cc)
 stopped (Err settle.NotSettled) w u s t e so = so
 stopped (Err settle.WriteFault) w u s t e so = absurd (cc)
 stopped (Err settle.Memory) w u s t e so = absurd (cc)
 
-unsettled : (wanted : Status) (shape : Shape) (left rest w u : Told) (s t : Seen) → AsksToSettle (Some shape) → Ran (Some shape) status.NotSettled left rest w u s t
+unsettled : (wanted : Status) (shape : Shape) (left rest : Told) (w u : Written) (s t : Seen) → AsksToSettle (Some shape) → Ran (Some shape) status.NotSettled left rest w u s t
     → EndsWith wanted (Some shape) status.NotSettled w u s t
 unsettled wanted Replay left rest w u s t asks ran = absurd asks
 unsettled wanted (Gen number count) left rest w u s t asks ran = absurd asks
@@ -147,7 +148,7 @@ unread_not_opened input.ReadFault e = absurd (cc)
 unread_not_opened input.TooLong e = absurd (cc)
 unread_not_opened input.Memory e = absurd (cc)
 
-closed : (client : ℕ) (ended : Result (Unit {0}) ShellFault) (text : List ℕ) (w u : Told) (s t : Seen) → status.NotOpened ≡ ended_as status_of_shell ended
+closed : (client : ℕ) (ended : Result (Unit {0}) ShellFault) (text : List ℕ) (w u : Written) (s t : Seen) → status.NotOpened ≡ ended_as status_of_shell ended
     → ShellWent client text ended w u s t → WasNotOpened client w u s t
 closed client (Ok done) text w u s t e went = absurd (cc)
 closed client (Err shell.NotOpened) text w u s t e went = went.so
@@ -155,11 +156,11 @@ closed client (Err shell.BadLine) text w u s t e went = absurd (cc)
 closed client (Err shell.WriteFault) text w u s t e went = absurd (cc)
 closed client (Err shell.Memory) text w u s t e went = absurd (cc)
 
-not_opened : (client : ℕ) (left rest w u : Told) (s t : Seen) → RunsShell client status.NotOpened left rest w u s t → WasNotOpened client w u s t
+not_opened : (client : ℕ) (left rest : Told) (w u : Written) (s t : Seen) → RunsShell client status.NotOpened left rest w u s t → WasNotOpened client w u s t
 not_opened client left rest w u s t (shell_unread fault e nothing) = absurd (unread_not_opened fault e)
 not_opened client left rest w u s t (shell_went read ended e went) = closed client ended read.bytes w u s t e went
 
-unopened : (wanted : Status) (shape : Shape) (left rest w u : Told) (s t : Seen) → AsksForShell (Some shape) → Ran (Some shape) status.NotOpened left rest w u s t
+unopened : (wanted : Status) (shape : Shape) (left rest : Told) (w u : Written) (s t : Seen) → AsksForShell (Some shape) → Ran (Some shape) status.NotOpened left rest w u s t
     → EndsWith wanted (Some shape) status.NotOpened w u s t
 unopened wanted Replay left rest w u s t asks ran = absurd asks
 unopened wanted (Gen number count) left rest w u s t asks ran = absurd asks
@@ -167,7 +168,7 @@ unopened wanted (Shell client dir) left rest w u s t asks ran = inr (refl, not_o
 unopened wanted (Settle dir) left rest w u s t asks ran = absurd asks
 
 -- where all went in order, a run is done or ended by a bad line, unless it ends as it may
-in_order : (wanted : Status) (shape : Shape) (result : Status) (left rest w u : Told) (s t : Seen) → Caused (Some shape) result left rest w u
+in_order : (wanted : Status) (shape : Shape) (result : Status) (left rest : Told) (w u : Written) (s t : Seen) → Caused (Some shape) result left rest w u
     → Ran (Some shape) result left rest w u s t → WentInOrder left rest w u → (result ≡ status.Done → EndsWith wanted (Some shape) result w u s t)
     → (result ≡ status.BadLine → EndsWith wanted (Some shape) result w u s t) → EndsWith wanted (Some shape) result w u s t
 in_order wanted shape status.Done left rest w u s t c ran order done bad = done refl
@@ -184,12 +185,12 @@ in_order wanted shape status.TooLong left rest w u s t c ran order done bad = ab
 in_order wanted shape status.NotOpened left rest w u s t c ran order done bad = unopened wanted shape left rest w u s t (c.not_opened refl) ran
 in_order wanted shape status.Memory left rest w u s t c ran order done bad = out_of_memory wanted (Some shape) w u s t
 
-pub completes : (shape : Shape) (result : Status) (left rest w u : Told) (s t : Seen) → Caused (Some shape) result left rest w u
+pub completes : (shape : Shape) (result : Status) (left rest : Told) (w u : Written) (s t : Seen) → Caused (Some shape) result left rest w u
     → Ran (Some shape) result left rest w u s t → IsComplete (Some shape) result left rest w u s t
 completes shape result left rest w u s t c ran order good =
     in_order status.Done shape result left rest w u s t c ran order (is_one status.Done shape result w u s t) (λ e. absurd (good (c.bad_line e)))
 
-pub stops_at_bad_line : (shape : Shape) (result : Status) (left rest w u : Told) (s t : Seen) → Caused (Some shape) result left rest w u
+pub stops_at_bad_line : (shape : Shape) (result : Status) (left rest : Told) (w u : Written) (s t : Seen) → Caused (Some shape) result left rest w u
     → Ran (Some shape) result left rest w u s t → StopsAtBadLine (Some shape) result left rest w u s t
 stops_at_bad_line shape result left rest w u s t c ran order known bad =
     in_order status.BadLine shape result left rest w u s t c ran order

@@ -4,7 +4,7 @@ use Rattle.std.specs.Prelude.{◌%◌, ◌==◌, nat_le}
 use Rattle.std.specs.Int.{to_be_bytes, w64}
 use Rattle.std.proofs.lemmas.List.{append-nil}
 use Rattle.cloud_trait.specs.Seen.{Seen}
-use Rattle.db_io.specs.Content.{Told}
+use Rattle.db_io.specs.Writes.{Written}
 use Rattle.event_text.specs.declared.event.Event.{Event}
 use Rattle.event_text.specs.declared.event.Event.TheVariants.{Open, Close, Insert, Update, Delete, Commit, Page, Tree, Run, Report, Settle}
 use Rattle.line_io.specs.Output.{WasWritten}
@@ -100,14 +100,14 @@ handles_all events last settling report s t y z old mid new h next shown = recor
 }
 
 -- what is written of them
-gen_ended : (events : List Event) (settling report : Reply) (w u : Told) (s t : Seen) (result : Result (Unit {0}) OutputFault)
+gen_ended : (events : List Event) (settling report : Reply) (w u : Written) (s t : Seen) (result : Result (Unit {0}) OutputFault)
     → HandlesAll events settling report s t → WasWritten w u (summary (length events) settling report) result → GenEnded events result w u s t
 gen_ended events settling report w u s t (Ok done) all written = record { settling = settling; report = report; handled = all; wrote = written.0 }
 gen_ended events settling report w u s t (Err WriteFault) all written = record { settling = settling; report = report; handled = all; wrote = written.0 }
 gen_ended events settling report w u s t (Err Memory) all written =
     out_writing (record { settling = settling; report = report; handled = all; wrote = written.0 })
 
-pub gen_written : (earlier : List Event) (last : Event) (settling report : Reply) (w u : Told) (s t : Seen) (result : Result (Unit {0}) OutputFault)
+pub gen_written : (earlier : List Event) (last : Event) (settling report : Reply) (w u : Written) (s t : Seen) (result : Result (Unit {0}) OutputFault)
     → HandlesAll (earlier ++ last ∷ []) settling report s t → WasWritten w u (summary (length earlier + 1) settling report) result
     → GenEnded (earlier ++ last ∷ []) result w u s t
 gen_written earlier last settling report w u s t result all written =
@@ -134,7 +134,7 @@ among_once events s t once stop =
     subst OpenEachOnce (stop.asked ∙ sym (append_assoc (events_of stop.lines) (stop.event ∷ []) stop.later)) once in
     stopped_once stop.event stop.lines s t stop.stopped (once_before (events_of stop.lines ++ stop.event ∷ []) stop.later all)
 
-gen_once : (events : List Event) (result : Result (Unit {0}) OutputFault) (w u : Told) (s t : Seen) → OpenEachOnce (events ++ Report 1 ∷ []) → GenEnded events result w u s t → OpensNoneTwice s t
+gen_once : (events : List Event) (result : Result (Unit {0}) OutputFault) (w u : Written) (s t : Seen) → OpenEachOnce (events ++ Report 1 ∷ []) → GenEnded events result w u s t → OpensNoneTwice s t
 gen_once events (Ok done) w u s t once h = all_once events h.settling h.report s t once h.handled
 gen_once events (Err WriteFault) w u s t once h = all_once events h.settling h.report s t once h.handled
 gen_once events (Err Memory) w u s t once (out_before nothing) = once_nothing s t nothing.seen
@@ -243,7 +243,7 @@ schedule_once number count =
     (none_more middle last (rounds_none count 1 number) (none_more closings (Report 1 ∷ []) closings_none (one_none (Report 1) (λ client h. h)))))
 
 -- a generated schedule, by how it ended
-pub gen_ran : (number count : ℕ) (ended : Result (Unit {0}) OutputFault) (w u : Told) (s t : Seen) → GenEnded (schedule number count) ended w u s t
+pub gen_ran : (number count : ℕ) (ended : Result (Unit {0}) OutputFault) (w u : Written) (s t : Seen) → GenEnded (schedule number count) ended w u s t
     → Generates number count (ended_as status_of_output ended) w u s t
 gen_ran number count ended w u s t went = record {
   ended = ended;

@@ -1,7 +1,7 @@
 -- The lines of a replay, one after another.
 use Rattle.std.proofs.Common.{suc, ◌≡◌, ◌<◌, ◌≤◌, ◌+◌, ◌⊎◌, ℕ, List, [], ◌∷◌, ◌++◌, length, take, Some, Result, Ok, Err, refl, sym, ap, subst, ◌∙◌, inl, inr, append_assoc, arith, length-append}
 use Rattle.std.specs.Prelude.{slice_get}
-use Rattle.std.proofs.lemmas.List.{append-nil, nil_from_length, take-append-le}
+use Rattle.std.proofs.lemmas.List.{nil_from_length, take-append-le}
 use Rattle.std.proofs.lemmas.Option.{slice_get_within}
 use Rattle.std.proofs.lemmas.Bool.{cases_lt}
 use Rattle.cloud_trait.specs.State.{CloudState, IsEmptyCloud}
@@ -11,7 +11,8 @@ use Rattle.cloud_trait.specs.Upto.{upto, AgreeUpto, IsUpto, posts_of}
 use Rattle.cloud_trait.proofs.StateLemmas.{slice_get-push}
 use Rattle.cloud_trait.proofs.TracedLemmas.{empty_traced}
 use Rattle.cloud_trait.proofs.UptoLemmas.{agree_itself, versions_upto-all, messages_upto-all, trace_upto-all}
-use Rattle.db_io.specs.Content.{Told, Adds, AddsPrefix}
+use Rattle.db_io.specs.Writes.{Written, AddsEach, AddsOne, AddsPart}
+use Rattle.db_io.proofs.WriteLemmas.{each_none, each_more}
 use Rattle.event_text.specs.declared.event.Event.{Event}
 use Rattle.event_text.specs.Event.{IsEvent}
 use Rattle.line_io.specs.Lines.{lines_of}
@@ -37,18 +38,6 @@ use Rattle.schedule_run.proofs.StayLemmas.{stay_upto, went_stay}
 use Rattle.run_text.specs.Written.{reply_line, replies_from, replies, bad_line}
 use Rattle.schedule_run.specs.Replayed.{AreSpelled, WroteFront, reply_cut, refusal_cut, EndedBy, between, writing, handling, Ended, WentThrough, Handles, IsAt, IsAnswered, LineWent, event_handled, refused, unread}
 
--- ---- content that is written
-
-pub adds_nothing : (w : Told) → Adds w w []
-adds_nothing w all e = e ∙ ap Some (sym (append-nil all))
-
-pub adds_more : (w v u : Told) (xs ys : List ℕ) → Adds w v xs → Adds v u ys → Adds w u (xs ++ ys)
-adds_more w v u xs ys f g all e = g (all ++ xs) (f all e) ∙ ap Some (append_assoc all xs ys)
-
--- nothing written is a front of anything
-pub prefix_none : (w : Told) (xs : List ℕ) → AddsPrefix w w xs
-prefix_none w xs all e = ([], xs, refl, e ∙ ap Some (sym (append-nil all)))
-
 -- ---- lines and their texts
 
 spelled_more : (texts : List (List ℕ)) (lines : List Line) (text : List ℕ) (line : Line) → AreSpelled texts lines → IsEvent text line.event → AreSpelled (texts ++ text ∷ []) (lines ++ line ∷ [])
@@ -63,12 +52,12 @@ spelled_length [] (l ∷ lines) s = absurd s
 spelled_length (t ∷ texts) [] s = absurd s
 spelled_length (t ∷ texts) (l ∷ lines) s = ap suc (spelled_length texts lines s.1)
 
-replies_more : (n m : ℕ) (lines : List Line) (line : Line) → m ≡ n + length lines → replies_from n (lines ++ line ∷ []) ≡ replies_from n lines ++ reply_line m line.reply
+replies_more : (n m : ℕ) (lines : List Line) (line : Line) → m ≡ n + length lines → replies_from n (lines ++ line ∷ []) ≡ replies_from n lines ++ reply_line m line.reply ∷ []
 replies_more n m [] line e =
-    let f : m ≡ n = omega arith in append-nil (reply_line n line.reply) ∙ ap (λ k. reply_line k line.reply) (sym f)
+    let f : m ≡ n = omega arith in ap (λ k. reply_line k line.reply ∷ []) (sym f)
 replies_more n m (l ∷ lines) line e =
     let f : m ≡ (n + 1) + length lines = omega arith in
-    ap (λ xs. reply_line n l.reply ++ xs) (replies_more (n + 1) m lines line f) ∙ sym (append_assoc (reply_line n l.reply) (replies_from (n + 1) lines) (reply_line m line.reply))
+    ap (λ xs. reply_line n l.reply ∷ xs) (replies_more (n + 1) m lines line f)
 
 -- ---- reports
 
@@ -129,9 +118,9 @@ stands_more lines line n t z old new k on grows u told stands so traced =
     (f.after, f.told, f.stands, reports_more lines line u f.after agree upto_all so f.right, subst IsTraced is (g.3 traced))
 
 -- the lines that were handled, with one more
-lines_more : (texts : List (List ℕ)) (text : List ℕ) (n : ℕ) (w v u : Told) (s t z : Seen) (first old new : World) (line : Line)
+lines_more : (texts : List (List ℕ)) (text : List ℕ) (n : ℕ) (w v u : Written) (s t z : Seen) (first old new : World) (line : Line)
     → n ≡ length texts + 1 → Handles texts w v s t first old → IsEvent text line.event → IsAnswered n line.event t z old new line.reply → Grows n t z
-    → Adds v u (reply_line n line.reply) → Handles (texts ++ text ∷ []) w u s z first new
+    → AddsOne v u (reply_line n line.reply) → Handles (texts ++ text ∷ []) w u s z first new
 lines_more texts text n w v u s t z first old new line count h spells a grows adds =
     let m : length h.lines ≡ length texts = spelled_length texts h.lines h.spelled in
     let k : n ≡ 1 + length h.lines = omega arith in
@@ -139,7 +128,7 @@ lines_more texts text n w v u s t z first old new line count h spells a grows ad
     record {
       lines = h.lines ++ line ∷ [];
       spelled = spelled_more texts h.lines text line h.spelled spells;
-      wrote = subst (λ xs. Adds w u xs) (sym (replies_more 1 n h.lines line k)) (adds_more w v u (replies h.lines) (reply_line n line.reply) h.wrote adds);
+      wrote = subst (λ xs. AddsEach w u xs) (sym (replies_more 1 n h.lines line k)) (each_more w v u (replies h.lines) (reply_line n line.reply ∷ []) h.wrote adds);
       went = further h.lines line t z old new h.went (subst (λ j. Handled j line.event t z old new (Ok line.reply)) l a.handled);
       stands = λ x told empty. let o = h.stands x told empty in stands_more h.lines line n t z old new k a.stands grows o.0 o.1 o.2 o.3 o.4;
     }
@@ -170,7 +159,7 @@ acknowledged_stay lines s t first world x u went fresh told empty seen = went_st
 
 -- ---- the lines of a text
 
-pub at_start : (text : List ℕ) (w : Told) (s : Seen) (world : World) → IsNew world → IsAt text text 0 w w s s world world
+pub at_start : (text : List ℕ) (w : Written) (s : Seen) (world : World) → IsNew world → IsAt text text 0 w w s s world world
 at_start text w s world fresh = record {
   earlier = [];
   at = refl;
@@ -178,7 +167,7 @@ at_start text w s world fresh = record {
   handles = record {
     lines = [];
     spelled = tt;
-    wrote = adds_nothing w;
+    wrote = each_none w;
     went = start;
     stands = λ t told empty. (
       t,
@@ -190,7 +179,7 @@ at_start text w s world fresh = record {
   };
 }
 
-pub at_more : (text rest behind line : List ℕ) (n m : ℕ) (w v u : Told) (s t z : Seen) (first old new : World)
+pub at_more : (text rest behind line : List ℕ) (n m : ℕ) (w v u : Written) (s t z : Seen) (first old new : World)
     → IsAt text rest n w v s t first old → lines_of rest ≡ line ∷ lines_of behind → m ≡ n + 1 → LineWent (Ok tt) m line v u t z old new → Grows m t z
     → IsAt text behind m w u s z first new
 at_more text rest behind line n m w v u s t z first old new is split next (event_handled event spells p) grows =
@@ -218,7 +207,7 @@ keeps_now lines s t first world went fresh stands x told empty =
       o.4,
     )
 
-abbrev answered : (texts : List (List ℕ)) (w v : Told) (s t : Seen) (first world : World) → IsNew first
+abbrev answered : (texts : List (List ℕ)) (w v : Written) (s t : Seen) (first world : World) → IsNew first
     → (h : Handles texts w v s t first world) → AreAnswered h.lines s t
 answered texts w v s t first world fresh h = record {
   first = first;
@@ -233,7 +222,7 @@ answered texts w v s t first world fresh h = record {
   once = lines_once h.lines s t first world h.went fresh;
 }
 
-pub at_end : (text rest : List ℕ) (n : ℕ) (w v : Told) (s t : Seen) (first world : World) → IsNew first
+pub at_end : (text rest : List ℕ) (n : ℕ) (w v : Written) (s t : Seen) (first world : World) → IsNew first
     → IsAt text rest n w v s t first world → length rest ≡ 0 → WentThrough text (Ok tt) w v s t
 at_end text rest n w v s t first world fresh is none = record {
   lines = is.handles.lines;
@@ -246,7 +235,7 @@ at_end text rest n w v s t first world fresh is none = record {
 }
 
 -- where a run stops between two lines for want of memory
-pub at_stop : (text rest : List ℕ) (n : ℕ) (w v : Told) (s t : Seen) (first world : World) → IsNew first
+pub at_stop : (text rest : List ℕ) (n : ℕ) (w v : Written) (s t : Seen) (first world : World) → IsNew first
     → IsAt text rest n w v s t first world → WentThrough text (Err Memory) w v s t
 at_stop text rest n w v s t first world fresh is = record {
   lines = is.handles.lines;
@@ -261,14 +250,14 @@ at_stop text rest n w v s t first world fresh is = record {
 -- ---- a line that ends the run
 
 -- a text of the lines was met, and calls were made at it
-pub record IsMet (text rest behind line : List ℕ) (n m : ℕ) (w v : Told) (s t z : Seen) (first old : World) : Type 0 where
+pub record IsMet (text rest behind line : List ℕ) (n m : ℕ) (w v : Written) (s t z : Seen) (first old : World) : Type 0 where
   pub fresh : IsNew first
   pub is : IsAt text rest n w v s t first old
   pub split : lines_of rest ≡ line ∷ lines_of behind
   pub next : m ≡ n + 1
   pub grows : Grows m t z
 
-met_count : {text rest behind line : List ℕ} {n m : ℕ} {w v : Told} {s t z : Seen} {first old : World}
+met_count : {text rest behind line : List ℕ} {n m : ℕ} {w v : Written} {s t z : Seen} {first old : World}
     → (met : IsMet text rest behind line n m w v s t z first old) → m ≡ length met.is.handles.lines + 1
 met_count {text} {rest} {behind} {line} {n} {m} met =
     let at : length met.is.earlier ≡ n = met.is.count in
@@ -277,7 +266,7 @@ met_count {text} {rest} {behind} {line} {n} {m} met =
     omega arith
 
 -- the reports of what was handled, after calls of a later line
-keeps : {text rest behind line : List ℕ} {n m : ℕ} {w v : Told} {s t z : Seen} {first old : World}
+keeps : {text rest behind line : List ℕ} {n m : ℕ} {w v : Written} {s t z : Seen} {first old : World}
     → (met : IsMet text rest behind line n m w v s t z first old) → KeepsTheTheorem met.is.handles.lines s z
 keeps {text} {rest} {behind} {line} {n} {m} {w} {v} {s} {t} {z} {first} {old} met x told empty =
     let h = met.is.handles in
@@ -297,8 +286,8 @@ keeps {text} {rest} {behind} {line} {n} {m} {w} {v} {s} {t} {z} {first} {old} me
     )
 
 -- the run ends before a text that has no reply
-ends_before : {text rest behind line : List ℕ} {n m : ℕ} {w v : Told} {s t z : Seen} {first old : World}
-    → (ended : Result (Unit {0}) LineFault) (u : Told) → (met : IsMet text rest behind line n m w v s t z first old)
+ends_before : {text rest behind line : List ℕ} {n m : ℕ} {w v : Written} {s t z : Seen} {first old : World}
+    → (ended : Result (Unit {0}) LineFault) (u : Written) → (met : IsMet text rest behind line n m w v s t z first old)
     → Ended ended met.is.handles.lines (line ∷ lines_of behind) w u s z → WentThrough text ended w u s z
 ends_before {text} {rest} {behind} {line} ended u met so = record {
   lines = met.is.handles.lines;
@@ -311,13 +300,13 @@ ends_before {text} {rest} {behind} {line} ended u met so = record {
 }
 
 -- the lines with the text's own
-went_answer : {text rest behind line : List ℕ} {n m : ℕ} {w v : Told} {s t z : Seen} {first old : World}
+went_answer : {text rest behind line : List ℕ} {n m : ℕ} {w v : Written} {s t z : Seen} {first old : World}
     → (met : IsMet text rest behind line n m w v s t z first old) (new : World) (one : Line) → IsAnswered m one.event t z old new one.reply
     → WentOn s first (met.is.handles.lines ++ one ∷ []) z new
 went_answer {text} {rest} {behind} {line} {n} {m} {w} {v} {s} {t} {z} {first} {old} met new one a =
     further met.is.handles.lines one t z old new met.is.handles.went (subst (λ j. Handled j one.event t z old new (Ok one.reply)) (met_count met) a.handled)
 
-with_answer : {text rest behind line : List ℕ} {n m : ℕ} {w v : Told} {s t z : Seen} {first old : World}
+with_answer : {text rest behind line : List ℕ} {n m : ℕ} {w v : Written} {s t z : Seen} {first old : World}
     → (met : IsMet text rest behind line n m w v s t z first old) (new : World) (one : Line) → IsAnswered m one.event t z old new one.reply
     → AreAnswered (met.is.handles.lines ++ one ∷ []) s z
 with_answer {text} {rest} {behind} {line} {n} {m} {w} {v} {s} {t} {z} {first} {old} met new one a =
@@ -336,8 +325,8 @@ with_answer {text} {rest} {behind} {line} {n} {m} {w} {v} {s} {t} {z} {first} {o
     }
 
 -- the run ends behind a text that has a reply
-ends_behind : {text rest behind line : List ℕ} {n m : ℕ} {w v : Told} {s t z : Seen} {first old : World}
-    → (ended : Result (Unit {0}) LineFault) (u : Told) (new : World) (one : Line) → (met : IsMet text rest behind line n m w v s t z first old)
+ends_behind : {text rest behind line : List ℕ} {n m : ℕ} {w v : Written} {s t z : Seen} {first old : World}
+    → (ended : Result (Unit {0}) LineFault) (u : Written) (new : World) (one : Line) → (met : IsMet text rest behind line n m w v s t z first old)
     → IsEvent line one.event → IsAnswered m one.event t z old new one.reply
     → Ended ended (met.is.handles.lines ++ one ∷ []) (lines_of behind) w u s z → WentThrough text ended w u s z
 ends_behind {text} {rest} {behind} {line} {n} {m} {w} {v} {s} {t} {z} {first} {old} ended u new one met spells a so =
@@ -356,15 +345,15 @@ ends_behind {text} {rest} {behind} {line} {n} {m} {w} {v} {s} {t} {z} {first} {o
     }
 
 -- the lines before the text, where no call was made at it
-before_unmoved : {text rest behind line : List ℕ} {n m : ℕ} {w v : Told} {s t z : Seen} {first old : World}
+before_unmoved : {text rest behind line : List ℕ} {n m : ℕ} {w v : Written} {s t z : Seen} {first old : World}
     → (met : IsMet text rest behind line n m w v s t z first old) → z ≡ t → AreAnswered met.is.handles.lines s z
 before_unmoved {text} {rest} {behind} {line} {n} {m} {w} {v} {s} {t} {z} {first} {old} met e =
     let h = met.is.handles in
     subst (λ x. AreAnswered h.lines s x) (sym e) (answered met.is.earlier w v s t first old met.fresh h)
 
 -- the event of the text has no reply
-no_answer : {text rest behind line : List ℕ} {n m : ℕ} {w v : Told} {s t z : Seen} {first old : World}
-    → (met : IsMet text rest behind line n m w v s t z first old) (u : Told) (new : World) (event : Event) (fault : WorldFault) → IsEvent line event
+no_answer : {text rest behind line : List ℕ} {n m : ℕ} {w v : Written} {s t z : Seen} {first old : World}
+    → (met : IsMet text rest behind line n m w v s t z first old) (u : Written) (new : World) (event : Event) (fault : WorldFault) → IsEvent line event
     → Handled m event t z old new (Err fault) → u ≡ v → EndedBy fault met.is.handles.lines (line ∷ lines_of behind) w u s z
 no_answer {text} {rest} {behind} {line} {n} {m} {w} {v} {s} {t} {z} {first} {old} met u new event fault spells handled same =
     let h = met.is.handles in
@@ -380,34 +369,34 @@ no_answer {text} {rest} {behind} {line} {n} {m} {w} {v} {s} {t} {z} {first} {old
         kinds = unanswered_kinds h.lines event fault s t z first old new h.went met.fresh own;
         once = unanswered_once h.lines event fault s t z first old new h.went met.fresh own;
       };
-      wrote = subst (λ x. Adds w x (replies h.lines)) (sym same) h.wrote;
+      wrote = subst (λ x. AddsEach w x (replies h.lines)) (sym same) h.wrote;
     }
 
 -- the reply was cut
-cut_reply : {text rest behind line : List ℕ} {n m : ℕ} {w v : Told} {s t z : Seen} {first old : World}
-    → (met : IsMet text rest behind line n m w v s t z first old) (u : Told) (one : Line) → AddsPrefix v u (reply_line m one.reply)
+cut_reply : {text rest behind line : List ℕ} {n m : ℕ} {w v : Written} {s t z : Seen} {first old : World}
+    → (met : IsMet text rest behind line n m w v s t z first old) (u : Written) (one : Line) → AddsPart v u (reply_line m one.reply)
     → WroteFront (met.is.handles.lines ++ one ∷ []) (lines_of behind) w u
 cut_reply {text} {rest} {behind} {line} {n} {m} {w} {v} met u one front =
     let ls = met.is.handles.lines in
     let count : m ≡ length ls + 1 = met_count met in
     let at : m ≡ length (ls ++ one ∷ []) = omega (arith, length-append ls (one ∷ [])) in
-    reply_cut ls one refl (record { between = v; whole = met.is.handles.wrote; front = subst (λ j. AddsPrefix v u (reply_line j one.reply)) at front })
+    reply_cut ls one refl (record { between = v; each = met.is.handles.wrote; front = subst (λ j. AddsPart v u (reply_line j one.reply)) at front })
 
 -- the refusal was cut
-cut_refusal : {text rest behind line : List ℕ} {n m : ℕ} {w v : Told} {s t z : Seen} {first old : World}
-    → (met : IsMet text rest behind line n m w v s t z first old) (u : Told) → ((event : Event) → IsEvent line event → ⊥) → AddsPrefix v u (bad_line m)
+cut_refusal : {text rest behind line : List ℕ} {n m : ℕ} {w v : Written} {s t z : Seen} {first old : World}
+    → (met : IsMet text rest behind line n m w v s t z first old) (u : Written) → ((event : Event) → IsEvent line event → ⊥) → AddsPart v u (bad_line m)
     → WroteFront met.is.handles.lines (line ∷ lines_of behind) w u
 cut_refusal {text} {rest} {behind} {line} {n} {m} {w} {v} met u bad front =
-    refusal_cut bad (record { between = v; whole = met.is.handles.wrote; front = subst (λ j. AddsPrefix v u (bad_line j)) (met_count met) front })
+    refusal_cut bad (record { between = v; each = met.is.handles.wrote; front = subst (λ j. AddsPart v u (bad_line j)) (met_count met) front })
 
-by_fault : {text rest behind line : List ℕ} {n m : ℕ} {w v : Told} {s t z : Seen} {first old : World}
-    → (u : Told) (new : World) (fault : LineFault) → IsMet text rest behind line n m w v s t z first old
+by_fault : {text rest behind line : List ℕ} {n m : ℕ} {w v : Written} {s t z : Seen} {first old : World}
+    → (u : Written) (new : World) (fault : LineFault) → IsMet text rest behind line n m w v s t z first old
     → LineWent (Err fault) m line v u t z old new → WentThrough text (Err fault) w u s z
 by_fault {text} {rest} {behind} {line} {n} {m} {w} {v} {s} {t} {z} {first} {old} u new BadLine met (event_handled event spells p) = absurd p
 by_fault {text} {rest} {behind} {line} {n} {m} {w} {v} {s} {t} {z} {first} {old} u new BadLine met (refused bad e adds) =
     let h = met.is.handles in
-    let all = adds_more w v u (replies h.lines) (bad_line m) h.wrote adds in
-    ends_before (Err BadLine) u met (bad, before_unmoved met e, subst (λ j. Adds w u (replies h.lines ++ bad_line j)) (met_count met) all)
+    let all = each_more w v u (replies h.lines) (bad_line m ∷ []) h.wrote adds in
+    ends_before (Err BadLine) u met (bad, before_unmoved met e, subst (λ j. AddsEach w u (replies h.lines ++ bad_line j ∷ [])) (met_count met) all)
 by_fault {text} {rest} {behind} {line} {n} {m} {w} {v} {s} {t} {z} {first} {old} u new BadLine met (unread e f same) = absurd (cc)
 by_fault {text} {rest} {behind} {line} {n} {m} {w} {v} {s} {t} {z} {first} {old} u new WriteFault met (event_handled event spells p) =
     let one : Line = record { event = event; reply = p.0 } in
@@ -421,9 +410,9 @@ by_fault {text} {rest} {behind} {line} {n} {m} {w} {v} {s} {t} {z} {first} {old}
 by_fault {text} {rest} {behind} {line} {n} {m} {w} {v} {s} {t} {z} {first} {old} u new Memory met (refused bad e front) = ends_before (Err Memory) u met (writing (before_unmoved met e) (cut_refusal met u bad front))
 by_fault {text} {rest} {behind} {line} {n} {m} {w} {v} {s} {t} {z} {first} {old} u new Memory met (unread e f same) =
     let h = met.is.handles in
-    ends_before (Err Memory) u met (between (before_unmoved met f) (subst (λ x. Adds w x (replies h.lines)) (sym same) h.wrote))
+    ends_before (Err Memory) u met (between (before_unmoved met f) (subst (λ x. AddsEach w x (replies h.lines)) (sym same) h.wrote))
 
-pub at_fault : (text rest behind line : List ℕ) (n m : ℕ) (w v u : Told) (s t z : Seen) (first old new : World) (fault : LineFault)
+pub at_fault : (text rest behind line : List ℕ) (n m : ℕ) (w v u : Written) (s t z : Seen) (first old new : World) (fault : LineFault)
     → IsNew first → IsAt text rest n w v s t first old → lines_of rest ≡ line ∷ lines_of behind → m ≡ n + 1
     → LineWent (Err fault) m line v u t z old new → Grows m t z → WentThrough text (Err fault) w u s z
 at_fault text rest behind line n m w v u s t z first old new fault fresh is split next went grows =

@@ -5,6 +5,7 @@ use Rattle.std.specs.Str.{bytes_eq}
 use Rattle.std.proofs.lemmas.Bool.{leb-true}
 use Rattle.cloud_trait.specs.Seen.{Seen}
 use Rattle.db_io.specs.Content.{Told, Takes}
+use Rattle.db_io.specs.Writes.{Written}
 use Rattle.line_io.specs.Input.{WasRead, AreAll}
 use Rattle.line_io.specs.declared.input.InputFault.{InputFault}
 use Rattle.line_io.specs.declared.input.InputFault.TheVariants as input
@@ -44,25 +45,25 @@ whole before after input read =
 
 -- ---- the commands
 
-pub replay_ran : (left rest w u : Told) (s t : Seen) (text input : List ℕ) (ended : Result (Unit {0}) LineFault) → WasRead left rest (Ok input)
+pub replay_ran : (left rest : Told) (w u : Written) (s t : Seen) (text input : List ℕ) (ended : Result (Unit {0}) LineFault) → WasRead left rest (Ok input)
     → text ≡ input → ReplayWent ended text w u s t → Replays (ended_as status_of_line ended) left rest w u s t
 replay_ran left rest w u s t text input ended read same went =
     replay_went (whole left rest input read) ended refl (subst (λ b. ReplayWent ended b w u s t) same went)
 
-pub shell_ran : (client : ℕ) (left rest w u : Told) (s t : Seen) (text input : List ℕ) (ended : Result (Unit {0}) ShellFault) → WasRead left rest (Ok input)
+pub shell_ran : (client : ℕ) (left rest : Told) (w u : Written) (s t : Seen) (text input : List ℕ) (ended : Result (Unit {0}) ShellFault) → WasRead left rest (Ok input)
     → text ≡ input → ShellWent client text ended w u s t → RunsShell client (ended_as status_of_shell ended) left rest w u s t
 shell_ran client left rest w u s t text input ended read same went =
     shell_went (whole left rest input read) ended refl (subst (λ b. ShellWent client b ended w u s t) same went)
 
 -- where the input was not read, nothing ran
-pub replay_not_read : (left rest w : Told) (s : Seen) (fault : InputFault) → Replays (status_of_input fault) left rest w w s s
+pub replay_not_read : (left rest : Told) (w : Written) (s : Seen) (fault : InputFault) → Replays (status_of_input fault) left rest w w s s
 replay_not_read left rest w s fault = replay_unread fault refl (record { output = refl; seen = refl })
 
-pub shell_not_read : (client : ℕ) (left rest w : Told) (s : Seen) (fault : InputFault) → RunsShell client (status_of_input fault) left rest w w s s
+pub shell_not_read : (client : ℕ) (left rest : Told) (w : Written) (s : Seen) (fault : InputFault) → RunsShell client (status_of_input fault) left rest w w s s
 shell_not_read client left rest w s fault = shell_unread fault refl (record { output = refl; seen = refl })
 
 -- where there was no memory for the words, nothing ran, whatever they ask for
-pub not_asked : (asked : Option Shape) (left w : Told) (s : Seen) → Ran asked status.Memory left left w w s s
+pub not_asked : (asked : Option Shape) (left : Told) (w : Written) (s : Seen) → Ran asked status.Memory left left w w s s
 not_asked None left w s = record { ends = inr refl; unread = refl; nothing = record { output = refl; seen = refl } }
 not_asked (Some Replay) left w s = replay_not_read left left w s input.Memory
 not_asked (Some (Gen number count)) left w s =

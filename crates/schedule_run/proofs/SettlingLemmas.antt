@@ -6,7 +6,7 @@ use Rattle.cloud_trait.specs.Seen.{Seen}
 use Rattle.cloud_trait.specs.State.{CloudState, version_at}
 use Rattle.cloud_trait.specs.declared.state.Landing.{Landing}
 use Rattle.db_base.specs.declared.names.ObjName.TheVariants as object
-use Rattle.db_io.specs.Content.{Told}
+use Rattle.db_io.specs.Writes.{Written}
 use Rattle.event_text.specs.declared.event.Event.TheVariants.{Settle}
 use Rattle.head_codec.specs.declared.head.Head.{Head}
 use Rattle.head_codec.specs.Spelling.{head_of}
@@ -91,7 +91,7 @@ was_settled reply s t old new fresh next =
     }
 
 -- a settling ends as its reply says
-pub settle_end : (reply : Reply) (w u : Told) (s t : Seen) → ShowsSettling reply w u s t → SettleEnded (settled_by reply) w u s t
+pub settle_end : (reply : Reply) (w u : Written) (s t : Seen) → ShowsSettling reply w u s t → SettleEnded (settled_by reply) w u s t
 settle_end reply w u s t shows = on (is_settled reply) refl where
   on : (b : Bool) → is_settled reply ≡ b → SettleEnded (if b then Ok tt else Err NotSettled) w u s t
   on true is = (reply, is, shows)
@@ -101,7 +101,7 @@ pub settle_stopped : (s t : Seen) (old new : Play) → IsFresh old → RanOut Se
 settle_stopped s t old new fresh out = stopped_at [] Settle s s t old new (played_nothing s old fresh) out
 
 -- a settling whose reply was written, or a part of it, ends so
-pub settle_shown : (reply : Reply) (w u : Told) (s t : Seen) (old new : Play) (written : Result (Unit {0}) OutputFault) → IsFresh old → IsNext Settle reply s t old new
+pub settle_shown : (reply : Reply) (w u : Written) (s t : Seen) (old new : Play) (written : Result (Unit {0}) OutputFault) → IsFresh old → IsNext Settle reply s t old new
     → WasWritten w u (reply_line 1 reply) written → SettleEnded (settle_end_of written reply) w u s t
 settle_shown reply w u s t old new (Ok done) fresh next p = settle_end reply w u s t (record { handled = was_settled reply s t old new fresh next; wrote = p.0 })
 settle_shown reply w u s t old new (Err output.WriteFault) fresh next p = record { reply = reply; handled = was_settled reply s t old new fresh next; wrote = p.0 }

@@ -1,8 +1,8 @@
 -- The lines of a shell, one after another.
 use Rattle.std.proofs.Common.{◌≡◌, ◌+◌, ℕ, List, [], ◌∷◌, ◌++◌, length, Result, Ok, Err, Bool, true, false, if◌then◌else◌, refl, sym, ap, subst, ◌∙◌, append_assoc, inl, inr, arith, length-append}
-use Rattle.std.proofs.lemmas.List.{append-nil}
 use Rattle.cloud_trait.specs.Seen.{Seen}
-use Rattle.db_io.specs.Content.{Told, Adds, AddsPrefix}
+use Rattle.db_io.specs.Writes.{Written, AddsEach, AddsOne, AddsPart}
+use Rattle.db_io.proofs.WriteLemmas.{each_more}
 use Rattle.event_text.specs.declared.event.Event.{Event}
 use Rattle.event_text.specs.declared.event.Event.TheVariants.{Open, Close, Run}
 use Rattle.event_text.specs.Event.{IsShellLine}
@@ -21,7 +21,6 @@ use Rattle.schedule_run.specs.declared.shell.ShellFault.TheVariants.{NotOpened, 
 use Rattle.schedule_run.specs.Play.{IsFresh, IsRun, answered, answered_run, StopsRun, stops_event, stops_run, Played}
 use Rattle.run_text.specs.Written.{AddsFront, NothingRan, reply_line, shown_from, bad_line}
 use Rattle.schedule_run.specs.Shell.{AreShellLines, IsBad, alone, with_run, no_events, more_events, WereRun, in_event, in_run, WereStopped, Opens, WasCut, cut_opening, cut_line, cut_closing, cut_refusal, ShellRanOut, out_before, out_writing, out_between, out_opening, out_next, ShellEnded, ShellWent, IsAt, RanOutAt, out_reply, out_event, EventRan, shown_by, ended, is_opened, opened_by, OpeningRan, ClosingRan, LineRefused, LineRan, event_run, refused, unread}
-use Rattle.schedule_run.proofs.GoingLemmas.{adds_more}
 use Rattle.schedule_run.specs.Answered.{OpensNoneTwice}
 use Rattle.schedule_run.proofs.OnceLemmas.{OpenNone, none_more, one_none, once_nothing}
 use Rattle.schedule_run.proofs.ShellOnce.{all_shells, next_shells, shell_once, once_whole, stopped_in_once}
@@ -80,23 +79,23 @@ run_same events replies s t z play same w = subst (λ x. WereRun events replies 
 
 -- ---- replies and texts
 
-shown_more : (n m : ℕ) (replies : List Reply) (reply : Reply) → m ≡ n + length replies → shown_from n (replies ++ reply ∷ []) ≡ shown_from n replies ++ reply_line m reply
+shown_more : (n m : ℕ) (replies : List Reply) (reply : Reply) → m ≡ n + length replies → shown_from n (replies ++ reply ∷ []) ≡ shown_from n replies ++ reply_line m reply ∷ []
 shown_more n m [] reply e =
-    let f : m ≡ n = omega arith in append-nil (reply_line n reply) ∙ ap (λ k. reply_line k reply) (sym f)
+    let f : m ≡ n = omega arith in ap (λ k. reply_line k reply ∷ []) (sym f)
 shown_more n m (r ∷ replies) reply e =
     let f : m ≡ (n + 1) + length replies = omega arith in
-    ap (λ xs. reply_line n r ++ xs) (shown_more (n + 1) m replies reply f) ∙ sym (append_assoc (reply_line n r) (shown_from (n + 1) replies) (reply_line m reply))
+    ap (λ xs. reply_line n r ∷ xs) (shown_more (n + 1) m replies reply f)
 
-shows_more : (w v u : Told) (replies : List Reply) (reply : Reply) (m : ℕ) → m ≡ length replies → Adds w v (shown_from 0 replies) → Adds v u (reply_line m reply)
-    → Adds w u (shown_from 0 (replies ++ reply ∷ []))
+shows_more : (w v u : Written) (replies : List Reply) (reply : Reply) (m : ℕ) → m ≡ length replies → AddsEach w v (shown_from 0 replies) → AddsOne v u (reply_line m reply)
+    → AddsEach w u (shown_from 0 (replies ++ reply ∷ []))
 shows_more w v u replies reply m e all one =
     let f : m ≡ 0 + length replies = omega arith in
-    subst (λ xs. Adds w u xs) (sym (shown_more 0 m replies reply f)) (adds_more w v u (shown_from 0 replies) (reply_line m reply) all one)
+    subst (λ xs. AddsEach w u xs) (sym (shown_more 0 m replies reply f)) (each_more w v u (shown_from 0 replies) (reply_line m reply ∷ []) all one)
 
 -- a text under the next number is cut, behind replies that are written
-cut_behind : (w v u : Told) (replies : List Reply) (text : ℕ → List ℕ) (m : ℕ) → m ≡ length replies → Adds w v (shown_from 0 replies) → AddsPrefix v u (text m)
+cut_behind : (w v u : Written) (replies : List Reply) (text : ℕ → List ℕ) (m : ℕ) → m ≡ length replies → AddsEach w v (shown_from 0 replies) → AddsPart v u (text m)
     → AddsFront w u (shown_from 0 replies) (text (length replies))
-cut_behind w v u replies text m e all front = record { between = v; whole = all; front = subst (λ j. AddsPrefix v u (text j)) e front }
+cut_behind w v u replies text m e all front = record { between = v; each = all; front = subst (λ j. AddsPart v u (text j)) e front }
 
 opens_more : (replies more : List Reply) → Opens replies → Opens (replies ++ more)
 opens_more [] more opens = absurd opens
@@ -130,14 +129,14 @@ module _ (client : ℕ) (events : List Event) (s z : Seen) (shells : OpenNone ev
   stop_once later replies event none stop =
       stopped_in_once (Open 1 client ∷ later) stop.lines replies event s z stop.whole stop.stopped (shell_once client (later ++ event ∷ []) none)
 
-  cut_once : (later : List (List ℕ)) (w u : Told) → WasCut client events later w u s z → OpensNoneTwice s z
+  cut_once : (later : List (List ℕ)) (w u : Written) → WasCut client events later w u s z → OpensNoneTwice s z
   cut_once later w u (cut_opening reply play none run front) = run_once [] (reply ∷ []) play (λ other h. h) run
   cut_once later w u (cut_line replies reply play run opens front) = run_once events (replies ++ reply ∷ []) play shells run
   cut_once later w u (cut_closing replies reply play none run opens front) = run_once (events ++ Close 1 ∷ []) (replies ++ reply ∷ []) play closed_behind run
   cut_once later w u (cut_refusal replies play bad run opens front) = run_once events replies play shells run
 
   -- where memory ran out
-  out_once : (later : List (List ℕ)) (w u : Told) → ShellRanOut client events later w u s z → OpensNoneTwice s z
+  out_once : (later : List (List ℕ)) (w u : Written) → ShellRanOut client events later w u s z → OpensNoneTwice s z
   out_once later w u (out_before nothing) = once_nothing s z nothing.seen
   out_once later w u (out_writing cut) = cut_once later w u cut
   out_once later w u (out_between replies play run opens wrote) = run_once events replies play shells run
@@ -145,7 +144,7 @@ module _ (client : ℕ) (events : List Event) (s z : Seen) (shells : OpenNone ev
   out_once later w u (out_next replies event next stopped opens wrote) =
       stop_once events replies event (none_more events (event ∷ []) shells (one_none event (next_shells later event next))) stopped
 
-  ended_once : (result : Result (Unit {0}) ShellFault) (later : List (List ℕ)) (w u : Told) → ShellEnded result client events later w u s z → OpensNoneTwice s z
+  ended_once : (result : Result (Unit {0}) ShellFault) (later : List (List ℕ)) (w u : Written) → ShellEnded result client events later w u s z → OpensNoneTwice s z
   ended_once (Ok done) later w u so = run_once (events ++ Close 1 ∷ []) so.1.replies so.1.play closed_behind so.1.run
   ended_once (Err NotOpened) later w u so = run_once [] (so.reply ∷ []) so.play (λ other h. h) so.run
   ended_once (Err BadLine) later w u so = run_once events so.1.replies so.1.play shells so.1.run
@@ -153,7 +152,7 @@ module _ (client : ℕ) (events : List Event) (s z : Seen) (shells : OpenNone ev
   ended_once (Err Memory) later w u so = out_once later w u so
 
 -- how it went, by how it ended
-shell_went : {client : ℕ} {text : List ℕ} {result : Result (Unit {0}) ShellFault} {w u : Told} {s z : Seen} → (events : List Event) (earlier later : List (List ℕ))
+shell_went : {client : ℕ} {text : List ℕ} {result : Result (Unit {0}) ShellFault} {w u : Written} {s z : Seen} → (events : List Event) (earlier later : List (List ℕ))
     → lines_of text ≡ earlier ++ later → AreShellLines earlier events → ShellEnded result client events later w u s z → ShellWent client text result w u s z
 shell_went {client} {text} {result} {w} {u} {s} {z} events earlier later at spelled so = record {
   events = events;
@@ -168,14 +167,14 @@ shell_went {client} {text} {result} {w} {u} {s} {z} events earlier later at spel
 -- ---- one event
 
 -- an event that was run, and whose last reply was written, or a part of it
-pub event_shown : (event : Event) (n : ℕ) (reply : Reply) (w u : Told) (s t : Seen) (old new : Play) (written : Result (Unit {0}) OutputFault) → IsRun event reply s t old new
+pub event_shown : (event : Event) (n : ℕ) (reply : Reply) (w u : Written) (s t : Seen) (old new : Play) (written : Result (Unit {0}) OutputFault) → IsRun event reply s t old new
     → WasWritten w u (reply_line n reply) written → EventRan (shown_by written reply) n event w u s t old new
 event_shown event n reply w u s t old new (Ok done) run p = (run, p.0)
 event_shown event n reply w u s t old new (Err output.WriteFault) run p = (reply, run, p.0)
 event_shown event n reply w u s t old new (Err output.Memory) run p = out_reply reply run p.0
 
 -- an opening whose reply was written ends as the reply says
-pub opening_shown : (client : ℕ) (reply : Reply) (w u : Told) (s t : Seen) (old new : Play) → EventRan (Ok reply) 0 (Open 1 client) w u s t old new
+pub opening_shown : (client : ℕ) (reply : Reply) (w u : Written) (s t : Seen) (old new : Play) → EventRan (Ok reply) 0 (Open 1 client) w u s t old new
     → OpeningRan (opened_by reply) client w u s t old new
 opening_shown client reply w u s t old new ran = on (is_opened reply) refl where
   on : (b : Bool) → is_opened reply ≡ b → OpeningRan (if b then Ok tt else Err NotOpened) client w u s t old new
@@ -184,7 +183,7 @@ opening_shown client reply w u s t old new ran = on (is_opened reply) refl where
 
 -- ---- the opening
 
-pub at_open : (client : ℕ) (text : List ℕ) (w u : Told) (s t : Seen) (old new : Play) → IsFresh old
+pub at_open : (client : ℕ) (text : List ℕ) (w u : Written) (s t : Seen) (old new : Play) → IsFresh old
     → OpeningRan (Ok tt) client w u s t old new → IsAt client text text 0 w u s t new
 at_open client text w u s t old new fresh p = record {
   events = [];
@@ -195,17 +194,17 @@ at_open client text w u s t old new fresh p = record {
   replies = p.0 ∷ [];
   run = run_more [] [] (Open 1 client) p.0 s s t old new (run_nothing s old fresh) p.2.0;
   opened = p.1;
-  wrote = subst (λ xs. Adds w u xs) (sym (append-nil (reply_line 0 p.0))) p.2.1;
+  wrote = p.2.1;
 }
 
-open_out : (client : ℕ) (text : List ℕ) (w u : Told) (s t : Seen) (old new : Play) → IsFresh old
+open_out : (client : ℕ) (text : List ℕ) (w u : Written) (s t : Seen) (old new : Play) → IsFresh old
     → RanOutAt 0 (Open 1 client) w u s t old new → ShellEnded (Err Memory) client [] (lines_of text) w u s t
 open_out client text w u s t old new fresh (out_reply reply ran front) =
     out_writing (cut_opening reply new refl (run_more [] [] (Open 1 client) reply s s t old new (run_nothing s old fresh) ran) front)
 open_out client text w u s t old new fresh (out_event stops same) =
     out_opening (run_stopped [] [] (Open 1 client) s s t old new (run_nothing s old fresh) stops) same
 
-open_ended : (client : ℕ) (text : List ℕ) (w u : Told) (s t : Seen) (old new : Play) (fault : ShellFault) → IsFresh old
+open_ended : (client : ℕ) (text : List ℕ) (w u : Written) (s t : Seen) (old new : Play) (fault : ShellFault) → IsFresh old
     → OpeningRan (Err fault) client w u s t old new → ShellEnded (Err fault) client [] (lines_of text) w u s t
 open_ended client text w u s t old new NotOpened fresh p = record {
   reply = p.0;
@@ -219,26 +218,26 @@ open_ended client text w u s t old new WriteFault fresh p =
     cut_opening p.0 new refl (run_more [] [] (Open 1 client) p.0 s s t old new (run_nothing s old fresh) p.1) p.2
 open_ended client text w u s t old new Memory fresh p = open_out client text w u s t old new fresh p
 
-pub open_fault : (client : ℕ) (text : List ℕ) (w u : Told) (s t : Seen) (old new : Play) (fault : ShellFault) → IsFresh old
+pub open_fault : (client : ℕ) (text : List ℕ) (w u : Written) (s t : Seen) (old new : Play) (fault : ShellFault) → IsFresh old
     → OpeningRan (Err fault) client w u s t old new → ShellWent client text (Err fault) w u s t
 open_fault client text w u s t old new fault fresh p = shell_went [] [] (lines_of text) refl tt
     (open_ended client text w u s t old new fault fresh p)
 
 -- where there is no memory for a world
-pub out_first : (client : ℕ) (text : List ℕ) (w u : Told) (s t : Seen) → NothingRan w u s t → ShellWent client text (Err Memory) w u s t
+pub out_first : (client : ℕ) (text : List ℕ) (w u : Written) (s t : Seen) → NothingRan w u s t → ShellWent client text (Err Memory) w u s t
 out_first client text w u s t nothing = shell_went [] [] (lines_of text) refl tt
     (out_before nothing)
 
 -- ---- one line more
 
-replies_count : (client : ℕ) (text rest : List ℕ) (n m : ℕ) (w v : Told) (s t : Seen) (play : Play)
+replies_count : (client : ℕ) (text rest : List ℕ) (n m : ℕ) (w v : Written) (s t : Seen) (play : Play)
     → (is : IsAt client text rest n w v s t play) → m ≡ n + 1 → m ≡ length is.replies
 replies_count client text rest n m w v s t play is next =
     let c : length is.events ≡ n = is.count in
     let d : length is.replies ≡ length (Open 1 client ∷ is.events) = is.run.count in
     omega arith
 
-pub at_more : (client : ℕ) (text rest behind line : List ℕ) (n m : ℕ) (w v u : Told) (s t z : Seen) (old new : Play)
+pub at_more : (client : ℕ) (text rest behind line : List ℕ) (n m : ℕ) (w v u : Written) (s t z : Seen) (old new : Play)
     → IsAt client text rest n w v s t old → lines_of rest ≡ line ∷ lines_of behind → m ≡ n + 1 → LineRan (Ok tt) m line v u t z old new
     → IsAt client text behind m w u s z new
 at_more client text rest behind line n m w v u s t z old new is split next (event_run event (Ok reply) spells e ran) = record {
@@ -257,14 +256,14 @@ at_more client text rest behind line n m w v u s t z old new is split next (refu
 at_more client text rest behind line n m w v u s t z old new is split next (unread e f same) = absurd (cc)
 
 -- where a shell stops between two lines for want of memory
-pub at_stop : (client : ℕ) (text rest : List ℕ) (n : ℕ) (w v : Told) (s t : Seen) (play : Play)
+pub at_stop : (client : ℕ) (text rest : List ℕ) (n : ℕ) (w v : Written) (s t : Seen) (play : Play)
     → IsAt client text rest n w v s t play → ShellWent client text (Err Memory) w v s t
 at_stop client text rest n w v s t play is = shell_went is.events is.earlier (lines_of rest) is.at is.spelled
     (out_between is.replies play is.run is.opened is.wrote)
 
 -- ---- the end
 
-close_out : (client : ℕ) (text rest : List ℕ) (n m : ℕ) (w v u : Told) (s t z : Seen) (old new : Play)
+close_out : (client : ℕ) (text rest : List ℕ) (n m : ℕ) (w v u : Written) (s t z : Seen) (old new : Play)
     → (is : IsAt client text rest n w v s t old) → m ≡ n + 1 → RanOutAt m (Close 1) v u t z old new → ShellEnded (Err Memory) client is.events [] w u s z
 close_out client text rest n m w v u s t z old new is next (out_reply reply ran front) =
     out_writing
@@ -272,9 +271,9 @@ close_out client text rest n m w v u s t z old new is next (out_reply reply ran 
     (cut_behind w v u is.replies (λ j. reply_line j reply) m (replies_count client text rest n m w v s t old is next) is.wrote front))
 close_out client text rest n m w v u s t z old new is next (out_event stops same) =
     out_next is.replies (Close 1) refl (run_stopped (Open 1 client ∷ is.events) is.replies (Close 1) s t z old new is.run stops) is.opened
-    (subst (λ x. Adds w x (shown_from 0 is.replies)) (sym same) is.wrote)
+    (subst (λ x. AddsEach w x (shown_from 0 is.replies)) (sym same) is.wrote)
 
-close_ended : (client : ℕ) (text rest : List ℕ) (n m : ℕ) (w v u : Told) (s t z : Seen) (old new : Play)
+close_ended : (client : ℕ) (text rest : List ℕ) (n m : ℕ) (w v u : Written) (s t z : Seen) (old new : Play)
     → (is : IsAt client text rest n w v s t old) → m ≡ n + 1 → (answer : Result Reply ShellFault) → EventRan answer m (Close 1) v u t z old new
     → ShellEnded (ended answer) client is.events [] w u s z
 close_ended client text rest n m w v u s t z old new is next (Ok reply) ran = (
@@ -294,7 +293,7 @@ close_ended client text rest n m w v u s t z old new is next (Err WriteFault) ra
     (cut_behind w v u is.replies (λ j. reply_line j ran.0) m (replies_count client text rest n m w v s t old is next) is.wrote ran.2)
 close_ended client text rest n m w v u s t z old new is next (Err Memory) ran = close_out client text rest n m w v u s t z old new is next ran
 
-pub at_end : (client : ℕ) (text rest : List ℕ) (n m : ℕ) (w v u : Told) (s t z : Seen) (old new : Play) (result : Result (Unit {0}) ShellFault)
+pub at_end : (client : ℕ) (text rest : List ℕ) (n m : ℕ) (w v u : Written) (s t z : Seen) (old new : Play) (result : Result (Unit {0}) ShellFault)
     → IsAt client text rest n w v s t old → rest ≡ [] → m ≡ n + 1 → ClosingRan result m v u t z old new → ShellWent client text result w u s z
 at_end client text rest n m w v u s t z old new result is none next closing = shell_went is.events is.earlier [] (is.at ∙ ap (λ r. is.earlier ++ lines_of r) none) is.spelled
     (subst (λ r. ShellEnded r client is.events [] w u s z) (sym closing.ends) (close_ended client text rest n m w v u s t z old new is next closing.answer closing.ran))
@@ -302,26 +301,26 @@ at_end client text rest n m w v u s t z old new result is none next closing = sh
 -- ---- a line that ends the shell
 
 -- a line was met
-pub record IsMet (client : ℕ) (text rest behind line : List ℕ) (n m : ℕ) (w v : Told) (s t : Seen) (old : Play) : Type 0 where
+pub record IsMet (client : ℕ) (text rest behind line : List ℕ) (n m : ℕ) (w v : Written) (s t : Seen) (old : Play) : Type 0 where
   pub is : IsAt client text rest n w v s t old
   pub split : lines_of rest ≡ line ∷ lines_of behind
   pub next : m ≡ n + 1
 
-met_count : {client : ℕ} {text rest behind line : List ℕ} {n m : ℕ} {w v : Told} {s t : Seen} {old : Play}
+met_count : {client : ℕ} {text rest behind line : List ℕ} {n m : ℕ} {w v : Written} {s t : Seen} {old : Play}
     → (met : IsMet client text rest behind line n m w v s t old) → m ≡ length met.is.replies
 met_count {client} {text} {rest} {behind} {line} {n} {m} {w} {v} {s} {t} {old} met = replies_count client text rest n m w v s t old met.is met.next
 
 -- the shell ends before it
-ends_before : {client : ℕ} {text rest behind line : List ℕ} {n m : ℕ} {w v : Told} {s t : Seen} {old : Play}
-    → (result : Result (Unit {0}) ShellFault) (u : Told) (z : Seen) → (met : IsMet client text rest behind line n m w v s t old)
+ends_before : {client : ℕ} {text rest behind line : List ℕ} {n m : ℕ} {w v : Written} {s t : Seen} {old : Play}
+    → (result : Result (Unit {0}) ShellFault) (u : Written) (z : Seen) → (met : IsMet client text rest behind line n m w v s t old)
     → ShellEnded result client met.is.events (line ∷ lines_of behind) w u s z → ShellWent client text result w u s z
 ends_before {client} {text} {rest} {behind} {line} {n} {m} {w} {v} {s} {t} {old} result u z met so = shell_went met.is.events met.is.earlier (line ∷ lines_of behind) (met.is.at ∙ ap (λ ls. met.is.earlier ++ ls) met.split) met.is.spelled
     so
 
 -- its reply is cut
-ends_cut : {client : ℕ} {text rest behind line : List ℕ} {n m : ℕ} {w v : Told} {s t : Seen} {old : Play}
-    → (met : IsMet client text rest behind line n m w v s t old) (event : Event) (reply : Reply) (u : Told) (z : Seen) (new : Play)
-    → IsShellLine line event → IsRun event reply t z old new → AddsPrefix v u (reply_line m reply)
+ends_cut : {client : ℕ} {text rest behind line : List ℕ} {n m : ℕ} {w v : Written} {s t : Seen} {old : Play}
+    → (met : IsMet client text rest behind line n m w v s t old) (event : Event) (reply : Reply) (u : Written) (z : Seen) (new : Play)
+    → IsShellLine line event → IsRun event reply t z old new → AddsPart v u (reply_line m reply)
     → ShellWent client text (Err WriteFault) w u s z × ShellWent client text (Err Memory) w u s z
 ends_cut {client} {text} {rest} {behind} {line} {n} {m} {w} {v} {s} {t} {old} met event reply u z new spells ran front =
     let is = met.is in
@@ -337,8 +336,8 @@ ends_cut {client} {text} {rest} {behind} {line} {n} {m} {w} {v} {s} {t} {old} me
           (out_writing (cut_line is.replies reply new run is.opened wrote)),
     )
 
-event_out : {client : ℕ} {text rest behind line : List ℕ} {n m : ℕ} {w v : Told} {s t : Seen} {old : Play}
-    → (met : IsMet client text rest behind line n m w v s t old) (event : Event) (u : Told) (z : Seen) (new : Play) → IsShellLine line event
+event_out : {client : ℕ} {text rest behind line : List ℕ} {n m : ℕ} {w v : Written} {s t : Seen} {old : Play}
+    → (met : IsMet client text rest behind line n m w v s t old) (event : Event) (u : Written) (z : Seen) (new : Play) → IsShellLine line event
     → RanOutAt m event v u t z old new → ShellWent client text (Err Memory) w u s z
 event_out {client} {text} {rest} {behind} {line} {n} {m} {w} {v} {s} {t} {old} met event u z new spells (out_reply reply ran front) =
     (ends_cut met event reply u z new spells ran front).1
@@ -346,10 +345,10 @@ event_out {client} {text} {rest} {behind} {line} {n} {m} {w} {v} {s} {t} {old} m
     let is = met.is in
     ends_before (Err Memory) u z met
     (out_next is.replies event spells (run_stopped (Open 1 client ∷ is.events) is.replies event s t z old new is.run stops) is.opened
-    (subst (λ x. Adds w x (shown_from 0 is.replies)) (sym same) is.wrote))
+    (subst (λ x. AddsEach w x (shown_from 0 is.replies)) (sym same) is.wrote))
 
-event_fault : {client : ℕ} {text rest behind line : List ℕ} {n m : ℕ} {w v : Told} {s t : Seen} {old : Play}
-    → (met : IsMet client text rest behind line n m w v s t old) (event : Event) (u : Told) (z : Seen) (new : Play) (fault : ShellFault)
+event_fault : {client : ℕ} {text rest behind line : List ℕ} {n m : ℕ} {w v : Written} {s t : Seen} {old : Play}
+    → (met : IsMet client text rest behind line n m w v s t old) (event : Event) (u : Written) (z : Seen) (new : Play) (fault : ShellFault)
     → IsShellLine line event → EventRan (Err fault) m event v u t z old new → ShellWent client text (Err fault) w u s z
 event_fault met event u z new NotOpened spells ran = absurd ran
 event_fault met event u z new BadLine spells ran = absurd ran
@@ -357,8 +356,8 @@ event_fault met event u z new WriteFault spells ran = (ends_cut met event ran.0 
 event_fault met event u z new Memory spells ran = event_out met event u z new spells ran
 
 -- its refusal is written, or a part of it
-line_refused : {client : ℕ} {text rest behind line : List ℕ} {n m : ℕ} {w v : Told} {s t : Seen} {old : Play}
-    → (met : IsMet client text rest behind line n m w v s t old) (u : Told) (z : Seen) (fault : ShellFault)
+line_refused : {client : ℕ} {text rest behind line : List ℕ} {n m : ℕ} {w v : Written} {s t : Seen} {old : Play}
+    → (met : IsMet client text rest behind line n m w v s t old) (u : Written) (z : Seen) (fault : ShellFault)
     → IsBad line → z ≡ t → LineRefused (Err fault) m v u → ShellEnded (Err fault) client met.is.events (line ∷ lines_of behind) w u s z
 line_refused {client} {text} {rest} {behind} {line} {n} {m} {w} {v} {s} {t} {old} met u z NotOpened bad same p = absurd p
 line_refused {client} {text} {rest} {behind} {line} {n} {m} {w} {v} {s} {t} {old} met u z BadLine bad same p =
@@ -369,8 +368,8 @@ line_refused {client} {text} {rest} {behind} {line} {n} {m} {w} {v} {s} {t} {old
         play = old;
         run = run_same (Open 1 client ∷ is.events) is.replies s t z old same is.run;
         opened = is.opened;
-        wrote = subst (λ j. Adds w u (shown_from 0 is.replies ++ bad_line j)) (met_count met)
-            (adds_more w v u (shown_from 0 is.replies) (bad_line m) is.wrote p);
+        wrote = subst (λ j. AddsEach w u (shown_from 0 is.replies ++ bad_line j ∷ [])) (met_count met)
+            (each_more w v u (shown_from 0 is.replies) (bad_line m ∷ []) is.wrote p);
       },
     )
 line_refused {client} {text} {rest} {behind} {line} {n} {m} {w} {v} {s} {t} {old} met u z WriteFault bad same p =
@@ -384,17 +383,17 @@ line_refused {client} {text} {rest} {behind} {line} {n} {m} {w} {v} {s} {t} {old
     (cut_behind w v u is.replies bad_line m (met_count met) is.wrote p))
 
 -- it was not read for want of memory
-line_unread : {client : ℕ} {text rest behind line : List ℕ} {n m : ℕ} {w v : Told} {s t : Seen} {old : Play}
-    → (met : IsMet client text rest behind line n m w v s t old) (u : Told) (z : Seen) → z ≡ t → u ≡ v
+line_unread : {client : ℕ} {text rest behind line : List ℕ} {n m : ℕ} {w v : Written} {s t : Seen} {old : Play}
+    → (met : IsMet client text rest behind line n m w v s t old) (u : Written) (z : Seen) → z ≡ t → u ≡ v
     → ShellWent client text (Err Memory) w u s z
 line_unread {client} {text} {rest} {behind} {line} {n} {m} {w} {v} {s} {t} {old} met u z same told =
     let is = met.is in
     ends_before (Err Memory) u z met
     (out_between is.replies old (run_same (Open 1 client ∷ is.events) is.replies s t z old same is.run) is.opened
-    (subst (λ x. Adds w x (shown_from 0 is.replies)) (sym told) is.wrote))
+    (subst (λ x. AddsEach w x (shown_from 0 is.replies)) (sym told) is.wrote))
 
-by_fault : {client : ℕ} {text rest behind line : List ℕ} {n m : ℕ} {w v : Told} {s t : Seen} {old : Play}
-    → (met : IsMet client text rest behind line n m w v s t old) (u : Told) (z : Seen) (new : Play) (fault : ShellFault)
+by_fault : {client : ℕ} {text rest behind line : List ℕ} {n m : ℕ} {w v : Written} {s t : Seen} {old : Play}
+    → (met : IsMet client text rest behind line n m w v s t old) (u : Written) (z : Seen) (new : Play) (fault : ShellFault)
     → LineRan (Err fault) m line v u t z old new → ShellWent client text (Err fault) w u s z
 by_fault met u z new fault (event_run event (Ok reply) spells e ran) = absurd (cc)
 by_fault {client} {text} {rest} {behind} {line} {n} {m} {w} {v} {s} {t} {old} met u z new fault (event_run event (Err why) spells e ran) =
@@ -403,7 +402,7 @@ by_fault met u z new fault (refused bad same p) = ends_before (Err fault) u z me
 by_fault {client} {text} {rest} {behind} {line} {n} {m} {w} {v} {s} {t} {old} met u z new fault (unread e same told) =
     subst (λ r. ShellWent client text r w u s z) (sym e) (line_unread met u z same told)
 
-pub at_fault : (client : ℕ) (text rest behind line : List ℕ) (n m : ℕ) (w v u : Told) (s t z : Seen) (old new : Play) (fault : ShellFault)
+pub at_fault : (client : ℕ) (text rest behind line : List ℕ) (n m : ℕ) (w v u : Written) (s t z : Seen) (old new : Play) (fault : ShellFault)
     → IsAt client text rest n w v s t old → lines_of rest ≡ line ∷ lines_of behind → m ≡ n + 1 → LineRan (Err fault) m line v u t z old new
     → ShellWent client text (Err fault) w u s z
 at_fault client text rest behind line n m w v u s t z old new fault is split next ran =

@@ -1,6 +1,6 @@
 -- The count of writes that failed.
 use Rattle.std.proofs.Common.{◌≡◌, ◌⊎◌, ℕ, List, Result, Ok, Err, refl, inl, inr}
-use Rattle.db_io.specs.Content.{Told}
+use Rattle.db_io.specs.Writes.{Written}
 use Rattle.line_io.specs.declared.output.OutputFault.{OutputFault}
 use Rattle.line_io.specs.declared.output.OutputFault.TheVariants as output
 use Rattle.line_io.specs.Output.{WasWritten}
@@ -17,7 +17,7 @@ unfaulted fault before after (inl e) = absurd (cc)
 unfaulted fault before after (inr same) = same
 
 -- the writing of a settling's reply fails only where the settling ends by that
-pub settle_writes : (written : Result (Unit {0}) OutputFault) (reply : Reply) (text : List ℕ) (w u : Told) → WasWritten w u text written
+pub settle_writes : (written : Result (Unit {0}) OutputFault) (reply : Reply) (text : List ℕ) (w u : Written) → WasWritten w u text written
     → (settle_end_of written reply ≡ Err WriteFault) ⊎ (u.faults ≡ w.faults)
 settle_writes (Ok done) reply text w u p = inr p.1
 settle_writes (Err output.WriteFault) reply text w u p = inl refl

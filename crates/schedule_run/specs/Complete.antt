@@ -4,6 +4,7 @@ use Rattle.cloud_trait.specs.Seen.{Seen}
 use Rattle.command_words.specs.declared.shape.Shape.{Shape}
 use Rattle.command_words.specs.declared.shape.Shape.TheVariants.{Replay, Gen, Shell, Settle}
 use Rattle.db_io.specs.Content.{Told}
+use Rattle.db_io.specs.Writes.{Written}
 use Rattle.schedule_run.specs.declared.settling.SettleFault.TheVariants as settle
 use Rattle.schedule_run.specs.Settling.{SettleEnded}
 use Rattle.schedule_run.specs.Shell.{WasNotOpened}
@@ -12,7 +13,7 @@ use Rattle.schedule_run.specs.declared.status.Status.TheVariants.{Done, BadLine,
 use Rattle.schedule_run.specs.Run.{HasBad, WasBad, WasTooLong}
 
 -- neither the source's nor the sink's count rose, and no more than an input has was read
-pub record WentInOrder (left rest written now_written : Told) : Type 0 where
+pub record WentInOrder (left rest : Told) (written now_written : Written) : Type 0 where
   pub reads : rest.faults ≤ left.faults
   pub writes : now_written.faults ≤ written.faults
   pub within : WasTooLong left rest → ⊥
@@ -30,7 +31,7 @@ abbrev pub IsOrMemory : Status → Status → Type 0
 IsOrMemory wanted result = (result ≡ wanted) ⊎ (result ≡ Memory)
 
 -- a run of words of a shape ends so, unless it is a shell whose opening did not open its session, or a settling that stopped
-abbrev pub EndsWith : Status → Option Shape → Status → Told → Told → Seen → Seen → Type 0
+abbrev pub EndsWith : Status → Option Shape → Status → Written → Written → Seen → Seen → Type 0
 EndsWith wanted (Some Replay) result written now_written start now = IsOrMemory wanted result
 EndsWith wanted (Some (Gen number count)) result written now_written start now = IsOrMemory wanted result
 EndsWith wanted (Some (Shell client dir)) result written now_written start now =
@@ -40,11 +41,11 @@ EndsWith wanted (Some (Settle dir)) result written now_written start now =
 EndsWith wanted None result written now_written start now = Unit {0}
 
 -- where all went in order and no line is bad, the run is done
-abbrev pub IsComplete : Option Shape → Status → Told → Told → Told → Told → Seen → Seen → Type 0
+abbrev pub IsComplete : Option Shape → Status → Told → Told → Written → Written → Seen → Seen → Type 0
 IsComplete asked result left rest written now_written start now =
     WentInOrder left rest written now_written → (ReadBadLine asked left rest → ⊥) → EndsWith Done asked result written now_written start now
 
 -- where all went in order and a line is bad, the run ends by it
-abbrev pub StopsAtBadLine : Option Shape → Status → Told → Told → Told → Told → Seen → Seen → Type 0
+abbrev pub StopsAtBadLine : Option Shape → Status → Told → Told → Written → Written → Seen → Seen → Type 0
 StopsAtBadLine asked result left rest written now_written start now =
     WentInOrder left rest written now_written → IsKnown left → ReadBadLine asked left rest → EndsWith BadLine asked result written now_written start now

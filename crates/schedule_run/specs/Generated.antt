@@ -1,7 +1,7 @@
 -- What a run of made events writes and leaves.
 use Rattle.std.specs.Prelude.{◌≡◌, List, [], ◌∷◌, ◌++◌, length, Result, Ok, Err}
 use Rattle.cloud_trait.specs.Seen.{Seen}
-use Rattle.db_io.specs.Content.{Told, Adds, AddsPrefix}
+use Rattle.db_io.specs.Writes.{Written, AddsOne, AddsPart}
 use Rattle.event_text.specs.declared.event.Event.{Event}
 use Rattle.event_text.specs.declared.event.Event.TheVariants.{Report}
 use Rattle.line_io.specs.declared.output.OutputFault.{OutputFault}
@@ -53,27 +53,27 @@ TakesAll events (Ok replies) start now = HandlesAll events replies.0 replies.1 s
 TakesAll events (Err fault) start now = StopsAmong (events ++ Report 1 ∷ []) start now
 
 -- all were handled, and the summary is written
-pub record Summed (events : List Event) (written now_written : Told) (start now : Seen) : Type 0 where
+pub record Summed (events : List Event) (written now_written : Written) (start now : Seen) : Type 0 where
   pub settling : Reply
   pub report : Reply
   pub handled : HandlesAll events settling report start now
-  pub wrote : Adds written now_written (summary (length events) settling report)
+  pub wrote : AddsOne written now_written (summary (length events) settling report)
 
 -- the first part of it is
-pub record CutSum (events : List Event) (written now_written : Told) (start now : Seen) : Type 0 where
+pub record CutSum (events : List Event) (written now_written : Written) (start now : Seen) : Type 0 where
   pub settling : Reply
   pub report : Reply
   pub handled : HandlesAll events settling report start now
-  pub wrote : AddsPrefix written now_written (summary (length events) settling report)
+  pub wrote : AddsPart written now_written (summary (length events) settling report)
 
 -- where memory ran out: before anything, while an event was handled, or while the summary was written
-pub data GenRanOut (events : List Event) (written now_written : Told) (start now : Seen) : Type 0 where
+pub data GenRanOut (events : List Event) (written now_written : Written) (start now : Seen) : Type 0 where
   out_before : NothingRan written now_written start now → GenRanOut events written now_written start now
   out_handling : StopsAmong (events ++ Report 1 ∷ []) start now → now_written ≡ written → GenRanOut events written now_written start now
   out_writing : CutSum events written now_written start now → GenRanOut events written now_written start now
 
 -- how a run of events ended
-abbrev pub GenEnded : List Event → Result (Unit {0}) OutputFault → Told → Told → Seen → Seen → Type 0
+abbrev pub GenEnded : List Event → Result (Unit {0}) OutputFault → Written → Written → Seen → Seen → Type 0
 GenEnded events (Ok done) written now_written start now = Summed events written now_written start now
 GenEnded events (Err WriteFault) written now_written start now = CutSum events written now_written start now
 GenEnded events (Err Memory) written now_written start now = GenRanOut events written now_written start now

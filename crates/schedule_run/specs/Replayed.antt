@@ -3,7 +3,7 @@ use Rattle.std.specs.Prelude.{ℕ, ◌≡◌, ◌+◌, ◌⊎◌, List, [], ◌�
 use Rattle.cloud_trait.specs.State.{CloudState, IsEmptyCloud}
 use Rattle.cloud_trait.specs.Seen.{Seen}
 use Rattle.cloud_trait.specs.Traced.{IsTraced}
-use Rattle.db_io.specs.Content.{Told, Adds, AddsPrefix}
+use Rattle.db_io.specs.Writes.{Written, AddsEach, AddsOne, AddsPart}
 use Rattle.event_text.specs.declared.event.Event.{Event}
 use Rattle.event_text.specs.Event.{IsEvent}
 use Rattle.line_io.specs.Lines.{lines_of}
@@ -39,35 +39,35 @@ BeginsBad [] = ⊥
 BeginsBad (text ∷ texts) = (event : Event) → IsEvent text event → ⊥
 
 -- a text was cut short: the reply to the last line, or what is written of the next text, which is in no grammar; all before it is written
-pub data WroteFront (lines : List Line) (later : List (List ℕ)) (written now_written : Told) : Type 0 where
+pub data WroteFront (lines : List Line) (later : List (List ℕ)) (written now_written : Written) : Type 0 where
   reply_cut : (earlier : List Line) (line : Line) → lines ≡ earlier ++ line ∷ []
       → AddsFront written now_written (replies earlier) (reply_line (length lines) line.reply) → WroteFront lines later written now_written
   refusal_cut : BeginsBad later → AddsFront written now_written (replies lines) (bad_line (length lines + 1)) → WroteFront lines later written now_written
 
 -- the lines were handled and their replies are written, and the next one was handled, has no reply by this fault, and wrote nothing
-pub record EndedBy (fault : WorldFault) (lines : List Line) (later : List (List ℕ)) (written now_written : Told) (start now : Seen) : Type 0 where
+pub record EndedBy (fault : WorldFault) (lines : List Line) (later : List (List ℕ)) (written now_written : Written) (start now : Seen) : Type 0 where
   pub event : Event
   pub spelled : Begins later event
   pub handled : IsUnanswered lines event fault start now
-  pub wrote : Adds written now_written (replies lines)
+  pub wrote : AddsEach written now_written (replies lines)
 
 -- where memory ran out: before the next line did anything, while a text was written, or while the next line was handled
-pub data RanOut (lines : List Line) (later : List (List ℕ)) (written now_written : Told) (start now : Seen) : Type 0 where
-  between : AreAnswered lines start now → Adds written now_written (replies lines) → RanOut lines later written now_written start now
+pub data RanOut (lines : List Line) (later : List (List ℕ)) (written now_written : Written) (start now : Seen) : Type 0 where
+  between : AreAnswered lines start now → AddsEach written now_written (replies lines) → RanOut lines later written now_written start now
   writing : AreAnswered lines start now → WroteFront lines later written now_written → RanOut lines later written now_written start now
   handling : EndedBy world.Memory lines later written now_written start now → RanOut lines later written now_written start now
 
 -- how these lines ended, before these texts
-abbrev pub Ended : Result (Unit {0}) LineFault → List Line → List (List ℕ) → Told → Told → Seen → Seen → Type 0
+abbrev pub Ended : Result (Unit {0}) LineFault → List Line → List (List ℕ) → Written → Written → Seen → Seen → Type 0
 Ended (Ok done) lines later written now_written start now =
-    (later ≡ []) × AreAnswered lines start now × Adds written now_written (replies lines)
+    (later ≡ []) × AreAnswered lines start now × AddsEach written now_written (replies lines)
 Ended (Err BadLine) lines later written now_written start now =
-    BeginsBad later × AreAnswered lines start now × Adds written now_written (replies lines ++ bad_line (length lines + 1))
+    BeginsBad later × AreAnswered lines start now × AddsEach written now_written (replies lines ++ bad_line (length lines + 1) ∷ [])
 Ended (Err WriteFault) lines later written now_written start now = AreAnswered lines start now × WroteFront lines later written now_written
 Ended (Err Memory) lines later written now_written start now = RanOut lines later written now_written start now
 
 -- a text was handled line by line up to this end: the first lines of it spell the lines that were handled
-pub record WentThrough (text : List ℕ) (ended : Result (Unit {0}) LineFault) (written now_written : Told) (start now : Seen) : Type 0 where
+pub record WentThrough (text : List ℕ) (ended : Result (Unit {0}) LineFault) (written now_written : Written) (start now : Seen) : Type 0 where
   pub lines : List Line
   pub earlier : List (List ℕ)
   pub later : List (List ℕ)
@@ -79,16 +79,16 @@ pub record WentThrough (text : List ℕ) (ended : Result (Unit {0}) LineFault) (
 -- ---- between two lines
 
 -- these texts were handled line by line from a world on: their replies are written, and over a cloud that was empty all stands and is right
-pub record Handles (texts : List (List ℕ)) (written now_written : Told) (start now : Seen) (first world : World) : Type 0 where
+pub record Handles (texts : List (List ℕ)) (written now_written : Written) (start now : Seen) (first world : World) : Type 0 where
   pub lines : List Line
   pub spelled : AreSpelled texts lines
-  pub wrote : Adds written now_written (replies lines)
+  pub wrote : AddsEach written now_written (replies lines)
   pub went : WentOn start first lines now world
   pub stands : (t : CloudState) → start.state ≡ Some t → IsEmptyCloud t
       → (u : CloudState) × (now.state ≡ Some u) × WorldStands lines world u × ReportsAreRight lines u × IsTraced u
 
 -- so many lines of the text stand before the rest, and were handled
-pub record IsAt (text rest : List ℕ) (n : ℕ) (written now_written : Told) (start now : Seen) (first world : World) : Type 0 where
+pub record IsAt (text rest : List ℕ) (n : ℕ) (written now_written : Written) (start now : Seen) (first world : World) : Type 0 where
   pub earlier : List (List ℕ)
   pub at : lines_of text ≡ earlier ++ lines_of rest
   pub count : length earlier ≡ n
@@ -102,25 +102,25 @@ pub record IsAnswered (n : ℕ) (event : Event) (start now : Seen) (old new : Wo
   pub stands : StandsOn n event start now old new (Ok reply)
 
 -- what the event of a line did: its reply is written, or a part of it, or there is none
-abbrev pub LineHandled : Result (Unit {0}) LineFault → ℕ → Event → Told → Told → Seen → Seen → World → World → Type 0
+abbrev pub LineHandled : Result (Unit {0}) LineFault → ℕ → Event → Written → Written → Seen → Seen → World → World → Type 0
 LineHandled (Ok done) n event written now_written start now old new =
-    (reply : Reply) × IsAnswered n event start now old new reply × Adds written now_written (reply_line n reply)
+    (reply : Reply) × IsAnswered n event start now old new reply × AddsOne written now_written (reply_line n reply)
 LineHandled (Err BadLine) n event written now_written start now old new = ⊥
 LineHandled (Err WriteFault) n event written now_written start now old new =
-    (reply : Reply) × IsAnswered n event start now old new reply × AddsPrefix written now_written (reply_line n reply)
+    (reply : Reply) × IsAnswered n event start now old new reply × AddsPart written now_written (reply_line n reply)
 LineHandled (Err Memory) n event written now_written start now old new =
-    ((reply : Reply) × IsAnswered n event start now old new reply × AddsPrefix written now_written (reply_line n reply))
+    ((reply : Reply) × IsAnswered n event start now old new reply × AddsPart written now_written (reply_line n reply))
     ⊎ (Handled n event start now old new (Err world.Memory) × (now_written ≡ written))
 
 -- what a line did whose text is in no grammar: nothing of it was handled, and its refusal is written, or a part of it
-abbrev pub LineRefused : Result (Unit {0}) LineFault → ℕ → Told → Told → Type 0
-LineRefused (Err BadLine) n written now_written = Adds written now_written (bad_line n)
-LineRefused (Err WriteFault) n written now_written = AddsPrefix written now_written (bad_line n)
-LineRefused (Err Memory) n written now_written = AddsPrefix written now_written (bad_line n)
+abbrev pub LineRefused : Result (Unit {0}) LineFault → ℕ → Written → Written → Type 0
+LineRefused (Err BadLine) n written now_written = AddsOne written now_written (bad_line n)
+LineRefused (Err WriteFault) n written now_written = AddsPart written now_written (bad_line n)
+LineRefused (Err Memory) n written now_written = AddsPart written now_written (bad_line n)
 LineRefused (Ok done) n written now_written = ⊥
 
 -- what a line did: its event was handled, or it is in no grammar, or memory ran out before
-pub data LineWent (result : Result (Unit {0}) LineFault) (n : ℕ) (text : List ℕ) (written now_written : Told) (start now : Seen) (old new : World) : Type 0 where
+pub data LineWent (result : Result (Unit {0}) LineFault) (n : ℕ) (text : List ℕ) (written now_written : Written) (start now : Seen) (old new : World) : Type 0 where
   event_handled : (event : Event) → IsEvent text event → LineHandled result n event written now_written start now old new → LineWent result n text written now_written start now old new
   refused : ((event : Event) → IsEvent text event → ⊥) → now ≡ start → LineRefused result n written now_written → LineWent result n text written now_written start now old new
   unread : result ≡ Err Memory → now ≡ start → now_written ≡ written → LineWent result n text written now_written start now old new
@@ -136,6 +136,6 @@ pub record HasBadLine (text : List ℕ) : Type 0 where
   pub bad : (event : Event) → IsEvent line event → ⊥
 
 -- a text was handled line by line up to this end; or there was no memory for a world, and nothing ran
-abbrev pub ReplayWent : Result (Unit {0}) LineFault → List ℕ → Told → Told → Seen → Seen → Type 0
+abbrev pub ReplayWent : Result (Unit {0}) LineFault → List ℕ → Written → Written → Seen → Seen → Type 0
 ReplayWent (Err Memory) text written now_written start now = NothingRan written now_written start now ⊎ WentThrough text (Err Memory) written now_written start now
 ReplayWent ended text written now_written start now = WentThrough text ended written now_written start now

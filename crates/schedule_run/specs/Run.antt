@@ -4,6 +4,7 @@ use Rattle.cloud_trait.specs.Seen.{Seen}
 use Rattle.command_words.specs.declared.shape.Shape.{Shape}
 use Rattle.command_words.specs.declared.shape.Shape.TheVariants.{Replay, Gen, Shell, Settle}
 use Rattle.db_io.specs.Content.{Told, Takes}
+use Rattle.db_io.specs.Writes.{Written}
 use Rattle.line_io.specs.Input.{AreAll}
 use Rattle.line_io.specs.declared.input.InputFault.{InputFault}
 use Rattle.line_io.specs.declared.input.TheConstants.{MAX_INPUT}
@@ -100,40 +101,40 @@ IsOfSettling result = ⊥
 -- ---- what each command reads, writes and leaves
 
 -- a replay: the input was read whole and its lines were handled up to this end, or it was not, and nothing ran
-pub data Replays (result : Status) (left rest written now_written : Told) (start now : Seen) : Type 0 where
+pub data Replays (result : Status) (left rest : Told) (written now_written : Written) (start now : Seen) : Type 0 where
   replay_unread : (fault : InputFault) → result ≡ status_of_input fault → NothingRan written now_written start now
       → Replays result left rest written now_written start now
   replay_went : (input : ReadWhole left rest) (ended : Result (Unit {0}) LineFault) → result ≡ ended_as status_of_line ended
       → ReplayWent ended input.bytes written now_written start now → Replays result left rest written now_written start now
 
 -- a shell of a client: in the same way
-pub data RunsShell (client : ℕ) (result : Status) (left rest written now_written : Told) (start now : Seen) : Type 0 where
+pub data RunsShell (client : ℕ) (result : Status) (left rest : Told) (written now_written : Written) (start now : Seen) : Type 0 where
   shell_unread : (fault : InputFault) → result ≡ status_of_input fault → NothingRan written now_written start now
       → RunsShell client result left rest written now_written start now
   shell_went : (input : ReadWhole left rest) (ended : Result (Unit {0}) ShellFault) → result ≡ ended_as status_of_shell ended
       → ShellWent client input.bytes ended written now_written start now → RunsShell client result left rest written now_written start now
 
 -- a generated schedule: its events were handled up to this end, and opened no transaction twice, whatever was in the cloud before
-pub record Generates (number count : ℕ) (result : Status) (written now_written : Told) (start now : Seen) : Type 0 where
+pub record Generates (number count : ℕ) (result : Status) (written now_written : Written) (start now : Seen) : Type 0 where
   pub ended : Result (Unit {0}) OutputFault
   pub leads : result ≡ ended_as status_of_output ended
   pub went : GenEnded (schedule number count) ended written now_written start now
   pub opens_once : OpensNoneTwice start now
 
 -- a settling: the line `settle` was handled up to this end
-pub record RunsSettling (result : Status) (written now_written : Told) (start now : Seen) : Type 0 where
+pub record RunsSettling (result : Status) (written now_written : Written) (start now : Seen) : Type 0 where
   pub ended : Result (Unit {0}) SettleFault
   pub leads : result ≡ ended_as status_of_settle ended
   pub went : SettleEnded ended written now_written start now
 
 -- words of no shape, or no memory to read them: nothing is read, and nothing ran
-pub record IsUnasked (result : Status) (left rest written now_written : Told) (start now : Seen) : Type 0 where
+pub record IsUnasked (result : Status) (left rest : Told) (written now_written : Written) (start now : Seen) : Type 0 where
   pub ends : (result ≡ status.BadWords) ⊎ (result ≡ status.Memory)
   pub unread : rest ≡ left
   pub nothing : NothingRan written now_written start now
 
 -- what a run of words of this shape read, wrote and left
-abbrev pub Ran : Option Shape → Status → Told → Told → Told → Told → Seen → Seen → Type 0
+abbrev pub Ran : Option Shape → Status → Told → Told → Written → Written → Seen → Seen → Type 0
 Ran (Some Replay) result left rest written now_written start now = Replays result left rest written now_written start now
 Ran (Some (Gen number count)) result left rest written now_written start now = (rest ≡ left) × Generates number count result written now_written start now
 Ran (Some (Shell client dir)) result left rest written now_written start now = RunsShell client result left rest written now_written start now

@@ -3,7 +3,7 @@ use Rattle.std.specs.Prelude.{ℕ, ◌≡◌, Bool, true, false, if◌then◌els
 use Rattle.cloud_trait.specs.Seen.{Seen}
 use Rattle.cloud_trait.specs.State.{CloudState}
 use Rattle.cloud_trait.specs.declared.state.Landing.{Landing}
-use Rattle.db_io.specs.Content.{Told, Adds, AddsPrefix}
+use Rattle.db_io.specs.Writes.{Written, AddsOne, AddsPart}
 use Rattle.event_text.specs.declared.event.Event.TheVariants.{Settle}
 use Rattle.head_codec.specs.declared.head.Head.{Head}
 use Rattle.line_io.specs.declared.output.OutputFault.{OutputFault}
@@ -42,24 +42,24 @@ pub record WasSettled (reply : Reply) (start now : Seen) : Type 0 where
   pub opens : OpensNothing start now
 
 -- it is written under number 1
-pub record ShowsSettling (reply : Reply) (written now_written : Told) (start now : Seen) : Type 0 where
+pub record ShowsSettling (reply : Reply) (written now_written : Written) (start now : Seen) : Type 0 where
   pub handled : WasSettled reply start now
-  pub wrote : Adds written now_written (reply_line 1 reply)
+  pub wrote : AddsOne written now_written (reply_line 1 reply)
 
 -- the first part of it is
-pub record CutsSettling (written now_written : Told) (start now : Seen) : Type 0 where
+pub record CutsSettling (written now_written : Written) (start now : Seen) : Type 0 where
   pub reply : Reply
   pub handled : WasSettled reply start now
-  pub wrote : AddsPrefix written now_written (reply_line 1 reply)
+  pub wrote : AddsPart written now_written (reply_line 1 reply)
 
 -- where memory ran out: before anything, while the line was handled, or while its reply was written
-pub data SettlingRanOut (written now_written : Told) (start now : Seen) : Type 0 where
+pub data SettlingRanOut (written now_written : Written) (start now : Seen) : Type 0 where
   out_before : NothingRan written now_written start now → SettlingRanOut written now_written start now
   out_handling : StoppedAt Settle [] start now → now_written ≡ written → SettlingRanOut written now_written start now
   out_writing : CutsSettling written now_written start now → SettlingRanOut written now_written start now
 
 -- how a settling ended: well exactly where its reply says that it is done
-abbrev pub SettleEnded : Result (Unit {0}) SettleFault → Told → Told → Seen → Seen → Type 0
+abbrev pub SettleEnded : Result (Unit {0}) SettleFault → Written → Written → Seen → Seen → Type 0
 SettleEnded (Ok done) written now_written start now = (reply : Reply) × (is_settled reply ≡ true) × ShowsSettling reply written now_written start now
 SettleEnded (Err NotSettled) written now_written start now = (reply : Reply) × (is_settled reply ≡ false) × ShowsSettling reply written now_written start now
 SettleEnded (Err WriteFault) written now_written start now = CutsSettling written now_written start now

@@ -1,7 +1,7 @@
 -- What a shell writes and leaves, line by line.
 use Rattle.std.specs.Prelude.{ℕ, ◌≡◌, Bool, true, false, if◌then◌else◌, List, [], ◌∷◌, ◌++◌, length, Result, Ok, Err}
 use Rattle.cloud_trait.specs.Seen.{Seen}
-use Rattle.db_io.specs.Content.{Told, Adds, AddsPrefix}
+use Rattle.db_io.specs.Writes.{Written, AddsEach, AddsOne, AddsPart}
 use Rattle.event_text.specs.declared.event.Event.{Event}
 use Rattle.event_text.specs.declared.event.Event.TheVariants.{Open, Close, Run}
 use Rattle.event_text.specs.Event.{IsShellLine}
@@ -88,34 +88,34 @@ Opens [] = ⊥
 Opens (reply ∷ replies) = is_opened reply ≡ true
 
 -- these events were run, the first of them opened the session, and the last replies are written, the first under 0
-pub record Showed (events : List Event) (written now_written : Told) (start now : Seen) : Type 0 where
+pub record Showed (events : List Event) (written now_written : Written) (start now : Seen) : Type 0 where
   pub replies : List Reply
   pub play : Play
   pub run : WereRun events replies start now play
   pub opened : Opens replies
-  pub wrote : Adds written now_written (shown_from 0 replies)
+  pub wrote : AddsEach written now_written (shown_from 0 replies)
 
 -- the opening was run and did not open the session, and its reply is written
-pub record WasNotOpened (client : ℕ) (written now_written : Told) (start now : Seen) : Type 0 where
+pub record WasNotOpened (client : ℕ) (written now_written : Written) (start now : Seen) : Type 0 where
   pub reply : Reply
   pub play : Play
   pub run : WereRun (Open 1 client ∷ []) (reply ∷ []) start now play
   pub closed : is_opened reply ≡ false
-  pub wrote : Adds written now_written (reply_line 0 reply)
+  pub wrote : AddsOne written now_written (reply_line 0 reply)
 
 -- these events were run, and behind their replies the number of a bad line is written: that of the line behind theirs
-pub record ShowedBadLine (events : List Event) (written now_written : Told) (start now : Seen) : Type 0 where
+pub record ShowedBadLine (events : List Event) (written now_written : Written) (start now : Seen) : Type 0 where
   pub replies : List Reply
   pub play : Play
   pub run : WereRun events replies start now play
   pub opened : Opens replies
-  pub wrote : Adds written now_written (shown_from 0 replies ++ bad_line (length replies))
+  pub wrote : AddsEach written now_written (shown_from 0 replies ++ bad_line (length replies) ∷ [])
 
 -- a text was cut short, the last: the opening's reply, that of the last of these lines, that of the closing behind them all, or the refusal of the
 -- next line; all before it is written
-pub data WasCut (client : ℕ) (events : List Event) (later : List (List ℕ)) (written now_written : Told) (start now : Seen) : Type 0 where
+pub data WasCut (client : ℕ) (events : List Event) (later : List (List ℕ)) (written now_written : Written) (start now : Seen) : Type 0 where
   cut_opening : (reply : Reply) (play : Play) → events ≡ [] → WereRun (Open 1 client ∷ []) (reply ∷ []) start now play
-      → AddsPrefix written now_written (reply_line 0 reply) → WasCut client events later written now_written start now
+      → AddsPart written now_written (reply_line 0 reply) → WasCut client events later written now_written start now
   cut_line : (replies : List Reply) (reply : Reply) (play : Play) → WereRun (Open 1 client ∷ events) (replies ++ reply ∷ []) start now play → Opens replies
       → AddsFront written now_written (shown_from 0 replies) (reply_line (length replies) reply) → WasCut client events later written now_written start now
   cut_closing : (replies : List Reply) (reply : Reply) (play : Play) → later ≡ []
@@ -130,17 +130,17 @@ IsNextOf [] event = event ≡ Close 1
 IsNextOf (text ∷ texts) event = IsShellLine text event
 
 -- where memory ran out: before anything, while a text was written, between two lines, at the opening, or at the next event
-pub data ShellRanOut (client : ℕ) (events : List Event) (later : List (List ℕ)) (written now_written : Told) (start now : Seen) : Type 0 where
+pub data ShellRanOut (client : ℕ) (events : List Event) (later : List (List ℕ)) (written now_written : Written) (start now : Seen) : Type 0 where
   out_before : NothingRan written now_written start now → ShellRanOut client events later written now_written start now
   out_writing : WasCut client events later written now_written start now → ShellRanOut client events later written now_written start now
   out_between : (replies : List Reply) (play : Play) → WereRun (Open 1 client ∷ events) replies start now play → Opens replies
-      → Adds written now_written (shown_from 0 replies) → ShellRanOut client events later written now_written start now
+      → AddsEach written now_written (shown_from 0 replies) → ShellRanOut client events later written now_written start now
   out_opening : WereStopped [] [] (Open 1 client) start now → now_written ≡ written → ShellRanOut client events later written now_written start now
   out_next : (replies : List Reply) (event : Event) → IsNextOf later event → WereStopped (Open 1 client ∷ events) replies event start now → Opens replies
-      → Adds written now_written (shown_from 0 replies) → ShellRanOut client events later written now_written start now
+      → AddsEach written now_written (shown_from 0 replies) → ShellRanOut client events later written now_written start now
 
 -- how a shell ended behind these lines and before those
-abbrev pub ShellEnded : Result (Unit {0}) ShellFault → ℕ → List Event → List (List ℕ) → Told → Told → Seen → Seen → Type 0
+abbrev pub ShellEnded : Result (Unit {0}) ShellFault → ℕ → List Event → List (List ℕ) → Written → Written → Seen → Seen → Type 0
 ShellEnded (Ok done) client events later written now_written start now =
     (later ≡ []) × Showed (Open 1 client ∷ (events ++ Close 1 ∷ [])) written now_written start now
 ShellEnded (Err NotOpened) client events later written now_written start now = WasNotOpened client written now_written start now
@@ -151,7 +151,7 @@ ShellEnded (Err Memory) client events later written now_written start now = Shel
 
 -- the lines of a text were run up to this end; no two of the rows that they added to the trace of a cloud put open heads that agree in client, epoch and
 -- transaction, whatever was in the cloud before
-pub record ShellWent (client : ℕ) (text : List ℕ) (ended : Result (Unit {0}) ShellFault) (written now_written : Told) (start now : Seen) : Type 0 where
+pub record ShellWent (client : ℕ) (text : List ℕ) (ended : Result (Unit {0}) ShellFault) (written now_written : Written) (start now : Seen) : Type 0 where
   pub events : List Event
   pub earlier : List (List ℕ)
   pub later : List (List ℕ)
@@ -163,7 +163,7 @@ pub record ShellWent (client : ℕ) (text : List ℕ) (ended : Result (Unit {0})
 -- ---- between two lines
 
 -- so many lines of the text stand before the rest, and were run behind the opening
-pub record IsAt (client : ℕ) (text rest : List ℕ) (n : ℕ) (written now_written : Told) (start now : Seen) (play : Play) : Type 0 where
+pub record IsAt (client : ℕ) (text rest : List ℕ) (n : ℕ) (written now_written : Written) (start now : Seen) (play : Play) : Type 0 where
   pub events : List Event
   pub earlier : List (List ℕ)
   pub at : lines_of text ≡ earlier ++ lines_of rest
@@ -172,23 +172,23 @@ pub record IsAt (client : ℕ) (text rest : List ℕ) (n : ℕ) (written now_wri
   pub replies : List Reply
   pub run : WereRun (Open 1 client ∷ events) replies start now play
   pub opened : Opens replies
-  pub wrote : Adds written now_written (shown_from 0 replies)
+  pub wrote : AddsEach written now_written (shown_from 0 replies)
 
 -- ---- one event
 
 -- memory ran out while the last reply of an event was written, or at the event
-pub data RanOutAt (n : ℕ) (event : Event) (written now_written : Told) (start now : Seen) (old new : Play) : Type 0 where
-  out_reply : (reply : Reply) → IsRun event reply start now old new → AddsPrefix written now_written (reply_line n reply)
+pub data RanOutAt (n : ℕ) (event : Event) (written now_written : Written) (start now : Seen) (old new : Play) : Type 0 where
+  out_reply : (reply : Reply) → IsRun event reply start now old new → AddsPart written now_written (reply_line n reply)
       → RanOutAt n event written now_written start now old new
   out_event : StopsRun event start now old new → now_written ≡ written → RanOutAt n event written now_written start now old new
 
 -- an event was run, and its last reply is written under the number, or a part of it; or memory ran out
-abbrev pub EventRan : Result Reply ShellFault → ℕ → Event → Told → Told → Seen → Seen → Play → Play → Type 0
-EventRan (Ok reply) n event written now_written start now old new = IsRun event reply start now old new × Adds written now_written (reply_line n reply)
+abbrev pub EventRan : Result Reply ShellFault → ℕ → Event → Written → Written → Seen → Seen → Play → Play → Type 0
+EventRan (Ok reply) n event written now_written start now old new = IsRun event reply start now old new × AddsOne written now_written (reply_line n reply)
 EventRan (Err NotOpened) n event written now_written start now old new = ⊥
 EventRan (Err BadLine) n event written now_written start now old new = ⊥
 EventRan (Err WriteFault) n event written now_written start now old new =
-    (reply : Reply) × IsRun event reply start now old new × AddsPrefix written now_written (reply_line n reply)
+    (reply : Reply) × IsRun event reply start now old new × AddsPart written now_written (reply_line n reply)
 EventRan (Err Memory) n event written now_written start now old new = RanOutAt n event written now_written start now old new
 
 -- the last reply of an event that was run, by how it was written
@@ -207,7 +207,7 @@ abbrev pub opened_by : Reply → Result (Unit {0}) ShellFault
 opened_by reply = if is_opened reply then Ok tt else Err NotOpened
 
 -- the opening was run, and its reply is written under 0: it ends well exactly where it opened the session
-abbrev pub OpeningRan : Result (Unit {0}) ShellFault → ℕ → Told → Told → Seen → Seen → Play → Play → Type 0
+abbrev pub OpeningRan : Result (Unit {0}) ShellFault → ℕ → Written → Written → Seen → Seen → Play → Play → Type 0
 OpeningRan (Ok done) client written now_written start now old new =
     (reply : Reply) × (is_opened reply ≡ true) × EventRan (Ok reply) 0 (Open 1 client) written now_written start now old new
 OpeningRan (Err NotOpened) client written now_written start now old new =
@@ -217,21 +217,21 @@ OpeningRan (Err WriteFault) client written now_written start now old new = Event
 OpeningRan (Err Memory) client written now_written start now old new = EventRan (Err Memory) 0 (Open 1 client) written now_written start now old new
 
 -- the closing was run, whatever its last reply, which is written under the number
-pub record ClosingRan (result : Result (Unit {0}) ShellFault) (n : ℕ) (written now_written : Told) (start now : Seen) (old new : Play) : Type 0 where
+pub record ClosingRan (result : Result (Unit {0}) ShellFault) (n : ℕ) (written now_written : Written) (start now : Seen) (old new : Play) : Type 0 where
   pub answer : Result Reply ShellFault
   pub ends : result ≡ ended answer
   pub ran : EventRan answer n (Close 1) written now_written start now old new
 
 -- what a line did whose text is no shell's line: nothing of it was run, and its refusal is written, or a part of it
-abbrev pub LineRefused : Result (Unit {0}) ShellFault → ℕ → Told → Told → Type 0
+abbrev pub LineRefused : Result (Unit {0}) ShellFault → ℕ → Written → Written → Type 0
 LineRefused (Ok done) n written now_written = ⊥
 LineRefused (Err NotOpened) n written now_written = ⊥
-LineRefused (Err BadLine) n written now_written = Adds written now_written (bad_line n)
-LineRefused (Err WriteFault) n written now_written = AddsPrefix written now_written (bad_line n)
-LineRefused (Err Memory) n written now_written = AddsPrefix written now_written (bad_line n)
+LineRefused (Err BadLine) n written now_written = AddsOne written now_written (bad_line n)
+LineRefused (Err WriteFault) n written now_written = AddsPart written now_written (bad_line n)
+LineRefused (Err Memory) n written now_written = AddsPart written now_written (bad_line n)
 
 -- what a line did: its event was run, or it is no shell's line, or memory ran out before
-pub data LineRan (result : Result (Unit {0}) ShellFault) (n : ℕ) (text : List ℕ) (written now_written : Told) (start now : Seen) (old new : Play) : Type 0 where
+pub data LineRan (result : Result (Unit {0}) ShellFault) (n : ℕ) (text : List ℕ) (written now_written : Written) (start now : Seen) (old new : Play) : Type 0 where
   event_run : (event : Event) (answer : Result Reply ShellFault) → IsShellLine text event → result ≡ ended answer
       → EventRan answer n event written now_written start now old new → LineRan result n text written now_written start now old new
   refused : IsBad text → now ≡ start → LineRefused result n written now_written → LineRan result n text written now_written start now old new

@@ -1,8 +1,7 @@
 -- What a sink tells that keeps each write by itself.
 use Rattle.std.specs.Prelude.{ℕ, List, Some}
-use Rattle.std.specs.List.{concat}
-use Rattle.db_io.specs.Content.{Told}
+use Rattle.db_io.specs.Writes.{Written}
 
--- the writes joined; none of its calls fails
-abbrev pub told_of : List (List ℕ) → Told
-told_of writes = record { content = Some (concat writes); faults = 0 }
+-- its writes; none of its calls fails
+abbrev pub told_of : List (List ℕ) → Written
+told_of writes = record { writes = Some writes; faults = 0 }

@@ -66,7 +66,6 @@ impl Replies {
 impl Sink for Replies {
     ghost told = { told_of };
 
-    #[tactic(auto, using(crate::proofs::Writes::concat_push))]
     fn write(&mut self, bytes: &[u8]) -> Result<(), IoFault> {
         match self.keep(bytes) {
             Ok(()) => Ok(()),

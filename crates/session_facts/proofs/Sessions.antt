@@ -5,6 +5,7 @@ pub mod Laws
 pub mod Begins
 pub mod Troubles
 pub mod Showing
+pub mod Spending
 pub mod LeaseSteps
 pub mod OpeningSteps
 pub mod CommitSteps

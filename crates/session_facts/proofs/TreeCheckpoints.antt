@@ -14,5 +14,6 @@ pub mod Guards
 pub mod UpGuards
 pub mod Hands
 pub mod Meeting
+pub mod Spending
 pub mod Explaining
 pub mod Steps

@@ -24,6 +24,8 @@ use Rattle.db_base.specs.declared.refusal.Refusal.{Refusal}
 use Rattle.db_base.specs.declared.refusal.Refused.{Refused}
 use Rattle.db_base.specs.declared.refusal.Refused.TheVariants as refused
 use Rattle.db_base.specs.declared.trouble.CommitAnswer.{CommitAnswer}
+use Rattle.db_base.specs.declared.trouble.Counter.{Counter}
+use Rattle.db_base.specs.declared.trouble.Counter.TheVariants as counter
 use Rattle.db_base.specs.declared.trouble.Trouble.{Trouble}
 use Rattle.db_base.specs.declared.trouble.Trouble.TheVariants as trouble
 use Rattle.db_base.specs.declared.wish.Wish.{Wish}
@@ -41,15 +43,16 @@ use Rattle.session_facts.specs.CommitRuns.Stopping.{MayStop as MayStopCommit}
 use Rattle.session_facts.specs.Openings.Opening.{MayStop as MayStopOpening}
 use Rattle.session_facts.specs.PageCheckpoints.Checkpoint.{MayStop as MayStopPage}
 use Rattle.session_facts.specs.Sessions.Answering.{MayRefuse, MaySettle}
-use Rattle.session_facts.specs.Sessions.Explaining.{left_told, trouble_of_answer}
+use Rattle.session_facts.specs.Sessions.Explaining.{left_told, spent_for, trouble_of_answer}
 use Rattle.session_facts.specs.Sessions.Sessions.{Sessions, IsRightOp}
-use Rattle.session_facts.specs.Sessions.Spent.{IsOfOpening, IsOfCommit, IsOfFolding, IsOfSettling}
+use Rattle.session_facts.specs.Sessions.Spent.{IsOfSettling, IsSpentToOpen, IsSpentToCommit, IsSpentInPages, IsSpentInTree, IsSpentToSettle}
 use Rattle.session_facts.specs.Sessions.Untroubled.{StepsCalmly, IsOfNoCall, IsUntroubled, IsSpent, IsSpentOrOf}
 use Rattle.session_facts.specs.TreeCheckpoints.Checkpoint.{MayStop as MayStopTree}
 use Rattle.session_facts.specs.Walks.Walks.{MayStop as MayStopWalk}
 use Rattle.session_facts.proofs.CommitRuns.Telling.{IsTold}
 use Rattle.session_facts.proofs.Sessions.AtOnce.{IsAtOnce, begins_at_once, begins_untroubled}
-use Rattle.session_facts.proofs.Sessions.Untroubled.{IsAtRest, rested, untroubled_later, step_untroubled, answer_untroubled, answered_rests, closed_rests, at_rest, commit_tells, commit_well}
+use Rattle.session_facts.proofs.Sessions.Spending.{pages_in_tree}
+use Rattle.session_facts.proofs.Sessions.Untroubled.{IsAtRest, no_call_by, rested, untroubled_later, step_untroubled, answer_untroubled, answered_rests, closed_rests, at_rest, commit_tells, commit_well}
 use Rattle.tree_walk.specs.Walk.{sought}
 use Rattle.txn_buffer.specs.Noted.{Noted}
 use Rattle.world_core.specs.declared.asked.Asked.{Asked}
@@ -59,7 +62,7 @@ use Rattle.world_core.specs.declared.asked.Request.TheVariants.{Begin, Note, Abo
 use Rattle.world_core.specs.World.{World}
 use Rattle.world_core.specs.declared.world.WorldFault.{WorldFault}
 use Rattle.world_core.specs.Asked.{change_noted, tree_noted, Asks, OfSession, IsOpening, IsReading, IsScanning, IsPaging, IsFolding, IsMade, IsNoted, IsStep, bound_of}
-use Rattle.world_core.specs.Calm.{StepIsCalm, work_at, DoesWell, BeginsWell, RunsWell, StepsWell, SettlesWell, RepliesWell, AnswersWell}
+use Rattle.world_core.specs.Calm.{StepIsCalm, spent_by, work_at, DoesWell, BeginsWell, RunsWell, StepsWell, SettlesWell, RepliesWell, AnswersWell}
 use Rattle.world_core.specs.EachStep.{EachWent, EachMade, EachRun, EachSettlingOn, EachSettling, EachDone, EachAsked}
 use Rattle.world_core.specs.Explained.{StepExplains}
 use Rattle.world_core.specs.Handled.{Declines, Has, BeginsOp, NotesChange, DropsChanges, StepsLooked, MakesStep, Went, start, further, Runs, SettlesOn, Settles, Crashes, Does, Answers}
@@ -74,8 +77,8 @@ use Rattle.world_core.proofs.StandsLemmas.{IsUnderWay, changed_at, changed_was, 
 
 -- ---- troubles that no call brought
 
-opening_spent : (u : CloudState) (k : Trouble) → MayStopOpening k → IsOfNoCall u k → (k ≡ trouble.Memory → ⊥) → IsSpent IsOfOpening u k
-opening_spent u (trouble.Exhausted what) may none other = (may, none)
+opening_spent : (u : CloudState) (k : Trouble) → MayStopOpening k → IsOfNoCall IsSpentToOpen u k → (k ≡ trouble.Memory → ⊥) → IsSpent IsSpentToOpen u k
+opening_spent u (trouble.Exhausted what) may none other = none
 opening_spent u trouble.Memory may none other = other refl
 opening_spent u trouble.Failed may none other = none
 opening_spent u (trouble.Late end now) may none other = none
@@ -83,51 +86,68 @@ opening_spent u (trouble.Busy lock until) may none other = none
 opening_spent u (trouble.Waiting have need) may none other = none
 opening_spent u k may none other = may
 
-commit_spent : (u : CloudState) (k : Trouble) → MayStopCommit k → IsOfNoCall u k → (k ≡ trouble.Memory → ⊥) → IsSpent IsOfCommit u k
-commit_spent u (trouble.Exhausted what) may none other = (may, none)
+commit_spent : (u : CloudState) (k : Trouble) → MayStopCommit k → IsOfNoCall IsSpentToCommit u k → (k ≡ trouble.Memory → ⊥) → IsSpent IsSpentToCommit u k
+commit_spent u (trouble.Exhausted what) may none other = none
 commit_spent u trouble.Memory may none other = other refl
 commit_spent u trouble.Failed may none other = none
 commit_spent u (trouble.Late end now) may none other = none
 commit_spent u k may none other = may
 
-tree_spent : (u : CloudState) (k : Trouble) → MayStopTree k → IsOfNoCall u k → (k ≡ trouble.Memory → ⊥) → IsSpent IsOfFolding u k
-tree_spent u (trouble.Exhausted what) may none other = (may, none)
-tree_spent u trouble.Memory may none other = other refl
-tree_spent u trouble.Failed may none other = none
-tree_spent u (trouble.Late end now) may none other = none
-tree_spent u (trouble.Busy lock until) may none other = none
-tree_spent u k may none other = may
+tree_spent : (u : CloudState) (tree : ℕ) (k : Trouble) → MayStopTree k → IsOfNoCall (IsSpentInTree tree) u k → (k ≡ trouble.Memory → ⊥) → IsSpent (IsSpentInTree tree) u k
+tree_spent u tree (trouble.Exhausted what) may none other = none
+tree_spent u tree trouble.Memory may none other = other refl
+tree_spent u tree trouble.Failed may none other = none
+tree_spent u tree (trouble.Late end now) may none other = none
+tree_spent u tree (trouble.Busy lock until) may none other = none
+tree_spent u tree k may none other = may
 
-settled_spent : (u : CloudState) (k : Trouble) → MaySettle k → IsOfNoCall u k → (k ≡ trouble.Memory → ⊥) → IsSpent IsOfSettling u k
-settled_spent u (trouble.Exhausted what) may none other = (may, none)
-settled_spent u trouble.Memory may none other = other refl
-settled_spent u trouble.Failed may none other = none
-settled_spent u (trouble.Late end now) may none other = none
-settled_spent u (trouble.Busy lock until) may none other = none
-settled_spent u (trouble.Waiting have need) may none other = none
-settled_spent u k may none other = may
+-- whatever is at work, a counter of a settling is spent as it is for a settling
+settles_by : (u : CloudState) (w : Work) (what : Counter) → IsOfSettling what → spent_for w u what → IsSpentToSettle u what
+settles_by u (work.Opening r) what may is = inl is
+settles_by u (work.Committing r) counter.Txn may is = absurd may
+settles_by u (work.Committing r) counter.Number may is = absurd may
+settles_by u (work.Committing r) what may is = absurd is
+settles_by u (work.Folding home m) what may is = inr (m.tree, is)
+settles_by u (work.Paging home p) what may is = inr (p.tree, pages_in_tree p.tree u what is)
+settles_by u (work.Settling m) what may is = is
+settles_by u (work.Reading home m) what may is = absurd is
+settles_by u (work.Scanning home m) what may is = absurd is
+settles_by u (work.Closing l) what may is = absurd is
+settles_by u (work.Renewing home) what may is = absurd is
+settles_by u work.Closed what may is = absurd is
+settles_by u (work.Idle home) what may is = absurd is
+settles_by u (work.Broken l) what may is = absurd is
 
-page_spent : (u : CloudState) (page : ℕ) (k : Trouble) → MayStopPage page k → IsOfNoCall u k → (k ≡ trouble.Memory → ⊥) → IsSpentOrOf page u k
-page_spent u page (trouble.Exhausted what) may none other = (may, none)
-page_spent u page (trouble.Absent named) may none other = may
-page_spent u page (trouble.NotALeaf named) may none other = may
-page_spent u page trouble.Memory may none other = other refl
-page_spent u page trouble.Failed may none other = none
-page_spent u page (trouble.Late end now) may none other = none
-page_spent u page (trouble.Busy lock until) may none other = none
-page_spent u page k may none other = may
+settled_spent : (u : CloudState) (w : Work) (k : Trouble) → MaySettle k → IsOfNoCall (spent_for w) u k → (k ≡ trouble.Memory → ⊥) → IsSpent IsSpentToSettle u k
+settled_spent u w (trouble.Exhausted what) may none other = settles_by u w what may none
+settled_spent u w trouble.Memory may none other = other refl
+settled_spent u w trouble.Failed may none other = none
+settled_spent u w (trouble.Late end now) may none other = none
+settled_spent u w (trouble.Busy lock until) may none other = none
+settled_spent u w (trouble.Waiting have need) may none other = none
+settled_spent u w k may none other = may
 
-refuse_never : (u : CloudState) (k : Trouble) → MayRefuse k → IsOfNoCall u k → (k ≡ trouble.Memory → ⊥) → ⊥
-refuse_never u trouble.Memory may none other = other refl
-refuse_never u trouble.Failed may none other = none
-refuse_never u (trouble.Late end now) may none other = none
-refuse_never u k may none other = may
+page_spent : (u : CloudState) (tree page : ℕ) (k : Trouble) → MayStopPage page k → IsOfNoCall (IsSpentInPages tree) u k → (k ≡ trouble.Memory → ⊥) → IsSpentOrOf tree page u k
+page_spent u tree page (trouble.Exhausted what) may none other = none
+page_spent u tree page (trouble.Absent named) may none other = may
+page_spent u tree page (trouble.NotALeaf named) may none other = may
+page_spent u tree page trouble.Memory may none other = other refl
+page_spent u tree page trouble.Failed may none other = none
+page_spent u tree page (trouble.Late end now) may none other = none
+page_spent u tree page (trouble.Busy lock until) may none other = none
+page_spent u tree page k may none other = may
 
-walk_never : (u : CloudState) (k : Trouble) → MayStopWalk k → IsOfNoCall u k → (k ≡ trouble.Memory → ⊥) → ⊥
-walk_never u trouble.Memory may none other = other refl
-walk_never u trouble.Failed may none other = none
-walk_never u (trouble.Stale page least got) may none other = none
-walk_never u k may none other = may
+refuse_never : (u : CloudState) (Spent : CloudState → Counter → Type 0) (k : Trouble) → MayRefuse k → IsOfNoCall Spent u k → (k ≡ trouble.Memory → ⊥) → ⊥
+refuse_never u Spent trouble.Memory may none other = other refl
+refuse_never u Spent trouble.Failed may none other = none
+refuse_never u Spent (trouble.Late end now) may none other = none
+refuse_never u Spent k may none other = may
+
+walk_never : (u : CloudState) (Spent : CloudState → Counter → Type 0) (k : Trouble) → MayStopWalk k → IsOfNoCall Spent u k → (k ≡ trouble.Memory → ⊥) → ⊥
+walk_never u Spent trouble.Memory may none other = other refl
+walk_never u Spent trouble.Failed may none other = none
+walk_never u Spent (trouble.Stale page least got) may none other = none
+walk_never u Spent k may none other = may
 
 -- ---- the answer of an operation
 
@@ -144,9 +164,10 @@ IsAnswerOf (Folding tree) (answer.Done n) = Unit {0}
 IsAnswerOf task (answer.Trouble k) = Unit {0}
 IsAnswerOf task a = ⊥
 
--- what a session at work has is answered so
-record AnswersAs (s : Standing) (a : Answer) : Type 0 where
+-- what a session at work has is answered so, and counts on what its task counts on
+record AnswersAs (w : Work) (s : Standing) (a : Answer) : Type 0 where
   task : Task
+  counts : (u : CloudState) (what : Counter) → spent_for w u what → spent_by task u what
   posture : s.posture ≡ Working task
   of : IsAnswerOf task a
 
@@ -158,32 +179,33 @@ scan_answers home buffer m c More new shown a tree from to f = absurd (cc (f.2))
 scan_answers home buffer m c (Ended page) new shown a tree from to never = absurd never
 scan_answers home buffer m c (Stopped t) new shown a tree from to f = absurd (cc (f.2))
 
-answers_as : (who : Caller) (before after : Seen) (w new : Work) (s : Standing) (a : Answer) → StepsAt who before after w new (Ended a) → WorksAs w s → AnswersAs s a
-answers_as who before after (work.Opening m) new s (answer.Opened epoch) p acts = record { task = Opening; posture = acts.0; of = tt }
-answers_as who before after (work.Opening m) new s (answer.Trouble k) p acts = record { task = Opening; posture = acts.0; of = tt }
+answers_as : (who : Caller) (before after : Seen) (w new : Work) (s : Standing) (a : Answer) → StepsAt who before after w new (Ended a) → WorksAs w s → AnswersAs w s a
+answers_as who before after (work.Opening m) new s (answer.Opened epoch) p acts = record { task = Opening; counts = λ u what is. is; posture = acts.0; of = tt }
+answers_as who before after (work.Opening m) new s (answer.Trouble k) p acts = record { task = Opening; counts = λ u what is. is; posture = acts.0; of = tt }
 answers_as who before after (work.Opening m) new s a p acts = absurd p.1
-answers_as who before after (work.Committing m) new s (answer.Commit c) p acts = record { task = Committing m.draft.writes.changes; posture = acts.0; of = tt }
-answers_as who before after (work.Committing m) new s (answer.Trouble k) p acts = record { task = Committing m.draft.writes.changes; posture = acts.0; of = tt }
+answers_as who before after (work.Committing m) new s (answer.Commit c) p acts = record { task = Committing m.draft.writes.changes; counts = λ u what is. is; posture = acts.0; of = tt }
+answers_as who before after (work.Committing m) new s (answer.Trouble k) p acts = record { task = Committing m.draft.writes.changes; counts = λ u what is. is; posture = acts.0; of = tt }
 answers_as who before after (work.Committing m) new s a p acts = absurd p.3
-answers_as who before after (work.Reading home m) new s answer.Value p acts = record { task = _; posture = acts.0; of = tt }
-answers_as who before after (work.Reading home m) new s (answer.Trouble k) p acts = record { task = _; posture = acts.0; of = tt }
+answers_as who before after (work.Reading home m) new s answer.Value p acts = record { task = _; counts = λ u what is. is; posture = acts.0; of = tt }
+answers_as who before after (work.Reading home m) new s (answer.Trouble k) p acts = record { task = _; counts = λ u what is. is; posture = acts.0; of = tt }
 answers_as who before after (work.Reading home m) new s a p acts = absurd p
 answers_as who before after (work.Scanning home m) new s a (buffer, c, d, shown, p) acts = record {
   task = Scanning m.scan.walk.tree (sought m.scan.walk) (unwrap_or m.scan.to []);
+  counts = λ u what is. is;
   posture = acts.0;
   of = scan_answers home buffer (record { scan = p.scan; pairs = m.pairs }) d p.moved new shown a m.scan.walk.tree (sought m.scan.walk) (unwrap_or m.scan.to []) p.follows;
 }
-answers_as who before after (work.Paging home m) new s (answer.Done n) p acts = record { task = Paging m.tree m.page; posture = acts.0; of = tt }
-answers_as who before after (work.Paging home m) new s (answer.Trouble k) p acts = record { task = Paging m.tree m.page; posture = acts.0; of = tt }
+answers_as who before after (work.Paging home m) new s (answer.Done n) p acts = record { task = Paging m.tree m.page; counts = λ u what is. is; posture = acts.0; of = tt }
+answers_as who before after (work.Paging home m) new s (answer.Trouble k) p acts = record { task = Paging m.tree m.page; counts = λ u what is. is; posture = acts.0; of = tt }
 answers_as who before after (work.Paging home m) new s a p acts = absurd p
-answers_as who before after (work.Folding home m) new s (answer.Done n) p acts = record { task = Folding m.tree; posture = acts.0; of = tt }
-answers_as who before after (work.Folding home m) new s (answer.Trouble k) p acts = record { task = Folding m.tree; posture = acts.0; of = tt }
+answers_as who before after (work.Folding home m) new s (answer.Done n) p acts = record { task = Folding m.tree; counts = λ u what is. is; posture = acts.0; of = tt }
+answers_as who before after (work.Folding home m) new s (answer.Trouble k) p acts = record { task = Folding m.tree; counts = λ u what is. is; posture = acts.0; of = tt }
 answers_as who before after (work.Folding home m) new s a p acts = absurd p
-answers_as who before after (work.Closing lease) new s answer.Closed p acts = record { task = Closing; posture = acts; of = tt }
-answers_as who before after (work.Closing lease) new s (answer.Trouble k) p acts = record { task = Closing; posture = acts; of = tt }
+answers_as who before after (work.Closing lease) new s answer.Closed p acts = record { task = Closing; counts = λ u what is. is; posture = acts; of = tt }
+answers_as who before after (work.Closing lease) new s (answer.Trouble k) p acts = record { task = Closing; counts = λ u what is. is; posture = acts; of = tt }
 answers_as who before after (work.Closing lease) new s a p acts = absurd p
-answers_as who before after (work.Renewing home) new s (answer.Renewed end) p acts = record { task = Renewing; posture = acts.0; of = tt }
-answers_as who before after (work.Renewing home) new s (answer.Trouble k) p acts = record { task = Renewing; posture = acts.0; of = tt }
+answers_as who before after (work.Renewing home) new s (answer.Renewed end) p acts = record { task = Renewing; counts = λ u what is. is; posture = acts.0; of = tt }
+answers_as who before after (work.Renewing home) new s (answer.Trouble k) p acts = record { task = Renewing; counts = λ u what is. is; posture = acts.0; of = tt }
 answers_as who before after (work.Renewing home) new s a p acts = absurd p
 answers_as who before after (work.Settling m) new s a p acts = absurd acts
 answers_as who before after work.Closed new s a p acts = absurd p
@@ -191,32 +213,35 @@ answers_as who before after (work.Idle home) new s a p acts = absurd p
 answers_as who before after (work.Broken lease) new s a p acts = absurd p
 
 -- what is known of an answer: no call brought its trouble, no deletion failed, and what a commit tells
-record IsOfNone (u : CloudState) (w : Work) (a : Answer) : Type 0 where
-  trouble : (k : Trouble) → trouble_of_answer a ≡ Some k → IsOfNoCall u k
+record IsOfNone (Spent : CloudState → Counter → Type 0) (u : CloudState) (w : Work) (a : Answer) : Type 0 where
+  trouble : (k : Trouble) → trouble_of_answer a ≡ Some k → IsOfNoCall Spent u k
   left : left_told w (Ended a) ≡ 0
   told : (c : CommitAnswer) → a ≡ answer.Commit c → IsTold c
 
+counts_on : (Spent Other : CloudState → Counter → Type 0) (u : CloudState) (w : Work) (a : Answer) → ((what : Counter) → Spent u what → Other u what) → IsOfNone Spent u w a → IsOfNone Other u w a
+counts_on Spent Other u w a more none = record { trouble = λ k e. no_call_by Spent Other u u more k (none.trouble k e); left = none.left; told = none.told }
+
 -- a sound reply to it is one that the operation did well
-trouble_well : (u : CloudState) (task : Task) (k : Trouble) → IsSoundReply (Working task) (reply.Trouble k) → IsOfNoCall u k → (k ≡ trouble.Memory → ⊥) → DoesWell u task (reply.Trouble k)
+trouble_well : (u : CloudState) (task : Task) (k : Trouble) → IsSoundReply (Working task) (reply.Trouble k) → IsOfNoCall (spent_by task) u k → (k ≡ trouble.Memory → ⊥) → DoesWell u task (reply.Trouble k)
 trouble_well u Opening k may none other = opening_spent u k may none other
-trouble_well u Closing k may none other = refuse_never u k may none other
-trouble_well u Renewing k may none other = refuse_never u k may none other
+trouble_well u Closing k may none other = refuse_never u (spent_by Closing) k may none other
+trouble_well u Renewing k may none other = refuse_never u (spent_by Renewing) k may none other
 trouble_well u (Committing changes) k may none other = commit_spent u k may none other
-trouble_well u (Reading tree key) k may none other = walk_never u k may none other
-trouble_well u (Scanning tree from to) k may none other = walk_never u k may none other
-trouble_well u (Paging tree page) k may none other = page_spent u page k may none other
-trouble_well u (Folding tree) k may none other = tree_spent u k may none other
+trouble_well u (Reading tree key) k may none other = walk_never u (spent_by (Reading tree key)) k may none other
+trouble_well u (Scanning tree from to) k may none other = walk_never u (spent_by (Scanning tree from to)) k may none other
+trouble_well u (Paging tree page) k may none other = page_spent u tree page k may none other
+trouble_well u (Folding tree) k may none other = tree_spent u tree k may none other
 
 value_well : (u : CloudState) (tree : ℕ) (key : List ℕ) (value : Option (List ℕ)) (r : Reply) → r ≡ value_reply value → DoesWell u (Reading tree key) r
 value_well u tree key None r e = subst (DoesWell u (Reading tree key)) (sym e) tt
 value_well u tree key (Some payload) r e = subst (DoesWell u (Reading tree key)) (sym e) tt
 
-troubled : (u : CloudState) (task : Task) (k : Trouble) (left : Acting) (r : Reply) → IsSoundReply (Working task) r → RepliesTo (answer.Trouble k) left (Ok r) → IsOfNoCall u k → DoesWell u task r
+troubled : (u : CloudState) (task : Task) (k : Trouble) (left : Acting) (r : Reply) → IsSoundReply (Working task) r → RepliesTo (answer.Trouble k) left (Ok r) → IsOfNoCall (spent_by task) u k → DoesWell u task r
 troubled u task k left r sound e none =
     let is = replies_to (answer.Trouble k) left r e in
     subst (DoesWell u task) (sym is.0.0) (trouble_well u task k (subst (IsSoundReply (Working task)) is.0.0 sound) none is.0.1)
 
-answer_well : (u : CloudState) (task : Task) (a : Answer) (left : Acting) (r : Reply) → IsAnswerOf task a → IsSoundReply (Working task) r → RepliesTo a left (Ok r) → IsOfNone u left.work a → DoesWell u task r
+answer_well : (u : CloudState) (task : Task) (a : Answer) (left : Acting) (r : Reply) → IsAnswerOf task a → IsSoundReply (Working task) r → RepliesTo a left (Ok r) → IsOfNone (spent_by task) u left.work a → DoesWell u task r
 answer_well u task (answer.Trouble k) left r of sound e none = troubled u task k left r sound e (none.trouble k refl)
 answer_well u Opening (answer.Opened epoch) left r of sound e none = let is : r ≡ reply.Opened epoch = cc in subst (DoesWell u Opening) (sym is) tt
 answer_well u Closing answer.Closed left r of sound e none = let is : r ≡ reply.Closed = cc in subst (DoesWell u Closing) (sym is) tt
@@ -304,7 +329,7 @@ tells_any who before after old new a p calm c e = absurd (cc (e))
 -- the answer of a calm step
 answers_calmly : (who : Caller) (wish : Wish) (before after : Seen) (old new : World) (a : Answer) (p : StepsLooked who wish before after old new (Ended a))
     → (calm : StepIsCalm who wish before after old new (Ended a) p) → StepExplains who wish before after old new (Ended a) p → GoesWellAt who.session before old
-    → IsOfNone calm.calm.after p.session.after.work a
+    → IsOfNone (spent_for p.session.before.work) calm.calm.after p.session.after.work a
 answers_calmly who wish before after old new a p calm explains well =
     let is = answer_untroubled who p.under p.to p.session.before p.session.after a p.session.does calm explains (untroubled_before who wish before after old new (Ended a) p calm well) in
     record { trouble = is.0; left = is.1; told = tells_any who p.under p.to p.session.before p.session.after a p.session.does calm }
@@ -378,10 +403,13 @@ module _ (lines : List Line) (n k : ℕ) (before after : Seen) (old new : World)
   ended_well wish mid world a on p calm explains still sound replies =
       let own = steps_own lines who wish mid after world new (Ended a) (sym number) on p in
       let said = answers_as who p.under p.to (session_at world.sessions k).work p.session.after.work (standing lines k) a own.work (on.goes.acts k).work in
+      let was : p.session.before.work ≡ (session_at world.sessions k).work = ap (λ (b : Acting). b.work) (sym (changed_was k _ world.sessions new.sessions p.session)) in
       runs_of u posture said.task r said.posture
       (answer_well u said.task a p.session.after r said.of (subst (λ (q : Posture). IsSoundReply q r) said.posture sound) replies
-      (subst (λ (x : CloudState). IsOfNone x p.session.after.work a)
-      (state_is calm.calm.after u (sym (p.look_after.stays calm.calm.after calm.calm.left) ∙ told_after)) (answers_calmly who wish mid after world new a p calm explains still)))
+      (counts_on (spent_for (session_at world.sessions k).work) (spent_by said.task) u p.session.after.work a (said.counts u)
+      (subst (λ (w : Work). IsOfNone (spent_for w) u p.session.after.work a) was
+      (subst (λ (x : CloudState). IsOfNone (spent_for p.session.before.work) x p.session.after.work a)
+      (state_is calm.calm.after u (sym (p.look_after.stays calm.calm.after calm.calm.left) ∙ told_after)) (answers_calmly who wish mid after world new a p calm explains still)))))
 
   not_done : (why : Refused) → Declines why before after old new (Ok r) → Behind × ((rule : Refusal) × (r ≡ reply.Refused rule))
   not_done (refused.Rule rule) h = let is : r ≡ reply.Refused rule = cc (h.reply) in (unchanged k before after old new h.seen h.world well, (rule, is))
@@ -564,12 +592,12 @@ module _ (lines : List Line) (n : ℕ) (before after : Seen) (old new : World) (
   unsettled_is (trouble.Loop page) e = (cc (e), λ m. absurd (cc (m)))
   unsettled_is (trouble.Exhausted what) e = (cc (e), λ m. absurd (cc (m)))
 
-  settled_as : (w : Work) (a : Answer) → IsOfNone u w a → RepliesSettled a (Ok r) → SettlesWell u r
-  settled_as w (answer.Settled x) none e = let is : r ≡ reply.Settled x.calls = cc (e) in subst (SettlesWell u) (sym is) tt
-  settled_as w (answer.Trouble q) none e =
+  settled_as : (v w : Work) (a : Answer) → IsOfNone (spent_for v) u w a → RepliesSettled a (Ok r) → SettlesWell u r
+  settled_as v w (answer.Settled x) none e = let is : r ≡ reply.Settled x.calls = cc (e) in subst (SettlesWell u) (sym is) tt
+  settled_as v w (answer.Trouble q) none e =
       let is = unsettled_is q e in
-      subst (SettlesWell u) (sym is.0) (settled_spent u q (subst (IsSoundReply (standing lines 0).posture) is.0 sound) (none.trouble q refl) is.1)
-  settled_as w a none e = absurd e
+      subst (SettlesWell u) (sym is.0) (settled_spent u v q (subst (IsSoundReply (standing lines 0).posture) is.0 sound) (none.trouble q refl) is.1)
+  settled_as v w a none e = absurd e
 
   begun_untroubled : (begun : World) → Has 0 settling_session old begun → IsAtRest (work_at begun 0)
   begun_untroubled begun has =
@@ -587,8 +615,8 @@ module _ (lines : List Line) (n : ℕ) (before after : Seen) (old new : World) (
       on (inl s) calm explains =
           let c = s.comes in (
             rests_in 0 after new (has_closed 0 s.left new s.closes),
-            settled_as c.steps.session.after.work s.answer
-                (subst (λ (x : CloudState). IsOfNone x c.steps.session.after.work s.answer)
+            settled_as c.steps.session.before.work c.steps.session.after.work s.answer
+                (subst (λ (x : CloudState). IsOfNone (spent_for c.steps.session.before.work) x c.steps.session.after.work s.answer)
                 (state_is calm.1.calm.after u (sym (c.steps.look_after.stays calm.1.calm.after calm.1.calm.left) ∙ told_after))
                 (answers_calmly first Plain c.mid after c.world s.left s.answer c.steps calm.1 explains.1
                 (went_calmly first before h.begun c.mid c.world c.went calm.0 explains.0 (t, told, rested t (work_at h.begun 0) (begun_untroubled h.begun h.begins)))))

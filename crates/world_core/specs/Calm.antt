@@ -3,13 +3,14 @@ use Rattle.std.specs.Prelude.{ℕ, ◌≡◌, ◌+◌, List, [], length, Some, R
 use Rattle.client_work.specs.declared.work.Work.{Work}
 use Rattle.cloud_trait.specs.Seen.{Seen}
 use Rattle.cloud_trait.specs.State.{CloudState}
+use Rattle.db_base.specs.declared.trouble.Counter.{Counter}
 use Rattle.event_text.specs.declared.event.Event.{Event}
 use Rattle.event_text.specs.declared.event.Event.TheVariants as event
 use Rattle.replay_meaning.specs.Standing.{Line, Task, Opening, Closing, Renewing, Committing, Reading, Scanning, Paging, Folding, Posture, Working, session_of, standing}
 use Rattle.session_facts.specs.Facts.{session_at}
 use Rattle.reply_text.specs.declared.reply.Reply.{Reply}
 use Rattle.reply_text.specs.declared.reply.Reply.TheVariants as reply
-use Rattle.session_facts.specs.Sessions.Spent.{IsOfOpening, IsOfCommit, IsOfFolding, IsOfSettling}
+use Rattle.session_facts.specs.Sessions.Spent.{IsSpentToOpen, IsSpentToCommit, IsSpentInPages, IsSpentInTree, IsSpentToSettle}
 use Rattle.session_facts.specs.Sessions.Untroubled.{StepsCalmly, IsUntroubled, IsSpent, IsSpentOrOf, CommitsWell}
 use Rattle.world_core.specs.World.{World}
 use Rattle.world_core.specs.declared.world.WorldFault.{WorldFault}
@@ -27,22 +28,30 @@ work_at world session = (session_at world.sessions session).work
 
 -- ---- answers
 
--- The answer of an operation that went well, where the cloud tells this behind it. A counter of its own at its last value may stop an opening, a commit
+-- what is told where an operation finds a counter spent
+abbrev pub spent_by : Task → CloudState → Counter → Type 0
+spent_by Opening = IsSpentToOpen
+spent_by (Committing changes) = IsSpentToCommit
+spent_by (Paging tree page) = IsSpentInPages tree
+spent_by (Folding tree) = IsSpentInTree tree
+spent_by task = λ t what. ⊥
+
+-- The answer of an operation that went well, where the cloud tells this behind it. A counter that the cloud tells as spent may stop an opening, a commit
 -- and a checkpoint, and that of a page may find none, or no leaf.
 abbrev pub DoesWell : CloudState → Task → Reply → Type 0
 DoesWell u Opening (reply.Opened epoch) = Unit {0}
-DoesWell u Opening (reply.Trouble k) = IsSpent IsOfOpening u k
+DoesWell u Opening (reply.Trouble k) = IsSpent (spent_by Opening) u k
 DoesWell u Closing reply.Closed = Unit {0}
 DoesWell u Renewing (reply.Renewed end) = Unit {0}
 DoesWell u (Committing changes) (reply.Commit answer) = CommitsWell u answer
-DoesWell u (Committing changes) (reply.Trouble k) = IsSpent IsOfCommit u k
+DoesWell u (Committing changes) (reply.Trouble k) = IsSpent (spent_by (Committing changes)) u k
 DoesWell u (Reading tree key) (reply.Value payload) = Unit {0}
 DoesWell u (Reading tree key) reply.NoValue = Unit {0}
 DoesWell u (Scanning tree from to) (reply.Scan pairs) = Unit {0}
 DoesWell u (Paging tree page) (reply.Done n) = n.left ≡ 0
-DoesWell u (Paging tree page) (reply.Trouble k) = IsSpentOrOf page u k
+DoesWell u (Paging tree page) (reply.Trouble k) = IsSpentOrOf tree page u k
 DoesWell u (Folding tree) (reply.Done n) = n.left ≡ 0
-DoesWell u (Folding tree) (reply.Trouble k) = IsSpent IsOfFolding u k
+DoesWell u (Folding tree) (reply.Trouble k) = IsSpent (spent_by (Folding tree)) u k
 DoesWell u task reply = ⊥
 
 -- the reply to the begin of an operation: it is begun, or a rule refuses it, or it is done at once
@@ -65,7 +74,7 @@ StepsWell u posture reply = RunsWell u posture reply
 -- a settling comes to its end
 abbrev pub SettlesWell : CloudState → Reply → Type 0
 SettlesWell u (reply.Settled calls) = Unit {0}
-SettlesWell u (reply.NotSettled k) = IsSpent IsOfSettling u k
+SettlesWell u (reply.NotSettled k) = IsSpent IsSpentToSettle u k
 SettlesWell u reply = ⊥
 
 -- the reply to a line whose session stood so; other lines make no call, and a report has its own clause

@@ -22,7 +22,7 @@ use Rattle.report_types.specs.declared.entry.Entry.{Entry}
 use Rattle.session_facts.specs.Answers.{IsSoundReply}
 use Rattle.session_facts.specs.Facts.{session_at, SomeBookStands}
 use Rattle.session_facts.specs.Sessions.Calls.{reply_of}
-use Rattle.session_facts.specs.Sessions.Spent.{IsOfSettling}
+use Rattle.session_facts.specs.Sessions.Spent.{IsSpentToSettle}
 use Rattle.session_facts.specs.Sessions.Untroubled.{GivesBackLasting, IsSpent, IsUntroubled}
 use Rattle.session_facts.specs.Settled.Bound.{IsWithin}
 use Rattle.world_audit.specs.Counts.{heads_upto, AreWaiting}
@@ -88,11 +88,11 @@ pub record SettledWithin (before : CloudState) (after : Seen) (calls : ℕ) : Ty
 abbrev pub SettledLeaves : (n calls : ℕ) (before after : Seen) (old new : World) → Handled n event.Settle before after old new (Ok (reply.Settled calls)) → Type 0
 SettledLeaves n calls before after old new handled = EachStep StepDelivers n event.Settle before after old new (Ok (reply.Settled calls)) handled → LeftNothing after
 
--- what it is answered where no lock was held at its begin and every step went well: that it settled, within the bound, unless a counter stands at
--- its last value
+-- what it is answered where no lock was held at its begin and every step went well: that it settled, within the bound, unless the cloud that it left
+-- tells a counter as spent
 abbrev pub AnswersSettled : CloudState → Seen → Reply → Type 0
 AnswersSettled t after (reply.Settled calls) = SettledWithin t after calls
-AnswersSettled t after (reply.NotSettled k) = (u : CloudState) × (after.state ≡ Some u) × IsSpent IsOfSettling u k
+AnswersSettled t after (reply.NotSettled k) = (u : CloudState) × (after.state ≡ Some u) × IsSpent IsSpentToSettle u k
 AnswersSettled t after r = ⊥
 
 -- It shows no trouble that only damage could cause, each of its steps explains what it brought, and where each was calm it comes to its end.

@@ -23,7 +23,6 @@ use Rattle.commit_writes.specs.Writing.{Writing, head_ask, send_ask, ask_at as s
 use Rattle.db_base.specs.declared.names.ObjName.TheVariants as object
 use Rattle.db_base.specs.declared.names.QueueName.TheVariants as queue
 use Rattle.db_base.specs.declared.trouble.Counter.{Counter}
-use Rattle.db_base.specs.declared.trouble.Counter.TheVariants as counter
 use Rattle.db_base.specs.declared.trouble.Trouble.{Trouble}
 use Rattle.db_base.specs.declared.trouble.Trouble.TheVariants as trouble
 use Rattle.cloud_facts.specs.Homes.Homes.{Home, Part}
@@ -50,13 +49,13 @@ fair May (Ok x) each = tt
 fair May (Err k) each = each k refl
 
 module _ (book : Book) (order : List Entry) (s : CloudState) (stands : StandsUnder book order s) (who : Caller) (before after : Seen) (t : CloudState) (told : before.state ≡ Some s)
-    (told_after : after.state ≡ Some t) (held : List Claim) where
+    (told_after : after.state ≡ Some t) (held : List Claim) (Spent : CloudState → Counter → Type 0) where
   abbrev pub st : Store
   st = store_of book order s
 
   -- a trouble is shown by this call
   abbrev pub Shown : Ask → Trouble → Type 0
-  Shown ask k = IsShown ask held before.counts after.counts s t k
+  Shown ask k = IsShown ask held Spent before.counts after.counts s t k
 
   -- ---- what is written
 
@@ -64,7 +63,7 @@ module _ (book : Book) (order : List Entry) (s : CloudState) (stands : StandsUnd
   opening_shown : (w : Writing) (reply : Answer) → Makes who (head_ask w) reply before after → reply ≢ Memory → IsOpeningFair (Shown (head_ask w)) (done_of reply)
   opening_shown w Done made some = tt
   opening_shown w (Late end now) made some =
-      put_shown who before after s t told told_after held (object.Head w.home.client) w.out w.home.lease None (Late end now) made (trouble.Late end now) refl
+      put_shown who before after s t told told_after held Spent (object.Head w.home.client) w.out w.home.lease None (Late end now) made (trouble.Late end now) refl
   opening_shown w Failed made some = made.failed refl
   opening_shown w Memory made some = absurd (some refl)
   opening_shown w (Got v) made some = absurd made.fits
@@ -76,19 +75,19 @@ module _ (book : Book) (order : List Entry) (s : CloudState) (stands : StandsUnd
 
   sending_shown : (w : Writing) (o : Option AtomicRec) (reply : Answer) → SendsRecord w o → Makes who (send_ask w o) reply before after → IsFair (Shown (send_ask w o)) (sent_of reply)
   sending_shown w (Some r) reply sound made =
-      fair (Shown (send_ask w (Some r))) (sent_of reply) (sent_shown who before after s t told told_after held (queue_name r.tree r.page) w.out reply made)
+      fair (Shown (send_ask w (Some r))) (sent_of reply) (sent_shown who before after s t told told_after held Spent (queue_name r.tree r.page) w.out reply made)
   sending_shown w None reply sound made = absurd sound
 
   stage_shown : (w : Writing) (stage : Stage) (g : Home) (reply : Answer) → KnowsCommitAt stage st t.now w g → IsSoundStage stage w → Makes who (stage_ask stage w) reply before after
       → reply ≢ Memory → MayAnswerAt (Shown (stage_ask stage w)) stage reply
   stage_shown w Waiting g reply at sound made some = absurd at
   stage_shown w Logging g reply at sound made some =
-      fair (Shown (stage_ask Logging w)) (sent_of reply) (sent_shown who before after s t told told_after held (queue.Atomic w.home.client) w.out reply made)
+      fair (Shown (stage_ask Logging w)) (sent_of reply) (sent_shown who before after s t told told_after held Spent (queue.Atomic w.home.client) w.out reply made)
   stage_shown w Opening g reply at sound made some = opening_shown w reply made some
   stage_shown w Sending g reply at sound made some = sending_shown w (slice_get w.records w.place) reply sound made
   stage_shown w Settling g reply at sound made some =
       fair (Shown (stage_ask Settling w)) (done_of reply)
-      (put_shown who before after s t told told_after held (object.Head w.home.client) w.out w.home.lease None reply made)
+      (put_shown who before after s t told told_after held Spent (object.Head w.home.client) w.out w.home.lease None reply made)
   stage_shown w Deleting g reply at sound made some = tt
   stage_shown w Finished g reply at sound made some = absurd at
 
@@ -96,18 +95,13 @@ module _ (book : Book) (order : List Entry) (s : CloudState) (stands : StandsUnd
 
   -- a call of a commit that found memory ends it for nothing that it does not show
   pub run_shown : (m : Run × Cache) (part : Part) (reply : Answer) → KnowsRun st t.now m part → IsSoundRun m.0 → Makes who (run_ask m.0) reply before after → reply ≢ Memory
-      → EndsWell (Shown (run_ask m.0)) (run_next m reply)
-  run_shown m part reply k sound made some =
-      run_ends_by (Shown (run_ask m.0)) spent_shown book order s stands (Shown (run_ask m.0)) (λ trouble shown stale. shown) who t m part reply k
+      → ((what : Counter) → IsOfCommit what → Spent t what) → EndsWell (Shown (run_ask m.0)) (run_next m reply)
+  run_shown m part reply k sound made some own =
+      run_ends_by (Shown (run_ask m.0)) own book order s stands (Shown (run_ask m.0)) (λ trouble shown stale. shown) who t m part reply k
       (call_of who (run_ask m.0) reply before after s t made told told_after) (on m.0.hand k.hand sound made)
     where
-      spent_shown : (what : Counter) → IsOfCommit what → Shown (run_ask m.0) (trouble.Exhausted what)
-      spent_shown counter.Txn of = tt
-      spent_shown counter.Number of = tt
-      spent_shown what of = absurd of
-
       walks : (w : Walk) → KnowsSeeking st t.now m.0.draft w part → Makes who (walk_ask w) reply before after → WalkLeads st (Shown (walk_ask w)) (walk_next (w, m.1) reply)
-      walks w seeks made = walk_shown book order s stands who before after t told told_after held w m.1 (record { walk = seeks.walk; cache = k.cache }) reply made
+      walks w seeks made = walk_shown book order s stands who before after t told told_after held Spent w m.1 (record { walk = seeks.walk; cache = k.cache }) reply made
 
       on : (hand : Hand) → KnowsHand hand st t.now m.0.draft part → IsSoundAt hand m.0.draft.writes → Makes who (ask_at hand m.0.draft.writes) reply before after
           → MayAnswerIn (Shown (ask_at hand m.0.draft.writes)) (Shown (ask_at hand m.0.draft.writes)) st hand m.0.draft m.1 reply

@@ -26,6 +26,7 @@ use Rattle.recover_run.specs.Recovery.{Recovery, Step, recovery_ask, recovery_ne
 use Rattle.report_types.specs.declared.entry.Entry.{Entry}
 use Rattle.session_facts.specs.Openings.Opening.{KnowsOpening, leases_of_recovery}
 use Rattle.session_facts.specs.Sessions.Explaining.{trouble_in, trouble_of_recovery, MeetsNext, Meets, IsShown, KeepsTrouble, left_told, Explains}
+use Rattle.session_facts.specs.Sessions.Spent.{IsSpentToOpen}
 use Rattle.session_facts.specs.Sessions.Sessions.{KnowsWork, Sessions, SessionsStand, leases_of}
 use Rattle.session_facts.proofs.Openings.Showing.{recovery_shows, StopsWith, recovery_answers}
 use Rattle.session_facts.proofs.Sessions.Laws.{setting_of, known_at}
@@ -46,13 +47,13 @@ module _ (who : Caller) (before after : Seen) (s t : CloudState) (book : Book) (
 
   module _ (r : Recovery) (is : old ≡ Opening r) (sound : IsSound r) where
     abbrev Shown : Trouble → Type 0
-    Shown k = IsShown (recovery_ask r) (leases_of_recovery r) before.counts after.counts s t k
+    Shown k = IsShown (recovery_ask r) (leases_of_recovery r) IsSpentToOpen before.counts after.counts s t k
 
     -- the step of an answer
     step_shows : (reply : Reply) → Makes who (recovery_ask r) reply before after → trouble_of_recovery r ≡ None → (next : Step) → recovery_next r reply ≡ next → (k : Trouble)
         → MeetsNext trouble_of_recovery next k → Shown k
     step_shows reply made none next e k meets =
-        recovery_shows who before after s t book order told told_after stand.cloud r (stand.parts who.session) holds reply made knows sound none next e k meets
+        recovery_shows who before after s t book order told told_after stand.cloud r (stand.parts who.session) holds reply made knows sound IsSpentToOpen (λ last. last) none next e k meets
       where
         later : s.now ≤ t.now
         later = (call_of who (recovery_ask r) reply before after s t made told told_after).later

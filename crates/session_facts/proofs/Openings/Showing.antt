@@ -13,7 +13,7 @@ use Rattle.cloud_facts.specs.Calls.Standing.{StandsUnder}
 use Rattle.cloud_facts.specs.Homes.Homes.{Part, PartHolds, OpeningHolds}
 use Rattle.cloud_facts.specs.Tellings.Told.{store_of}
 use Rattle.cloud_trait.specs.declared.answer.Answer.{Answer}
-use Rattle.cloud_trait.specs.declared.answer.Answer.TheVariants.{Got, Received}
+use Rattle.cloud_trait.specs.declared.answer.Answer.TheVariants.{Received}
 use Rattle.cloud_trait.specs.declared.message.Message.{Message}
 use Rattle.cloud_trait.specs.Ask.{Ask, GetHeld, PutHeld, Send, Receive, Delete, Take}
 use Rattle.cloud_trait.specs.Caller.{Caller}
@@ -26,10 +26,10 @@ use Rattle.cloud_trait.specs.declared.state.Version.{Version}
 use Rattle.cloud_trait.specs.Views.{given_of, got_of, sent_of, received_of, done_of}
 use Rattle.cloud_trait.specs.Weather.{Makes, Rose, Weather}
 use Rattle.db_base.specs.declared.names.Lock.TheVariants as lock
-use Rattle.db_base.specs.declared.names.ObjName.{ObjName}
 use Rattle.db_base.specs.declared.names.ObjName.TheVariants as object
 use Rattle.db_base.specs.declared.names.QueueName.{QueueName}
 use Rattle.db_base.specs.declared.names.QueueName.TheVariants as queue
+use Rattle.db_base.specs.declared.trouble.Counter.{Counter}
 use Rattle.db_base.specs.declared.trouble.Counter.TheVariants as counter
 use Rattle.db_base.specs.declared.trouble.Trouble.{Trouble}
 use Rattle.db_base.specs.declared.trouble.Trouble.TheVariants as trouble
@@ -49,7 +49,7 @@ use Rattle.session_facts.proofs.Openings.Messages.{one_record, sent_message}
 use Rattle.session_facts.proofs.Openings.Others.{lease_in_hand}
 use Rattle.session_facts.proofs.Openings.Sifting.{none_some}
 use Rattle.session_facts.proofs.Openings.Unmarked.{deleted_gone}
-use Rattle.session_facts.proofs.Sessions.Showing.{row_of, got_shown, put_shown, delete_shown, received_shown, sent_shown, given_shown}
+use Rattle.session_facts.proofs.Sessions.Showing.{held_newest, row_of, got_shown, put_shown, delete_shown, received_shown, sent_shown, given_shown}
 use Rattle.recover_run.specs.declared.items.AtomicItem.{AtomicItem}
 use Rattle.recover_run.specs.declared.stage.Aim.{Aim}
 use Rattle.recover_run.specs.declared.stage.Aim.TheVariants.{Opening, Settling}
@@ -131,14 +131,6 @@ received_row : (who : Caller) (q : QueueName) (a : Answer) (c d : Counts) (b t :
 received_row who q (Received ns) c d b t row ms e = let same : ns ≡ ms = cc in subst (λ (l : List Message). IsDelivering (b.messages q) 256 l ⊎ Rose c.withheld d.withheld) same row.2
 received_row who q a c d b t row ms e = absurd (cc)
 
--- a held get answers the newest version, and leaves the versions as they are
-held_newest : (who : Caller) (name : ObjName) (l : Claim) (a : Answer) (c d : Counts) (b t : CloudState) → Weather who (GetHeld name l) a c d b t → (v : Option (List ℕ)) → got_of a ≡ Ok v
-    → newest t name ≡ v
-held_newest who name l (Got w) c d b t row v e =
-    let same : w ≡ v = cc in
-    subst (λ (x : CloudState). newest x name ≡ v) (sym row.0) (sym row.2 ∙ same)
-held_newest who name l a c d b t row v e = absurd (cc)
-
 -- a newest head in the last epoch has landed
 held_last : (client : ℕ) (h : Head) (t : CloudState) {bytes : List ℕ} → newest t (object.Head client) ≡ Some bytes → head_of bytes ≡ Some h → h.epoch ≡ 2 ^ 64 - 1 → HasLastEpoch t
 held_last client h t {bytes} is reads last = on (t.versions (object.Head client)) (slice_get (t.versions (object.Head client)) (length (t.versions (object.Head client)) - 1)) refl refl is
@@ -153,12 +145,13 @@ held_last client h t {bytes} is reads last = on (t.versions (object.Head client)
 
 module _ (who : Caller) (before after : Seen) (s t : CloudState) (book : Book) (order : List Entry) (told : before.state ≡ Some s) (told_after : after.state ≡ Some t)
     (cloud : StandsUnder book order s) (r : Recovery) (part : Part) (holds : PartHolds (store_of book order s).tally t.now part) (reply : Answer)
-    (made : Makes who (recovery_ask r) reply before after) (knows : KnowsOpening (store_of book order s) t.now r part) (sound : IsSound r) where
+    (made : Makes who (recovery_ask r) reply before after) (knows : KnowsOpening (store_of book order s) t.now r part) (sound : IsSound r)
+    (Spent : CloudState → Counter → Type 0) (own : HasLastEpoch t → Spent t counter.Epoch) where
   abbrev st : Store
   st = store_of book order s
 
   abbrev ShownBy : Ask → Trouble → Type 0
-  ShownBy ask k = IsShown ask (leases_of_recovery r) before.counts after.counts s t k
+  ShownBy ask k = IsShown ask (leases_of_recovery r) Spent before.counts after.counts s t k
 
   -- the call shows each trouble that the step meets
   abbrev Shows : Step → Type 0
@@ -196,7 +189,7 @@ module _ (who : Caller) (before after : Seen) (s t : CloudState) (book : Book) (
   head_shows m h tells = on (h.epoch == 2 ^ 64 - 1) refl
     where
       on : (b : Bool) → (h.epoch == 2 ^ 64 - 1) ≡ b → Shows (cond b (stopping m (trouble.Exhausted counter.Epoch)) (phase_read h.phase (behind m h)))
-      on true e = stops_shown m (trouble.Exhausted counter.Epoch) (tells (eqb-true h.epoch (2 ^ 64 - 1) e))
+      on true e = stops_shown m (trouble.Exhausted counter.Epoch) (own (tells (eqb-true h.epoch (2 ^ 64 - 1) e)))
       on false e = phase_shows h.phase (behind m h)
 
   bytes_shows : (m : Recovery) (bytes : List ℕ) (o : Option Head) → ((h : Head) → o ≡ Some h → TellsLast h) → Shows (bytes_read m bytes o)
@@ -319,7 +312,7 @@ module _ (who : Caller) (before after : Seen) (s t : CloudState) (book : Book) (
     waiting_shown fewer stale =
         subst (λ a. ShownBy a (trouble.Waiting (length (kept_with r.wanted r.gathered.kept items)) r.wanted.count)) (sym asked)
         (on (cases_lt t.now g.read.held.now.end) (received_row who (queue.Atomic r.client) reply before.counts after.counts (called who t.now s) t
-        (row_of who before after s t told told_after (leases_of_recovery r) receive reply (subst (λ a. Makes who a reply before after) asked made)) ms got))
+        (row_of who before after s t told told_after (leases_of_recovery r) Spent receive reply (subst (λ a. Makes who a reply before after) asked made)) ms got))
       where
         clash : length (kept_with r.wanted r.gathered.kept items) ≡ r.wanted.count → ⊥
         clash same = let is = eq-eqb (length (kept_with r.wanted r.gathered.kept items)) r.wanted.count same in let never : true ≡ false = sym is ∙ fewer in cc
@@ -348,7 +341,7 @@ module _ (who : Caller) (before after : Seen) (s t : CloudState) (book : Book) (
       on [] f = let none : length r.ids ≡ 0 = ap (λ (l : List ℕ). length l) f in absurd (omega (arith, some, none))
       on (id ∷ ids) f =
           failing (Delete (queue.Atomic r.client) id) (done_of reply) (asks stage e ∙ (is ∙ ap (delete_next r) f))
-          (λ m. delete_shown who before after s t told told_after held (queue.Atomic r.client) id reply m)
+          (λ m. delete_shown who before after s t told told_after held Spent (queue.Atomic r.client) id reply m)
 
   send_fails : r.stage ≡ Sending → SendsRecord r (slice_get r.gathered.kept r.sent) → Fails (sent_of reply)
   send_fails e sends = on (slice_get r.gathered.kept r.sent) refl sends
@@ -357,17 +350,17 @@ module _ (who : Caller) (before after : Seen) (s t : CloudState) (book : Book) (
       on None f never = absurd never
       on (Some x) f reads =
           failing (Send (queue_name x.rec.tree x.rec.page) r.out) (sent_of reply) (asks Sending e ∙ ap (send_next r) f)
-          (λ m. sent_shown who before after s t told told_after held (queue_name x.rec.tree x.rec.page) r.out reply m)
+          (λ m. sent_shown who before after s t told told_after held Spent (queue_name x.rec.tree x.rec.page) r.out reply m)
 
   receive_fails : (stage : Stage) → r.stage ≡ stage → ask_at stage r ≡ receive → Fails (received_of reply)
   receive_fails stage e is =
-      failing receive (received_of reply) (asks stage e ∙ is) (λ m. received_shown who before after s t told told_after held (queue.Atomic r.client) 256 reply m)
+      failing receive (received_of reply) (asks stage e ∙ is) (λ m. received_shown who before after s t told told_after held Spent (queue.Atomic r.client) 256 reply m)
 
   -- the head that is got under the lease is the newest, and has landed
   head_told : (l : Claim) → recovery_ask r ≡ GetHeld (object.Head r.client) l → (bytes : List ℕ) → got_of reply ≡ Ok (Some bytes) → (h : Head) → head_of bytes ≡ Some h → TellsLast h
   head_told l asked bytes got h reads last =
       held_last r.client h t (held_newest who (object.Head r.client) l reply before.counts after.counts (called who t.now s) t
-      (row_of who before after s t told told_after held (GetHeld (object.Head r.client) l) reply (subst (λ a. Makes who a reply before after) asked made)) (Some bytes) got) reads last
+      (row_of who before after s t told told_after held Spent (GetHeld (object.Head r.client) l) reply (subst (λ a. Makes who a reply before after) asked made)) (Some bytes) got) reads last
 
   by_stage : trouble_of_recovery r ≡ None → Shows (recovery_next r reply)
   by_stage none = on r.stage refl knows.at sound none
@@ -377,11 +370,11 @@ module _ (who : Caller) (before after : Seen) (s t : CloudState) (book : Book) (
       on Taking e a w n =
           taken_shows r (given_of (lock.Client r.client) reply)
           (failing (Take (lock.Client r.client) 600) (given_of (lock.Client r.client) reply) (asks Taking e)
-          (λ m. given_shown who before after s t told told_after held (lock.Client r.client) 600 reply m))
+          (λ m. given_shown who before after s t told told_after held Spent (lock.Client r.client) 600 reply m))
       on Getting e a w n =
           got_shows r (got_of reply)
           (failing (GetHeld (object.Head r.client) a.0.now) (got_of reply) (under_lease Getting e a.0.now (λ l. GetHeld (object.Head r.client) l) refl a.0.is)
-          (λ m. got_shown who before after s t told told_after held (object.Head r.client) a.0.now reply m))
+          (λ m. got_shown who before after s t told told_after held Spent (object.Head r.client) a.0.now reply m))
           (head_told a.0.now (under_lease Getting e a.0.now (λ l. GetHeld (object.Head r.client) l) refl a.0.is))
       on Receiving e a w n =
           received_shows r (received_of reply) (receive_fails Receiving e refl) (λ ms got items read. waiting_shown a.0 a.1 ms got items read (asks Receiving e))
@@ -391,7 +384,7 @@ module _ (who : Caller) (before after : Seen) (s t : CloudState) (book : Book) (
           put_shows r (done_of reply)
           (failing (PutHeld (object.Head r.client) r.out a.read.held.now None) (done_of reply)
           (under_lease Putting e a.read.held.now (λ l. PutHeld (object.Head r.client) r.out l None) refl a.read.held.is)
-          (λ m. put_shown who before after s t told told_after held (object.Head r.client) r.out a.read.held.now None reply m))
+          (λ m. put_shown who before after s t told told_after held Spent (object.Head r.client) r.out a.read.held.now None reply m))
       on Clearing e a w n = clearing_shows r (rest_of r.ids)
       on Sweeping e a w n = swept_shows r (received_of reply) (receive_fails Sweeping e refl)
       on Releasing e a w n = ended_shows (record r { stage = Finished; lease = None; ending = None }) r.ending a.2 n
@@ -399,7 +392,7 @@ module _ (who : Caller) (before after : Seen) (s t : CloudState) (book : Book) (
 
   -- where no trouble waits, the call shows the one that the step keeps or stops with
   pub recovery_shows : trouble_of_recovery r ≡ None → (next : Step) → recovery_next r reply ≡ next → (k : Trouble) → MeetsNext trouble_of_recovery next k
-      → IsShown (recovery_ask r) (leases_of_recovery r) before.counts after.counts s t k
+      → IsShown (recovery_ask r) (leases_of_recovery r) Spent before.counts after.counts s t k
   recovery_shows none next e k meets = by_stage none k (subst (λ n. MeetsNext trouble_of_recovery n k) (sym e) meets)
 
 -- ---- a trouble that waits

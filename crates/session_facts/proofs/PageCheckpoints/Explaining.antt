@@ -9,18 +9,24 @@ use Rattle.ckpt_parts.specs.Leaves.{absent_leaf, bad_fence, fenced, HoldsLeaf, H
 use Rattle.ckpt_parts.specs.declared.intake.Intake.{Intake}
 use Rattle.cloud_trait.specs.declared.answer.Answer.{Answer}
 use Rattle.cloud_trait.specs.declared.message.Message.{Message}
-use Rattle.cloud_facts.specs.Book.Tally.{Store}
+use Rattle.cloud_facts.specs.Book.Records.{IsIn}
+use Rattle.cloud_facts.specs.Book.Tally.{Leafy, Store}
+use Rattle.cloud_facts.specs.Book.Telling.{nodes_of}
 use Rattle.cloud_trait.specs.Ask.{Ask, GetHeld, PutHeld, Receive, Delete}
 use Rattle.cloud_trait.specs.Caller.{Caller}
 use Rattle.cloud_trait.specs.Claim.{Claim}
 use Rattle.cloud_trait.specs.Seen.{Seen}
-use Rattle.cloud_trait.specs.State.{CloudState}
+use Rattle.cloud_trait.specs.State.{CloudState, called, newest}
 use Rattle.cloud_trait.specs.Weather.{Makes, Rose}
 use Rattle.cloud_trait.specs.declared.answer.Answer.TheVariants.{Memory}
+use Rattle.cloud_trait.specs.declared.answer.Answer.TheVariants as call
 use Rattle.ckpt_parts.specs.declared.leases.Leases.{Leases}
 use Rattle.session_facts.specs.PageCheckpoints.Checkpoint.{TroubleWaits, KnowsPagingAt, KnowsPaging}
+use Rattle.session_facts.specs.PageCheckpoints.Rights.{IsLanded, ReadLeaf}
 use Rattle.session_facts.specs.Sessions.Explaining.{IsShown, MeetsNext}
-use Rattle.session_facts.proofs.Sessions.Showing.{given_shown, got_shown, received_shown, put_shown, delete_fails}
+use Rattle.session_facts.specs.Sessions.Spent.{HasLastPage, IsSpentInPages}
+use Rattle.session_facts.proofs.Sessions.Spending.{IsToldBy, last_leaf, linked_landed}
+use Rattle.session_facts.proofs.Sessions.Showing.{held_newest, row_of, given_shown, got_shown, received_shown, put_shown, delete_fails}
 use Rattle.cloud_trait.specs.Machine.{Goes, Ends, Stops}
 use Rattle.cloud_trait.specs.declared.turn.CkptAnswer.{CkptAnswer}
 use Rattle.cloud_trait.specs.Views.{given_of, got_of, received_of, done_of}
@@ -28,6 +34,7 @@ use Rattle.db_base.specs.declared.names.Lock.TheVariants as lock
 use Rattle.db_base.specs.declared.names.Place.{Place}
 use Rattle.db_base.specs.declared.names.QueueName.{QueueName}
 use Rattle.db_base.specs.declared.trouble.Counter.TheVariants as counter
+use Rattle.db_base.specs.declared.trouble.Counter.{Counter}
 use Rattle.db_base.specs.declared.trouble.Trouble.{Trouble}
 use Rattle.db_base.specs.declared.trouble.Trouble.TheVariants as trouble
 use Rattle.leaf_view.specs.Leaf.{Leaf}
@@ -37,6 +44,7 @@ use Rattle.page_ckpt.specs.Paging.{Paging, Step, ask_at, paging_ask, under, take
 use Rattle.page_ckpt.specs.declared.link.Link.{Link}
 use Rattle.page_ckpt.proofs.Outcomes.{Onward, Clears, Fails, Comes, comes}
 use Rattle.page_ckpt.proofs.Outcomes as step
+use Rattle.page_ckpt.specs.Causing.{greatest_number}
 use Rattle.page_ckpt.specs.declared.stage.Stage.{Stage}
 use Rattle.page_ckpt.specs.declared.stage.Stage.TheVariants.{TakingHome, GettingHome, Receiving, TakingRight, GettingRight, PuttingRight, ReleasingRight, PuttingHome, Deleting as DeletingNext, Releasing, Finished}
 
@@ -52,7 +60,16 @@ pub record Lets (Sh : Trouble → Type 0) : Type 0 where
   pub damaged : (where_it_is : Place) (at : ℕ) → Sh (trouble.Damaged where_it_is at)
   pub fence : (page : ℕ) (expected found : List ℕ) → Sh (trouble.BadFence page expected found)
   pub loop : (page : ℕ) → Sh (trouble.Loop page)
-  pub spent : Sh (trouble.Exhausted counter.Version)
+
+-- a leaf stands at its last version: the page's own, behind the get of it, or the one on the right that the answer brings
+pub data Spends : Paging → Answer → Type 0 where
+  at_home : (p : Paging) (a : Answer) → (p.stage ≡ Receiving) ⊎ (p.stage ≡ ReleasingRight) → p.home.version ≡ greatest_number → Spends p a
+  beside : (p : Paging) (got : Option (List ℕ)) (l : Leaf) → p.stage ≡ GettingRight → HoldsLinked p.tree p.at.page p.at.low got (Ok l) → l.version ≡ greatest_number
+      → Spends p (call.Got got)
+
+onward_spends : {p q : Paging} {a : Answer} {o : Option Link} → Onward p a q o → q.home.version ≡ greatest_number → Spends p a
+onward_spends (step.with_run p first second ms i read some) spent = at_home _ _ (inl refl) spent
+onward_spends (step.from_right p first second a) spent = at_home _ a (inr refl) spent
 
 module _ (Sh : Trouble → Type 0) (lets : Lets Sh) (most tree page : ℕ) where
   -- each trouble that is kept is so, at most so many deletions failed, and the tree and the page are these
@@ -155,37 +172,38 @@ module _ (Sh : Trouble → Type 0) (lets : Lets Sh) (most tree page : ℕ) where
   clears_keeps (step.home_put p first second) keeps answered = keeps
   clears_keeps (step.one_tried p first second a) keeps few = (keeps.0, few, keeps.2, keeps.3)
 
-  fails_brings : {p q : Paging} {a : Answer} {t : Trouble} → Fails p a q t → Keeps p → IsAnswered p a → Brings (stopping q t)
-  fails_brings {q = q} (step.no_home p first second a t e) keeps refused = stops q t keeps (refused t e)
-  fails_brings {q = q} (step.no_messages p first second a t e) keeps refused = stops q t keeps (refused t e)
-  fails_brings {q = q} (step.no_lease p first second a t e) keeps refused = stops q t keeps (refused t e)
-  fails_brings {q = q} (step.no_right p first second a t e) keeps refused = stops q t keeps (refused t e)
-  fails_brings {q = q} (step.right_not_put p first second a t e) keeps refused = stops q t keeps (refused t e)
-  fails_brings {q = q} (step.home_not_put p first second a t e) keeps refused = stops q t keeps (refused t e)
-  fails_brings {q = q} (step.bad_home p first second got t holds) keeps refused = stops q t keeps (named_lets p.tree p.page got t holds)
-  fails_brings {q = q} (step.bad_message p first second ms t read) keeps refused = stops q t keeps (items_lets (own_queue p) read.cursor (items_of ms) t read.takes)
-  fails_brings {q = q} (step.bad_right p first second got t holds) keeps refused = stops q t keeps (linked_lets p.tree p.at.page p.at.low got t holds)
-  fails_brings {q = q} (step.round link on seen) keeps refused = stops q (trouble.Loop link.page) (onward_keeps on keeps) (lets.loop link.page)
-  fails_brings {q = q} (step.home_spent on spent) keeps refused = stops q (trouble.Exhausted counter.Version) (onward_keeps on keeps) lets.spent
-  fails_brings {q = q} (step.right_spent p first second got l holds some spent) keeps refused =
-      stops q (trouble.Exhausted counter.Version) keeps lets.spent
+  fails_brings : {p q : Paging} {a : Answer} {t : Trouble} → Fails p a q t → Keeps p → IsAnswered p a → (Spends p a → Sh (trouble.Exhausted counter.Version)) → Brings (stopping q t)
+  fails_brings {q = q} (step.no_home p first second a t e) keeps refused spent = stops q t keeps (refused t e)
+  fails_brings {q = q} (step.no_messages p first second a t e) keeps refused spent = stops q t keeps (refused t e)
+  fails_brings {q = q} (step.no_lease p first second a t e) keeps refused spent = stops q t keeps (refused t e)
+  fails_brings {q = q} (step.no_right p first second a t e) keeps refused spent = stops q t keeps (refused t e)
+  fails_brings {q = q} (step.right_not_put p first second a t e) keeps refused spent = stops q t keeps (refused t e)
+  fails_brings {q = q} (step.home_not_put p first second a t e) keeps refused spent = stops q t keeps (refused t e)
+  fails_brings {q = q} (step.bad_home p first second got t holds) keeps refused spent = stops q t keeps (named_lets p.tree p.page got t holds)
+  fails_brings {q = q} (step.bad_message p first second ms t read) keeps refused spent = stops q t keeps (items_lets (own_queue p) read.cursor (items_of ms) t read.takes)
+  fails_brings {q = q} (step.bad_right p first second got t holds) keeps refused spent = stops q t keeps (linked_lets p.tree p.at.page p.at.low got t holds)
+  fails_brings {q = q} (step.round link on seen) keeps refused spent = stops q (trouble.Loop link.page) (onward_keeps on keeps) (lets.loop link.page)
+  fails_brings {q = q} (step.home_spent on last) keeps refused spent = stops q (trouble.Exhausted counter.Version) (onward_keeps on keeps) (spent (onward_spends on last))
+  fails_brings {q = q} (step.right_spent p first second got l holds some last) keeps refused spent =
+      stops q (trouble.Exhausted counter.Version) keeps (spent (beside _ got l refl holds last))
 
   -- ---- a step
 
-  brings : {p : Paging} {a : Answer} {next : Step} → Comes p a next → Keeps p → IsAnswered p a → Brings next
-  brings (step.refused p first second a t e) keeps refused = refused t e
-  brings (step.stops q t f) keeps answered = fails_brings f keeps answered
-  brings (step.turns q link on new) keeps answered = onward_keeps on keeps
-  brings (step.puts_home q out on fresh is) keeps answered = onward_keeps on keeps
-  brings (step.deletes q id c some) keeps answered = clears_keeps c keeps answered
-  brings (step.rests q c none) keeps answered = clears_keeps c keeps answered
-  brings (step.ends p first second a last none) keeps answered = (keeps.1, keeps.2, keeps.3)
-  brings (step.stopped p first second a t last kept) keeps answered = keeps.0 t kept
-  brings (step.nothing p first second a) keeps failed = failed
-  brings c keeps answered = keeps
+  brings : {p : Paging} {a : Answer} {next : Step} → Comes p a next → Keeps p → IsAnswered p a → (Spends p a → Sh (trouble.Exhausted counter.Version)) → Brings next
+  brings (step.refused p first second a t e) keeps refused spent = refused t e
+  brings (step.stops q t f) keeps answered spent = fails_brings f keeps answered spent
+  brings (step.turns q link on new) keeps answered spent = onward_keeps on keeps
+  brings (step.puts_home q out on fresh is) keeps answered spent = onward_keeps on keeps
+  brings (step.deletes q id c some) keeps answered spent = clears_keeps c keeps answered
+  brings (step.rests q c none) keeps answered spent = clears_keeps c keeps answered
+  brings (step.ends p first second a last none) keeps answered spent = (keeps.1, keeps.2, keeps.3)
+  brings (step.stopped p first second a t last kept) keeps answered spent = keeps.0 t kept
+  brings (step.nothing p first second a) keeps failed spent = failed
+  brings c keeps answered spent = keeps
 
-  pub step_brings : (p : Paging) (a : Answer) (next : Step) → Keeps p → Answered p.stage p.tree p.page p.at.page p.deletions a → PagingLeads p a next → Brings next
-  step_brings p a next keeps answered leads = brings (comes p a next leads) keeps answered
+  pub step_brings : (p : Paging) (a : Answer) (next : Step) → Keeps p → Answered p.stage p.tree p.page p.at.page p.deletions a → (Spends p a → Sh (trouble.Exhausted counter.Version)) → PagingLeads p a next
+      → Brings next
+  step_brings p a next keeps answered spent leads = brings (comes p a next leads) keeps answered spent
 
 -- ---- by what is known of the checkpoint
 
@@ -209,7 +227,7 @@ tried_well d = on d.ids
 
 -- any trouble lets
 all_let : Lets (λ k. Unit {0})
-all_let = record { absent = λ page. tt; no_leaf = λ page. tt; damaged = λ w at. tt; fence = λ page e f. tt; loop = λ page. tt; spent = tt }
+all_let = record { absent = λ page. tt; no_leaf = λ page. tt; damaged = λ w at. tt; fence = λ page e f. tt; loop = λ page. tt }
 
 -- the trouble is kept, or it is the answer
 abbrev pub KeepsNext : Trouble → Step → Type 0
@@ -242,10 +260,11 @@ waiting_kept p reply waits k kept next leads = on waits
         subst (KeepsNext k) (sym left) (releases (record p { held = held_after Releasing p.held }) (newest_lease (held_after Releasing p.held)) kept)
     on (inr none) = absurd (cc (none, kept))
 
-module _ (who : Caller) (before after : Seen) (s t : CloudState) (told : before.state ≡ Some s) (told_after : after.state ≡ Some t) (held : List Claim) (st : Store) (now : ℕ) (p : Paging)
-    (reply : Answer) (knows : KnowsPaging st now p) (made : Makes who (paging_ask p) reply before after) where
+module _ (who : Caller) (before after : Seen) (s t : CloudState) (told : before.state ≡ Some s) (told_after : after.state ≡ Some t) (held : List Claim) (Spent : CloudState → Counter → Type 0) (st : Store) (now : ℕ) (p : Paging)
+    (reply : Answer) (knows : KnowsPaging st now p) (made : Makes who (paging_ask p) reply before after) (tells : IsToldBy st t)
+    (own : (what : Counter) → IsSpentInPages p.tree t what → Spent t what) where
   abbrev Sh : Trouble → Type 0
-  Sh k = IsShown (paging_ask p) held before.counts after.counts s t k
+  Sh k = IsShown (paging_ask p) held Spent before.counts after.counts s t k
 
   lets : Lets Sh
   lets = record {
@@ -254,7 +273,6 @@ module _ (who : Caller) (before after : Seen) (s t : CloudState) (told : before.
     damaged = λ w at. tt;
     fence = λ page e f. tt;
     loop = λ page. tt;
-    spent = tt;
   }
 
   asks : (stage : Stage) → p.stage ≡ stage → paging_ask p ≡ ask_at stage p
@@ -262,40 +280,71 @@ module _ (who : Caller) (before after : Seen) (s t : CloudState) (told : before.
 
   -- by the call that is in hand
   by_ask : {X : Type 0} (view : Result X Trouble) (ask : Ask) → paging_ask p ≡ ask
-      → (Makes who ask reply before after → (k : Trouble) → view ≡ Err k → IsShown ask held before.counts after.counts s t k) → (k : Trouble) → view ≡ Err k → Sh k
+      → (Makes who ask reply before after → (k : Trouble) → view ≡ Err k → IsShown ask held Spent before.counts after.counts s t k) → (k : Trouble) → view ≡ Err k → Sh k
   by_ask view ask is shown k e =
-      subst (λ (q : Ask). IsShown q held before.counts after.counts s t k) (sym is) (shown (subst (λ (q : Ask). Makes who q reply before after) is made) k e)
+      subst (λ (q : Ask). IsShown q held Spent before.counts after.counts s t k) (sym is) (shown (subst (λ (q : Ask). Makes who q reply before after) is made) k e)
 
   answered : (stage : Stage) → p.stage ≡ stage → KnowsPagingAt stage st now p → Answered Sh lets (p.deletions.left + 1) p.tree p.page stage p.tree p.page p.at.page p.deletions reply
   answered TakingHome e a =
-      by_ask (given_of (lock.Page p.tree p.page) reply) (take_home p) (asks TakingHome e) (given_shown who before after s t told told_after held (lock.Page p.tree p.page) 30 reply)
+      by_ask (given_of (lock.Page p.tree p.page) reply) (take_home p) (asks TakingHome e) (given_shown who before after s t told told_after held Spent (lock.Page p.tree p.page) 30 reply)
   answered GettingHome e a =
       by_ask (got_of reply) (GetHeld (home_name p) (a.0).lease) (asks GettingHome e ∙ ap (λ (l : Leases). under p l.first (λ c. GetHeld (home_name p) c)) (a.0).is)
-      (got_shown who before after s t told told_after held (home_name p) (a.0).lease reply)
+      (got_shown who before after s t told told_after held Spent (home_name p) (a.0).lease reply)
   answered Receiving e a =
-      by_ask (received_of reply) (Receive (own_queue p) 256) (asks Receiving e) (received_shown who before after s t told told_after held (own_queue p) 256 reply)
+      by_ask (received_of reply) (Receive (own_queue p) 256) (asks Receiving e) (received_shown who before after s t told told_after held Spent (own_queue p) 256 reply)
   answered TakingRight e a =
       by_ask (given_of (lock.Page p.tree p.at.page) reply) (take_right p) (asks TakingRight e)
-      (given_shown who before after s t told told_after held (lock.Page p.tree p.at.page) 30 reply)
+      (given_shown who before after s t told told_after held Spent (lock.Page p.tree p.at.page) 30 reply)
   answered GettingRight e a =
       by_ask (got_of reply) (GetHeld (right_name p) (a.0).second) (asks GettingRight e ∙ ap (λ (l : Leases). under p l.second (λ c. GetHeld (right_name p) c)) (a.0).is)
-      (got_shown who before after s t told told_after held (right_name p) (a.0).second reply)
+      (got_shown who before after s t told told_after held Spent (right_name p) (a.0).second reply)
   answered PuttingRight e a =
       by_ask (done_of reply) (PutHeld (right_name p) p.out (a.0).lease (Some (a.0).second))
       (asks PuttingRight e ∙ ap (λ (l : Leases). under p l.first (λ c. under p l.second (λ r. PutHeld (right_name p) p.out c (Some r)))) (a.0).is)
-      (put_shown who before after s t told told_after held (right_name p) p.out (a.0).lease (Some (a.0).second) reply)
+      (put_shown who before after s t told told_after held Spent (right_name p) p.out (a.0).lease (Some (a.0).second) reply)
   answered ReleasingRight e a = tt
   answered PuttingHome e a =
       by_ask (done_of reply) (PutHeld (home_name p) p.out (a.0).lease None)
       (asks PuttingHome e ∙ ap (λ (l : Leases). under p l.first (λ c. PutHeld (home_name p) p.out c None)) (a.0).is)
-      (put_shown who before after s t told told_after held (home_name p) p.out (a.0).lease None reply)
+      (put_shown who before after s t told told_after held Spent (home_name p) p.out (a.0).lease None reply)
   answered DeletingNext e a = tried_more p.deletions (went (done_of reply))
   answered Releasing e a = tt
   answered Finished e never = absurd never
 
+  -- a leaf that was read landed
+  read_landed : (lease : Claim) → ReadLeaf st now p.tree p.page lease p.home → (p.home ≡ empty_leaf) ⊎ IsIn (nodes_of t p.tree p.page) (Leafy p.home)
+  read_landed lease read = on read.landed
+    where
+      on : IsLanded (st.tally.nodes p.tree) p.page p.home → (p.home ≡ empty_leaf) ⊎ IsIn (nodes_of t p.tree p.page) (Leafy p.home)
+      on (inl first) = inl first.1
+      on (inr landed) = inr (tells.pages p.tree p.page (Leafy p.home) landed)
+
+  known_at : (stage : Stage) → p.stage ≡ stage → KnowsPagingAt stage st now p
+  known_at stage e = subst (λ (g : Stage). KnowsPagingAt g st now p) e knows.at
+
+  -- so where a leaf stands at its last version, the cloud tells so
+  version_told : (a : Answer) → reply ≡ a → Spends p a → HasLastPage t p.tree
+  version_told a same (at_home _ _ (inl stage) last) =
+      let k : KnowsPagingAt Receiving st now p = known_at Receiving stage in last_leaf t p.tree p.page p.home (read_landed k.has.lease k.read) last
+  version_told a same (at_home _ _ (inr stage) last) =
+      let k : KnowsPagingAt ReleasingRight st now p = known_at ReleasingRight stage in
+      last_leaf t p.tree p.page p.home (read_landed ((k.0).lease) ((k.1).read)) last
+  version_told a same (beside _ got l stage holds last) =
+      let k : KnowsPagingAt GettingRight st now p = known_at GettingRight stage in
+      let is : paging_ask p ≡ GetHeld (right_name p) (k.0).second =
+      asks GettingRight stage ∙ ap (λ (l : Leases). under p l.second (λ c. GetHeld (right_name p) c)) (k.0).is in
+      let newest_is : newest t (right_name p) ≡ got =
+      held_newest who (right_name p) (k.0).second reply before.counts after.counts (called who t.now s) t
+      (row_of who before after s t told told_after held Spent (GetHeld (right_name p) (k.0).second) reply (subst (λ (q : Ask). Makes who q reply before after) is made)) got
+      (ap got_of same) in
+      last_leaf t p.tree p.at.page l (linked_landed t p.tree p.at.page p.at.low got l newest_is holds) last
+
+  spent_shown : Spends p reply → Sh (trouble.Exhausted counter.Version)
+  spent_shown spends = own counter.Version (version_told reply refl spends)
+
   -- a trouble that it keeps or stops with is shown by the call, where none was kept before
   pub paging_shown : p.trouble ≡ None → (next : Step) → PagingLeads p reply next → (k : Trouble) → MeetsNext (λ (m : Paging). m.trouble) next k → Sh k
-  paging_shown none next leads k meets = on next (step_brings Sh lets (p.deletions.left + 1) p.tree p.page p reply next (before_it, omega arith, refl, refl) (answered p.stage refl knows.at) leads) meets
+  paging_shown none next leads k meets = on next (step_brings Sh lets (p.deletions.left + 1) p.tree p.page p reply next (before_it, omega arith, refl, refl) (answered p.stage refl knows.at) (λ spends. spent_shown spends) leads) meets
     where
       before_it : (j : Trouble) → p.trouble ≡ Some j → Sh j
       before_it j e = absurd (cc (none, e))
@@ -315,7 +364,7 @@ module _ (who : Caller) (before after : Seen) (s t : CloudState) (told : before.
       deletes (Err k) e stage a =
           let id : ℕ = (a.2).0 in
           let is : paging_ask p ≡ Delete (own_queue p) id = asks DeletingNext stage ∙ ap (λ (ids : List ℕ). delete_next p (next_id ids)) (a.2).2 in
-          inr (delete_fails who before after s t told told_after held (own_queue p) id reply (subst (λ (q : Ask). Makes who q reply before after) is made) k e other)
+          inr (delete_fails who before after s t told told_after held Spent (own_queue p) id reply (subst (λ (q : Ask). Makes who q reply before after) is made) k e other)
 
       tries : (stage : Stage) → p.stage ≡ stage → KnowsPagingAt stage st now p
           → Answered (λ k. Unit {0}) all_let p.deletions.left p.tree p.page stage p.tree p.page p.at.page p.deletions reply ⊎ Rose before.counts.faults after.counts.faults
@@ -338,16 +387,15 @@ module _ (who : Caller) (before after : Seen) (s t : CloudState) (told : before.
 
       on : Answered (λ k. Unit {0}) all_let p.deletions.left p.tree p.page p.stage p.tree p.page p.at.page p.deletions reply ⊎ Rose before.counts.faults after.counts.faults
           → (left_behind next ≤ p.deletions.left) ⊎ Rose before.counts.faults after.counts.faults
-      on (inl ans) = inl (brought next (step_brings (λ k. Unit {0}) all_let p.deletions.left p.tree p.page p reply next ((λ k e. tt), omega arith, refl, refl) ans leads))
+      on (inl ans) = inl (brought next (step_brings (λ k. Unit {0}) all_let p.deletions.left p.tree p.page p reply next ((λ k e. tt), omega arith, refl, refl) ans (λ spends. tt) leads))
       on (inr rose) = inr rose
 
 -- ---- its tree and its page
 
--- at its end a checkpoint is of the tree and the page that it was of before
-pub paging_ends : (p m : Paging) (reply : Answer) (x : CkptAnswer) → PagingLeads p reply (Ends m x) → (m.tree ≡ p.tree) × (m.page ≡ p.page)
-paging_ends p m reply x leads =
-    let b = step_brings (λ k. Unit {0}) all_let (p.deletions.left + 1) p.tree p.page p reply (Ends m x) ((λ k e. tt), omega arith, refl, refl) (any p.stage) leads in
-    (b.1, b.2)
+-- what a step leads to, whatever the troubles
+of_any : (p : Paging) (reply : Answer) (next : Step) → PagingLeads p reply next → Brings (λ k. Unit {0}) all_let (p.deletions.left + 1) p.tree p.page next
+of_any p reply next leads =
+    step_brings (λ k. Unit {0}) all_let (p.deletions.left + 1) p.tree p.page p reply next ((λ k e. tt), omega arith, refl, refl) (any p.stage) (λ spends. tt) leads
   where
     any : (stage : Stage) → Answered (λ k. Unit {0}) all_let (p.deletions.left + 1) p.tree p.page stage p.tree p.page p.at.page p.deletions reply
     any TakingHome = λ k e. tt
@@ -361,3 +409,11 @@ paging_ends p m reply x leads =
     any DeletingNext = tried_more p.deletions (went (done_of reply))
     any Releasing = tt
     any Finished = tt
+
+-- at its end a checkpoint is of the tree and the page that it was of before
+pub paging_ends : (p m : Paging) (reply : Answer) (x : CkptAnswer) → PagingLeads p reply (Ends m x) → (m.tree ≡ p.tree) × (m.page ≡ p.page)
+paging_ends p m reply x leads = let b = of_any p reply (Ends m x) leads in (b.1, b.2)
+
+-- and so it is where it goes on
+pub paging_goes : (p m : Paging) (reply : Answer) → PagingLeads p reply (Goes m) → m.tree ≡ p.tree
+paging_goes p m reply leads = (of_any p reply (Goes m) leads).2

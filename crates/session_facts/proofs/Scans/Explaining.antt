@@ -13,6 +13,7 @@ use Rattle.cloud_trait.specs.Views.{got_of}
 use Rattle.cloud_trait.specs.Weather.{Makes}
 use Rattle.db_base.specs.declared.names.ObjName.{ObjName}
 use Rattle.db_base.specs.declared.names.ObjName.TheVariants as object
+use Rattle.db_base.specs.declared.trouble.Counter.{Counter}
 use Rattle.db_base.specs.declared.trouble.Trouble.{Trouble}
 use Rattle.page_cache.specs.Cache.{Cache}
 use Rattle.range_scan.specs.Scan.{Scan, scan_object_at, scan_ask, next_at, scan_next}
@@ -30,13 +31,13 @@ use Rattle.tree_walk.specs.Walk.{Spot, Walk, walk_next}
 use Rattle.tree_walk.proofs.Refusing.{refused_shows}
 
 module _ (book : Book) (order : List Entry) (s : CloudState) (stands : StandsUnder book order s) (who : Caller) (before after : Seen) (t : CloudState) (told : before.state ≡ Some s)
-    (told_after : after.state ≡ Some t) (held : List Claim) where
+    (told_after : after.state ≡ Some t) (held : List Claim) (Spent : CloudState → Counter → Type 0) where
   abbrev pub st : Store
   st = store_of book order s
 
   -- a trouble is shown by the get of this object
   abbrev pub Shown : ObjName → Trouble → Type 0
-  Shown name trouble = IsShown (Get name) held before.counts after.counts s t trouble
+  Shown name trouble = IsShown (Get name) held Spent before.counts after.counts s t trouble
 
   module _ (m : Scan) (c : Cache) (k : KnowsScanning st m c) where
     -- a walk that is at the right page in hand
@@ -53,7 +54,7 @@ module _ (book : Book) (order : List Entry) (s : CloudState) (stands : StandsUnd
       comes : (a : Answer) → Makes who (Get name) a before after → MayCome st (Shown name) c name (got_of a)
       comes (Got got) made = (
         call_answers book order s stands who name (Got got) t (call_of who (Get name) (Got got) before after s t made told told_after),
-        λ trouble e. refused_shown book order s stands who before after t told told_after held at c known (Got got) made got trouble refl (refused_shows c name true got trouble e),
+        λ trouble e. refused_shown book order s stands who before after t told told_after held Spent at c known (Got got) made got trouble refl (refused_shows c name true got trouble e),
       )
       comes Failed made = made.failed refl
       comes Memory made = tt
@@ -67,13 +68,13 @@ module _ (book : Book) (order : List Entry) (s : CloudState) (stands : StandsUnd
 
     -- a scan stops for nothing that its get does not show
     pub scan_shown : (a : Answer) → Makes who (scan_ask m) a before after
-        → ScanLeads st (λ trouble. IsShown (scan_ask m) held before.counts after.counts s t trouble) (scan_next (m, c) a)
+        → ScanLeads st (λ trouble. IsShown (scan_ask m) held Spent before.counts after.counts s t trouble) (scan_next (m, c) a)
     scan_shown a made = on m.spot k.scan.right made
       where
         on : (o : Option Spot) → StandsRight (st.book.chain m.walk.tree) (record m { spot = o }) o → Makes who (Get (scan_object_at m o)) a before after
             → ScanLeads st (Shown (scan_object_at m o)) (next_at o (record m { spot = o }, c) a)
         on None right made =
             walk_leads st stands.holds.chains (record m { spot = None }) refl right (Shown (scan_object_at m None)) (walk_next (m.walk, c) a)
-            (walk_shown book order s stands who before after t told told_after held m.walk c (record { walk = k.scan.walk; cache = k.cache }) a made)
+            (walk_shown book order s stands who before after t told told_after held Spent m.walk c (record { walk = k.scan.walk; cache = k.cache }) a made)
         on (Some p) right made =
             right_leads st stands.holds.chains m p c k.scan.walk right k.cache (Shown (scan_object_at m (Some p))) (got_of a) (comes p right a made)

@@ -24,14 +24,16 @@ use Rattle.recover_run.specs.declared.home.Home.{Home}
 use Rattle.report_types.specs.declared.entry.Entry.{Entry}
 use Rattle.session_facts.specs.Sessions.Calls.{folding_reply}
 use Rattle.session_facts.specs.Sessions.Explaining.{trouble_of_making, Meets, IsShown, Explains}
+use Rattle.session_facts.specs.Sessions.Spent.{IsSpentInTree}
 use Rattle.session_facts.specs.Sessions.Sessions.{leases_of, KnowsWork, Sessions, SessionsStand}
 use Rattle.session_facts.specs.TreeCheckpoints.Checkpoint.{KnowsMaking}
+use Rattle.session_facts.proofs.Sessions.Spending.{HasAll, IsToldBy, told_later}
 use Rattle.session_facts.proofs.Sessions.Answered.{stopped_none, answered_is, waited_is}
 use Rattle.session_facts.proofs.TreeCheckpoints.Explaining.{making_shows, making_left, making_keeps}
 use Rattle.tree_ckpt.specs.Making.{Making, making_ask, MakingLeads}
 
 module _ (who : Caller) (before after : Seen) (s t : CloudState) (told : before.state ≡ Some s) (told_after : after.state ≡ Some t) (st : Store) (now : ℕ) (home : Home) (m : Making)
-    (knows : KnowsMaking st now m) where
+    (knows : KnowsMaking st now m) (tells : IsToldBy st t) where
   abbrev Explained : Work → Turn Answer → Type 0
   Explained work turn = Explains (making_ask m) before.counts after.counts s t (Folding home m) work turn
 
@@ -40,21 +42,21 @@ module _ (who : Caller) (before after : Seen) (s t : CloudState) (told : before.
     goes_on n leads = record {
       shown = λ none clean k other meets. shown none k meets;
       kept = λ k e. making_keeps m reply (Goes n) leads k e;
-      left = making_left who before after s t told told_after (leases_of (Folding home m)) reply st now m knows made (Goes n) leads found;
+      left = making_left who before after s t told told_after (leases_of (Folding home m)) (IsSpentInTree m.tree) reply st now m knows made tells (λ what is. is) (Goes n) leads found;
     }
       where
-        shown : trouble_of_making m ≡ None → (k : Trouble) → Meets (Folding home n) More k → IsShown (making_ask m) (leases_of (Folding home m)) before.counts after.counts s t k
-        shown none k (inl e) = making_shows who before after s t told told_after (leases_of (Folding home m)) reply st now m knows made (Goes n) leads none k e
+        shown : trouble_of_making m ≡ None → (k : Trouble) → Meets (Folding home n) More k → IsShown (making_ask m) (leases_of (Folding home m)) (IsSpentInTree m.tree) before.counts after.counts s t k
+        shown none k (inl e) = making_shows who before after s t told told_after (leases_of (Folding home m)) (IsSpentInTree m.tree) reply st now m knows made tells (λ what is. is) (Goes n) leads none k e
         shown none k (inr e) = absurd (cc)
 
     ends : (n : Making) (done : CkptAnswer) → MakingLeads m reply (Ends n done) → Explained (Idle home) (Ended (answer.Done done))
     ends n done leads = record {
       shown = λ none clean k other meets. never k meets;
       kept = λ k e. absurd (making_keeps m reply (Ends n done) leads k e);
-      left = making_left who before after s t told told_after (leases_of (Folding home m)) reply st now m knows made (Ends n done) leads found;
+      left = making_left who before after s t told told_after (leases_of (Folding home m)) (IsSpentInTree m.tree) reply st now m knows made tells (λ what is. is) (Ends n done) leads found;
     }
       where
-        never : (k : Trouble) → Meets (Idle home) (Ended (answer.Done done)) k → IsShown (making_ask m) (leases_of (Folding home m)) before.counts after.counts s t k
+        never : (k : Trouble) → Meets (Idle home) (Ended (answer.Done done)) k → IsShown (making_ask m) (leases_of (Folding home m)) (IsSpentInTree m.tree) before.counts after.counts s t k
         never k (inl e) = absurd (cc)
         never k (inr e) = absurd (cc)
 
@@ -65,9 +67,9 @@ module _ (who : Caller) (before after : Seen) (s t : CloudState) (told : before.
       left = inl (omega arith);
     }
       where
-        shown : trouble_of_making m ≡ None → (k : Trouble) → k ≢ trouble.Memory → q ≡ k → IsShown (making_ask m) (leases_of (Folding home m)) before.counts after.counts s t k
+        shown : trouble_of_making m ≡ None → (k : Trouble) → k ≢ trouble.Memory → q ≡ k → IsShown (making_ask m) (leases_of (Folding home m)) (IsSpentInTree m.tree) before.counts after.counts s t k
         shown none k other same =
-            making_shows who before after s t told told_after (leases_of (Folding home m)) reply st now m knows made (Stops n q) (leads (λ memory. other (sym same ∙ memory))) none k same
+            making_shows who before after s t told told_after (leases_of (Folding home m)) (IsSpentInTree m.tree) reply st now m knows made tells (λ what is. is) (Stops n q) (leads (λ memory. other (sym same ∙ memory))) none k same
 
   making_explains : (work : Work) (turn : Turn Answer) → (steps : StepsFolding home who before after m work turn) → folding_reply home who before after m work turn steps ≢ Memory
       → Explained work turn
@@ -93,10 +95,10 @@ module _ (who : Caller) (before after : Seen) (s t : CloudState) (book : Book) (
   abbrev old : Work
   old = (sessions who.session).work
 
-  pub folding_explains : (home : Home) (m : Making) → old ≡ Folding home m → (work : Work) (turn : Turn Answer) → (steps : StepsFolding home who before after m work turn)
+  pub folding_explains : (home : Home) (m : Making) → old ≡ Folding home m → HasAll s t → (work : Work) (turn : Turn Answer) → (steps : StepsFolding home who before after m work turn)
       → folding_reply home who before after m work turn steps ≢ Memory → Explains (making_ask m) before.counts after.counts s t (Folding home m) work turn
-  folding_explains home m is work turn steps found =
-      making_explains who before after s t told told_after (store_of book order s) s.now home m known work turn steps found
+  folding_explains home m is grown work turn steps found =
+      making_explains who before after s t told told_after (store_of book order s) s.now home m known (told_later book order s t grown) work turn steps found
     where
       known : KnowsMaking (store_of book order s) s.now m
       known = (subst (λ w. KnowsWork (store_of book order s) s.now (sessions who.session).cache w (stand.parts who.session)) is (stand.each who.session).work).1

@@ -15,7 +15,7 @@ use Rattle.cloud_trait.specs.State.{CloudState}
 use Rattle.cloud_trait.specs.Weather.{Rose}
 use Rattle.db_base.specs.declared.trouble.Trouble.{Trouble}
 use Rattle.recover_run.specs.declared.home.Home.{Home}
-use Rattle.session_facts.specs.Sessions.Explaining.{Explains, IsShown, Meets, left_in, left_told, trouble_in, trouble_of_turn}
+use Rattle.session_facts.specs.Sessions.Explaining.{Explains, IsShown, Meets, left_in, left_told, trouble_in, trouble_of_turn, spent_for}
 use Rattle.session_facts.specs.Sessions.Sessions.{leases_of}
 use Rattle.session_facts.proofs.Sessions.Answered.{stopped_none}
 use Rattle.session_facts.proofs.Sessions.Showing.{release_shown, renewed_shown}
@@ -28,7 +28,7 @@ same_trouble a b e = cc
 
 module _ (who : Caller) (before after : Seen) (s t : CloudState) (told : before.state ≡ Some s) (told_after : after.state ≡ Some t) where
   abbrev Shows : Ask → Work → Trouble → Type 0
-  Shows ask old k = IsShown ask (leases_of old) before.counts after.counts s t k
+  Shows ask old k = IsShown ask (leases_of old) (spent_for old) before.counts after.counts s t k
 
   -- an operation of one call, in which no trouble waits: it explains itself where a trouble that it answers is shown
   one_call : (ask : Ask) (old work : Work) (a : Answer) → trouble_in old ≡ None → trouble_in work ≡ None → ((k : Trouble) → trouble_of_turn (Ended a) ≡ Some k → Shows ask old k)
@@ -54,7 +54,7 @@ module _ (who : Caller) (before after : Seen) (s t : CloudState) (told : before.
   closing_explains lease work (Ended (answer.Trouble q)) steps =
       one_call (Release lease) (Closing lease) work (answer.Trouble q) refl (ap trouble_in steps.1)
       (λ k e. subst (Shows (Release lease) (Closing lease)) (same_trouble q k e)
-      (release_shown who before after s t told told_after (lease ∷ []) lease (steps.0).answer (steps.0).made q (steps.0).took)) (inl (omega arith))
+      (release_shown who before after s t told told_after (lease ∷ []) (spent_for (Closing lease)) lease (steps.0).answer (steps.0).made q (steps.0).took)) (inl (omega arith))
   closing_explains lease work More never = absurd never
   closing_explains lease work (Stopped q) never = absurd never
   closing_explains lease work (Ended (answer.Opened epoch)) never = absurd never
@@ -73,7 +73,7 @@ module _ (who : Caller) (before after : Seen) (s t : CloudState) (told : before.
   renewing_explains home work (Ended (answer.Trouble q)) steps =
       one_call (Renew home.lease 600) (Renewing home) work (answer.Trouble q) refl (ap trouble_in steps.2 ∙ stopped_none q steps.0)
       (λ k e. subst (Shows (Renew home.lease 600) (Renewing home)) (same_trouble q k e)
-      (renewed_shown who before after s t told told_after (home.lease ∷ []) home.lease 600 (steps.1).answer (steps.1).made q (steps.1).took)) (inl (omega arith))
+      (renewed_shown who before after s t told told_after (home.lease ∷ []) (spent_for (Renewing home)) home.lease 600 (steps.1).answer (steps.1).made q (steps.1).took)) (inl (omega arith))
   renewing_explains home work More never = absurd never
   renewing_explains home work (Stopped q) never = absurd never
   renewing_explains home work (Ended (answer.Opened epoch)) never = absurd never

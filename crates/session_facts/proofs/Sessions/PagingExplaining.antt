@@ -22,12 +22,14 @@ use Rattle.recover_run.specs.declared.home.Home.{Home}
 use Rattle.session_facts.specs.PageCheckpoints.Checkpoint.{KnowsPaging}
 use Rattle.session_facts.specs.Sessions.Calls.{paging_reply}
 use Rattle.session_facts.specs.Sessions.Explaining.{Explains, IsShown, Meets, left_in, trouble_in}
+use Rattle.session_facts.specs.Sessions.Spent.{IsSpentInPages}
 use Rattle.session_facts.specs.Sessions.Sessions.{leases_of}
 use Rattle.session_facts.proofs.PageCheckpoints.Explaining.{paging_shown, paging_left, waiting_kept}
+use Rattle.session_facts.proofs.Sessions.Spending.{IsToldBy}
 use Rattle.session_facts.proofs.Sessions.Answered.{answered_is, stopped_none, waited_is}
 
 module _ (who : Caller) (before after : Seen) (s t : CloudState) (told : before.state ≡ Some s) (told_after : after.state ≡ Some t) (st : Store) (now : ℕ) (home : Home) (p : Paging)
-    (knows : KnowsPaging st now p) (work : Work) where
+    (knows : KnowsPaging st now p) (tells : IsToldBy st t) (work : Work) where
   abbrev Taken : Paging → Turn CkptAnswer → Type 0
   Taken m turn = Steps paging_ask PagingLeads KeepsLeases who before after p m turn
 
@@ -40,22 +42,22 @@ module _ (who : Caller) (before after : Seen) (s t : CloudState) (told : before.
     kept = λ k e. ap trouble_in is ∙ waiting_kept p steps.answer knows.waits k e (Goes m) steps.took;
     left =
         subst (λ (w : Work). (left_in w ≤ p.deletions.left) ⊎ Rose before.counts.faults after.counts.faults) (sym is)
-        (paging_left who before after s t told told_after (leases_of (PagingOn home p)) st now p steps.answer knows steps.made found (Goes m) steps.took);
+        (paging_left who before after s t told told_after (leases_of (PagingOn home p)) (IsSpentInPages p.tree) st now p steps.answer knows steps.made tells (λ what is. is) found (Goes m) steps.took);
   }
     where
-      on : p.trouble ≡ None → (k : Trouble) → Meets work More k → IsShown (paging_ask p) (leases_of (PagingOn home p)) before.counts after.counts s t k
+      on : p.trouble ≡ None → (k : Trouble) → Meets work More k → IsShown (paging_ask p) (leases_of (PagingOn home p)) (IsSpentInPages p.tree) before.counts after.counts s t k
       on none k (inl e) =
-          paging_shown who before after s t told told_after (leases_of (PagingOn home p)) st now p steps.answer knows steps.made none (Goes m) steps.took k (ap trouble_in (sym is) ∙ e)
+          paging_shown who before after s t told told_after (leases_of (PagingOn home p)) (IsSpentInPages p.tree) st now p steps.answer knows steps.made tells (λ what is. is) none (Goes m) steps.took k (ap trouble_in (sym is) ∙ e)
       on none k (inr e) = absurd (cc (e))
 
   ends : (n : CkptAnswer) (m : Paging) (steps : Taken m (Ended n)) → steps.answer ≢ Memory → work ≡ Idle home → Does (Ended (answer.Done n))
   ends n m steps found is = record {
     shown = λ none clean k other meets. on k meets;
     kept = λ k e. absurd (waiting_kept p steps.answer knows.waits k e (Ends m n) steps.took);
-    left = paging_left who before after s t told told_after (leases_of (PagingOn home p)) st now p steps.answer knows steps.made found (Ends m n) steps.took;
+    left = paging_left who before after s t told told_after (leases_of (PagingOn home p)) (IsSpentInPages p.tree) st now p steps.answer knows steps.made tells (λ what is. is) found (Ends m n) steps.took;
   }
     where
-      on : (k : Trouble) → Meets work (Ended (answer.Done n)) k → IsShown (paging_ask p) (leases_of (PagingOn home p)) before.counts after.counts s t k
+      on : (k : Trouble) → Meets work (Ended (answer.Done n)) k → IsShown (paging_ask p) (leases_of (PagingOn home p)) (IsSpentInPages p.tree) before.counts after.counts s t k
       on k (inl e) = absurd (let none = ap trouble_in is in cc (none, e))
       on k (inr e) = absurd (cc (e))
 
@@ -66,9 +68,9 @@ module _ (who : Caller) (before after : Seen) (s t : CloudState) (told : before.
     left = inl (omega arith);
   }
     where
-      on : p.trouble ≡ None → (k : Trouble) → k ≢ trouble.Memory → q ≡ k → IsShown (paging_ask p) (leases_of (PagingOn home p)) before.counts after.counts s t k
+      on : p.trouble ≡ None → (k : Trouble) → k ≢ trouble.Memory → q ≡ k → IsShown (paging_ask p) (leases_of (PagingOn home p)) (IsSpentInPages p.tree) before.counts after.counts s t k
       on none k other same =
-          paging_shown who before after s t told told_after (leases_of (PagingOn home p)) st now p steps.answer knows steps.made none (Stops m q)
+          paging_shown who before after s t told told_after (leases_of (PagingOn home p)) (IsSpentInPages p.tree) st now p steps.answer knows steps.made tells (λ what is. is) none (Stops m q)
           (steps.took.0 (λ memory. other (sym same ∙ memory))) k same
 
   -- a step of a page checkpoint, where there was memory for its call

@@ -19,6 +19,8 @@ use Rattle.cloud_trait.specs.State.{CloudState, Counts}
 use Rattle.cloud_trait.specs.Weather.{Makes}
 use Rattle.commit_run.specs.Run.{Run, home_of, run_ask, run_next}
 use Rattle.commit_run.specs.Sound.{IsSoundRun}
+use Rattle.db_base.specs.declared.trouble.Counter.{Counter}
+use Rattle.db_base.specs.declared.trouble.Counter.TheVariants as counter
 use Rattle.db_base.specs.declared.trouble.CommitAnswer.{CommitAnswer}
 use Rattle.db_base.specs.declared.trouble.CommitAnswer.TheVariants.{Committed, NotCommitted, InDoubt, CommittedOpen}
 use Rattle.db_base.specs.declared.trouble.Trouble.{Trouble}
@@ -36,8 +38,9 @@ use Rattle.cloud_facts.specs.Homes.Homes.{Part}
 use Rattle.session_facts.specs.CommitRuns.Stopping.{EndsBy}
 use Rattle.session_facts.specs.CommitRuns.Running.{KnowsRun}
 use Rattle.session_facts.specs.Scans.Scans.{KnowsScanning, ScanLeads}
-use Rattle.session_facts.specs.Sessions.Explaining.{trouble_in, left_in, trouble_of_commit, trouble_of_answer, Meets, IsShown, left_told, Explains}
+use Rattle.session_facts.specs.Sessions.Explaining.{trouble_in, left_in, trouble_of_commit, trouble_of_answer, Meets, IsShown, left_told, Explains, spent_for}
 use Rattle.session_facts.specs.Sessions.Calls.{commit_reply}
+use Rattle.session_facts.specs.Sessions.Spent.{IsOfCommit, IsSpentToCommit}
 use Rattle.session_facts.specs.Sessions.Sessions.{leases_of}
 use Rattle.session_facts.specs.Walks.Walks.{KnowsWalking, WalkLeads}
 use Rattle.session_facts.proofs.CommitRuns.Explaining.{run_shown}
@@ -79,7 +82,7 @@ module _ (ask : Ask) (c d : Counts) (s t : CloudState) (old new : Work) (before 
       on k (inr e) = no_trouble None k refl e
 
   -- and one that ends: the trouble of its answer is shown
-  ends_explains : (a : Answer) → left_told new (Ended a) ≡ 0 → ((k : Trouble) → trouble_of_answer a ≡ Some k → k ≢ trouble.Memory → IsShown ask (leases_of old) c d s t k)
+  ends_explains : (a : Answer) → left_told new (Ended a) ≡ 0 → ((k : Trouble) → trouble_of_answer a ≡ Some k → k ≢ trouble.Memory → IsShown ask (leases_of old) (spent_for old) c d s t k)
       → Explains ask c d s t old new (Ended a)
   ends_explains a none shows = record {
     shown = λ plain clean k other meets. on k other meets;
@@ -87,7 +90,7 @@ module _ (ask : Ask) (c d : Counts) (s t : CloudState) (old new : Work) (before 
     left = inl (omega (arith, none));
   }
     where
-      on : (k : Trouble) → k ≢ trouble.Memory → Meets new (Ended a) k → IsShown ask (leases_of old) c d s t k
+      on : (k : Trouble) → k ≢ trouble.Memory → Meets new (Ended a) k → IsShown ask (leases_of old) (spent_for old) c d s t k
       on k other (inl e) = absurd (no_trouble (trouble_in new) k behind e)
       on k other (inr e) = shows k e other
 
@@ -103,7 +106,7 @@ module _ (who : Caller) (before after : Seen) (s t : CloudState) (book : Book) (
     Explained work turn = Explains (walk_ask w) before.counts after.counts s t (Reading home w) work turn
 
     abbrev ShowsRead : Trouble → Type 0
-    ShowsRead k = IsShown (walk_ask w) (leases_of (Reading home w)) before.counts after.counts s t k
+    ShowsRead k = IsShown (walk_ask w) (leases_of (Reading home w)) (spent_for (Reading home w)) before.counts after.counts s t k
 
     pub reading_explains : (d : Cache) (work : Work) (shown : Shown) (turn : Turn Answer) → ReadsBy home who before after w kept d work shown turn → Explained work turn
     reading_explains d work shown More (m, steps, work_is, none) =
@@ -117,7 +120,7 @@ module _ (who : Caller) (before after : Seen) (s t : CloudState) (book : Book) (
         stops : q ≢ trouble.Memory → ShowsRead q
         stops other =
             (subst (WalkLeads st ShowsRead) (steps.took.0 other)
-            (walk_shown book order s stands who before after t told told_after (leases_of (Reading home w)) w kept known steps.answer steps.made)).1
+            (walk_shown book order s stands who before after t told told_after (leases_of (Reading home w)) (spent_for (Reading home w)) w kept known steps.answer steps.made)).1
     reading_explains d work shown (Stopped q) never = absurd never
     reading_explains d work shown (Ended (answer.Opened epoch)) never = absurd never
     reading_explains d work shown (Ended answer.Closed) never = absurd never
@@ -134,7 +137,7 @@ module _ (who : Caller) (before after : Seen) (s t : CloudState) (book : Book) (
     ScanExplained work turn = Explains (scan_ask l.scan) before.counts after.counts s t (Scanning home l) work turn
 
     abbrev ShowsScan : Trouble → Type 0
-    ShowsScan k = IsShown (scan_ask l.scan) (leases_of (Scanning home l)) before.counts after.counts s t k
+    ShowsScan k = IsShown (scan_ask l.scan) (leases_of (Scanning home l)) (spent_for (Scanning home l)) before.counts after.counts s t k
 
     -- at the end of a leaf memory alone runs out
     lists : (buffer : List Noted) (m : Listing) (d : Cache) (work : Work) (shown : Shown) (turn : Turn Answer) → ListsLeaf home buffer m d work shown turn → ScanExplained work turn
@@ -159,7 +162,7 @@ module _ (who : Caller) (before after : Seen) (s t : CloudState) (book : Book) (
     scanning_explains buffer d work shown turn p = on p.moved p.steps.took p.follows
       where
         leads : ScanLeads st ShowsScan (scan_next (l.scan, kept) p.steps.answer)
-        leads = scan_shown book order s stands who before after t told told_after (leases_of (Scanning home l)) l.scan kept known p.steps.answer p.steps.made
+        leads = scan_shown book order s stands who before after t told told_after (leases_of (Scanning home l)) (spent_for (Scanning home l)) l.scan kept known p.steps.answer p.steps.made
 
         stops : (q : Trouble) → Took (LeadsBy scan_next) KeepsServed (l.scan, kept) p.steps.answer (p.scan, d) (Stopped q) → q ≢ trouble.Memory → ShowsScan q
         stops q took other = (subst (ScanLeads st ShowsScan) (took.0 other) leads).1
@@ -182,13 +185,19 @@ module _ (who : Caller) (before after : Seen) (s t : CloudState) (book : Book) (
     CommitExplained work turn = Explains (run_ask r) before.counts after.counts s t (Committing r) work turn
 
     abbrev ShowsCommit : Trouble → Type 0
-    ShowsCommit k = IsShown (run_ask r) (leases_of (Committing r)) before.counts after.counts s t k
+    ShowsCommit k = IsShown (run_ask r) (leases_of (Committing r)) (spent_for (Committing r)) before.counts after.counts s t k
+
+    -- what it finds spent is told
+    own : (what : Counter) → IsOfCommit what → IsSpentToCommit t what
+    own counter.Txn of = of
+    own counter.Number of = of
+    own what of = absurd of
 
     -- where its call leads
     leads : (reply : Reply) → Makes who (run_ask r) reply before after → reply ≢ Memory → EndsWell ShowsCommit (run_next (r, kept) reply)
     leads reply made some =
-        run_shown book order s stands who before after t told told_after (leases_of (Committing r)) (r, kept) part reply
-        (known (call_of who (run_ask r) reply before after s t made told told_after).later) sound made some
+        run_shown book order s stands who before after t told told_after (leases_of (Committing r)) (spent_for (Committing r)) (r, kept) part reply
+        (known (call_of who (run_ask r) reply before after s t made told told_after).later) sound made some own
 
     -- the trouble of the end of a commit
     end_shown : (a : CommitAnswer) (k : Trouble) → trouble_of_commit a ≡ Some k → EndsBy ShowsCommit a → ShowsCommit k

@@ -24,8 +24,10 @@ use Rattle.db_base.specs.declared.trouble.Trouble.TheVariants as trouble
 use Rattle.report_types.specs.declared.entry.Entry.{Entry}
 use Rattle.session_facts.specs.Sessions.Calls.{settling_reply}
 use Rattle.session_facts.specs.Sessions.Explaining.{trouble_of_part, left_of_part, Meets, IsShown, Explains}
+use Rattle.session_facts.specs.Sessions.Spent.{IsSpentToSettle}
 use Rattle.session_facts.specs.Sessions.Sessions.{leases_of, KnowsWork, Sessions, SessionsStand}
 use Rattle.session_facts.specs.Settlings.Settling.{KnowsSettling}
+use Rattle.session_facts.proofs.Sessions.Spending.{HasAll, told_later}
 use Rattle.session_facts.proofs.Sessions.Answered.{answered_is, waited_is}
 use Rattle.session_facts.proofs.Sessions.Laws.{setting_of, known_at}
 use Rattle.session_facts.proofs.Settlings.Explaining.{settle_shows, settle_keeps, settle_left}
@@ -42,7 +44,7 @@ module _ (who : Caller) (before after : Seen) (s t : CloudState) (book : Book) (
   abbrev st : Store
   st = store_of book order s
 
-  module _ (m : SettlingState) (is : old ≡ Settling m) (sound : IsSoundPart m.part) where
+  module _ (m : SettlingState) (is : old ≡ Settling m) (grown : HasAll s t) (sound : IsSoundPart m.part) where
     abbrev Explained : Work → Turn Answer → Type 0
     Explained work turn = Explains (settle_ask m) before.counts after.counts s t (Settling m) work turn
 
@@ -60,25 +62,25 @@ module _ (who : Caller) (before after : Seen) (s t : CloudState) (book : Book) (
       goes_on n leads = record {
         shown = shown;
         kept = λ k waits.
-            settle_keeps who before after s t book order told told_after stand.cloud (stand.parts who.session) holds reply found m knows.work sound made (Goes n) leads k waits;
-        left = settle_left who before after s t book order told told_after stand.cloud (stand.parts who.session) holds reply found m knows.work sound made (Goes n) leads;
+            settle_keeps who before after s t book order told told_after stand.cloud (stand.parts who.session) holds reply found (told_later book order s t grown) m knows.work sound made (Goes n) leads k waits;
+        left = settle_left who before after s t book order told told_after stand.cloud (stand.parts who.session) holds reply found (told_later book order s t grown) m knows.work sound made (Goes n) leads;
       }
         where
           shown : trouble_of_part m.part ≡ None → left_of_part m.part ≡ 0 → (k : Trouble) → k ≢ trouble.Memory → Meets (Settling n) More k
-              → IsShown (settle_ask m) (leases_of (Settling m)) before.counts after.counts s t k
+              → IsShown (settle_ask m) (leases_of (Settling m)) IsSpentToSettle before.counts after.counts s t k
           shown none clean k other (inl e) =
-              settle_shows who before after s t book order told told_after stand.cloud (stand.parts who.session) holds reply found m knows.work sound made (Goes n) leads none clean k e
+              settle_shows who before after s t book order told told_after stand.cloud (stand.parts who.session) holds reply found (told_later book order s t grown) m knows.work sound made (Goes n) leads none clean k e
           shown none clean k other (inr e) = absurd (cc)
 
       ends : (n : SettlingState) (x : Settled) → SettleLeads m reply (Ends n x) → Explained Closed (Ended (answer.Settled x))
       ends n x leads = record {
         shown = λ none clean k other meets. never k meets;
         kept = λ k waits.
-            absurd (settle_keeps who before after s t book order told told_after stand.cloud (stand.parts who.session) holds reply found m knows.work sound made (Ends n x) leads k waits);
+            absurd (settle_keeps who before after s t book order told told_after stand.cloud (stand.parts who.session) holds reply found (told_later book order s t grown) m knows.work sound made (Ends n x) leads k waits);
         left = inl (omega arith);
       }
         where
-          never : (k : Trouble) → Meets Closed (Ended (answer.Settled x)) k → IsShown (settle_ask m) (leases_of (Settling m)) before.counts after.counts s t k
+          never : (k : Trouble) → Meets Closed (Ended (answer.Settled x)) k → IsShown (settle_ask m) (leases_of (Settling m)) IsSpentToSettle before.counts after.counts s t k
           never k (inl e) = absurd (cc)
           never k (inr e) = absurd (cc)
 
@@ -88,14 +90,14 @@ module _ (who : Caller) (before after : Seen) (s t : CloudState) (book : Book) (
         kept = λ k waits.
             waited_is Closed q k
             (λ other.
-            settle_keeps who before after s t book order told told_after stand.cloud (stand.parts who.session) holds reply found m knows.work sound made (Stops n q) (leads other) k waits);
+            settle_keeps who before after s t book order told told_after stand.cloud (stand.parts who.session) holds reply found (told_later book order s t grown) m knows.work sound made (Stops n q) (leads other) k waits);
         left = inl (omega arith);
       }
         where
           shown : trouble_of_part m.part ≡ None → left_of_part m.part ≡ 0 → (k : Trouble) → k ≢ trouble.Memory → q ≡ k
-              → IsShown (settle_ask m) (leases_of (Settling m)) before.counts after.counts s t k
+              → IsShown (settle_ask m) (leases_of (Settling m)) IsSpentToSettle before.counts after.counts s t k
           shown none clean k other same =
-              settle_shows who before after s t book order told told_after stand.cloud (stand.parts who.session) holds reply found m knows.work sound made (Stops n q)
+              settle_shows who before after s t book order told told_after stand.cloud (stand.parts who.session) holds reply found (told_later book order s t grown) m knows.work sound made (Stops n q)
               (leads (λ memory. other (sym same ∙ memory))) none clean k same
 
     pub settling_explains : (work : Work) (turn : Turn Answer) → (steps : StepsSettling who before after m work turn) → settling_reply who before after m work turn steps ≢ Memory

@@ -1,5 +1,5 @@
 -- A call that brought no value shows why: by the counts and the states before and behind it.
-use Rattle.std.proofs.Common.{◌≡◌, ◌≢◌, ◌<◌, ◌⊎◌, inl, inr, ℕ, List, Option, Some, None, Err, refl, sym, subst, ◌∙◌, arith}
+use Rattle.std.proofs.Common.{◌≡◌, ◌≢◌, ◌<◌, ◌⊎◌, inl, inr, ℕ, List, Option, Some, None, Ok, Err, refl, sym, subst, ◌∙◌, arith}
 use Rattle.calm_calls.specs.Calm.{NamesLasting}
 use Rattle.cloud_trait.specs.declared.answer.Answer.{Answer}
 use Rattle.cloud_trait.specs.declared.answer.Answer.TheVariants.{Got, Sent, Received, Done, Given, Held, Renewed, Late, Failed, Memory}
@@ -7,13 +7,13 @@ use Rattle.cloud_trait.specs.Ask.{Ask, Get, GetHeld, PutHeld, Send, Receive, Del
 use Rattle.cloud_trait.specs.Caller.{Caller}
 use Rattle.cloud_trait.specs.Claim.{Claim, Lasts, IsOver}
 use Rattle.cloud_trait.specs.Seen.{Seen}
-use Rattle.cloud_trait.specs.State.{CloudState, Counts, called}
+use Rattle.cloud_trait.specs.State.{CloudState, Counts, called, newest}
 use Rattle.cloud_trait.specs.Views.{given_of, got_of, sent_of, received_of, done_of, renewed_of}
 use Rattle.cloud_trait.specs.Weather.{FirstOver, Leaves, Makes, Rose, Weather}
 use Rattle.db_base.specs.declared.names.Lock.{Lock}
 use Rattle.db_base.specs.declared.names.ObjName.{ObjName}
 use Rattle.db_base.specs.declared.names.QueueName.{QueueName}
-use Rattle.db_base.specs.declared.trouble.Counter.TheVariants as counter
+use Rattle.db_base.specs.declared.trouble.Counter.{Counter}
 use Rattle.db_base.specs.declared.trouble.Trouble.{Trouble}
 use Rattle.db_base.specs.declared.trouble.Trouble.TheVariants as trouble
 use Rattle.session_facts.specs.Sessions.Explaining.{IsShown}
@@ -28,9 +28,17 @@ first_ends name bytes one None now end (inr never) lasts = absurd never.1
 first_ends name bytes one (Some two) now end (inl over) lasts = over_ends one now over.0 lasts.0
 first_ends name bytes one (Some two) now end (inr over) lasts = over_ends two now over.1.0 lasts.1
 
-module _ (who : Caller) (before after : Seen) (s t : CloudState) (told : before.state ≡ Some s) (told_after : after.state ≡ Some t) (held : List Claim) where
+-- a held get answers the newest version, and leaves the versions as they are
+pub held_newest : (who : Caller) (name : ObjName) (l : Claim) (a : Answer) (c d : Counts) (b t : CloudState) → Weather who (GetHeld name l) a c d b t → (v : Option (List ℕ)) → got_of a ≡ Ok v
+    → newest t name ≡ v
+held_newest who name l (Got w) c d b t row v e =
+    let same : w ≡ v = cc in
+    subst (λ (x : CloudState). newest x name ≡ v) (sym row.0) (sym row.2 ∙ same)
+held_newest who name l a c d b t row v e = absurd (cc)
+
+module _ (who : Caller) (before after : Seen) (s t : CloudState) (told : before.state ≡ Some s) (told_after : after.state ≡ Some t) (held : List Claim) (Spent : CloudState → Counter → Type 0) where
   abbrev pub Shown : Ask → Trouble → Type 0
-  Shown ask k = IsShown ask held before.counts after.counts s t k
+  Shown ask k = IsShown ask held Spent before.counts after.counts s t k
 
   abbrev Call : Ask → Answer → Type 0
   Call ask a = Makes who ask a before after
@@ -194,11 +202,9 @@ module _ (who : Caller) (before after : Seen) (s t : CloudState) (told : before.
 
 -- ---- troubles that no call shows
 
--- of what was read, of a number at its last value that is no epoch, or of memory
+-- of what was read, or of memory
 abbrev pub IsFree : Trouble → Type 0
 IsFree trouble.Memory = Unit {0}
-IsFree (trouble.Exhausted counter.Epoch) = ⊥
-IsFree (trouble.Exhausted what) = Unit {0}
 IsFree (trouble.Absent page) = Unit {0}
 IsFree (trouble.NotALeaf page) = Unit {0}
 IsFree (trouble.Damaged place offset) = Unit {0}
@@ -206,13 +212,11 @@ IsFree (trouble.BadFence page expected found) = Unit {0}
 IsFree (trouble.Loop page) = Unit {0}
 IsFree t = ⊥
 
-pub free_shown : (ask : Ask) (held : List Claim) (c d : Counts) (s t : CloudState) (k : Trouble) → IsFree k → IsShown ask held c d s t k
-free_shown ask held c d s t trouble.Memory is = tt
-free_shown ask held c d s t (trouble.Exhausted counter.Epoch) is = absurd is
-free_shown ask held c d s t (trouble.Exhausted what) is = tt
-free_shown ask held c d s t (trouble.Absent page) is = tt
-free_shown ask held c d s t (trouble.NotALeaf page) is = tt
-free_shown ask held c d s t (trouble.Damaged place offset) is = tt
-free_shown ask held c d s t (trouble.BadFence page expected found) is = tt
-free_shown ask held c d s t (trouble.Loop page) is = tt
-free_shown ask held c d s t k is = absurd is
+pub free_shown : (ask : Ask) (held : List Claim) (Spent : CloudState → Counter → Type 0) (c d : Counts) (s t : CloudState) (k : Trouble) → IsFree k → IsShown ask held Spent c d s t k
+free_shown ask held Spent c d s t trouble.Memory is = tt
+free_shown ask held Spent c d s t (trouble.Absent page) is = tt
+free_shown ask held Spent c d s t (trouble.NotALeaf page) is = tt
+free_shown ask held Spent c d s t (trouble.Damaged place offset) is = tt
+free_shown ask held Spent c d s t (trouble.BadFence page expected found) is = tt
+free_shown ask held Spent c d s t (trouble.Loop page) is = tt
+free_shown ask held Spent c d s t k is = absurd is

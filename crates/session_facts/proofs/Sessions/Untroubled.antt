@@ -18,13 +18,8 @@ use Rattle.cloud_trait.specs.Growth.{BeginsWith, HasGrown}
 use Rattle.cloud_trait.specs.Seen.{Seen}
 use Rattle.cloud_trait.specs.State.{CloudState, Counts}
 use Rattle.cloud_trait.specs.Weather.{Rose}
-use Rattle.cloud_facts.proofs.Book.Places.{in_front}
-use Rattle.cloud_facts.specs.Book.Records.{IsIn}
-use Rattle.cloud_trait.specs.declared.state.Version.{Version}
 use Rattle.db_base.specs.declared.names.ObjName.{ObjName}
-use Rattle.db_base.specs.declared.names.ObjName.TheVariants as object
 use Rattle.db_base.specs.declared.trouble.Counter.{Counter}
-use Rattle.db_base.specs.declared.trouble.Counter.TheVariants as counter
 use Rattle.db_base.specs.declared.trouble.CommitAnswer.{CommitAnswer}
 use Rattle.db_base.specs.declared.trouble.CommitAnswer.TheVariants.{Committed, NotCommitted, InDoubt, CommittedOpen}
 use Rattle.db_base.specs.declared.trouble.Trouble.{Trouble}
@@ -36,11 +31,13 @@ use Rattle.recover_run.specs.Recovery.{home_of}
 use Rattle.txn_buffer.specs.Noted.{Noted}
 use Rattle.session_facts.specs.CommitRuns.Stopping.{MayStop as MayStopCommit, MayEnd}
 use Rattle.session_facts.specs.Sessions.Calls.{GivesLateBack, IsExplained, WaitsLate, reply_at, reply_of}
-use Rattle.session_facts.specs.Sessions.Explaining.{Explains, IsShown, KeepsTrouble, Meets, left_in, left_told, trouble_in, trouble_of_answer, trouble_of_commit}
+use Rattle.session_facts.specs.Sessions.Explaining.{Explains, IsShown, KeepsTrouble, Meets, left_in, left_told, spent_for, trouble_in, trouble_of_answer, trouble_of_commit}
 use Rattle.session_facts.specs.Sessions.Sessions.{leases_of}
-use Rattle.session_facts.specs.Sessions.Spent.{IsOfCommit, IsSpentIn}
+use Rattle.session_facts.specs.Sessions.Spent.{IsSpentToCommit, IsSpentInPages, IsSpentInTree}
 use Rattle.session_facts.specs.Sessions.Untroubled.{GivesBackLasting, StepsCalmly, IsOfNoCall, IsExcused, IsUntroubled, IsSpent, CommitsWell}
 use Rattle.session_facts.proofs.CommitRuns.Telling.{EndsTold, IsByNoCall, IsTold, run_tells}
+use Rattle.session_facts.proofs.PageCheckpoints.Explaining.{paging_goes}
+use Rattle.session_facts.proofs.Sessions.Spending.{HasAll, open_later, commit_later, pages_later, tree_later, settle_later}
 use Rattle.session_facts.proofs.Sessions.Troubles.{memory_or}
 
 -- one trouble is told
@@ -50,22 +47,55 @@ same_trouble a b e = cc
 no_trouble : (a : Trouble) → (let none : Option Trouble = None in none ≡ Some a) → ⊥
 no_trouble a e = cc
 
--- a counter that was told as spent is told so from then on
-pub spent_later : (s t : CloudState) (what : Counter) → ((name : ObjName) → BeginsWith (s.versions name) (t.versions name)) → IsSpentIn s what → IsSpentIn t what
-spent_later s t counter.Epoch grown is =
-    let g = grown (object.Head is.client) in
-    record {
-      client = is.client;
-      version = is.version;
-      head = is.head;
-      landed = subst (λ (vs : List Version). IsIn vs is.version) (sym g.1) (in_front (s.versions (object.Head is.client)) g.0 is.version is.landed);
-      reads = is.reads;
-      last = is.last;
-    }
-spent_later s t counter.Txn grown is = tt
-spent_later s t counter.Number grown is = tt
-spent_later s t counter.Version grown is = tt
-spent_later s t counter.Pages grown is = tt
+-- ---- counters that are spent
+
+-- what was told as spent is told so from then on
+pub spent_later : (s t : CloudState) (w : Work) → HasAll s t → (what : Counter) → spent_for w s what → spent_for w t what
+spent_later s t (Opening r) grown what is = open_later s t grown what is
+spent_later s t (Committing r) grown what is = commit_later s t grown what is
+spent_later s t (Folding home m) grown what is = tree_later s t grown m.tree what is
+spent_later s t (Paging home p) grown what is = pages_later s t grown p.tree what is
+spent_later s t (Settling m) grown what is = settle_later s t grown what is
+spent_later s t (Reading home m) grown what is = is
+spent_later s t (Scanning home m) grown what is = is
+spent_later s t (Closing l) grown what is = is
+spent_later s t (Renewing home) grown what is = is
+spent_later s t Closed grown what is = is
+spent_later s t (Idle home) grown what is = is
+spent_later s t (Broken l) grown what is = is
+
+-- an operation that goes on with a trouble counts on what it counted on before
+spent_stays : (who : Caller) (before after : Seen) (t : CloudState) (old new : Work) → StepsAt who before after old new More → (k : Trouble) → trouble_in new ≡ Some k → (what : Counter)
+    → spent_for old t what → spent_for new t what
+spent_stays who before after t (Opening r) new p k kept what is = subst (λ (w : Work). spent_for w t what) (sym p.1.2) is
+spent_stays who before after t (Committing r) new p k kept what is = absurd (no_trouble k (sym (ap trouble_in p.3.2) ∙ kept))
+spent_stays who before after t (Folding home m) new p k kept what is =
+    subst (λ (w : Work). spent_for w t what) (sym p.2) (subst (λ (n : ℕ). IsSpentInTree n t what) (sym p.1.took.0.0) is)
+spent_stays who before after t (Paging home m) new p k kept what is =
+    subst (λ (w : Work). spent_for w t what) (sym p.2) (subst (λ (n : ℕ). IsSpentInPages n t what) (sym (paging_goes m p.0 p.1.answer p.1.took)) is)
+spent_stays who before after t (Settling m) new p k kept what is = subst (λ (w : Work). spent_for w t what) (sym p.1.2) is
+spent_stays who before after t (Reading home m) new p k kept what is = absurd is
+spent_stays who before after t (Scanning home m) new p k kept what is = absurd is
+spent_stays who before after t (Closing l) new p k kept what is = absurd is
+spent_stays who before after t (Renewing home) new p k kept what is = absurd is
+spent_stays who before after t Closed new p k kept what is = absurd is
+spent_stays who before after t (Idle home) new p k kept what is = absurd is
+spent_stays who before after t (Broken l) new p k kept what is = absurd is
+
+-- a trouble of no call stays one where more is spent
+pub no_call_by : (Spent Other : CloudState → Counter → Type 0) (s t : CloudState) → ((what : Counter) → Spent s what → Other t what) → (k : Trouble) → IsOfNoCall Spent s k → IsOfNoCall Other t k
+no_call_by Spent Other s t more trouble.Failed is = is
+no_call_by Spent Other s t more (trouble.Late end now) is = is
+no_call_by Spent Other s t more (trouble.Busy lock until) is = is
+no_call_by Spent Other s t more (trouble.Waiting have need) is = is
+no_call_by Spent Other s t more (trouble.Stale page least got) is = is
+no_call_by Spent Other s t more (trouble.Exhausted what) is = more what is
+no_call_by Spent Other s t more trouble.Memory is = tt
+no_call_by Spent Other s t more (trouble.Absent page) is = tt
+no_call_by Spent Other s t more (trouble.NotALeaf page) is = tt
+no_call_by Spent Other s t more (trouble.Damaged place offset) is = tt
+no_call_by Spent Other s t more (trouble.BadFence page expected found) is = tt
+no_call_by Spent Other s t more (trouble.Loop page) is = tt
 
 -- records are waited for
 abbrev IsWait : Trouble → Type 0
@@ -76,7 +106,7 @@ module _ (ask : Ask) (c d : Counts) (s t : CloudState) (old new : Work) (same : 
   steady count rose = omega (arith, rose, ap count same)
 
   -- what a calm call shows is of no call, but that it waits
-  shown_none : (k : Trouble) → IsShown ask (leases_of old) c d s t k → IsWait k ⊎ IsOfNoCall t k
+  shown_none : (k : Trouble) → IsShown ask (leases_of old) (spent_for old) c d s t k → IsWait k ⊎ IsOfNoCall (spent_for old) t k
   shown_none trouble.Failed rose = absurd (steady (λ (x : Counts). x.faults) rose)
   shown_none (trouble.Late end now) late = absurd (late lasting)
   shown_none (trouble.Busy lock until) (inl held) = absurd (held free)
@@ -116,17 +146,20 @@ module _ (ask : Ask) (c d : Counts) (s t : CloudState) (old new : Work) (turn : 
       ends lasts = let later = calm.grown.later in absurd (omega (arith, over, later, lasts))
 
   -- so a trouble that is kept is of no call
-  kept_none : (k : Trouble) → trouble_in old ≡ Some k → IsOfNoCall t k
+  kept_none : (k : Trouble) → trouble_in old ≡ Some k → IsOfNoCall (spent_for old) t k
   kept_none k was = on k (well.trouble k was)
     where
-      on : (k : Trouble) → IsExcused s old k → IsOfNoCall t k
+      stays : (k : Trouble) → IsOfNoCall (spent_for old) s k → IsOfNoCall (spent_for old) t k
+      stays k none = no_call_by (spent_for old) (spent_for old) s t (spent_later s t old calm.grown.versions) k none
+
+      on : (k : Trouble) → IsExcused s old k → IsOfNoCall (spent_for old) t k
       on (trouble.Waiting have need) late = absurd (none_late late)
       on trouble.Failed is = is
       on (trouble.Late end now) is = is
       on (trouble.Busy lock until) is = is
       on (trouble.Stale page least got) is = is
       on trouble.Memory is = tt
-      on (trouble.Exhausted what) is = spent_later s t what calm.grown.versions is
+      on (trouble.Exhausted what) is = stays (trouble.Exhausted what) is
       on (trouble.Absent page) is = tt
       on (trouble.NotALeaf page) is = tt
       on (trouble.Damaged place offset) is = tt
@@ -134,22 +167,22 @@ module _ (ask : Ask) (c d : Counts) (s t : CloudState) (old new : Work) (turn : 
       on (trouble.Loop page) is = tt
 
   -- a trouble that is met where none waited
-  met_none : trouble_in old ≡ None → (k : Trouble) → Meets new turn k → (IsWait k × WaitsLate new turn t.now) ⊎ IsOfNoCall t k
+  met_none : trouble_in old ≡ None → (k : Trouble) → Meets new turn k → (IsWait k × WaitsLate new turn t.now) ⊎ IsOfNoCall (spent_for old) t k
   met_none none k meets = on (memory_or k)
     where
-      waits : IsWait k → (IsWait k × WaitsLate new turn t.now) ⊎ IsOfNoCall t k
+      waits : IsWait k → (IsWait k × WaitsLate new turn t.now) ⊎ IsOfNoCall (spent_for old) t k
       waits (have, need, is) = by (calm.waits none well.left have need (subst (Meets new turn) is meets))
         where
-          by : Rose c.withheld d.withheld ⊎ WaitsLate new turn t.now → (IsWait k × WaitsLate new turn t.now) ⊎ IsOfNoCall t k
+          by : Rose c.withheld d.withheld ⊎ WaitsLate new turn t.now → (IsWait k × WaitsLate new turn t.now) ⊎ IsOfNoCall (spent_for old) t k
           by (inl rose) = absurd (steady ask c d s t old new calm.same calm.free calm.lasting (λ (x : Counts). x.withheld) rose)
           by (inr late) = inl ((have, need, is), late)
 
-      shown : IsWait k ⊎ IsOfNoCall t k → (IsWait k × WaitsLate new turn t.now) ⊎ IsOfNoCall t k
+      shown : IsWait k ⊎ IsOfNoCall (spent_for old) t k → (IsWait k × WaitsLate new turn t.now) ⊎ IsOfNoCall (spent_for old) t k
       shown (inl wait) = waits wait
       shown (inr none) = inr none
 
-      on : (k ≡ trouble.Memory) ⊎ (k ≢ trouble.Memory) → (IsWait k × WaitsLate new turn t.now) ⊎ IsOfNoCall t k
-      on (inl e) = inr (subst (IsOfNoCall t) (sym e) tt)
+      on : (k ≡ trouble.Memory) ⊎ (k ≢ trouble.Memory) → (IsWait k × WaitsLate new turn t.now) ⊎ IsOfNoCall (spent_for old) t k
+      on (inl e) = inr (subst (IsOfNoCall (spent_for old) t) (sym e) tt)
       on (inr other) = shown (shown_none ask c d s t old new calm.same calm.free calm.lasting k (calm.explains.shown none well.left k other meets))
 
   no_left : left_told new turn ≡ 0
@@ -159,7 +192,7 @@ module _ (ask : Ask) (c d : Counts) (s t : CloudState) (old new : Work) (turn : 
       on (inl less) = let none = well.left in omega (arith, less, none)
       on (inr rose) = absurd (steady ask c d s t old new calm.same calm.free calm.lasting (λ (y : Counts). y.faults) rose)
 
-excused : (t : CloudState) (w : Work) (k : Trouble) → IsOfNoCall t k → IsExcused t w k
+excused : (t : CloudState) (w : Work) (k : Trouble) → IsOfNoCall (spent_for w) t k → IsExcused t w k
 excused t w trouble.Failed none = none
 excused t w (trouble.Late end now) none = none
 excused t w (trouble.Busy lock until) none = none
@@ -174,31 +207,35 @@ excused t w (trouble.BadFence page expected found) none = tt
 excused t w (trouble.Loop page) none = tt
 
 module _ (ask : Ask) (c d : Counts) (s t : CloudState) (old new : Work) where
-  goes_untroubled : IsCalmly ask c d s t old new More → IsUntroubled s old → IsUntroubled t new
-  goes_untroubled calm well = record { trouble = λ k is. on k is (trouble_in old) refl; left = no_left ask c d s t old new More calm well }
+  goes_untroubled : IsCalmly ask c d s t old new More → ((k : Trouble) → trouble_in new ≡ Some k → (what : Counter) → spent_for old t what → spent_for new t what) → IsUntroubled s old
+      → IsUntroubled t new
+  goes_untroubled calm stays well = record { trouble = λ k is. on k is (trouble_in old) refl; left = no_left ask c d s t old new More calm well }
     where
-      met : (k : Trouble) → (IsWait k × WaitsLate new More t.now) ⊎ IsOfNoCall t k → IsExcused t new k
-      met k (inl ((have, need, is), late)) = subst (IsExcused t new) (sym is) late
-      met k (inr none) = excused t new k none
+      none_new : (k : Trouble) → trouble_in new ≡ Some k → IsOfNoCall (spent_for old) t k → IsExcused t new k
+      none_new k is none = excused t new k (no_call_by (spent_for old) (spent_for new) t t (stays k is) k none)
+
+      met : (k : Trouble) → trouble_in new ≡ Some k → (IsWait k × WaitsLate new More t.now) ⊎ IsOfNoCall (spent_for old) t k → IsExcused t new k
+      met k kept (inl ((have, need, is), late)) = subst (IsExcused t new) (sym is) late
+      met k kept (inr none) = none_new k kept none
 
       on : (k : Trouble) → trouble_in new ≡ Some k → (was : Option Trouble) → trouble_in old ≡ was → IsExcused t new k
-      on k is None none = met k (met_none ask c d s t old new More calm well none k (inl is))
+      on k is None none = met k is (met_none ask c d s t old new More calm well none k (inl is))
       on k is (Some j) was =
-          excused t new k
-          (subst (IsOfNoCall t) (same_trouble j k (sym (calm.explains.kept j was) ∙ is)) (kept_none ask c d s t old new More calm well j was))
+          none_new k is
+          (subst (IsOfNoCall (spent_for old) t) (same_trouble j k (sym (calm.explains.kept j was) ∙ is)) (kept_none ask c d s t old new More calm well j was))
 
-  answers_untroubled : (a : Answer) → IsCalmly ask c d s t old new (Ended a) → IsUntroubled s old → (k : Trouble) → trouble_of_answer a ≡ Some k → IsOfNoCall t k
+  answers_untroubled : (a : Answer) → IsCalmly ask c d s t old new (Ended a) → IsUntroubled s old → (k : Trouble) → trouble_of_answer a ≡ Some k → IsOfNoCall (spent_for old) t k
   answers_untroubled a calm well k is = on (trouble_in old) refl
     where
-      kept : (j : Trouble) → trouble_in old ≡ Some j → KeepsTrouble new (Ended a) j → IsOfNoCall t k
-      kept j was (inl same) = subst (IsOfNoCall t) (same_trouble j k (sym same ∙ is)) (kept_none ask c d s t old new (Ended a) calm well j was)
-      kept j was (inr memory) = subst (IsOfNoCall t) (same_trouble trouble.Memory k (sym memory ∙ is)) tt
+      kept : (j : Trouble) → trouble_in old ≡ Some j → KeepsTrouble new (Ended a) j → IsOfNoCall (spent_for old) t k
+      kept j was (inl same) = subst (IsOfNoCall (spent_for old) t) (same_trouble j k (sym same ∙ is)) (kept_none ask c d s t old new (Ended a) calm well j was)
+      kept j was (inr memory) = subst (IsOfNoCall (spent_for old) t) (same_trouble trouble.Memory k (sym memory ∙ is)) tt
 
-      met : (IsWait k × ⊥) ⊎ IsOfNoCall t k → IsOfNoCall t k
+      met : (IsWait k × ⊥) ⊎ IsOfNoCall (spent_for old) t k → IsOfNoCall (spent_for old) t k
       met (inl (wait, late)) = absurd late
       met (inr none) = none
 
-      on : (was : Option Trouble) → trouble_in old ≡ was → IsOfNoCall t k
+      on : (was : Option Trouble) → trouble_in old ≡ was → IsOfNoCall (spent_for old) t k
       on None none = met (met_none ask c d s t old new (Ended a) calm well none k (inr is))
       on (Some j) was = kept j was (calm.explains.kept j was)
 
@@ -233,13 +270,14 @@ pub step_untroubled : (who : Caller) (before after : Seen) (old new : Acting) (p
     → ((s t : CloudState) → before.state ≡ Some s → after.state ≡ Some t → IsExplained who before after old new More s t p) → IsUntroubled calm.calm.before old.work
     → IsUntroubled calm.calm.after new.work
 step_untroubled who before after old new p calm explained well =
-    goes_untroubled calm.ask before.counts after.counts calm.calm.before calm.calm.after old.work new.work (calmly who before after old new More p calm explained) well
+    goes_untroubled calm.ask before.counts after.counts calm.calm.before calm.calm.after old.work new.work (calmly who before after old new More p calm explained)
+    (spent_stays who before after calm.calm.after old.work new.work p.work) well
 
 -- an answer of a calm step has no trouble that a call brought, and no failed deletions
 pub answer_untroubled : (who : Caller) (before after : Seen) (old new : Acting) (a : Answer) (p : StepsSession who before after old new (Ok (Ended a)))
     → (calm : StepsCalmly who before after old new (Ended a) p)
     → ((s t : CloudState) → before.state ≡ Some s → after.state ≡ Some t → IsExplained who before after old new (Ended a) s t p) → IsUntroubled calm.calm.before old.work
-    → ((k : Trouble) → trouble_of_answer a ≡ Some k → IsOfNoCall calm.calm.after k) × (left_told new.work (Ended a) ≡ 0)
+    → ((k : Trouble) → trouble_of_answer a ≡ Some k → IsOfNoCall (spent_for old.work) calm.calm.after k) × (left_told new.work (Ended a) ≡ 0)
 answer_untroubled who before after old new a p calm explained well =
     let c = calmly who before after old new (Ended a) p calm explained in (
       answers_untroubled calm.ask before.counts after.counts calm.calm.before calm.calm.after old.work new.work a c well,
@@ -258,7 +296,7 @@ untroubled_later s t w grown later well = record { trouble = λ k is. on k (well
     on (trouble.Busy lock until) is = is
     on (trouble.Stale page least got) is = is
     on trouble.Memory is = tt
-    on (trouble.Exhausted what) is = spent_later s t what grown is
+    on (trouble.Exhausted what) is = spent_later s t w grown what is
     on (trouble.Absent page) is = tt
     on (trouble.NotALeaf page) is = tt
     on (trouble.Damaged place offset) is = tt
@@ -379,14 +417,14 @@ commit_tells who before after old new a p found = tells_at who before after new.
 
 -- a commit that is refused for no call, or stays open for none
 abbrev pub IsOfNone : CloudState → CommitAnswer → Type 0
-IsOfNone t c = (k : Trouble) → trouble_of_commit c ≡ Some k → IsOfNoCall t k
+IsOfNone t c = (k : Trouble) → trouble_of_commit c ≡ Some k → IsOfNoCall IsSpentToCommit t k
 
 pub commit_well : (t : CloudState) (c : CommitAnswer) → IsTold c → IsOfNone t c → MayEnd c → CommitsWell t c
 commit_well t (Committed txn) told none may = tt
 commit_well t InDoubt told none may = none trouble.Failed refl
 commit_well t (CommittedOpen k) told none may = told (by_none k (none k refl))
   where
-    by_none : (k : Trouble) → IsOfNoCall t k → IsByNoCall k
+    by_none : (k : Trouble) → IsOfNoCall IsSpentToCommit t k → IsByNoCall k
     by_none trouble.Failed none = none
     by_none (trouble.Late end now) none = none
     by_none (trouble.Busy lock until) none = none
@@ -401,8 +439,8 @@ commit_well t (CommittedOpen k) told none may = told (by_none k (none k refl))
     by_none (trouble.Loop page) none = tt
 commit_well t (NotCommitted k) told none may = on k told (none k refl) may
   where
-    on : (k : Trouble) → (k ≢ trouble.Memory) → IsOfNoCall t k → MayStopCommit k → IsSpent IsOfCommit t k
-    on (trouble.Exhausted what) told none may = (may, none)
+    on : (k : Trouble) → (k ≢ trouble.Memory) → IsOfNoCall IsSpentToCommit t k → MayStopCommit k → IsSpent IsSpentToCommit t k
+    on (trouble.Exhausted what) told none may = none
     on trouble.Memory told none may = absurd (told refl)
     on trouble.Failed told none may = none
     on (trouble.Late end now) told none may = none

@@ -26,10 +26,12 @@ use Rattle.report_types.specs.declared.entry.Entry.{Entry}
 use Rattle.session_facts.specs.Openings.Opening.{KnowsOpening}
 use Rattle.session_facts.specs.PageCheckpoints.Checkpoint.{KnowsPaging, leases_of_paging}
 use Rattle.session_facts.specs.Sessions.Explaining.{trouble_of_recovery, trouble_of_making, trouble_of_part, left_in_tree, left_of_part, MeetsNext, IsShown}
+use Rattle.session_facts.specs.Sessions.Spent.{IsSpentToSettle}
 use Rattle.session_facts.specs.Settlings.Settling.{KnowsAtWork, leases_at_work}
 use Rattle.session_facts.specs.TreeCheckpoints.Checkpoint.{KnowsMaking, leases_of_making}
 use Rattle.session_facts.proofs.Openings.Showing.{recovery_shows, StopsWith, recovery_answers}
 use Rattle.session_facts.proofs.PageCheckpoints.Explaining.{KeepsNext, left_behind, paging_shown, paging_left, waiting_kept}
+use Rattle.session_facts.proofs.Sessions.Spending.{IsToldBy, pages_in_tree}
 use Rattle.session_facts.proofs.Sessions.Showing.{IsFree, free_shown}
 use Rattle.session_facts.proofs.TreeCheckpoints.Explaining.{left_next, making_shows, making_left, making_keeps}
 use Rattle.settle_run.specs.declared.part.Part.{Part as AtWork}
@@ -115,7 +117,8 @@ left_by (Ends n x) = 0
 left_by (Stops n q) = 0
 
 module _ (who : Caller) (before after : Seen) (s t : CloudState) (book : Book) (order : List Entry) (told : before.state ≡ Some s) (told_after : after.state ≡ Some t)
-    (cloud : StandsUnder book order s) (part : Part) (holds : PartHolds (store_of book order s).tally t.now part) (reply : Answer) (found : reply ≢ Memory) where
+    (cloud : StandsUnder book order s) (part : Part) (holds : PartHolds (store_of book order s).tally t.now part) (reply : Answer) (found : reply ≢ Memory)
+    (tells : IsToldBy (store_of book order s) t) where
   abbrev st : Store
   st = store_of book order s
 
@@ -123,7 +126,7 @@ module _ (who : Caller) (before after : Seen) (s t : CloudState) (book : Book) (
   FaultsRose = Rose before.counts.faults after.counts.faults
 
   abbrev Shows : AtWork → Trouble → Type 0
-  Shows w k = IsShown (part_ask w) (leases_at_work w) before.counts after.counts s t k
+  Shows w k = IsShown (part_ask w) (leases_at_work w) IsSpentToSettle before.counts after.counts s t k
 
   -- what a step of a part brings
   pub record PartExplains (w : AtWork) (next : Next AtWork ℕ) : Type 0 where
@@ -134,7 +137,7 @@ module _ (who : Caller) (before after : Seen) (s t : CloudState) (book : Book) (
   client_explains : (client : ℕ) (m : Recovery) → KnowsOpening st t.now m part → IsSound m → Makes who (recovery_ask m) reply before after → (next : Next Recovery RecoverAnswer)
       → recovery_next m reply ≡ next → PartExplains (Client client m) (recovers client next)
   client_explains client m knows sound made next leads = record {
-    shown = λ none k meets. recovery_shows who before after s t book order told told_after cloud m part holds reply made knows sound none next leads k (of_client next k meets);
+    shown = λ none k meets. recovery_shows who before after s t book order told told_after cloud m part holds reply made knows sound IsSpentToSettle (λ last. inl last) none next leads k (of_client next k meets);
     kept = λ k waits. to_client next k (subst (λ (n : Next Recovery RecoverAnswer). StopsWith n k) leads (recovery_answers m reply k waits));
     left = inl (none_left next);
   }
@@ -157,9 +160,9 @@ module _ (who : Caller) (before after : Seen) (s t : CloudState) (book : Book) (
   tree_explains : (tree : ℕ) (m : Making) → KnowsMaking st t.now m → Makes who (making_ask m) reply before after → (next : Next Making CkptAnswer) → MakingLeads m reply next
       → PartExplains (Tree tree m) (makes tree next)
   tree_explains tree m knows made next leads = record {
-    shown = λ none k meets. making_shows who before after s t told told_after (leases_of_making m) reply st t.now m knows made next leads none k (of_tree next k meets);
+    shown = λ none k meets. making_shows who before after s t told told_after (leases_of_making m) IsSpentToSettle reply st t.now m knows made tells (λ what is. inr (m.tree, is)) next leads none k (of_tree next k meets);
     kept = λ k waits. to_tree next k (making_keeps m reply next leads k waits);
-    left = tree_left next (making_left who before after s t told told_after (leases_of_making m) reply st t.now m knows made next leads found);
+    left = tree_left next (making_left who before after s t told told_after (leases_of_making m) IsSpentToSettle reply st t.now m knows made tells (λ what is. inr (m.tree, is)) next leads found);
   }
     where
       of_tree : (x : Next Making CkptAnswer) (k : Trouble) → MeetsNext trouble_of_part (makes tree x) k → MeetsNext trouble_of_making x k
@@ -180,9 +183,9 @@ module _ (who : Caller) (before after : Seen) (s t : CloudState) (book : Book) (
   page_explains : (tree page : ℕ) (m : Paging) → KnowsPaging st t.now m → Makes who (paging_ask m) reply before after → (next : Next Paging CkptAnswer) → PagingLeads m reply next
       → PartExplains (Page tree page m) (pages tree page next)
   page_explains tree page m knows made next leads = record {
-    shown = λ none k meets. paging_shown who before after s t told told_after (leases_of_paging m) st t.now m reply knows made none next leads k (of_page next k meets);
+    shown = λ none k meets. paging_shown who before after s t told told_after (leases_of_paging m) IsSpentToSettle st t.now m reply knows made tells (λ what is. inr (m.tree, pages_in_tree m.tree t what is)) none next leads k (of_page next k meets);
     kept = λ k waits. to_page_part next k (waiting_kept m reply knows.waits k waits next leads);
-    left = page_left next (paging_left who before after s t told told_after (leases_of_paging m) st t.now m reply knows made found next leads);
+    left = page_left next (paging_left who before after s t told told_after (leases_of_paging m) IsSpentToSettle st t.now m reply knows made tells (λ what is. inr (m.tree, pages_in_tree m.tree t what is)) found next leads);
   }
     where
       of_page : (x : Next Paging CkptAnswer) (k : Trouble) → MeetsNext trouble_of_part (pages tree page x) k → MeetsNext (λ (n : Paging). n.trouble) x k
@@ -212,7 +215,7 @@ module _ (who : Caller) (before after : Seen) (s t : CloudState) (book : Book) (
     anew_shows : (next : Step) → BeginsAnew next → (k : Trouble) → MeetsNext trouble_by next k → Shows m.part k
     anew_shows (Goes n) anew k meets = absurd (let other : None ≡ Some k = sym (anew_clean n.part anew).0 ∙ meets in cc (other))
     anew_shows (Ends n x) anew k never = absurd never
-    anew_shows (Stops n q) anew k same = subst (Shows m.part) same (free_shown (part_ask m.part) (leases_at_work m.part) before.counts after.counts s t q anew)
+    anew_shows (Stops n q) anew k same = subst (Shows m.part) same (free_shown (part_ask m.part) (leases_at_work m.part) IsSpentToSettle before.counts after.counts s t q anew)
 
     anew_left : (next : Step) → BeginsAnew next → left_by next ≤ left_of_part m.part
     anew_left (Goes n) anew = let none : left_of_part n.part ≡ 0 = (anew_clean n.part anew).1 in omega (arith, none)
@@ -260,7 +263,7 @@ module _ (who : Caller) (before after : Seen) (s t : CloudState) (book : Book) (
       explained x leads = part_explains m.part knows sound made x leads
 
       pub settle_shows : (next : Step) → SettleLeads m reply next → trouble_of_part m.part ≡ None → left_of_part m.part ≡ 0 → (k : Trouble) → MeetsNext trouble_by next k
-          → IsShown (settle_ask m) (leases_at_work m.part) before.counts after.counts s t k
+          → IsShown (settle_ask m) (leases_at_work m.part) IsSpentToSettle before.counts after.counts s t k
       settle_shows next (x, leads, to) none clean k meets =
           moved_shows x (explained x leads) none clean k (subst (λ (n : Step). MeetsNext trouble_by n k) to meets)
 

@@ -8,13 +8,14 @@ use Rattle.cloud_facts.specs.Homes.Homes.{Part, PartHolds}
 use Rattle.cloud_facts.specs.Tellings.Told.{store_of}
 use Rattle.cloud_trait.specs.declared.answer.Answer.{Answer}
 use Rattle.cloud_trait.specs.declared.turn.CkptAnswer.{CkptAnswer}
-use Rattle.cloud_trait.specs.Ask.{Release}
+use Rattle.cloud_trait.specs.Ask.{Ask, Release}
 use Rattle.cloud_trait.specs.Caller.{Caller}
 use Rattle.cloud_trait.specs.Claim.{Claim, IsOver}
 use Rattle.cloud_trait.specs.Machine.{Next, Goes, Ends, Stops}
 use Rattle.cloud_trait.specs.Seen.{Seen}
 use Rattle.cloud_trait.specs.State.{CloudState}
 use Rattle.cloud_trait.specs.Weather.{Makes, Rose}
+use Rattle.db_base.specs.declared.trouble.Counter.{Counter}
 use Rattle.db_base.specs.declared.trouble.Trouble.{Trouble}
 use Rattle.db_base.specs.declared.trouble.Trouble.TheVariants as trouble
 use Rattle.page_ckpt.specs.Paging.{Paging, paging_ask, PagingLeads}
@@ -29,6 +30,7 @@ use Rattle.session_facts.specs.TreeCheckpoints.Checkpoint.{KnowsMaking, leases_o
 use Rattle.session_facts.proofs.Openings.Late.{GivesLateBack, recovery_late}
 use Rattle.session_facts.proofs.Openings.Showing.{recovery_shows}
 use Rattle.session_facts.proofs.PageCheckpoints.Explaining.{paging_shown}
+use Rattle.session_facts.proofs.Sessions.Spending.{IsToldBy, told_behind}
 use Rattle.session_facts.proofs.Sessions.Quiet.{paging_quiet, making_quiet}
 use Rattle.session_facts.proofs.Settlings.Explaining.{BeginsAnew, passed_anew, anew_clean, trouble_by}
 use Rattle.session_facts.proofs.TreeCheckpoints.Explaining.{making_shows}
@@ -70,6 +72,13 @@ module _ (who : Caller) (before after : Seen) (s t : CloudState) (book : Book) (
   abbrev st : Store
   st = store_of book order s
 
+  tells : (ask : Ask) → Makes who ask reply before after → IsToldBy st t
+  tells ask made = told_behind who ask reply before after book order s t told told_after made
+
+  -- what is spent is of no matter here
+  abbrev any_spent : CloudState → Counter → Type 0
+  any_spent u what = Unit {0}
+
   abbrev Withheld : Type 0
   Withheld = Rose before.counts.withheld after.counts.withheld
 
@@ -80,7 +89,7 @@ module _ (who : Caller) (before after : Seen) (s t : CloudState) (book : Book) (
   client_waits : (client : ℕ) (m : Recovery) → KnowsOpening st t.now m part → IsSound m → Makes who (recovery_ask m) reply before after → (next : Next Recovery RecoverAnswer)
       → recovery_next m reply ≡ next → Waits (Client client m) (recovers client next)
   client_waits client m knows sound made next leads none have need meets =
-      on (recovery_shows who before after s t book order told told_after cloud m part holds reply made knows sound none next leads (trouble.Waiting have need) (met next meets))
+      on (recovery_shows who before after s t book order told told_after cloud m part holds reply made knows sound any_spent (λ last. tt) none next leads (trouble.Waiting have need) (met next meets))
     where
       met : (x : Next Recovery RecoverAnswer) → MeetsNext trouble_of_part (recovers client x) (trouble.Waiting have need) → MeetsNext trouble_of_recovery x (trouble.Waiting have need)
       met (Goes n) meets = meets
@@ -99,7 +108,7 @@ module _ (who : Caller) (before after : Seen) (s t : CloudState) (book : Book) (
   tree_waits : (tree : ℕ) (m : Making) → KnowsMaking st t.now m → Makes who (making_ask m) reply before after → (next : Next Making CkptAnswer) → MakingLeads m reply next
       → Waits (Tree tree m) (makes tree next)
   tree_waits tree m knows made next leads none have need meets =
-      on (making_shows who before after s t told told_after (leases_of_making m) reply st t.now m knows made next leads none (trouble.Waiting have need) (met next meets))
+      on (making_shows who before after s t told told_after (leases_of_making m) any_spent reply st t.now m knows made (tells (making_ask m) made) (λ what is. tt) next leads none (trouble.Waiting have need) (met next meets))
     where
       met : (x : Next Making CkptAnswer) → MeetsNext trouble_of_part (makes tree x) (trouble.Waiting have need) → MeetsNext trouble_of_making x (trouble.Waiting have need)
       met (Goes n) meets = meets
@@ -113,7 +122,7 @@ module _ (who : Caller) (before after : Seen) (s t : CloudState) (book : Book) (
   page_waits : (tree page : ℕ) (m : Paging) → KnowsPaging st t.now m → Makes who (paging_ask m) reply before after → (next : Next Paging CkptAnswer) → PagingLeads m reply next
       → Waits (Page tree page m) (pages tree page next)
   page_waits tree page m knows made next leads none have need meets =
-      on (paging_shown who before after s t told told_after (leases_of_paging m) st t.now m reply knows made none next leads (trouble.Waiting have need) (met next meets))
+      on (paging_shown who before after s t told told_after (leases_of_paging m) any_spent st t.now m reply knows made (tells (paging_ask m) made) (λ what is. tt) none next leads (trouble.Waiting have need) (met next meets))
     where
       met : (x : Next Paging CkptAnswer) → MeetsNext trouble_of_part (pages tree page x) (trouble.Waiting have need) → MeetsNext (λ (n : Paging). n.trouble) x (trouble.Waiting have need)
       met (Goes n) meets = meets

@@ -1,5 +1,5 @@
 -- The troubles that the local work of a checkpoint meets: that of the answer in hand, or one of what was read or planned, which no call shows.
-use Rattle.std.proofs.Common.{◌≡◌, ◌≤◌, ◌+◌, ◌==◌, ◌&&◌, ◌||◌, ℕ, zero, suc, Bool, true, false, cond, List, [], ◌∷◌, length, Option, Some, None, Result, Ok, Err, refl, sym, subst, arith}
+use Rattle.std.proofs.Common.{◌≡◌, ◌≤◌, ◌+◌, ◌==◌, ◌&&◌, ◌||◌, ℕ, zero, suc, Bool, true, false, cond, List, [], ◌∷◌, length, Option, Some, None, Result, Ok, Err, refl, sym, ap, subst, arith}
 use Rattle.std.specs.Prelude.{not, is_some}
 use Rattle.byte_format.specs.Order.{bytes_below, bytes_same}
 use Rattle.byte_format.specs.Whole.{whole, offset}
@@ -14,7 +14,6 @@ use Rattle.cloud_trait.specs.Claim.{Claim}
 use Rattle.cloud_trait.specs.Machine.{Next, Goes, Ends, Stops}
 use Rattle.cloud_trait.specs.Views.{got_of, done_of}
 use Rattle.db_base.specs.declared.names.QueueName.TheVariants as queue
-use Rattle.db_base.specs.declared.trouble.Counter.TheVariants as counter
 use Rattle.db_base.specs.declared.trouble.Trouble.{Trouble}
 use Rattle.db_base.specs.declared.trouble.Trouble.TheVariants as trouble
 use Rattle.leaf_edit.specs.Lacked.{lacked}
@@ -30,11 +29,11 @@ use Rattle.log_codec.specs.declared.record.PuItem.{PuItem}
 use Rattle.node_codec.specs.Inner.{Inner, inner_of, inner_format}
 use Rattle.node_codec.specs.Tree.{Tree, tree_of}
 use Rattle.run_cursor.specs.Covered.{is_seen}
+use Rattle.run_cursor.specs.Run.{Taken}
 use Rattle.session_facts.specs.Sessions.Explaining.{trouble_of_ending, ending_of, left_of_ending, left_in_tree}
 use Rattle.session_facts.proofs.Sessions.Showing.{IsFree}
-use Rattle.session_facts.proofs.TreeCheckpoints.Refusing.{IsSpent, IsFair}
-use Rattle.session_facts.proofs.TreeCheckpoints.LeafStops.{plan_fair}
-use Rattle.session_facts.proofs.TreeCheckpoints.UpStops.{linked_fair, last_fair}
+use Rattle.tree_ckpt.proofs.Spending.{IsSpentFor, PlanTells, leaf_plan_tells, node_plan_tells, last_plan_tells}
+use Rattle.tree_ckpt.specs.Due.{Due, LeafDue, NodeDue, RootDue}
 use Rattle.tree_descent.specs.declared.descent.Descent.{Descent}
 use Rattle.tree_descent.specs.declared.descent.Reach.{Reach}
 use Rattle.tree_descent.specs.declared.descent.Reach.TheVariants.{Node, Leaf as AtLeaf}
@@ -49,14 +48,13 @@ use Rattle.tree_moves.specs.Moves.{Step, stopping, released_by, deleting, deleti
 use Rattle.tree_moves.specs.Work.{one_lease, two_leases}
 use Rattle.tree_parts.specs.declared.chart.Chart.{Chart}
 use Rattle.tree_parts.specs.declared.kept.KeptNode.{KeptNode}
-use Rattle.tree_parts.specs.declared.link.Link.{Link as Found}
 use Rattle.tree_parts.specs.Placing.{has_nothing, has_one_page}
-use Rattle.tree_parts.specs.Read.{damaged, inner_or, inner_read, leaf_or, leaf_read, tree_held}
+use Rattle.tree_parts.specs.Read.{damaged, inner_or, inner_read, leaf_or, tree_held}
 use Rattle.tree_rising.specs.declared.node.NodePlan.{NodePlan}
 use Rattle.tree_rising.specs.declared.rising.Rising.{Rising}
 use Rattle.tree_rising.specs.declared.root.RootPlan.{RootPlan}
 use Rattle.tree_rising.specs.Nodes.{planned_of, linked_by, node_plan}
-use Rattle.tree_rising.specs.Rising.{put_node, last_plan, put_root, next_touched, touched_node, rise_at, rise, landed, put_next, after_put, put_landed, risen_by}
+use Rattle.tree_rising.specs.Rising.{put_node, last_plan, put_root, next_touched, touched_node, rise_at, rise, landed, after_put, risen_by}
 use Rattle.tree_parts.specs.Reserve.{version_spent}
 use Rattle.tree_rising.specs.Rising as up
 
@@ -64,15 +62,6 @@ use Rattle.tree_rising.specs.Rising as up
 abbrev pub HasFree : {X : Type 0} → Result X Trouble → Type 0
 HasFree (Ok x) = Unit {0}
 HasFree (Err t) = IsFree t
-
-spent_free : (t : Trouble) → IsSpent t → IsFree t
-spent_free (trouble.Exhausted counter.Version) is = tt
-spent_free (trouble.Exhausted counter.Pages) is = tt
-spent_free t is = absurd is
-
-fair_free : {X : Type 0} → (r : Result X Trouble) → IsFair r → HasFree r
-fair_free (Ok x) fair = tt
-fair_free (Err t) fair = spent_free t fair
 
 -- ---- what is read
 
@@ -104,15 +93,6 @@ forked_by_free d (Err t) is = is
 fork_free : (d : Descent) (bytes : List ℕ) → HasFree (fork_of d bytes)
 fork_free d bytes = forked_by_free d (inner_read d.chart.tree d.page bytes) (inner_free d.chart.tree d.page (offset inner_format bytes) (inner_of bytes))
 
--- ---- what is planned
-
-node_free : (root : Tree) (tree : ℕ) (k : KeptNode) (links : List Found) → HasFree (node_plan root tree k links)
-node_free root tree k links = on (inner_of k.bytes)
-  where
-    on : (o : Option Inner) → HasFree (planned_of root k.page (linked_by links (inner_or tree k.page (offset inner_format k.bytes) o)))
-    on (Some n) = fair_free (planned_of root k.page (linked_by links (Ok n))) (linked_fair root k.page n links)
-    on None = tt
-
 -- a step stops for such a trouble alone
 abbrev pub StopsFor : {M A : Type 0} → (Trouble → Type 0) → Next M A → Type 0
 StopsFor Met (Goes m) = Unit {0}
@@ -124,6 +104,10 @@ abbrev pub Meets : (Trouble → Type 0) → ℕ → Step → Type 0
 Meets Met n (Goes w) = ((t : Trouble) → trouble_of_ending (ending_of w) ≡ Some t → Met t) × (left_in_tree w ≤ n)
 Meets Met n (Ends w x) = x.left ≤ n
 Meets Met n (Stops w t) = Met t
+
+-- where the plan of what is due is spent, the trouble is met
+abbrev pub MeetsSpent : (Trouble → Type 0) → Due → Type 0
+MeetsSpent Met due = (t : Trouble) → IsSpentFor due t → Met t
 
 module _ (Met : Trouble → Type 0) (free : (t : Trouble) → IsFree t → Met t) where
   -- ---- down
@@ -184,18 +168,23 @@ module _ (Met : Trouble → Type 0) (free : (t : Trouble) → IsFree t → Met t
 
   -- ---- a leaf
 
-  planned_for : (f : Folding) (high : Option (List ℕ)) (items : List PuItem) (p : Result LeafPlan Trouble) → HasFree p → StopsFor Met (planned f high items p)
-  planned_for f high items (Ok p) is = tt
-  planned_for f high items (Err t) is = free t is
+  -- what is due at a leaf
+  abbrev pub leaf_due : Folding → Leaf → Due
+  leaf_due f l = LeafDue (tree_held f.chart.root) l f.chart.run.items
 
-  handled_for : (f : Folding) (l : Leaf) (items : List PuItem) → StopsFor Met (handled_by f l items)
-  handled_for f l [] = tt
-  handled_for f l (x ∷ xs) =
-      planned_for f l.high (x ∷ xs) (leaf_plan (tree_held f.chart.root) f.page l f.chart.run.items)
-      (fair_free (leaf_plan (tree_held f.chart.root) f.page l f.chart.run.items) (plan_fair (tree_held f.chart.root) f.page l f.chart.run.items))
+  planned_for : (f : Folding) (high : Option (List ℕ)) (items : List PuItem) (due : Due) → MeetsSpent Met due → (p : Result LeafPlan Trouble) → PlanTells due p
+      → StopsFor Met (planned f high items p)
+  planned_for f high items due spent (Ok p) tells = tt
+  planned_for f high items due spent (Err t) tells = spent t tells
 
-  handle_for : (f : Folding) (l : Leaf) → StopsFor Met (handle f l)
-  handle_for f l = handled_for f l (lacked l 0 f.chart.run.items)
+  handled_for : (f : Folding) (l : Leaf) (items : List PuItem) → MeetsSpent Met (leaf_due f l) → StopsFor Met (handled_by f l items)
+  handled_for f l [] spent = tt
+  handled_for f l (x ∷ xs) spent =
+      planned_for f l.high (x ∷ xs) (leaf_due f l) spent (leaf_plan (tree_held f.chart.root) f.page l f.chart.run.items)
+      (leaf_plan_tells (tree_held f.chart.root) f.page l f.chart.run.items)
+
+  handle_for : (f : Folding) (l : Leaf) → MeetsSpent Met (leaf_due f l) → StopsFor Met (handle f l)
+  handle_for f l spent = handled_for f l (lacked l 0 f.chart.run.items) spent
 
   right_for : (f : Folding) (high : List ℕ) (right : ℕ) → StopsFor Met (to_right f high right)
   right_for f high right = on ((right == f.page) || is_seen f.visited right)
@@ -204,35 +193,40 @@ module _ (Met : Trouble → Type 0) (free : (t : Trouble) → IsFree t → Met t
       on true = free (trouble.Loop right) tt
       on false = tt
 
-  side_for : (f : Folding) (l : Leaf) (high : Option (List ℕ)) (right : Option ℕ) → StopsFor Met (leaf_side f l high right)
-  side_for f l None right = handle_for f l
-  side_for f l (Some high) None = handle_for f l
-  side_for f l (Some high) (Some right) = on (bytes_below f.chart.key high)
+  side_for : (f : Folding) (l : Leaf) (high : Option (List ℕ)) (right : Option ℕ) → MeetsSpent Met (leaf_due f l) → StopsFor Met (leaf_side f l high right)
+  side_for f l None right spent = handle_for f l spent
+  side_for f l (Some high) None spent = handle_for f l spent
+  side_for f l (Some high) (Some right) spent = on (bytes_below f.chart.key high)
     where
       on : (b : Bool) → StopsFor Met (cond b (handle f l) (to_right f high right))
-      on true = handle_for f l
+      on true = handle_for f l spent
       on false = right_for f high right
 
-  at_for : (f : Folding) (l : Leaf) → StopsFor Met (leaf_at f l)
-  at_for f l = on (bytes_same l.low f.low)
+  at_for : (f : Folding) (l : Leaf) → MeetsSpent Met (leaf_due f l) → StopsFor Met (leaf_at f l)
+  at_for f l spent = on (bytes_same l.low f.low)
     where
       on : (b : Bool) → StopsFor Met (cond b (leaf_side f l l.high (page_at l.right)) (Stops f (bad_low f l.low)))
-      on true = side_for f l l.high (page_at l.right)
+      on true = side_for f l l.high (page_at l.right) spent
       on false = free (bad_low f l.low) tt
 
-  found_for : (f : Folding) (r : Result Leaf Trouble) → HasFree r → StopsFor Met (leaf_found f r)
-  found_for f (Ok l) is = at_for f l
-  found_for f (Err t) is = free t is
+  found_for : (f : Folding) (at : ℕ) (r : Result Leaf ℕ) → ((l : Leaf) → r ≡ Ok l → MeetsSpent Met (leaf_due f l)) → StopsFor Met (leaf_found f (leaf_or f.chart.tree f.page at r))
+  found_for f at (Ok l) spent = at_for f l (spent l refl)
+  found_for f at (Err n) spent = free (damaged f.chart.tree f.page at) tt
 
-  leaf_for : (f : Folding) (g : Result (Option (List ℕ)) Trouble) → ((t : Trouble) → g ≡ Err t → Met t) → StopsFor Met (leaf_got f g)
-  leaf_for f (Ok (Some bytes)) refused =
-      found_for f (leaf_read f.chart.tree f.page bytes) (leaf_free f.chart.tree f.page (offset leaf bytes) (whole leaf bytes))
-  leaf_for f (Ok None) refused = on (f.page == 1)
+  -- each leaf that the answer may be meets what is spent of it
+  abbrev pub SpendsLeaf : Folding → Result (Option (List ℕ)) Trouble → Type 0
+  SpendsLeaf f (Ok (Some bytes)) = (l : Leaf) → whole leaf bytes ≡ Ok l → MeetsSpent Met (leaf_due f l)
+  SpendsLeaf f (Ok None) = MeetsSpent Met (leaf_due f empty_leaf)
+  SpendsLeaf f (Err t) = Unit {0}
+
+  leaf_for : (f : Folding) (g : Result (Option (List ℕ)) Trouble) → ((t : Trouble) → g ≡ Err t → Met t) → SpendsLeaf f g → StopsFor Met (leaf_got f g)
+  leaf_for f (Ok (Some bytes)) refused spent = found_for f (offset leaf bytes) (whole leaf bytes) spent
+  leaf_for f (Ok None) refused spent = on (f.page == 1)
     where
       on : (b : Bool) → StopsFor Met (cond b (leaf_at f empty_leaf) (Stops f (trouble.Absent f.page)))
-      on true = at_for f empty_leaf
+      on true = at_for f empty_leaf spent
       on false = free (trouble.Absent f.page) tt
-  leaf_for f (Err t) refused = refused t refl
+  leaf_for f (Err t) refused spent = refused t refl
 
   placed_for : (f : Folding) (g : Result (Unit {0}) Trouble) → ((t : Trouble) → g ≡ Err t → Met t) → StopsFor Met (leaf_put f g)
   placed_for f (Ok x) refused = on (has_one_page f.placing)
@@ -244,46 +238,76 @@ module _ (Met : Trouble → Type 0) (free : (t : Trouble) → IsFree t → Met t
 
   -- the leaf is read while nothing is to be put
   pub folding_for : (f : Folding) (a : Answer) → (has_nothing f.placing ≡ true → (t : Trouble) → got_of a ≡ Err t → Met t)
-      → (has_nothing f.placing ≡ false → (t : Trouble) → done_of a ≡ Err t → Met t) → StopsFor Met (folding_next f a)
-  folding_for f a unread unput = on (has_nothing f.placing) refl
+      → (has_nothing f.placing ≡ false → (t : Trouble) → done_of a ≡ Err t → Met t) → (has_nothing f.placing ≡ true → SpendsLeaf f (got_of a)) → StopsFor Met (folding_next f a)
+  folding_for f a unread unput spent = on (has_nothing f.placing) refl
     where
       on : (b : Bool) → has_nothing f.placing ≡ b → StopsFor Met (cond b (leaf_got f (got_of a)) (leaf_put f (done_of a)))
-      on true e = leaf_for f (got_of a) (unread e)
+      on true e = leaf_for f (got_of a) (unread e) (spent e)
       on false e = placed_for f (done_of a) (unput e)
 
   -- ---- up
 
-  put_node_for : (r : Rising) (next level : ℕ) (p : Result NodePlan Trouble) → HasFree p → StopsFor Met (put_node r next level p)
-  put_node_for r next level (Ok p) is = tt
-  put_node_for r next level (Err t) is = free t is
+  -- what is due on the way up: the next node, or the tree object
+  abbrev pub node_due : Rising → Inner → Due
+  node_due r n = NodeDue (tree_held r.chart.root) n r.chart.links
 
-  put_root_for : (r : Rising) (p : Result RootPlan Trouble) → HasFree p → StopsFor Met (put_root r p)
-  put_root_for r (Ok p) is = tt
-  put_root_for r (Err t) is = free t is
+  abbrev pub root_due : Rising → Due
+  root_due r = RootDue (tree_held r.chart.root) r.chart.links r.chart.run.top
 
-  rise_at_for : (r : Rising) (at : ℕ) (k : Option KeptNode) → StopsFor Met (rise_at r at k)
-  rise_at_for r at (Some k) =
-      put_node_for r (at + 1) (k.level + 1) (node_plan (tree_held r.chart.root) r.chart.tree k r.chart.links) (node_free (tree_held r.chart.root) r.chart.tree k r.chart.links)
-  rise_at_for r at None = put_root_for r (last_plan r) (fair_free (last_plan r) (last_fair r))
+  put_node_for : (r : Rising) (next level : ℕ) (due : Due) → MeetsSpent Met due → (p : Result NodePlan Trouble) → PlanTells due p → StopsFor Met (put_node r next level p)
+  put_node_for r next level due spent (Ok p) tells = tt
+  put_node_for r next level due spent (Err t) tells = spent t tells
 
-  rise_for : (r : Rising) → StopsFor Met (rise r)
-  rise_for r = rise_at_for r (next_touched r) (touched_node r)
+  -- a node that does not read as one is damaged
+  kept_node_for : (r : Rising) (next level : ℕ) (k : KeptNode) (o : Option Inner) → inner_of k.bytes ≡ o → ((n : Inner) → inner_of k.bytes ≡ Some n → MeetsSpent Met (node_due r n))
+      → StopsFor Met (put_node r next level (node_plan (tree_held r.chart.root) r.chart.tree k r.chart.links))
+  kept_node_for r next level k (Some n) e spent =
+      put_node_for r next level (node_due r n) (spent n e) (node_plan (tree_held r.chart.root) r.chart.tree k r.chart.links)
+      (node_plan_tells (tree_held r.chart.root) r.chart.tree k n r.chart.links e)
+  kept_node_for r next level k None e spent =
+      subst
+      (λ (x : Option Inner). StopsFor Met (put_node r next level (planned_of (tree_held r.chart.root) k.page (linked_by r.chart.links (inner_or r.chart.tree k.page (offset inner_format k.bytes) x)))))
+      (sym e) (free (damaged r.chart.tree k.page (offset inner_format k.bytes)) tt)
 
-  pub risen_for : (r : Rising) (g : Result (Unit {0}) Trouble) → ((t : Trouble) → g ≡ Err t → Met t) → StopsFor Met (risen_by r g)
-  risen_for r (Ok x) refused = on (has_nothing r.placing)
+  put_root_for : (r : Rising) → MeetsSpent Met (root_due r) → (p : Result RootPlan Trouble) → PlanTells (root_due r) p → StopsFor Met (put_root r p)
+  put_root_for r spent (Ok p) tells = tt
+  put_root_for r spent (Err t) tells = spent t tells
+
+  -- whatever is due next meets what is spent of it
+  pub record SpendsUp (r : Rising) : Type 0 where
+    pub node : (k : KeptNode) → touched_node r ≡ Some k → (n : Inner) → inner_of k.bytes ≡ Some n → MeetsSpent Met (node_due r n)
+    pub root : MeetsSpent Met (root_due r)
+
+  rise_for : (r : Rising) → SpendsUp r → StopsFor Met (rise r)
+  rise_for r spent = on (touched_node r) refl
     where
-      next : (b : Bool) → (let to : Next Rising (Unit {0}) = cond b (Stops (landed r) version_spent) (Goes (landed r)) in StopsFor Met to)
-      next true = free version_spent tt
-      next false = tt
+      on : (k : Option KeptNode) → touched_node r ≡ k → StopsFor Met (rise_at r (next_touched r) k)
+      on (Some k) e = kept_node_for r (next_touched r + 1) (k.level + 1) k (inner_of k.bytes) refl (spent.node k e)
+      on None e = put_root_for r spent.root (last_plan r) (last_plan_tells (tree_held r.chart.root) r.chart.links r.chart.run.top)
 
-      further : (b : Bool) → StopsFor Met (cond b (put_next (landed r)) (rise (landed r)))
-      further true = next (has_nothing (landed r).placing && r.is_spent)
-      further false = rise_for (landed r)
+  -- behind a put: the last piece of a tree object for which no version is left, or what is due next where no last put is planned
+  pub record SpendsBehind (r : Rising) : Type 0 where
+    pub short : has_nothing r.placing ≡ false → has_nothing (landed r).placing ≡ true → is_some r.last ≡ true → r.is_spent ≡ true → Met version_spent
+    pub between : has_nothing (landed r).placing ≡ true → r.last ≡ None → SpendsUp (landed r)
 
-      on : (b : Bool) → StopsFor Met (cond b (Ends r tt) (after_put (landed r)))
-      on true = tt
-      on false = further (not (has_nothing (landed r).placing) || is_some (landed r).last)
-  risen_for r (Err t) refused = refused t refl
+  pub risen_for : (r : Rising) (g : Result (Unit {0}) Trouble) → ((t : Trouble) → g ≡ Err t → Met t) → SpendsBehind r → StopsFor Met (risen_by r g)
+  risen_for r (Ok x) refused spent = on (has_nothing r.placing) refl
+    where
+      next : has_nothing r.placing ≡ false → has_nothing (landed r).placing ≡ true → is_some r.last ≡ true → (b : Bool) → r.is_spent ≡ b
+          → (let to : Next Rising (Unit {0}) = cond b (Stops (landed r) version_spent) (Goes (landed r)) in StopsFor Met to)
+      next some nothing last true is = spent.short some nothing last is
+      next some nothing last false is = tt
+
+      further : has_nothing r.placing ≡ false → (nothing : Bool) → has_nothing (landed r).placing ≡ nothing → (last : Option (List ℕ)) → r.last ≡ last
+          → StopsFor Met (cond (not nothing || is_some last) (cond (nothing && r.is_spent) (Stops (landed r) version_spent) (Goes (landed r))) (rise (landed r)))
+      further some true e (Some bytes) f = next some e (ap (λ (o : Option (List ℕ)). is_some o) f) r.is_spent refl
+      further some true e None f = rise_for (landed r) (spent.between e f)
+      further some false e last f = tt
+
+      on : (b : Bool) → has_nothing r.placing ≡ b → StopsFor Met (cond b (Ends r tt) (after_put (landed r)))
+      on true e = tt
+      on false e = further e (has_nothing (landed r).placing) refl r.last refl
+  risen_for r (Err t) refused spent = refused t refl
 
   -- ---- from the tree object
 
@@ -315,16 +339,21 @@ module _ (Met : Trouble → Type 0) (free : (t : Trouble) → IsFree t → Met t
   descending_meets h (Ends d x) is = (none_met, omega arith)
   descending_meets h (Stops d t) is = stopping_meets h.deletions.left (one_lease h.lease) t is
 
-  going_meets : (h : Held) (c : Chart) → Meets Met h.deletions.left (going h c)
-  going_meets h c = on (next_key c)
+  going_meets : (h : Held) (c : Chart) → SpendsUp (up.begun c) → Meets Met h.deletions.left (going h c)
+  going_meets h c spent = on (next_key c)
     where
       on : (key : Option (List ℕ)) → Meets Met h.deletions.left (going_by h c key)
       on (Some key) = descending_meets h (down_from (record c { key = key }) (root_entry (record c { key = key }))) (down_for (record c { key = key }))
-      on None = rising_meets h (rise (up.begun c)) (rise_for (up.begun c))
+      on None = rising_meets h (rise (up.begun c)) (rise_for (up.begun c) spent)
 
-  pub left_meets : (h : Held) (o : Onward) → Meets Met h.deletions.left (page_left h o)
-  left_meets h (onward.Right c) = (none_met, omega arith)
-  left_meets h (onward.Handled c) = going_meets h c
+  -- where it goes on behind a leaf that is handled, the way up may begin
+  abbrev pub SpendsOnward : Onward → Type 0
+  SpendsOnward (onward.Right c) = Unit {0}
+  SpendsOnward (onward.Handled c) = SpendsUp (up.begun c)
+
+  pub left_meets : (h : Held) (o : Onward) → SpendsOnward o → Meets Met h.deletions.left (page_left h o)
+  left_meets h (onward.Right c) spent = (none_met, omega arith)
+  left_meets h (onward.Handled c) spent = going_meets h c spent
 
   pub folding_meets : (h : Held) (next : Next Folding Left) → StopsFor Met next → Meets Met h.deletions.left (folding_on h next)
   folding_meets h (Goes f) is = (none_met, omega arith)
@@ -350,25 +379,24 @@ module _ (Met : Trouble → Type 0) (free : (t : Trouble) → IsFree t → Met t
   got_meets tree l (Ok None) refused = (none_met, omega arith)
   got_meets tree l (Err t) refused = stopping_meets 0 (one_lease l) t (refused t refl)
 
-  started_meets : (h : Held) (c : Chart) (b : Bool) → Meets Met h.deletions.left (started h c b)
-  started_meets h c true = going_meets h c
-  started_meets h c false = deleting_meets h 0
+  started_meets : (h : Held) (c : Chart) (b : Bool) → SpendsUp (up.begun c) → Meets Met h.deletions.left (started h c b)
+  started_meets h c true spent = going_meets h c spent
+  started_meets h c false spent = deleting_meets h 0
 
-  items_meet : (tree : ℕ) (l : Claim) (root : Option (List ℕ)) (read : Result (List PuItem) Message) (taken : Result Intake Trouble)
-      → TakesItems (queue.TreePu tree) (tree_held root).cursor read taken → Meets Met 0 (intake_taken tree l root taken)
-  items_meet tree l root (Err m) taken is =
+  items_meet : (tree : ℕ) (l : Claim) (root : Option (List ℕ)) → ((run : Taken) → SpendsUp (up.begun (chart_of tree root run))) → (read : Result (List PuItem) Message)
+      (taken : Result Intake Trouble) → TakesItems (queue.TreePu tree) (tree_held root).cursor read taken → Meets Met 0 (intake_taken tree l root taken)
+  items_meet tree l root spent (Err m) taken is =
       subst (λ (g : Result Intake Trouble). Meets Met 0 (intake_taken tree l root g)) (sym is)
       (stopping_meets 0 (one_lease l) (message_damage (queue.TreePu tree) m) (free (message_damage (queue.TreePu tree) m) tt))
-  items_meet tree l root (Ok items) taken (run, is_run, is) =
+  items_meet tree l root spent (Ok items) taken (run, is_run, is) =
       subst (λ (g : Result Intake Trouble). Meets Met 0 (intake_taken tree l root g)) (sym is)
-      (started_meets (record { lease = l; deletions = (intake_of items run).deletions }) (chart_of tree root run) (has_items run.items))
+      (started_meets (record { lease = l; deletions = (intake_of items run).deletions }) (chart_of tree root run) (has_items run.items) (spent run))
 
   pub received_meets : (tree : ℕ) (l : Claim) (root : Option (List ℕ)) (g : Result (List Message) Trouble) (next : Step) → ((t : Trouble) → g ≡ Err t → Met t)
-      → ReceivedBy tree l root g next
-      → Meets Met 0 next
-  received_meets tree l root (Ok ms) next refused (taken, takes, is) =
-      subst (Meets Met 0) (sym is) (items_meet tree l root (items_of ms) taken takes)
-  received_meets tree l root (Err t) next refused is = subst (Meets Met 0) (sym is) (stopping_meets 0 (one_lease l) t (refused t refl))
+      → ((run : Taken) → SpendsUp (up.begun (chart_of tree root run))) → ReceivedBy tree l root g next → Meets Met 0 next
+  received_meets tree l root (Ok ms) next refused spent (taken, takes, is) =
+      subst (Meets Met 0) (sym is) (items_meet tree l root spent (items_of ms) taken takes)
+  received_meets tree l root (Err t) next refused spent is = subst (Meets Met 0) (sym is) (stopping_meets 0 (one_lease l) t (refused t refl))
 
   -- ---- leases given back
 

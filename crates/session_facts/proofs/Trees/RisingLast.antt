@@ -40,7 +40,7 @@ use Rattle.tree_rising.specs.declared.rising.Rising.{Rising}
 use Rattle.tree_rising.specs.Rising.{landed, put_landed}
 use Rattle.tree_rising.specs.Root.{new_pages}
 use Rattle.session_facts.specs.Trees.Placings.{AreReserved}
-use Rattle.session_facts.specs.Trees.Risings.{ReservesRoot, IsRaised, PutsWhole, PutsCut, cut, PutsOf, KnowsRising, RisesOn}
+use Rattle.session_facts.specs.Trees.Risings.{IsLastVersion, ReservesRoot, IsRaised, PutsWhole, PutsCut, cut, PutsOf, KnowsRising, RisesOn}
 use Rattle.session_facts.proofs.Trees.LastRoot.{last_landing, raise_landing, may_delete}
 use Rattle.session_facts.proofs.Trees.NodePieces.{pieces_name}
 use Rattle.session_facts.proofs.Trees.PlacingLemmas.{puts_more, on_range, piece_landed}
@@ -206,6 +206,7 @@ module _ (book : Book) (order : List Entry) (s : CloudState) (stands : StandsUnd
         puts_are = ap (λ (o : Option (List ℕ)). puts_after o r.placing.puts) none ∙ ap (λ (l : List PagePut). drop 1 l) cut_puts;
         fit = p.fit;
         left = left;
+        spent = λ e. ap (λ (t : Tree). t.version) same_root ∙ subst (IsLastVersion root) none (p.spent e);
         reserves = (
           λ whole. planned.0 whole ∙ ap (λ (t : Tree). t.version + 1) (sym same_root),
           planned.1 ∙ ap (λ (t : Tree). t.next) (sym same_root),

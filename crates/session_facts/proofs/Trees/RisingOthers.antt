@@ -138,6 +138,7 @@ module _ (st su : Store) (now later : ℕ) (lease : Claim) (r : Rising) (ids : L
     puts_are = k.puts_are;
     fit = k.fit;
     left = k.left;
+    spent = k.spent;
     reserves = reserves r.placing.reserved k.reserves;
   }
     where

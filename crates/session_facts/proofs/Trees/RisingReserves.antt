@@ -30,7 +30,7 @@ use Rattle.tree_rising.specs.declared.rising.Rising.{Rising}
 use Rattle.tree_rising.specs.Rising.{landed, put_landed}
 use Rattle.session_facts.specs.Trees.Charts.{KnowsRoot}
 use Rattle.session_facts.specs.Trees.Placings.{AreReserved, IsReservation, reserving}
-use Rattle.session_facts.specs.Trees.Risings.{AppliesRun, ReservesNodes, ReservesRoot, PutsNode, IsRaised, PutsCut, cut, PutsOf, KnowsRising, RisesOn}
+use Rattle.session_facts.specs.Trees.Risings.{IsLastVersion, AppliesRun, ReservesNodes, ReservesRoot, PutsNode, IsRaised, PutsCut, cut, PutsOf, KnowsRising, RisesOn}
 use Rattle.session_facts.proofs.Trees.ChartOthers.{nodes_stay}
 use Rattle.session_facts.proofs.Trees.FoldOthers.{done_stays}
 use Rattle.session_facts.proofs.Trees.Reservations.{reservation_landing, reservation_held, reserved_then, root_known}
@@ -122,6 +122,7 @@ module _ (book : Book) (order : List Entry) (s : CloudState) (stands : StandsUnd
       puts_are = left_is ∙ p.puts_are;
       fit = p.fit;
       left = p.left;
+      spent = λ e. ap (λ (t : Tree). t.version) held ∙ subst (IsLastVersion root) some (p.spent e);
       reserves = (
         λ whole. version whole ∙ ap (λ (t : Tree). t.version + 1) (sym held),
         next ∙ ap (λ (t : Tree). t.next) (sym held),

@@ -1,6 +1,6 @@
 -- What is planned for the root behind the last node: it is put whole, or its pieces are put and then a root above them.
 use Rattle.std.proofs.Common.{◌≡◌, ◌≢◌, ◌+◌, ◌<◌, ◌≤◌, ◌==◌, inr, ℕ, Bool, true, false, cond, nat_lt, ◌&&◌, List, [], length, Some, Result, Ok, Err, refl, sym, ap, subst, ◌∙◌, arith}
-use Rattle.std.proofs.lemmas.Bool.{and_parts, eqb-false, ltb-false, ltb-true}
+use Rattle.std.proofs.lemmas.Bool.{and_parts, eqb-false, eqb-true, ltb-false, ltb-true}
 use Rattle.std.proofs.lemmas.List.{append-nil}
 use Rattle.byte_format.specs.Format.{greatest}
 use Rattle.cloud_facts.specs.Chains.Chain.{IsChained}
@@ -121,8 +121,8 @@ module _ (book : Book) (order : List Entry) (s : CloudState) (stands : StandsUnd
       × (spent ≡ false → t.version ≡ whole_root.version + 1) × HasTreeSpelling t
 
   cut_known : (bytes : List ℕ) (first : ℕ) → IsReservation root count first bytes → root.level < 255 → (spent : Bool) (cut_root : Tree) → CutRoot spent cut_root
-      → PutsCut st now lease (with_plan (lowered (Some bytes) spent cut_root whole_root.next)) (lowered (Some bytes) spent cut_root whole_root.next).last
-  cut_known bytes first is higher spent cut_root (nexts, levels, cursors, entries, versions, fits) = record {
+      → (spent ≡ true → root.version + 1 ≡ greatest) → PutsCut st now lease (with_plan (lowered (Some bytes) spent cut_root whole_root.next)) (lowered (Some bytes) spent cut_root whole_root.next).last
+  cut_known bytes first is higher spent cut_root (nexts, levels, cursors, entries, versions, fits) last = record {
     root = cut_root;
     raises = record {
       level = levels ∙ rest.level;
@@ -139,6 +139,7 @@ module _ (book : Book) (order : List Entry) (s : CloudState) (stands : StandsUnd
     puts_are = refl;
     fit = root_pieces_fit whole_root.next cut_root room fits;
     left = λ is_spent. let some : 1 ≤ count = omega arith in omega (arith, counted, some);
+    spent = last;
     reserves = (
       refl,
       record { first_is = rest.next; bytes_are = reserved.bytes_are; fits = reserved.fits },
@@ -164,8 +165,8 @@ module _ (book : Book) (order : List Entry) (s : CloudState) (stands : StandsUnd
 
   -- where the numbers are there it is cut so
   at_leads : (bytes : List ℕ) (first : ℕ) → IsReservation root count first bytes → root.level < 255 → (spent : Bool) (t : Tree) → t.next ≡ whole_root.next
-      → (t.next + count ≤ greatest → CutRoot spent (record t { next = t.next + count })) → Leads (cut_at (Some bytes) count spent t)
-  at_leads bytes first is higher spent t same cuts = on (nat_lt 18446744073709551615 (t.next + count)) refl
+      → (t.next + count ≤ greatest → CutRoot spent (record t { next = t.next + count })) → (spent ≡ true → root.version + 1 ≡ greatest) → Leads (cut_at (Some bytes) count spent t)
+  at_leads bytes first is higher spent t same cuts last = on (nat_lt 18446744073709551615 (t.next + count)) refl
     where
       cut_root : Tree
       cut_root = record t { next = t.next + count }
@@ -175,7 +176,7 @@ module _ (book : Book) (order : List Entry) (s : CloudState) (stands : StandsUnd
       on false e =
           subst (λ (n : ℕ). Leads (Ok (lowered (Some bytes) spent (record t { next = t.next + count }) n))) (sym same)
           (known (lowered (Some bytes) spent (record t { next = t.next + count }) whole_root.next)
-          (cut (cut_known bytes first is higher spent (record t { next = t.next + count }) (cuts (ltb-false 18446744073709551615 (t.next + count) e)))))
+          (cut (cut_known bytes first is higher spent (record t { next = t.next + count }) (cuts (ltb-false 18446744073709551615 (t.next + count) e)) last)))
 
   cut_leads : (bytes : List ℕ) (first : ℕ) → IsReservation root count first bytes → root.level < 255 → HasTreeSpelling whole_root
       → Leads (cut_by (Some bytes) count whole_root (next_tree whole_root))
@@ -185,10 +186,10 @@ module _ (book : Book) (order : List Entry) (s : CloudState) (stands : StandsUnd
           → Leads (cut_by (Some bytes) count whole_root (cond b (Err version_spent) (Ok (record whole_root { version = whole_root.version + 1 }))))
       on true e =
           at_leads bytes first is higher true whole_root refl
-          (λ room. (refl, refl, refl, refl, (λ put. absurd (cc (put))), numbered_fits count whole_root fits room))
+          (λ room. (refl, refl, refl, refl, (λ put. absurd (cc (put))), numbered_fits count whole_root fits room)) (λ last. sym rest.version ∙ eqb-true whole_root.version 18446744073709551615 e)
       on false e =
           at_leads bytes first is higher false (record whole_root { version = whole_root.version + 1 }) refl
-          (λ room. (refl, refl, refl, refl, (λ put. refl), reserving_fits count whole_root (inr fits) (eqb-false whole_root.version 18446744073709551615 e) room))
+          (λ room. (refl, refl, refl, refl, (λ put. refl), reserving_fits count whole_root (inr fits) (eqb-false whole_root.version 18446744073709551615 e) room)) (λ last. absurd (cc (last)))
 
   reserved_leads : root.level < 255 → HasTreeSpelling whole_root → (q : Reserved) → Reserving root 1 count q → Leads (cut_behind whole_root (Ok q))
   reserved_leads higher fits q (none e) = let some : 1 ≤ count = omega arith in absurd (omega (arith, some, e))

@@ -21,6 +21,7 @@ use Rattle.cloud_trait.specs.Seen.{Seen}
 use Rattle.cloud_trait.specs.State.{CloudState, newest, newest_of, called}
 use Rattle.cloud_trait.specs.Weather.{Rose, Weather, Makes}
 use Rattle.db_base.specs.declared.names.ObjName.TheVariants as object
+use Rattle.db_base.specs.declared.trouble.Counter.{Counter}
 use Rattle.db_base.specs.declared.trouble.Trouble.{Trouble}
 use Rattle.page_cache.specs.Cache.{Cache, served_at}
 use Rattle.page_cache.specs.Names.{same_name}
@@ -136,11 +137,11 @@ module _ (book : Book) (order : List Entry) (s : CloudState) (stands : StandsUnd
 
   -- ---- the get
 
-  module _ (who : Caller) (before after : Seen) (t : CloudState) (told : before.state ≡ Some s) (told_after : after.state ≡ Some t) (held : List Claim)
+  module _ (who : Caller) (before after : Seen) (t : CloudState) (told : before.state ≡ Some s) (told_after : after.state ≡ Some t) (held : List Claim) (Spent : CloudState → Counter → Type 0)
       (w : Walk) (c : Cache) (k : KnowsWalking st w c) (a : Answer) (made : Makes who (walk_ask w) a before after) where
     -- a trouble is shown by the get
     abbrev pub Shown : Trouble → Type 0
-    Shown trouble = IsShown (walk_ask w) held before.counts after.counts s t trouble
+    Shown trouble = IsShown (walk_ask w) held Spent before.counts after.counts s t trouble
 
     by_row : (got : Option (List ℕ)) (trouble : Trouble) → Weather who (walk_ask w) (Got got) before.counts after.counts (called who t.now s) t
         → IsOld c (object_of w) (is_leaf w) got trouble → Rose before.counts.stale after.counts.stale
@@ -151,7 +152,7 @@ module _ (book : Book) (order : List Entry) (s : CloudState) (stands : StandsUnd
     stale_rose got trouble e old =
         by_row got trouble
         (subst (λ (x : Answer). Weather who (walk_ask w) x before.counts after.counts (called who t.now s) t) e
-        (row_of who before after s t told told_after held (walk_ask w) a made)) old
+        (row_of who before after s t told told_after held Spent (walk_ask w) a made)) old
 
     -- what fails, and what is refused
     pub failed_shown : (trouble : Trouble) → FailsSo a trouble → Shown trouble

@@ -15,6 +15,7 @@ use Rattle.cloud_trait.specs.Machine.{Next, Goes, Ends, Stops}
 use Rattle.cloud_trait.specs.State.{CloudState, Counts}
 use Rattle.cloud_trait.specs.Weather.{Rose}
 use Rattle.db_base.specs.declared.names.QueueName.TheVariants as queue
+use Rattle.db_base.specs.declared.trouble.Counter.{Counter}
 use Rattle.db_base.specs.declared.trouble.CommitAnswer.{CommitAnswer}
 use Rattle.db_base.specs.declared.trouble.CommitAnswer.TheVariants.{Committed, NotCommitted, InDoubt, CommittedOpen}
 use Rattle.db_base.specs.declared.trouble.Trouble.{Trouble}
@@ -24,7 +25,7 @@ use Rattle.recover_run.specs.declared.stage.RecoverAnswer.{RecoverAnswer}
 use Rattle.recover_run.specs.declared.stage.Stage.{Stage}
 use Rattle.recover_run.specs.declared.stage.Stage.TheVariants as stage
 use Rattle.session_facts.specs.Sessions.Sessions.{leases_of}
-use Rattle.session_facts.specs.Sessions.Spent.{IsSpentIn}
+use Rattle.session_facts.specs.Sessions.Spent.{IsSpentToOpen, IsSpentToCommit, IsSpentInPages, IsSpentInTree, IsSpentToSettle}
 use Rattle.settle_run.specs.declared.part.Part.{Part}
 use Rattle.settle_run.specs.declared.part.Part.TheVariants.{Client, Tree, Page}
 use Rattle.tree_ckpt.specs.Making.{Making}
@@ -171,23 +172,38 @@ abbrev pub ReceivesLate : Ask → List Claim → ℕ → Type 0
 ReceivesLate (Receive (queue.Atomic client) most) held now = HasOver held now
 ReceivesLate ask held now = ⊥
 
+-- what is told where an operation finds a counter spent, by what is at work
+abbrev pub spent_for : Work → CloudState → Counter → Type 0
+spent_for (Opening r) = IsSpentToOpen
+spent_for (Committing r) = IsSpentToCommit
+spent_for (Folding home m) = IsSpentInTree m.tree
+spent_for (Paging home p) = IsSpentInPages p.tree
+spent_for (Settling m) = IsSpentToSettle
+spent_for (Reading home m) = λ t what. ⊥
+spent_for (Scanning home m) = λ t what. ⊥
+spent_for (Closing l) = λ t what. ⊥
+spent_for (Renewing home) = λ t what. ⊥
+spent_for Closed = λ t what. ⊥
+spent_for (Idle home) = λ t what. ⊥
+spent_for (Broken l) = λ t what. ⊥
+
 -- A call shows a trouble, by the counts and the states before and behind it: a failure by the count of faults; a late call by a lease that
 -- it names and that is over; a held lock by the lock, or by the count of what was withheld; records that were not received by that count, or by
--- a receive from a client's queue when a lease in hand is over; a stale read by the count of stale reads. The last number of a counter, and a page that a line named, are not
--- the call's.
-abbrev pub IsShown : Ask → List Claim → Counts → Counts → CloudState → CloudState → Trouble → Type 0
-IsShown ask held c d s t trouble.Failed = Rose c.faults d.faults
-IsShown ask held c d s t (trouble.Late end now) = NamesLasting ask t.now → ⊥
-IsShown ask held c d s t (trouble.Busy lock until) = (TakesFree ask s t.now → ⊥) ⊎ Rose c.withheld d.withheld
-IsShown ask held c d s t (trouble.Waiting have need) = Rose c.withheld d.withheld ⊎ ReceivesLate ask held t.now
-IsShown ask held c d s t (trouble.Stale page least got) = Rose c.stale d.stale
-IsShown ask held c d s t trouble.Memory = Unit {0}
-IsShown ask held c d s t (trouble.Exhausted what) = IsSpentIn t what
-IsShown ask held c d s t (trouble.Absent page) = Unit {0}
-IsShown ask held c d s t (trouble.NotALeaf page) = Unit {0}
-IsShown ask held c d s t (trouble.Damaged place offset) = Unit {0}
-IsShown ask held c d s t (trouble.BadFence page expected found) = Unit {0}
-IsShown ask held c d s t (trouble.Loop page) = Unit {0}
+-- a receive from a client's queue when a lease in hand is over; a stale read by the count of stale reads; a spent counter by what the cloud tells behind
+-- it. A page that a line named is not the call's.
+abbrev pub IsShown : Ask → List Claim → (CloudState → Counter → Type 0) → Counts → Counts → CloudState → CloudState → Trouble → Type 0
+IsShown ask held Spent c d s t trouble.Failed = Rose c.faults d.faults
+IsShown ask held Spent c d s t (trouble.Late end now) = NamesLasting ask t.now → ⊥
+IsShown ask held Spent c d s t (trouble.Busy lock until) = (TakesFree ask s t.now → ⊥) ⊎ Rose c.withheld d.withheld
+IsShown ask held Spent c d s t (trouble.Waiting have need) = Rose c.withheld d.withheld ⊎ ReceivesLate ask held t.now
+IsShown ask held Spent c d s t (trouble.Stale page least got) = Rose c.stale d.stale
+IsShown ask held Spent c d s t trouble.Memory = Unit {0}
+IsShown ask held Spent c d s t (trouble.Exhausted what) = Spent t what
+IsShown ask held Spent c d s t (trouble.Absent page) = Unit {0}
+IsShown ask held Spent c d s t (trouble.NotALeaf page) = Unit {0}
+IsShown ask held Spent c d s t (trouble.Damaged place offset) = Unit {0}
+IsShown ask held Spent c d s t (trouble.BadFence page expected found) = Unit {0}
+IsShown ask held Spent c d s t (trouble.Loop page) = Unit {0}
 
 -- a trouble that was met is kept, and then it is the answer; or memory ran out
 abbrev pub KeepsTrouble : Work → Turn Answer → Trouble → Type 0
@@ -205,6 +221,6 @@ left_told new (Stopped q) = 0
 -- what a step of an operation brings: a trouble that it meets is shown by its call, want of memory and deletions that failed before apart; a
 -- trouble that it met before is its answer; and no more deletions failed than before, unless a call failed
 pub record Explains (ask : Ask) (c d : Counts) (s t : CloudState) (old new : Work) (turn : Turn Answer) : Type 0 where
-  pub shown : trouble_in old ≡ None → left_in old ≡ 0 → (k : Trouble) → k ≢ trouble.Memory → Meets new turn k → IsShown ask (leases_of old) c d s t k
+  pub shown : trouble_in old ≡ None → left_in old ≡ 0 → (k : Trouble) → k ≢ trouble.Memory → Meets new turn k → IsShown ask (leases_of old) (spent_for old) c d s t k
   pub kept : (k : Trouble) → trouble_in old ≡ Some k → KeepsTrouble new turn k
   pub left : (left_told new turn ≤ left_in old) ⊎ Rose c.faults d.faults

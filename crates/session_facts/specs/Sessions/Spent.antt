@@ -1,6 +1,8 @@
 -- Counters that stand at their last value, by what a cloud tells.
-use Rattle.std.specs.Prelude.{ℕ, ◌≡◌, ◌-◌, ◌^◌, Some}
+use Rattle.std.specs.Prelude.{ℕ, ◌≡◌, ◌⊎◌, ◌-◌, ◌^◌, Some}
 use Rattle.cloud_facts.specs.Book.Records.{IsIn}
+use Rattle.cloud_facts.specs.Book.Tally.{Node, version_of}
+use Rattle.cloud_facts.specs.Book.Telling.{nodes_of, roots_of}
 use Rattle.cloud_trait.specs.State.{CloudState}
 use Rattle.cloud_trait.specs.declared.state.Version.{Version}
 use Rattle.db_base.specs.declared.names.ObjName.TheVariants as object
@@ -8,6 +10,7 @@ use Rattle.db_base.specs.declared.trouble.Counter.{Counter}
 use Rattle.db_base.specs.declared.trouble.Counter.TheVariants as counter
 use Rattle.head_codec.specs.Spelling.{head_of}
 use Rattle.head_codec.specs.declared.head.Head.{Head}
+use Rattle.node_codec.specs.Tree.{Tree}
 
 -- a head has landed in the last epoch
 pub record HasLastEpoch (t : CloudState) : Type 0 where
@@ -18,10 +21,46 @@ pub record HasLastEpoch (t : CloudState) : Type 0 where
   pub reads : head_of version.bytes ≡ Some head
   pub last : head.epoch ≡ 2 ^ 64 - 1
 
--- what is told where an operation finds a counter spent: of an epoch, a head that has landed in the last one
-abbrev pub IsSpentIn : CloudState → Counter → Type 0
-IsSpentIn t counter.Epoch = HasLastEpoch t
-IsSpentIn t what = Unit {0}
+-- a page of a tree has landed, as a leaf or a node, in its last version
+pub record HasLastPage (t : CloudState) (tree : ℕ) : Type 0 where
+  pub page : ℕ
+  pub node : Node
+  pub landed : IsIn (nodes_of t tree page) node
+  pub last : version_of node ≡ 2 ^ 64 - 1
+
+-- a tree object has landed in its last version
+pub record HasLastRoot (t : CloudState) (tree : ℕ) : Type 0 where
+  pub root : Tree
+  pub landed : IsIn (roots_of t tree) root
+  pub last : root.version ≡ 2 ^ 64 - 1
+
+-- ---- what is told where an operation finds a counter spent
+
+-- an opening finds it where a head has landed in the last epoch
+abbrev pub IsSpentToOpen : CloudState → Counter → Type 0
+IsSpentToOpen t counter.Epoch = HasLastEpoch t
+IsSpentToOpen t what = ⊥
+
+-- a page checkpoint where a page of its tree has landed in the last version
+abbrev pub IsSpentInPages : ℕ → CloudState → Counter → Type 0
+IsSpentInPages tree t counter.Version = HasLastPage t tree
+IsSpentInPages tree t what = ⊥
+
+-- a tree checkpoint where a page of its tree, or the tree object, has landed in the last version
+abbrev pub IsSpentInTree : ℕ → CloudState → Counter → Type 0
+IsSpentInTree tree t counter.Version = HasLastRoot t tree ⊎ HasLastPage t tree
+IsSpentInTree tree t counter.Pages = Unit {0}
+IsSpentInTree tree t what = ⊥
+
+-- a commit
+abbrev pub IsSpentToCommit : CloudState → Counter → Type 0
+IsSpentToCommit t counter.Txn = Unit {0}
+IsSpentToCommit t counter.Number = Unit {0}
+IsSpentToCommit t what = ⊥
+
+-- a settling where an opening or a checkpoint of some tree does
+abbrev pub IsSpentToSettle : CloudState → Counter → Type 0
+IsSpentToSettle t what = IsSpentToOpen t what ⊎ ((tree : ℕ) × IsSpentInTree tree t what)
 
 -- ---- the counters of each operation
 

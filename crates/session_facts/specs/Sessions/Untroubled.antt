@@ -18,8 +18,8 @@ use Rattle.db_base.specs.declared.trouble.Trouble.{Trouble}
 use Rattle.db_base.specs.declared.trouble.Trouble.TheVariants as trouble
 use Rattle.session_facts.specs.PageCheckpoints.Checkpoint.{IsNamedOne}
 use Rattle.session_facts.specs.Sessions.Calls.{GivesLateBack, reply_of}
-use Rattle.session_facts.specs.Sessions.Explaining.{left_in, trouble_in}
-use Rattle.session_facts.specs.Sessions.Spent.{IsOfCommit, IsOfPaging, IsSpentIn}
+use Rattle.session_facts.specs.Sessions.Explaining.{left_in, spent_for, trouble_in}
+use Rattle.session_facts.specs.Sessions.Spent.{IsSpentToCommit, IsSpentInPages}
 
 -- the lease that the call gives back lasts at a moment
 abbrev pub GivesBackLasting : Ask → ℕ → Type 0
@@ -36,39 +36,39 @@ pub record StepsCalmly (who : Caller) (before after : Seen) (old new : Acting) (
   pub memory : reply_of who before after old new turn p ≢ Memory
 
 -- no call of the cloud brings such a trouble; one of a counter that is spent comes where the cloud tells so
-abbrev pub IsOfNoCall : CloudState → Trouble → Type 0
-IsOfNoCall t trouble.Failed = ⊥
-IsOfNoCall t (trouble.Late end now) = ⊥
-IsOfNoCall t (trouble.Busy lock until) = ⊥
-IsOfNoCall t (trouble.Waiting have need) = ⊥
-IsOfNoCall t (trouble.Stale page least got) = ⊥
-IsOfNoCall t (trouble.Exhausted what) = IsSpentIn t what
-IsOfNoCall t k = Unit {0}
+abbrev pub IsOfNoCall : (CloudState → Counter → Type 0) → CloudState → Trouble → Type 0
+IsOfNoCall Spent t trouble.Failed = ⊥
+IsOfNoCall Spent t (trouble.Late end now) = ⊥
+IsOfNoCall Spent t (trouble.Busy lock until) = ⊥
+IsOfNoCall Spent t (trouble.Waiting have need) = ⊥
+IsOfNoCall Spent t (trouble.Stale page least got) = ⊥
+IsOfNoCall Spent t (trouble.Exhausted what) = Spent t what
+IsOfNoCall Spent t k = Unit {0}
 
 -- what is at work may keep such a trouble where a cloud tells this: no call brought it, or it waits for records under a lease that is over and is given
 -- back next
 abbrev pub IsExcused : CloudState → Work → Trouble → Type 0
 IsExcused t w (trouble.Waiting have need) = GivesLateBack w t.now
-IsExcused t w k = IsOfNoCall t k
+IsExcused t w k = IsOfNoCall (spent_for w) t k
 
 -- what is at work goes well so far: no call brought it a trouble that is not excused, and no deletion failed
 pub record IsUntroubled (t : CloudState) (w : Work) : Type 0 where
   pub trouble : (k : Trouble) → trouble_in w ≡ Some k → IsExcused t w k
   pub left : left_in w ≡ 0
 
--- a counter of these stands at its last value, as the cloud tells
-abbrev pub IsSpent : (Counter → Type 0) → CloudState → Trouble → Type 0
-IsSpent Own t (trouble.Exhausted what) = Own what × IsSpentIn t what
-IsSpent Own t k = ⊥
+-- a counter is spent, as the cloud tells
+abbrev pub IsSpent : (CloudState → Counter → Type 0) → CloudState → Trouble → Type 0
+IsSpent Spent t (trouble.Exhausted what) = Spent t what
+IsSpent Spent t k = ⊥
 
 -- or the page that was named is absent or no leaf, unless it is page 1
-abbrev pub IsSpentOrOf : ℕ → CloudState → Trouble → Type 0
-IsSpentOrOf page t (trouble.Absent named) = IsNamedOne page named
-IsSpentOrOf page t (trouble.NotALeaf named) = IsNamedOne page named
-IsSpentOrOf page t k = IsSpent IsOfPaging t k
+abbrev pub IsSpentOrOf : ℕ → ℕ → CloudState → Trouble → Type 0
+IsSpentOrOf tree page t (trouble.Absent named) = IsNamedOne page named
+IsSpentOrOf tree page t (trouble.NotALeaf named) = IsNamedOne page named
+IsSpentOrOf tree page t k = IsSpent (IsSpentInPages tree) t k
 
--- it is committed, unless a counter stands at its last value
+-- it is committed, unless a counter is spent
 abbrev pub CommitsWell : CloudState → CommitAnswer → Type 0
 CommitsWell t (Committed txn) = Unit {0}
-CommitsWell t (NotCommitted k) = IsSpent IsOfCommit t k
+CommitsWell t (NotCommitted k) = IsSpent IsSpentToCommit t k
 CommitsWell t answer = ⊥

@@ -1,6 +1,7 @@
 -- What a checkpoint of a tree knows on its way up: the run is applied, and the nodes and the root that take the links are put in pieces.
 use Rattle.std.specs.Prelude.{ℕ, ◌≡◌, ◌≢◌, ◌+◌, ◌≤◌, Bool, true, false, List, [], ◌∷◌, ◌++◌, length, map, reverse, drop, Option, Some, None}
 use Rattle.std.specs.List.{AllByRecursion}
+use Rattle.byte_format.specs.Format.{greatest}
 use Rattle.cloud_facts.specs.Chains.Cuts.{inner_node}
 use Rattle.cloud_facts.specs.Chains.Links.{top_of, NamesBelow}
 use Rattle.cloud_trait.specs.Claim.{Claim, Lasts}
@@ -108,6 +109,12 @@ ReservesRoot spent st now lease tree root t first middle behind None =
     (spent ≡ false → t.version ≡ root.version + 1) × (t.next ≡ root.next)
     × (Lasts now lease → AreReserved inner_node (st.book.chain tree) (st.tally.nodes tree) (top_of (st.tally.roots tree)).next first middle behind)
 
+-- The reservation of a cut takes the last version of the tree object: before it lands the tree object stands at the last but one, and behind it at
+-- the last.
+abbrev pub IsLastVersion : Tree → Option (List ℕ) → Type 0
+IsLastVersion root (Some bytes) = root.version + 1 ≡ greatest
+IsLastVersion root None = root.version ≡ greatest
+
 -- it is cut: its pieces are put, all of them new and the rightmost first, and then a root that names them, one level higher, unless no version is left
 pub record PutsCut (st : Store) (now : ℕ) (lease : Claim) (r : Rising) (bytes : List ℕ) : Type 0 where
   pub root : Tree
@@ -121,6 +128,7 @@ pub record PutsCut (st : Store) (now : ℕ) (lease : Claim) (r : Rising) (bytes 
   pub puts_are : r.placing.puts ≡ reverse (map (put_of node_bytes) (on_pages first (first + 1) middle))
   pub fit : AllByRecursion IsNodePart (root_pieces first root)
   pub left : r.is_spent ≡ true → 1 ≤ length middle
+  pub spent : r.is_spent ≡ true → IsLastVersion (tree_held r.chart.root) r.placing.reserved
   pub reserves : ReservesRoot r.is_spent st now lease r.chart.tree (tree_held r.chart.root) root first middle behind r.placing.reserved
 
 pub data PutsRoot (st : Store) (now : ℕ) (lease : Claim) (r : Rising) (bytes : List ℕ) : Type 0 where

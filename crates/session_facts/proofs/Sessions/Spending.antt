@@ -1,0 +1,178 @@
+-- What landed is told from then on, and so is a counter that is spent.
+use Rattle.std.proofs.Common.{◌≡◌, ◌==◌, ◌^◌, ◌⊎◌, inl, inr, ℕ, Bool, true, false, cond, List, map, Option, Some, None, Result, Ok, Err, sym, ap, subst, ◌∙◌}
+use Rattle.std.specs.Prelude.{◌-◌, length}
+use Rattle.std.specs.Result.{result_ok}
+use Rattle.std.proofs.lemmas.List.{map-append}
+use Rattle.ckpt_parts.specs.Leaves.{fenced, HoldsLeaf, HoldsLinked}
+use Rattle.byte_format.specs.Order.{bytes_same}
+use Rattle.byte_format.specs.Whole.{whole}
+use Rattle.cloud_facts.proofs.Book.Places.{get_map, in_front}
+use Rattle.cloud_facts.proofs.Decoding.Newest.{newest_last}
+use Rattle.cloud_facts.proofs.Decoding.Reading.{node_reads}
+use Rattle.cloud_facts.specs.Book.Book.{Book}
+use Rattle.cloud_facts.specs.Book.Records.{IsIn}
+use Rattle.cloud_facts.specs.Book.Tally.{Node, Leafy, Store}
+use Rattle.cloud_facts.specs.Book.Telling.{leaf_of_bytes, node_in, node_or, root_in, nodes_of, roots_of}
+use Rattle.cloud_facts.specs.Tellings.Told.{store_of}
+use Rattle.cloud_trait.proofs.RowLemmas.{leaves_grown}
+use Rattle.cloud_trait.specs.declared.answer.Answer.{Answer}
+use Rattle.cloud_trait.specs.Ask.{Ask}
+use Rattle.cloud_trait.specs.Caller.{Caller}
+use Rattle.cloud_trait.specs.Growth.{BeginsWith}
+use Rattle.cloud_trait.specs.Seen.{Seen}
+use Rattle.cloud_trait.specs.State.{CloudState, newest}
+use Rattle.cloud_trait.specs.Weather.{Makes}
+use Rattle.cloud_trait.specs.declared.state.Version.{Version}
+use Rattle.db_base.specs.declared.names.ObjName.{ObjName}
+use Rattle.db_base.specs.declared.names.ObjName.TheVariants as object
+use Rattle.db_base.specs.declared.trouble.Counter.{Counter}
+use Rattle.db_base.specs.declared.trouble.Counter.TheVariants as counter
+use Rattle.db_base.specs.declared.trouble.Trouble.{Trouble}
+use Rattle.db_base.specs.declared.trouble.Trouble.TheVariants as trouble
+use Rattle.leaf_view.specs.Leaf.{Leaf, IsLeaf, leaf}
+use Rattle.leaf_view.specs.Lookup.{empty_leaf}
+use Rattle.node_codec.specs.Tree.{Tree}
+use Rattle.report_types.specs.declared.entry.Entry.{Entry}
+use Rattle.session_facts.specs.Sessions.Spent.{HasLastEpoch, HasLastPage, HasLastRoot, IsSpentToOpen, IsSpentToCommit, IsSpentInPages, IsSpentInTree, IsSpentToSettle}
+
+-- nothing that landed is lost
+abbrev pub HasAll : CloudState → CloudState → Type 0
+HasAll s t = (name : ObjName) → BeginsWith (s.versions name) (t.versions name)
+
+-- ---- what landed
+
+-- it is among what landed later too
+in_grown : {X : Type 0} (xs ys : List X) (x : X) → BeginsWith xs ys → IsIn xs x → IsIn ys x
+in_grown {X = X} xs ys x grown is = subst (λ (zs : List X). IsIn zs x) (sym grown.1) (in_front xs grown.0 x is)
+
+map_grown : {X Y : Type 0} (f : X → Y) (xs ys : List X) → BeginsWith xs ys → BeginsWith (map f xs) (map f ys)
+map_grown f xs ys grown = (map f grown.0, ap (map f) grown.1 ∙ map-append f xs grown.0)
+
+page_later : (s t : CloudState) → HasAll s t → (tree page : ℕ) (n : Node) → IsIn (nodes_of s tree page) n → IsIn (nodes_of t tree page) n
+page_later s t grown tree page n is =
+    let vs : List Version = s.versions (object.Page tree page) in
+    let ws : List Version = t.versions (object.Page tree page) in
+    in_grown (map node_in vs) (map node_in ws) n (map_grown node_in vs ws (grown (object.Page tree page))) is
+
+root_later : (s t : CloudState) → HasAll s t → (tree : ℕ) (root : Tree) → IsIn (roots_of s tree) root → IsIn (roots_of t tree) root
+root_later s t grown tree root is =
+    let vs : List Version = s.versions (object.Tree tree) in
+    let ws : List Version = t.versions (object.Tree tree) in
+    in_grown (map root_in vs) (map root_in ws) root (map_grown root_in vs ws (grown (object.Tree tree))) is
+
+-- a cloud tells all pages and tree objects that a store has
+pub record IsToldBy (st : Store) (t : CloudState) : Type 0 where
+  pub pages : (tree page : ℕ) (n : Node) → IsIn (st.tally.nodes tree page) n → IsIn (nodes_of t tree page) n
+  pub roots : (tree : ℕ) (root : Tree) → IsIn (st.tally.roots tree) root → IsIn (roots_of t tree) root
+
+pub told_later : (book : Book) (order : List Entry) (s t : CloudState) → HasAll s t → IsToldBy (store_of book order s) t
+told_later book order s t grown = record { pages = page_later s t grown; roots = root_later s t grown }
+
+-- so it does behind a call
+pub told_behind : (who : Caller) (ask : Ask) (reply : Answer) (before after : Seen) (book : Book) (order : List Entry) (s t : CloudState) → before.state ≡ Some s → after.state ≡ Some t
+    → Makes who ask reply before after → IsToldBy (store_of book order s) t
+told_behind who ask reply before after book order s t told told_after made =
+    let l = made.state s told in
+    let same : l.after ≡ t = cc (sym l.told ∙ told_after) in
+    told_later book order s t (subst (λ (u : CloudState). HasAll s u) same (leaves_grown who ask reply before.counts after.counts s after.state l).versions)
+
+-- ---- a leaf
+
+-- it landed on its page, or it is the empty one, which has no last version
+pub last_leaf : (t : CloudState) (tree page : ℕ) (l : Leaf) → (l ≡ empty_leaf) ⊎ IsIn (nodes_of t tree page) (Leafy l) → l.version ≡ 2 ^ 64 - 1 → HasLastPage t tree
+last_leaf t tree page l (inl empty) last = absurd (let none : 0 ≡ 2 ^ 64 - 1 = sym (ap (λ (m : Leaf). m.version) empty) ∙ last in cc (none))
+last_leaf t tree page l (inr landed) last = record { page = page; node = Leafy l; landed = landed; last = last }
+
+-- the bytes that spell a leaf, where they are the newest of a page
+in_bytes : (v : Version) (l : Leaf) → whole leaf v.bytes ≡ Ok l → node_in v ≡ Leafy l
+unfolding leaf_of_bytes
+in_bytes v l reads = ap (λ (r : Result Leaf ℕ). node_or (result_ok r) v.bytes) reads
+
+newest_landed : (t : CloudState) (tree page : ℕ) (bytes : List ℕ) (n : Node) → newest t (object.Page tree page) ≡ Some bytes → ((v : Version) → v.bytes ≡ bytes → node_in v ≡ n)
+    → IsIn (nodes_of t tree page) n
+newest_landed t tree page bytes n is reads =
+    let vs : List Version = t.versions (object.Page tree page) in
+    let last = newest_last vs bytes is in
+    (length vs - 1, get_map node_in vs (length vs - 1) last.0 last.1 ∙ ap (λ (m : Node). Some m) (reads last.0 last.2))
+
+pub whole_landed : (t : CloudState) (tree page : ℕ) (bytes : List ℕ) (l : Leaf) → newest t (object.Page tree page) ≡ Some bytes → whole leaf bytes ≡ Ok l
+    → IsIn (nodes_of t tree page) (Leafy l)
+whole_landed t tree page bytes l is reads =
+    newest_landed t tree page bytes (Leafy l) is (λ v same. in_bytes v l (subst (λ (b : List ℕ). whole leaf b ≡ Ok l) (sym same) reads))
+
+-- what the get of a page brought landed there
+pub leaf_landed : (t : CloudState) (tree page : ℕ) (got : Option (List ℕ)) (l : Leaf) → newest t (object.Page tree page) ≡ got → HoldsLeaf tree page got (Ok l)
+    → (l ≡ empty_leaf) ⊎ IsIn (nodes_of t tree page) (Leafy l)
+leaf_landed t tree page None l is holds = on (page == 1) holds
+  where
+    on : (b : Bool) → ◌≡◌ {A = Result Leaf Trouble} (Ok l) (cond b (Ok empty_leaf) (Err (trouble.Absent page))) → (l ≡ empty_leaf) ⊎ IsIn (nodes_of t tree page) (Leafy l)
+    on true e = inl (cc (e))
+    on false e = absurd (cc (e))
+leaf_landed t tree page (Some bytes) l is (inl (m, spells, e)) =
+    let same : m ≡ l = cc (e) in
+    inr (subst (λ (x : Leaf). IsIn (nodes_of t tree page) (Leafy x)) same
+    (newest_landed t tree page bytes (Leafy m) is (λ v have. node_reads v (Leafy m) (subst (λ (b : List ℕ). IsLeaf b m) (sym have) spells))))
+leaf_landed t tree page (Some bytes) l is (inr (none, e)) = absurd (cc (e))
+
+-- so did the one that a link promised
+pub linked_landed : (t : CloudState) (tree page : ℕ) (low : List ℕ) (got : Option (List ℕ)) (l : Leaf) → newest t (object.Page tree page) ≡ got → HoldsLinked tree page low got (Ok l)
+    → (l ≡ empty_leaf) ⊎ IsIn (nodes_of t tree page) (Leafy l)
+linked_landed t tree page low got l is (plain, holds, e) = on plain holds e
+  where
+    on : (plain : Result Leaf Trouble) → HoldsLeaf tree page got plain → Ok l ≡ fenced page low plain → (l ≡ empty_leaf) ⊎ IsIn (nodes_of t tree page) (Leafy l)
+    on (Err k) holds e = absurd (cc (e))
+    on (Ok m) holds e = fits (bytes_same low m.low) e
+      where
+        fits : (b : Bool) → ◌≡◌ {A = Result Leaf Trouble} (Ok l) (cond b (Ok m) (Err (trouble.BadFence page low m.low))) → (l ≡ empty_leaf) ⊎ IsIn (nodes_of t tree page) (Leafy l)
+        fits true e = let same : m ≡ l = cc (e) in subst (λ (x : Leaf). (x ≡ empty_leaf) ⊎ IsIn (nodes_of t tree page) (Leafy x)) same (leaf_landed t tree page got m is holds)
+        fits false e = absurd (cc (e))
+
+-- ---- what is spent
+
+-- what a page checkpoint finds spent, a checkpoint of its tree does
+pub pages_in_tree : (tree : ℕ) (t : CloudState) (what : Counter) → IsSpentInPages tree t what → IsSpentInTree tree t what
+pages_in_tree tree t counter.Version page = inr page
+pages_in_tree tree t what never = absurd never
+
+-- what was told as spent is told so from then on
+module _ (s t : CloudState) (grown : HasAll s t) where
+  epoch_later : HasLastEpoch s → HasLastEpoch t
+  epoch_later is =
+      let vs : List Version = s.versions (object.Head is.client) in
+      record {
+        client = is.client;
+        version = is.version;
+        head = is.head;
+        landed = in_grown vs (t.versions (object.Head is.client)) is.version (grown (object.Head is.client)) is.landed;
+        reads = is.reads;
+        last = is.last;
+      }
+
+  last_page_later : (tree : ℕ) → HasLastPage s tree → HasLastPage t tree
+  last_page_later tree is = record { page = is.page; node = is.node; landed = page_later s t grown tree is.page is.node is.landed; last = is.last }
+
+  last_root_later : (tree : ℕ) → HasLastRoot s tree → HasLastRoot t tree
+  last_root_later tree is = record { root = is.root; landed = root_later s t grown tree is.root is.landed; last = is.last }
+
+  pub open_later : (what : Counter) → IsSpentToOpen s what → IsSpentToOpen t what
+  open_later counter.Epoch is = epoch_later is
+  open_later what is = absurd is
+
+  pub commit_later : (what : Counter) → IsSpentToCommit s what → IsSpentToCommit t what
+  commit_later counter.Txn is = is
+  commit_later counter.Number is = is
+  commit_later what is = absurd is
+
+  pub pages_later : (tree : ℕ) (what : Counter) → IsSpentInPages tree s what → IsSpentInPages tree t what
+  pages_later tree counter.Version is = last_page_later tree is
+  pages_later tree what is = absurd is
+
+  pub tree_later : (tree : ℕ) (what : Counter) → IsSpentInTree tree s what → IsSpentInTree tree t what
+  tree_later tree counter.Version (inl root) = inl (last_root_later tree root)
+  tree_later tree counter.Version (inr page) = inr (last_page_later tree page)
+  tree_later tree counter.Pages is = is
+  tree_later tree what is = absurd is
+
+  pub settle_later : (what : Counter) → IsSpentToSettle s what → IsSpentToSettle t what
+  settle_later what (inl is) = inl (open_later what is)
+  settle_later what (inr (tree, is)) = inr (tree, tree_later tree what is)

@@ -1,0 +1,183 @@
+-- Where a checkpoint of a tree finds a version spent, the cloud tells so: what is to be put next was got, or put by the checkpoint, and it landed.
+use Rattle.std.proofs.Common.{◌≡◌, ◌+◌, ◌≤◌, ◌==◌, ◌⊎◌, inl, inr, ℕ, true, false, List, [], ◌∷◌, length, map, drop, Option, Some, None, Result, Ok, Err, refl, sym, ap, subst, ◌∙◌, arith}
+use Rattle.std.specs.Prelude.{◌-◌, ◌&&◌, is_none, is_some, reverse, slice_get}
+use Rattle.std.proofs.lemmas.Bool.{eqb-true}
+use Rattle.std.proofs.lemmas.List.{length-reverse, length-map}
+use Rattle.byte_format.specs.Format.{greatest}
+use Rattle.cloud_facts.specs.Book.Records.{IsIn}
+use Rattle.cloud_facts.specs.Book.Tally.{Branch, Leafy, Store}
+use Rattle.cloud_facts.specs.Book.Telling.{nodes_of}
+use Rattle.cloud_trait.specs.Claim.{Claim}
+use Rattle.cloud_trait.specs.State.{CloudState, newest}
+use Rattle.db_base.specs.declared.names.ObjName.TheVariants as object
+use Rattle.db_base.specs.declared.trouble.Counter.{Counter}
+use Rattle.db_base.specs.declared.trouble.Counter.TheVariants as counter
+use Rattle.db_base.specs.declared.trouble.Trouble.{Trouble}
+use Rattle.db_base.specs.declared.trouble.Trouble.TheVariants as trouble
+use Rattle.leaf_fold.specs.declared.folding.Folding.{Folding}
+use Rattle.leaf_view.specs.Leaf.{Leaf}
+use Rattle.leaf_view.specs.Lookup.{empty_leaf}
+use Rattle.node_codec.specs.Inner.{Inner, inner_of}
+use Rattle.node_codec.specs.Tree.{Tree}
+use Rattle.node_codec.proofs.SpellingLaws.{inner_only}
+use Rattle.run_cursor.specs.Run.{Taken}
+use Rattle.session_facts.specs.Sessions.Spent.{HasLastPage, HasLastRoot, IsSpentInTree}
+use Rattle.session_facts.specs.Trees.Charts.{IsRootOf, KnowsChart, KnowsNode, KnowsRoot}
+use Rattle.session_facts.specs.Trees.Leaves.{KnowsLeaf}
+use Rattle.session_facts.specs.Trees.Risings.{IsLastVersion, PutsCut, PutsNode, PutsOf, whole as whole_root, cut, KnowsRising}
+use Rattle.session_facts.proofs.Sessions.Spending.{IsToldBy, last_leaf, whole_landed}
+use Rattle.session_facts.proofs.TreeCheckpoints.Meeting.{MeetsSpent, SpendsBehind, SpendsLeaf, SpendsUp}
+use Rattle.session_facts.proofs.Sessions.Showing.{IsFree}
+use Rattle.session_facts.proofs.Trees.RisingGrounds.{get_dropped}
+use Rattle.split_plan.specs.declared.put_list.PagePut.{PagePut}
+use Rattle.split_plan.specs.Part.{NodePart}
+use Rattle.split_plan.specs.Plan.{put_of, on_pages, node_bytes}
+use Rattle.tree_ckpt.specs.Due.{Due, LeafDue, NodeDue, RootDue, IsSpent, root_of, version_of}
+use Rattle.tree_moves.specs.Moves.{chart_of}
+use Rattle.tree_parts.specs.declared.chart.Chart.{Chart}
+use Rattle.tree_parts.specs.declared.kept.KeptNode.{KeptNode}
+use Rattle.tree_parts.specs.Placing.{root_after, puts_after, has_nothing}
+use Rattle.tree_parts.specs.Read.{tree_held}
+use Rattle.tree_parts.specs.Reserve.{version_spent}
+use Rattle.tree_rising.specs.declared.rising.Rising.{Rising}
+use Rattle.tree_rising.specs.Nodes.{touched_at}
+use Rattle.tree_rising.specs.Rising.{landed, next_touched, touched_node}
+use Rattle.tree_rising.specs.Rising as up
+
+-- no reservation is in hand where pages are put and the put in hand is the last
+none_reserved : (r : Rising) → 1 ≤ length r.placing.puts → has_nothing (landed r).placing ≡ true → r.placing.reserved ≡ None
+none_reserved r some nothing = on r.placing.reserved refl
+  where
+    on : (o : Option (List ℕ)) → r.placing.reserved ≡ o → r.placing.reserved ≡ None
+    on None e = e
+    on (Some bytes) e =
+        let left : (length (puts_after (Some bytes) r.placing.puts) == 0) ≡ true = subst (λ (x : Option (List ℕ)). (length (puts_after x r.placing.puts) == 0) ≡ true) e nothing in
+        let none : length r.placing.puts ≡ 0 = eqb-true (length r.placing.puts) 0 left in
+        absurd (omega (arith, none, some))
+
+-- as many pages are put as there are pieces
+puts_many : (page first : ℕ) (ps : List NodePart) (puts : List PagePut) → puts ≡ reverse (map (put_of node_bytes) (on_pages page first ps)) → length puts ≡ length (on_pages page first ps)
+puts_many page first ps puts e =
+    ap (λ (xs : List PagePut). length xs) e ∙ (length-reverse (map (put_of node_bytes) (on_pages page first ps)) ∙ length-map (on_pages page first ps) (put_of node_bytes))
+
+some_pages : (page first : ℕ) (ps : List NodePart) → 1 ≤ length ps → 1 ≤ length (on_pages page first ps)
+some_pages page first [] some = absurd (omega (arith, some))
+some_pages page first (p ∷ ps) some = omega arith
+
+module _ (st : Store) (now : ℕ) (t : CloudState) (tells : IsToldBy st t) (tree : ℕ) (lease : Claim) where
+  -- ---- what landed last
+
+  last_root : (root : Tree) → KnowsRoot st now lease tree root → root.version ≡ greatest → HasLastRoot t tree
+  last_root root k last = on k.landed
+    where
+      on : IsRootOf (st.tally.roots tree) root → HasLastRoot t tree
+      on (inl empty) = absurd (let none : 0 ≡ greatest = sym (ap (λ (x : Tree). x.version) empty) ∙ last in cc (none))
+      on (inr landed) = record { root = root; landed = tells.roots tree root landed; last = last }
+
+  last_node : (k : KeptNode) (n : Inner) → KnowsNode st now lease tree k → inner_of k.bytes ≡ Some n → n.version ≡ greatest → HasLastPage t tree
+  last_node k n known reads last =
+      let same : known.inner ≡ n = some_inner known.inner n (sym (inner_only k.bytes known.inner known.spells) ∙ reads) in
+      record { page = k.page; node = Branch n; landed = subst (λ (x : Inner). IsIn (nodes_of t tree k.page) (Branch x)) same (tells.pages tree k.page (Branch known.inner) known.landed); last = last }
+    where
+      some_inner : (a b : Inner) → Some a ≡ Some b → a ≡ b
+      some_inner a b e = cc
+
+  -- ---- what is due
+
+  module _ (Met : Trouble → Type 0) (free : (k : Trouble) → IsFree k → Met k) (own : (what : Counter) → IsSpentInTree tree t what → Met (trouble.Exhausted what)) where
+    due_spent : (due : Due) → KnowsRoot st now lease tree (root_of due) → (version_of due ≡ greatest → IsSpentInTree tree t counter.Version) → IsSpent due → IsSpentInTree tree t counter.Version
+    due_spent due root last (inl spent) = last spent
+    due_spent due root last (inr (reserves, spent)) = inl (last_root (root_of due) root spent)
+
+    meets_spent : (due : Due) → KnowsRoot st now lease tree (root_of due) → (version_of due ≡ greatest → IsSpentInTree tree t counter.Version) → MeetsSpent Met due
+    meets_spent due root last (trouble.Exhausted counter.Version) spent = own counter.Version (due_spent due root last spent)
+    meets_spent due root last (trouble.Exhausted counter.Pages) full = own counter.Pages tt
+    meets_spent due root last k never = absurd never
+
+    -- ---- a leaf
+
+    leaf_spent : (f : Folding) (page : ℕ) (l : Leaf) → KnowsRoot st now lease tree (tree_held f.chart.root) → (l ≡ empty_leaf) ⊎ IsIn (nodes_of t tree page) (Leafy l)
+        → MeetsSpent Met (LeafDue (tree_held f.chart.root) l f.chart.run.items)
+    leaf_spent f page l root there = meets_spent (LeafDue (tree_held f.chart.root) l f.chart.run.items) root (λ last. inr (last_leaf t tree page l there last))
+
+    -- whatever the get of the page brought
+    pub spends_leaf : (f : Folding) (ids : List ℕ) → f.chart.tree ≡ tree → KnowsLeaf st now lease f ids → (g : Result (Option (List ℕ)) Trouble)
+        → ((got : Option (List ℕ)) → g ≡ Ok got → newest t (object.Page tree f.page) ≡ got) → SpendsLeaf Met free f g
+    spends_leaf f ids same known g told = on g told
+      where
+        root_of_leaf : KnowsLeaf st now lease f ids → KnowsRoot st now lease f.chart.tree (tree_held f.chart.root)
+        root_of_leaf (inl reading) = reading.at.chart.root
+        root_of_leaf (inr putting) = putting.root
+
+        root : KnowsRoot st now lease tree (tree_held f.chart.root)
+        root = subst (λ (n : ℕ). KnowsRoot st now lease n (tree_held f.chart.root)) same (root_of_leaf known)
+
+        on : (g : Result (Option (List ℕ)) Trouble) → ((got : Option (List ℕ)) → g ≡ Ok got → newest t (object.Page tree f.page) ≡ got) → SpendsLeaf Met free f g
+        on (Ok (Some bytes)) told = λ l reads. leaf_spent f f.page l root (inr (whole_landed t tree f.page bytes l (told (Some bytes) refl) reads))
+        on (Ok None) told = leaf_spent f f.page empty_leaf root (inl refl)
+        on (Err k) told = tt
+
+    -- ---- the way up
+
+    pub spends_up : (r : Rising) → KnowsRoot st now lease tree (tree_held r.chart.root) → ((k : KeptNode) → touched_node r ≡ Some k → KnowsNode st now lease tree k) → SpendsUp Met free r
+    spends_up r root nodes = record {
+      node = λ k next n reads. meets_spent (NodeDue (tree_held r.chart.root) n r.chart.links) root (λ last. inr (last_node k n (nodes k next) reads last));
+      root = meets_spent (RootDue (tree_held r.chart.root) r.chart.links r.chart.run.top) root (λ last. inl (last_root (tree_held r.chart.root) root last));
+    }
+
+    -- behind the last leaf
+    pub spends_begun : (c : Chart) → c.tree ≡ tree → KnowsChart st now lease c → SpendsUp Met free (up.begun c)
+    spends_begun c same k =
+        spends_up (up.begun c) (subst (λ (n : ℕ). KnowsRoot st now lease n (tree_held c.root)) same k.root)
+        (λ kept next. subst (λ (n : ℕ). KnowsNode st now lease n kept) same (k.nodes kept (next_touched (up.begun c), next)))
+
+    -- a chart without nodes
+    pub spends_bare : (root : Option (List ℕ)) (run : Taken) → KnowsRoot st now lease tree (tree_held root) → SpendsUp Met free (up.begun (chart_of tree root run))
+    spends_bare root run known = spends_up (up.begun (chart_of tree root run)) known (λ kept next. absurd (never (next_touched (up.begun (chart_of tree root run))) kept next))
+      where
+        never : (n : ℕ) (kept : KeptNode) → slice_get [] n ≡ Some kept → ⊥
+        never n kept e = cc (e)
+
+    -- behind a put
+    pub spends_behind : (r : Rising) (ids : List ℕ) → r.chart.tree ≡ tree → KnowsRising st now lease r ids → SpendsBehind Met free r
+    spends_behind r ids same k = record { short = λ some nothing last spent. short r.last k.puts refl some nothing last spent; between = λ nothing none. between nothing none }
+      where
+        known_root : KnowsRoot st now lease tree (tree_held r.chart.root)
+        known_root = subst (λ (n : ℕ). KnowsRoot st now lease n (tree_held r.chart.root)) same k.root
+
+        -- the reservation of a cut landed, and took the last version
+        cut_short : (bytes : List ℕ) → PutsCut st now lease r bytes → has_nothing (landed r).placing ≡ true → r.is_spent ≡ true → Met version_spent
+        cut_short bytes p nothing spent =
+            let many : length r.placing.puts ≡ length (on_pages p.first (p.first + 1) p.middle) = puts_many p.first (p.first + 1) p.middle r.placing.puts p.puts_are in
+            let some = some_pages p.first (p.first + 1) p.middle (p.left spent) in
+            let none : r.placing.reserved ≡ None = none_reserved r (omega (arith, many, some)) nothing in
+            own counter.Version (inl (last_root (tree_held r.chart.root) known_root (subst (IsLastVersion (tree_held r.chart.root)) none (p.spent spent))))
+
+        short : (last : Option (List ℕ)) → PutsOf st now lease r last → r.last ≡ last → has_nothing r.placing ≡ false → has_nothing (landed r).placing ≡ true → is_some r.last ≡ true
+            → r.is_spent ≡ true → Met version_spent
+        short None p e some nothing last spent = absurd (let none : is_some r.last ≡ false = ap (λ (o : Option (List ℕ)). is_some o) e in cc (none, last))
+        short (Some bytes) (whole_root p) e some nothing last spent =
+            absurd (let none : has_nothing r.placing ≡ true = both p.nothing_reserved p.no_page in cc (none, some))
+          where
+            both : r.placing.reserved ≡ None → r.placing.puts ≡ [] → has_nothing r.placing ≡ true
+            both f g = ap (λ (o : Option (List ℕ)). is_none o && (length r.placing.puts == 0)) f ∙ ap (λ (l : List PagePut). length l == 0) g
+        short (Some bytes) (cut p) e some nothing last spent = cut_short bytes p nothing spent
+
+        between : has_nothing (landed r).placing ≡ true → r.last ≡ None → SpendsUp Met free (landed r)
+        between nothing none =
+            spends_up (landed r) (subst (KnowsRoot st now lease tree) (sym held) known_root)
+            (λ kept next.
+            subst (λ (n : ℕ). KnowsNode st now lease n kept) same
+            (p.nodes kept (touched_at r.chart.tree r.chart.links (drop r.at r.chart.nodes), get_dropped r.at (touched_at r.chart.tree r.chart.links (drop r.at r.chart.nodes)) r.chart.nodes kept next)))
+          where
+            p : PutsNode st now lease r
+            p = subst (PutsOf st now lease r) none k.puts
+
+            many : length r.placing.puts ≡ length (on_pages p.kept.page p.first (p.placing.front ∷ p.placing.middle))
+            many = puts_many p.kept.page p.first (p.placing.front ∷ p.placing.middle) r.placing.puts p.placing.puts_are
+
+            some : 1 ≤ length r.placing.puts
+            some = let e = many in omega (arith, e)
+
+            held : tree_held (landed r).chart.root ≡ tree_held r.chart.root
+            held = ap (λ (o : Option (List ℕ)). tree_held (root_after o r.chart.root)) (none_reserved r some nothing)

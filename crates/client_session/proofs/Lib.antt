@@ -1,2 +1,3 @@
+pub mod BrokenOff
 pub mod Phases
 pub mod Stepped

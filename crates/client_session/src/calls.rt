@@ -42,6 +42,10 @@ impl<H: Hand> SessionCalls for Session<H> {
         Session::crash(self);
     }
 
+    fn break_off(&mut self) {
+        Session::break_off(self);
+    }
+
     fn begin(&mut self, alloc: Global, op: Op) -> Result<Begun, Refused> {
         Session::begin(self, alloc, op)
     }

@@ -58,6 +58,7 @@ impl<H: Hand> Model for Session<H> {
 }
 
 impl<H: Hand> Session<H> {
+    ghost use Rattle.client_work.specs.BrokenOff.{broken_off};
     ghost use Rattle.client_work.specs.Session.{Acting, closed_session, rule_of, NoteRefused, AbortRefused, Begins, StepsSession, settling_session, ask_of_work, committing_of, opens_of, applying_of, value_of, items_of};
 
     /// A closed session without changes. Refused for memory alone.
@@ -122,6 +123,18 @@ impl<H: Hand> Session<H> {
         self.buffer.clear();
         self.cache.clear();
         self.work = H::closed();
+        self.shown = Shown::Nothing;
+    }
+
+    /// Breaks off what the session has in hand, as want of memory does: of an open client its lease is left, and nothing of an
+    /// opening, a close or a settling. No call is made.
+    pub fn break_off(&mut self)
+        ensures { self.new ≡ broken_off self.old }
+    {
+        self.work.phase().drop_noted(&mut self.buffer);
+        let work = mem::replace(&mut self.work, H::closed());
+        self.work = work.break_off();
+        self.work.phase().drop_kept(&mut self.cache);
         self.shown = Shown::Nothing;
     }
 

@@ -1,3 +1,4 @@
+pub mod BrokenOff
 pub mod Left
 pub mod Opening
 pub mod Phase

@@ -4,6 +4,7 @@ ghost use Rattle.std.specs.Prelude.{◌≡◌, ◌≤◌, [], length, None, IfOk
 ghost use Rattle.std.specs.Option.{option_map, option_copied};
 ghost use Rattle.cloud_trait.specs.Call.{ask_of};
 ghost use Rattle.txn_buffer.specs.Noted.{noted_in};
+ghost use Rattle.client_work.specs.BrokenOff.{broken_off};
 ghost use Rattle.client_work.specs.Session.{Acting, closed_session, settling_session, rule_of, NoteRefused, AbortRefused, Begins, StepsSession, ask_of_work, committing_of, opens_of, applying_of, value_of, items_of};
 
 use crate::answer::{Answer, Begun};
@@ -53,6 +54,11 @@ pub trait SessionCalls: Drop {
     /// Closes the session at once, whatever it has in hand: no call is made, and leases run out by themselves.
     fn crash(&mut self)
         ensures { acting self.new ≡ closed_session };
+
+    /// Breaks off what the session has in hand, as want of memory does: of an open client its lease is left, and nothing of an
+    /// opening, a close or a settling. No call is made.
+    fn break_off(&mut self)
+        ensures { acting self.new ≡ broken_off (acting self.old) };
 
     /// Begins an operation. A refusal changes nothing.
     fn begin(&mut self, alloc: Global, op: Op) -> Result<Begun, Refused>

@@ -102,7 +102,7 @@ fn committed(answer: &CommitAnswer, machine: CommitRun) -> Rest
 }
 
 /// A client in doubt: its lease alone is left.
-fn broken(machine: CommitRun) -> Rest
+pub(crate) fn broken(machine: CommitRun) -> Rest
     ensures { at_rest result ≡ work.Broken (home_of_run machine).lease }
 {
     Rest::Broken(machine.finish().into_lease())

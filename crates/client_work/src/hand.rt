@@ -6,6 +6,7 @@ ghost use Rattle.cloud_trait.specs.Call.{ask_of};
 ghost use Rattle.settle_run.specs.Settling.{new_settling};
 ghost use Rattle.client_work.specs.declared.work.Work.{Work};
 ghost use Rattle.client_work.specs.declared.work.Work.TheVariants.{Closed, Settling};
+ghost use Rattle.client_work.specs.BrokenOff.{broken_work};
 ghost use Rattle.client_work.specs.Phase.{BeginsAt, bar_of, phase_of};
 ghost use Rattle.client_work.specs.Session.{ShowsAt, StepsAt, ask_of_work, committing_of, opens_of, applying_of, value_in, is_working};
 
@@ -77,6 +78,10 @@ pub trait Hand: Drop {
     ) -> (Self, Shown, Begun)
         requires { bar_of op (work self) ≡ None }
         ensures { BeginsAt op buffer.old (work self) cache.old buffer.new (work result.0) cache.new result.1 result.2 };
+
+    /// What is left in hand once this is broken off: of an open client its lease, and nothing of an opening, a close or a settling.
+    fn break_off(self) -> Self
+        ensures { work result ≡ broken_work (work self) };
 
     /// Makes the call in hand of what is at work, where so much is noted: what that shows, and what it came to.
     fn step<C: Cloud>(

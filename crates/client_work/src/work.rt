@@ -4,7 +4,7 @@ ghost use Rattle.client_work.specs.Session.{ShowsAt, StepsAt, ended_by, is_other
 
 use crate::answer::{Answer, Begun};
 use crate::closing::step_close;
-use crate::committing::{advance, commit_noted, left_by};
+use crate::committing::{advance, broken, commit_noted, left_by};
 use crate::folding::{fold, left_by_fold};
 use crate::hand::Hand;
 use crate::left::{Left, Rest};
@@ -255,6 +255,26 @@ impl Hand for Work {
                 let work = Work::Folding(self.into_home(), machine);
                 (work, Shown::Nothing, Begun::Working)
             }
+        }
+    }
+
+    fn break_off(self) -> Work {
+        match self {
+            Work::Idle(home) => Work::Broken(home.into_lease()),
+            Work::Committing(machine) => resting(broken(machine)),
+            Work::Reading(home, _) => Work::Broken(home.into_lease()),
+            Work::Scanning(home, _) => Work::Broken(home.into_lease()),
+            Work::Paging(home, machine) => {
+                drop_paging(machine);
+                Work::Broken(home.into_lease())
+            }
+            Work::Folding(home, _) => Work::Broken(home.into_lease()),
+            Work::Renewing(home) => Work::Broken(home.into_lease()),
+            Work::Broken(lease) => Work::Broken(lease),
+            Work::Closed => Work::Closed,
+            Work::Opening(_) => Work::Closed,
+            Work::Closing(_) => Work::Closed,
+            Work::Settling(_) => Work::Closed,
         }
     }
 

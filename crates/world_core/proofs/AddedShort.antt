@@ -3,6 +3,7 @@ use Rattle.std.proofs.Common.{◌≡◌, ◌+◌, ℕ, List, [], ◌∷◌, ◌+
 use Rattle.cloud_trait.specs.Caller.{Caller}
 use Rattle.cloud_trait.specs.Seen.{Seen}
 use Rattle.cloud_trait.specs.State.{CloudState}
+use Rattle.client_work.specs.declared.answer.Answer.{Answer}
 use Rattle.client_work.specs.Session.{settling_session}
 use Rattle.db_base.specs.declared.wish.Wish.{Wish}
 use Rattle.db_base.specs.declared.wish.Wish.TheVariants.{Plain}
@@ -25,7 +26,7 @@ use Rattle.world_core.specs.declared.asked.Request.TheVariants.{Begin, Note, Abo
 use Rattle.world_core.specs.declared.world.WorldFault.{WorldFault}
 use Rattle.world_core.specs.Added.{WorldAdds}
 use Rattle.world_core.specs.Asked.{Asks}
-use Rattle.world_core.specs.Handled.{Has, RunsShort, MakesStep, StopsShort, Runs, SettlesOn, Settles, Crashes, Does, Answers, Handled}
+use Rattle.world_core.specs.Handled.{Has, FallsShort, RunsShort, StepsTo, MakesStep, StopsShort, ComesTo, RunsTo, Runs, SettlesOn, Settles, Crashes, Does, Answers, Handled}
 use Rattle.world_core.proofs.AddedSteps.{IsAdding, SettlerAdds, adding_begins, begun_way, rows_called, rows_seen, rows_stay, rows_stepped, settler_rows, settler_rows_called, settler_went, went_adding}
 use Rattle.world_core.proofs.StandsLemmas.{settler}
 
@@ -36,8 +37,11 @@ module _ (lines : List Line) (first : CloudState) (who : Caller) (number : who.e
   Rows seen = AddsTo (length lines + 1) lines first seen
 
   short_rows : (wish : Wish) (before after : Seen) (old new : World) → IsAdding lines first old before → RunsShort who wish before after old new → Rows after
-  short_rows wish before after old new way (inl un) = rows_stay (length lines + 1) lines first before after un.looked.stays way.rows
-  short_rows wish before after old new way (inr p) = rows_called lines first who wish before p.from p.under p.to after old new p.turn number way p.look_before p.wishes p.session p.look_after
+  short_rows wish before after old new way s = falls s.falls
+    where
+      falls : FallsShort who wish before after old s.left → Rows after
+      falls (inl un) = rows_stay (length lines + 1) lines first before after un.looked.stays way.rows
+      falls (inr p) = rows_called lines first who wish before p.from p.under p.to after old s.left p.turn number way p.look_before p.wishes p.session p.look_after
 
   stops_rows : (before after : Seen) (old new : World) → IsAdding lines first old before → StopsShort who before after old new → Rows after
   stops_rows before after old new way s = short_rows Plain s.mid after s.world new (went_adding lines first who before old s.mid s.world number way s.went) s.short
@@ -53,16 +57,27 @@ module _ (lines : List Line) (first : CloudState) (n : ℕ) (before after : Seen
   as_seen : after ≡ before → RowsNow
   as_seen same = rows_seen (length lines + 1) lines first before after same way.rows
 
+  made_rows : (k : ℕ) (wish : Wish) (r : Result Reply WorldFault) → StepsTo n k wish before after old new r → RowsNow
+  made_rows k wish (Ok reply) step = rows_stepped lines first _ wish before after old new step.turn (sym number) way step.steps
+  made_rows k wish (Err why) step = rows_stepped lines first _ wish before after old step.left step.turn (sym number) way step.steps
+
   step_rows : (k : ℕ) (wish : Wish) → MakesStep n k wish before after old new result → RowsNow
   step_rows k wish (inl refuses) = as_seen refuses.declines.seen
-  step_rows k wish (inr (inl step)) = rows_stepped lines first _ wish before after old new step.turn (sym number) way step.steps
+  step_rows k wish (inr (inl step)) = made_rows k wish result step
   step_rows k wish (inr (inr memory)) = short_rows lines first _ (sym number) wish before after old new way memory.1
+
+  came_rows : (k : ℕ) (left : World) (answer : Answer) → ComesTo (record { session = k; event = n }) before after old left answer → RowsNow
+  came_rows k left answer comes =
+      rows_stepped lines first _ Plain comes.mid after comes.world left _ (sym number)
+      (went_adding lines first _ before old comes.mid comes.world (sym number) way comes.went) comes.steps
+
+  ran_rows : (k : ℕ) (r : Result Reply WorldFault) → RunsTo n k before after old new r → RowsNow
+  ran_rows k (Ok reply) run = came_rows k new run.answer run.comes
+  ran_rows k (Err why) run = came_rows k run.left run.answer run.comes
 
   run_rows : (k : ℕ) → Runs n k before after old new result → RowsNow
   run_rows k (inl refuses) = as_seen refuses.declines.seen
-  run_rows k (inr (inl run)) =
-      rows_stepped lines first _ Plain run.comes.mid after run.comes.world new _ (sym number)
-      (went_adding lines first _ before old run.comes.mid run.comes.world (sym number) way run.comes.went) run.comes.steps
+  run_rows k (inr (inl run)) = ran_rows k result run
   run_rows k (inr (inr memory)) = stops_rows lines first _ (sym number) before after old new way memory.1
 
   crash_rows : (k : ℕ) (done : Bool) → Crashes n k done before after old new result → RowsNow
@@ -98,9 +113,12 @@ module _ (lines : List Line) (first : CloudState) (n : ℕ) (before after : Seen
       begun_so = begun_way lines first n r before old begun number w begins
 
       short : (mid : Seen) (world left : World) → SettlerAdds n all first others world mid → RunsShort (settler n) Plain mid after world left → AddsTo n all first after
-      short mid world left so (inl un) = rows_stay n all first mid after un.looked.stays so.rows
-      short mid world left so (inr p) =
-          settler_rows_called n all first others row mid p.from p.under p.to after world left p.turn so p.look_before p.wishes p.session p.look_after
+      short mid world left so s = falls s.falls
+        where
+          falls : FallsShort (settler n) Plain mid after world s.left → AddsTo n all first after
+          falls (inl un) = rows_stay n all first mid after un.looked.stays so.rows
+          falls (inr p) =
+              settler_rows_called n all first others row mid p.from p.under p.to after world s.left p.turn so p.look_before p.wishes p.session p.look_after
 
       by_end : SettlesOn (settler n) before after begun new result → AddsTo n all first after
       by_end (inl s) =

@@ -72,10 +72,10 @@ refused_is r rule e = cc
 -- ---- an operation begins
 
 -- the operation of a line keeps what stands
-begun_stands : (lines : List Line) (event : Event) (k : ℕ) (before after : Seen) (old new : World) (t : CloudState) (o : Op) (result : Result Reply WorldFault) → IsRightOp o
-    → (ready : Ready lines event k before after old new t) → (c : Changes k (BeginsOp o result) old.sessions new.sessions)
+begun_stands : (lines : List Line) (event : Event) (k : ℕ) (before after : Seen) (old new : World) (t : CloudState) (o : Op) (r : Reply) → IsRightOp o
+    → (ready : Ready lines event k before after old new t) → (c : Changes k (BeginsOp o (Ok r)) old.sessions new.sessions)
     → SessionsStand ready.stands.holds.book ready.stands.holds.order t (at k c.after (session_at old.sessions))
-begun_stands lines event k before after old new t o result right ready c =
+begun_stands lines event k before after old new t o r right ready c =
     begins_keeps o ready.stands.holds.book ready.stands.holds.order t (session_at old.sessions) k c.after c.does.begun right ready.stands.holds.stand
     (subst (λ a. Begins o a c.after c.does.begun) (sym (changed_was k _ old.sessions new.sessions c)) c.does.begins)
 
@@ -273,7 +273,7 @@ pub opening_begun : (lines : List Line) (k client : ℕ) (r : Reply) (before aft
     → LineLeaves (lines ++ line_of (event.Open k client) r ∷ []) new after r
 opening_begun lines k client r before after old new t is ready c =
     let left = opens k client r lines c.before c.after c.does.begun (acts_before lines (event.Open k client) k before after old new t _ ready c) c.does.begins c.does.replies in
-    quiet_line lines (event.Open k client) r k before after old new t _ ready c (begun_stands lines (event.Open k client) k before after old new t (op.Open client) (Ok r) is ready c) left.0 left.1
+    quiet_line lines (event.Open k client) r k before after old new t _ ready c (begun_stands lines (event.Open k client) k before after old new t (op.Open client) r is ready c) left.0 left.1
 
 -- .. and leaves what stands
 module _ (lines : List Line) (event : Event) (k : ℕ) (r : Reply) (before after : Seen) (old new : World) (t : CloudState) (ready : Ready lines event k before after old new t) where
@@ -282,7 +282,7 @@ module _ (lines : List Line) (event : Event) (k : ℕ) (r : Reply) (before after
       → BeginsWith (λ home. HasInHand c.before (own home)) c.before c.after c.does.begun → LineLeaves (lines ++ line_of event r ∷ []) new after r
   in_hand_begun o own right c stands begins =
       let left = has_in_hand event k r lines own c.before c.after c.does.begun (acts_before lines event k before after old new t _ ready c) stands begins c.does.replies in
-      quiet_line lines event r k before after old new t _ ready c (begun_stands lines event k before after old new t o (Ok r) right ready c) left.0 left.1
+      quiet_line lines event r k before after old new t _ ready c (begun_stands lines event k before after old new t o r right ready c) left.0 left.1
 
   -- how a session that changes has its buffer
   same_buffer : (o : Op) → (c : Changes k (BeginsOp o (Ok r)) old.sessions new.sessions) → c.before.buffer ≡ (standing lines k).buffer
@@ -321,7 +321,7 @@ pub commit_begun : (lines : List Line) (k : ℕ) (r : Reply) (before after : See
     → LineLeaves (lines ++ line_of (event.Commit k) r ∷ []) new after r
 commit_begun lines k r before after old new t ready c =
     let left = commits k r lines c.before c.after c.does.begun (acts_before lines (event.Commit k) k before after old new t _ ready c) c.does.begins c.does.replies in
-    quiet_line lines (event.Commit k) r k before after old new t _ ready c (begun_stands lines (event.Commit k) k before after old new t op.Commit (Ok r) tt ready c) left.0 left.1
+    quiet_line lines (event.Commit k) r k before after old new t _ ready c (begun_stands lines (event.Commit k) k before after old new t op.Commit r tt ready c) left.0 left.1
 
 pub read_begun : (lines : List Line) (k tree : ℕ) (key : List ℕ) (r : Reply) (before after : Seen) (old new : World) (t : CloudState) → IsTree tree
     → Ready lines (event.Read k tree key) k before after old new t → Changes k (BeginsOp (op.Read tree key) (Ok r)) old.sessions new.sessions
@@ -329,7 +329,7 @@ pub read_begun : (lines : List Line) (k tree : ℕ) (key : List ℕ) (r : Reply)
 read_begun lines k tree key r before after old new t is ready c =
     let left = reads k tree key r lines c.before c.after c.does.begun (acts_before lines (event.Read k tree key) k before after old new t _ ready c) c.does.begins c.does.replies in
     quiet_line lines (event.Read k tree key) r k before after old new t _ ready c
-    (begun_stands lines (event.Read k tree key) k before after old new t (op.Read tree key) (Ok r) is ready c) left.0 left.1
+    (begun_stands lines (event.Read k tree key) k before after old new t (op.Read tree key) r is ready c) left.0 left.1
 
 pub scan_begun : (lines : List Line) (k tree : ℕ) (first last : List ℕ) (r : Reply) (before after : Seen) (old new : World) (t : CloudState) → IsTree tree
     → Ready lines (event.Scan k tree first last) k before after old new t → Changes k (BeginsOp (op.Scan tree (bound_of first) (bound_of last)) (Ok r)) old.sessions new.sessions
@@ -337,7 +337,7 @@ pub scan_begun : (lines : List Line) (k tree : ℕ) (first last : List ℕ) (r :
 scan_begun lines k tree first last r before after old new t is ready c =
     let left = scans k tree first last r lines c.before c.after c.does.begun (acts_before lines (event.Scan k tree first last) k before after old new t _ ready c) c.does.begins c.does.replies in
     quiet_line lines (event.Scan k tree first last) r k before after old new t _ ready c
-    (begun_stands lines (event.Scan k tree first last) k before after old new t (op.Scan tree (bound_of first) (bound_of last)) (Ok r) is ready c) left.0 left.1
+    (begun_stands lines (event.Scan k tree first last) k before after old new t (op.Scan tree (bound_of first) (bound_of last)) r is ready c) left.0 left.1
 
 -- ---- changes are noted and dropped
 

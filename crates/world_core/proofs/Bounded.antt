@@ -22,8 +22,8 @@ use Rattle.world_core.specs.declared.asked.Request.{Request}
 use Rattle.world_core.specs.declared.asked.Request.TheVariants.{Begin, Note, Abort, Step, Run, Crash}
 use Rattle.world_core.specs.World.{World}
 use Rattle.world_core.specs.declared.world.WorldFault.{WorldFault}
-use Rattle.world_core.specs.Bounded.{steps_of, WereFew, StepsSoon, RunsSoon, CrashesSoon, DoesSoon, ServesSoon, AnswersSoon, MakesFewCalls}
-use Rattle.world_core.specs.Handled.{StepsLooked, MakesStep, Runs, Crashes, Does, Serves, Answers}
+use Rattle.world_core.specs.Bounded.{steps_of, WereFew, WasSoon, StepsSoon, CameSoon, RanSoon, RunsSoon, CrashesSoon, DoesSoon, ServesSoon, AnswersSoon, MakesFewCalls}
+use Rattle.world_core.specs.Handled.{StepsLooked, StepsTo, MakesStep, ComesTo, RunsTo, Runs, Crashes, Does, Serves, Answers}
 use Rattle.world_core.specs.Stands.{WorldStands}
 
 module _ (lines : List Line) (n : ℕ) (before after : Seen) (old new : World) (result : Result Reply WorldFault) (t : CloudState) (number : length lines + 1 ≡ n) (told : before.state ≡ Some t)
@@ -45,21 +45,31 @@ module _ (lines : List Line) (n : ℕ) (before after : Seen) (old new : World) (
         few_of lines who (sym number) (calls_told lines) wish before after old world turn way p (calls_told lines k)
         (begins_own lines k old way.after all_way) last seen
 
+    was_soon : (wish : Wish) (r : Result Reply WorldFault) (h : StepsTo n k wish before after old new r) → WasSoon lines n k wish before after old new r h
+    was_soon wish (Ok reply) made = one_few wish new made.turn made.steps
+    was_soon wish (Err why) made = one_few wish made.left made.turn made.steps
+
     steps_soon : (wish : Wish) (h : MakesStep n k wish before after old new result) → StepsSoon lines n k wish before after old new result h
     steps_soon wish (inl refused) = tt
-    steps_soon wish (inr (inl made)) = one_few wish new made.turn made.steps
+    steps_soon wish (inr (inl made)) = was_soon wish result made
     steps_soon wish (inr (inr memory)) = tt
 
-    runs_soon : (h : Runs n k before after old new result) → RunsSoon lines n k before after old new result h
-    runs_soon (inl refused) = tt
-    runs_soon (inr (inl run)) = λ last seen.
-        let c = run.comes in
+    came_soon : (left : World) (answer : Answer) (c : ComesTo who before after old left answer) → CameSoon lines n k before after old left answer c
+    came_soon left answer c = λ last seen.
         let gone = went_on lines who before old c.mid c.world (sym number) way c.went in
         let sum : (calls_told lines k + steps_of who before old c.mid c.world c.went) + 1 ≡ calls_told lines k + (steps_of who before old c.mid c.world c.went + 1) = omega arith in
         subst (λ (calls : ℕ). FewFor calls last c.steps.session.before.work) sum
-        (few_of lines who (sym number) (calls_told lines) Plain c.mid after c.world new (Ended run.answer) gone c.steps
+        (few_of lines who (sym number) (calls_told lines) Plain c.mid after c.world left (Ended answer) gone c.steps
         (calls_told lines k + steps_of who before old c.mid c.world c.went)
         (went_counts lines who (sym number) (calls_told lines) before old c.mid c.world way all_way c.went gone.after gone.told) last seen)
+
+    ran_soon : (r : Result Reply WorldFault) (h : RunsTo n k before after old new r) → RanSoon lines n k before after old new r h
+    ran_soon (Ok reply) run = came_soon new run.answer run.comes
+    ran_soon (Err why) run = came_soon run.left run.answer run.comes
+
+    runs_soon : (h : Runs n k before after old new result) → RunsSoon lines n k before after old new result h
+    runs_soon (inl refused) = tt
+    runs_soon (inr (inl run)) = ran_soon result run
     runs_soon (inr (inr memory)) = tt
 
     crashes_soon : (done : Bool) (h : Crashes n k done before after old new result) → CrashesSoon lines n k done before after old new result h

@@ -17,8 +17,8 @@ use Rattle.world_core.specs.declared.asked.Request.{Request}
 use Rattle.world_core.specs.declared.asked.Request.TheVariants.{Begin, Note, Abort, Step, Run, Crash}
 use Rattle.world_core.specs.World.{World}
 use Rattle.world_core.specs.declared.world.WorldFault.{WorldFault}
-use Rattle.world_core.specs.EachStep.{StepFact, EachWent, EachMade, EachRun, EachCrashed, EachSettling, EachDone, EachServed, EachAsked}
-use Rattle.world_core.specs.Handled.{StepsLooked, MakesStep, Went, start, further, Runs, Settles, Crashes, Does, Serves, Answers}
+use Rattle.world_core.specs.EachStep.{StepFact, EachWent, EachCome, EachTold, EachMade, EachRunTold, EachRun, EachCrashed, EachSettling, EachDone, EachServed, EachAsked}
+use Rattle.world_core.specs.Handled.{StepsLooked, StepsTo, MakesStep, Went, start, further, ComesTo, RunsTo, Runs, Settles, Crashes, Does, Serves, Answers}
 use Rattle.world_core.specs.Stands.{WorldStands}
 use Rattle.world_core.proofs.StandsLemmas.{IsUnderWay, way_begins, went_on}
 
@@ -43,18 +43,29 @@ module _ (Holds : StepFact) (lines : List Line)
     abbrev who : ℕ → Caller
     who k = record { session = k; event = n }
 
+    told_each : (k : ℕ) (wish : Wish) (r : Result Reply WorldFault) (h : StepsTo n k wish before after old new r) → EachTold Holds n k wish before after old new r h
+    told_each k wish (Ok reply) made = own (who k) wish before after old new made.turn (sym number) way made.steps
+    told_each k wish (Err why) made = own (who k) wish before after old made.left made.turn (sym number) way made.steps
+
     made_each : (k : ℕ) (wish : Wish) (h : MakesStep n k wish before after old new result) → EachMade Holds n k wish before after old new result h
     made_each k wish (inl refused) = tt
-    made_each k wish (inr (inl made)) = own (who k) wish before after old new made.turn (sym number) way made.steps
+    made_each k wish (inr (inl made)) = told_each k wish result made
     made_each k wish (inr (inr memory)) = tt
+
+    come_each : (k : ℕ) (left : World) (answer : Answer) (comes : ComesTo (who k) before after old left answer) → EachCome Holds (who k) before after old left answer comes
+    come_each k left answer comes = (
+      went_each (who k) before old comes.mid comes.world (sym number) way comes.went,
+      own (who k) Plain comes.mid after comes.world left (Ended answer) (sym number)
+          (went_on lines (who k) before old comes.mid comes.world (sym number) way comes.went) comes.steps,
+    )
+
+    ran_each : (k : ℕ) (r : Result Reply WorldFault) (h : RunsTo n k before after old new r) → EachRunTold Holds n k before after old new r h
+    ran_each k (Ok reply) run = come_each k new run.answer run.comes
+    ran_each k (Err why) run = come_each k run.left run.answer run.comes
 
     run_each : (k : ℕ) (h : Runs n k before after old new result) → EachRun Holds n k before after old new result h
     run_each k (inl refused) = tt
-    run_each k (inr (inl run)) = (
-      went_each (who k) before old run.comes.mid run.comes.world (sym number) way run.comes.went,
-      own (who k) Plain run.comes.mid after run.comes.world new (Ended run.answer) (sym number)
-          (went_on lines (who k) before old run.comes.mid run.comes.world (sym number) way run.comes.went) run.comes.steps,
-    )
+    run_each k (inr (inl run)) = ran_each k result run
     run_each k (inr (inr memory)) = tt
 
     crash_each : (k : ℕ) (done : Bool) (h : Crashes n k done before after old new result) → EachCrashed Holds n k done before after old new result h

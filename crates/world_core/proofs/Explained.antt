@@ -27,9 +27,9 @@ use Rattle.world_core.specs.declared.asked.Request.{Request}
 use Rattle.world_core.specs.declared.asked.Request.TheVariants.{Begin, Note, Abort, Step, Run, Crash}
 use Rattle.world_core.specs.World.{World}
 use Rattle.world_core.specs.declared.world.WorldFault.{WorldFault}
-use Rattle.world_core.specs.EachStep.{EachWent, EachCome, EachMade, EachRun, EachCrashed, EachSettlingOn, EachSettling, EachDone, EachServed, EachAsked}
+use Rattle.world_core.specs.EachStep.{EachWent, EachCome, EachTold, EachMade, EachRunTold, EachRun, EachCrashed, EachSettlingOn, EachSettling, EachDone, EachServed, EachAsked}
 use Rattle.world_core.specs.Explained.{StepExplains, ExplainsSteps}
-use Rattle.world_core.specs.Handled.{StepsLooked, MakesStep, Went, start, further, ComesTo, Runs, SettlesOn, Settles, Crashes, Does, Serves, Answers}
+use Rattle.world_core.specs.Handled.{StepsLooked, StepsTo, MakesStep, Went, start, further, ComesTo, RunsTo, Runs, SettlesOn, Settles, Crashes, Does, Serves, Answers}
 use Rattle.world_core.proofs.Behind.{LinesStand}
 use Rattle.world_core.proofs.StandsLemmas.{IsUnderWay, changed_was, way_begins, told_under, went_on, SettlerGoes, settler, settler_went, settler_begins}
 
@@ -76,18 +76,29 @@ module _ (lines : List Line) where
     abbrev who : ℕ → Caller
     who k = record { session = k; event = n }
 
+    told_explains : (k : ℕ) (wish : Wish) (r : Result Reply WorldFault) (h : StepsTo n k wish before after old new r) → EachTold StepExplains n k wish before after old new r h
+    told_explains k wish (Ok reply) made = own_explains (who k) wish before after old new made.turn (sym number) way made.steps
+    told_explains k wish (Err why) made = own_explains (who k) wish before after old made.left made.turn (sym number) way made.steps
+
     made_explains : (k : ℕ) (wish : Wish) (h : MakesStep n k wish before after old new result) → EachMade StepExplains n k wish before after old new result h
     made_explains k wish (inl refused) = tt
-    made_explains k wish (inr (inl made)) = own_explains (who k) wish before after old new made.turn (sym number) way made.steps
+    made_explains k wish (inr (inl made)) = told_explains k wish result made
     made_explains k wish (inr (inr memory)) = tt
+
+    come_explains : (k : ℕ) (left : World) (answer : Answer) (comes : ComesTo (who k) before after old left answer) → EachCome StepExplains (who k) before after old left answer comes
+    come_explains k left answer comes = (
+      went_explains (who k) before old comes.mid comes.world (sym number) way comes.went,
+      own_explains (who k) Plain comes.mid after comes.world left (Ended answer) (sym number)
+          (went_on lines (who k) before old comes.mid comes.world (sym number) way comes.went) comes.steps,
+    )
+
+    ran_explains : (k : ℕ) (r : Result Reply WorldFault) (h : RunsTo n k before after old new r) → EachRunTold StepExplains n k before after old new r h
+    ran_explains k (Ok reply) run = come_explains k new run.answer run.comes
+    ran_explains k (Err why) run = come_explains k run.left run.answer run.comes
 
     run_explains : (k : ℕ) (h : Runs n k before after old new result) → EachRun StepExplains n k before after old new result h
     run_explains k (inl refused) = tt
-    run_explains k (inr (inl run)) = (
-      went_explains (who k) before old run.comes.mid run.comes.world (sym number) way run.comes.went,
-      own_explains (who k) Plain run.comes.mid after run.comes.world new (Ended run.answer) (sym number)
-          (went_on lines (who k) before old run.comes.mid run.comes.world (sym number) way run.comes.went) run.comes.steps,
-    )
+    run_explains k (inr (inl run)) = ran_explains k result run
     run_explains k (inr (inr memory)) = tt
 
     crash_explains : (k : ℕ) (done : Bool) (h : Crashes n k done before after old new result) → EachCrashed StepExplains n k done before after old new result h

@@ -177,9 +177,9 @@ module _ (k : ℕ) (before after : Seen) (old new : World) (Does : Acting → Ac
   crash_on is =
       quiet_on (subst (λ (a : Acting). SessionsStand on.book on.order on.state (at k a f)) (sym is) (crash_keeps on.book on.order on.state f k on.stand))
 
-begin_on : (k : ℕ) (before after : Seen) (old new : World) (o : Op) (result : Result Reply WorldFault) → IsRightOp o → OnBook old before → MakesNoCall before after old new
-    → Changes k (BeginsOp o result) old.sessions new.sessions → OnBook new after
-begin_on k before after old new o result right on quiet c =
+begin_on : (k : ℕ) (before after : Seen) (old new : World) (o : Op) (r : Reply) → IsRightOp o → OnBook old before → MakesNoCall before after old new
+    → Changes k (BeginsOp o (Ok r)) old.sessions new.sessions → OnBook new after
+begin_on k before after old new o r right on quiet c =
     quiet_on k before after old new _ on quiet c
     (begins_keeps o on.book on.order on.state (session_at old.sessions) k c.after c.does.begun right on.stand
     (subst (λ (a : Acting). Begins o a c.after c.does.begun) (sym (changed_was k _ old.sessions new.sessions c)) c.does.begins))
@@ -285,7 +285,7 @@ module _ (n k : ℕ) (before after : Seen) (old new : World) (r : Reply) (some :
   crash_still true (inr (inr memory)) = absurd (no_memory r memory.0)
 
   does_still : (request : Request) → IsRight request → Does n k request before after old new (Ok r) → IsStill new after
-  does_still (Begin o) right h = changed_still _ h.1 (begin_on k before after old new o (Ok r) right still.0 h.0 h.1)
+  does_still (Begin o) right h = changed_still _ h.1 (begin_on k before after old new o r right still.0 h.0 h.1)
   does_still (Note tree change) right h = changed_still _ h.1 (note_on k tree change before after old new (Ok r) right still.0 h.0 h.1)
   does_still Abort right h = changed_still _ h.1 (abort_on k before after old new (Ok r) still.0 h.0 h.1)
   does_still (Step wish) right h = step_still wish h

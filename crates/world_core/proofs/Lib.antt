@@ -27,6 +27,8 @@ pub mod Seeing
 pub mod AddedSteps
 pub mod AddedLines
 pub mod AddedShort
+pub mod BrokenOff
+pub mod LeftShort
 pub mod OpenedLines
 pub mod Shown
 pub mod EachUnderWay

@@ -29,6 +29,7 @@ use Rattle.client_work.specs.declared.op.Op.TheVariants as op
 use Rattle.client_work.specs.declared.shown.Shown.{Shown}
 use Rattle.client_work.specs.declared.work.Work.{Work}
 use Rattle.client_work.specs.declared.work.Work.TheVariants as work
+use Rattle.client_work.specs.BrokenOff.{broken_off}
 use Rattle.client_work.specs.Session.{Acting, closed_session, StepsSession, Begins, BeginsWith, BeginsOpening, HasInHand, CommitsIn, CommitsOf, CommitsNoted, ReadsOf, ReadsIn, ScansIn, old_lease, stopped_work, paging_begun_by, folding_begun_by}
 use Rattle.replay_meaning.specs.Standing.{Line, Closed, standing}
 use Rattle.session_facts.specs.Facts.{session_at, ActsAs}
@@ -48,11 +49,13 @@ use Rattle.world_core.specs.declared.asked.Asked.{Asked}
 use Rattle.world_core.specs.declared.asked.Asked.TheVariants.{Session, Wait, Report, Settle}
 use Rattle.world_core.specs.declared.world.WorldFault.{WorldFault}
 use Rattle.world_core.specs.Asked.{Asks}
+use Rattle.world_core.specs.Replying.{RepliesBegun}
 use Rattle.world_core.specs.Sessions.{Changes, NotesIn, AbortsIn}
-use Rattle.world_core.specs.Handled.{Has, SetsWish, StepsLooked, RunsShort, MakesStep, Went, start, further, StopsShort, Runs, SettlesOn, Settles, Dies, Crashes, CrashesDone, Does, Answers, Handled}
+use Rattle.world_core.specs.Handled.{Has, BeginsOp, BreaksOff, SetsWish, StepsLooked, StepsTo, FallsShort, RunsShort, MakesStep, Went, start, further, StopsShort, ComesTo, RunsTo, Runs, SettlesOn, Settles, Dies, Crashes, CrashesDone, Does, Answers, Handled}
 use Rattle.world_core.specs.Added.{WorldAdds}
 use Rattle.world_core.specs.Opened.{Opens, IsOpenedIn, OpenEachOnce, WorldApart}
 use Rattle.world_core.proofs.AddedSteps.{IsAdding, SettlerAdds, adding_begins, begun_way, settler_went, went_adding}
+use Rattle.world_core.proofs.BrokenOff.{broken_away}
 use Rattle.world_core.proofs.StandsLemmas.{changed_at, changed_was, settler}
 
 -- ---- events that open clients
@@ -182,6 +185,25 @@ aborts_so : (a b : Acting) (dropped : Result (Unit {0}) Refused) → AbortsIn a 
 aborts_so a b (Ok done) h takes = subst (λ (z : Acting). LeadsOn a z) (sym h.0) (λ head k. k, takes, λ client k. k)
 aborts_so a b (Err why) h takes = same_session a b h.0 takes
 
+-- an opening is never answered at its begin, and each reply to its begin is told
+untold_opening : (client : ℕ) (why : WorldFault) (a left : Acting) (begun : Result Begun Refused) → BeginsOpening client a left begun → RepliesBegun begun left (Err why) → ⊥
+untold_opening client why a left (Ok Working) begins replies = absurd (cc (replies))
+untold_opening client why a left (Ok (Answered x)) begins replies = begins
+untold_opening client why a left (Err (refused.Rule rule)) begins replies = absurd (cc (replies))
+untold_opening client why a left (Err refused.Memory) begins replies = begins
+
+opening_begins : (client : ℕ) (r : Result Reply WorldFault) (a b : Acting) → BeginsOp (op.Open client) r a b → (begun : Result Begun Refused) × BeginsOpening client a b begun
+opening_begins client (Ok reply) a b p = (p.begun, p.begins)
+opening_begins client (Err why) a b p = absurd (untold_opening client why a p.left p.begun p.begins p.replies)
+
+-- ---- a session that is broken off works for no client, whatever it worked on before
+
+broken_from : (a left b : Acting) → b ≡ broken_off left → LeadsOn a b
+broken_from a left b e = broken_away left.work b.work _ _ (ap (λ (z : Acting). z.work) e)
+
+broken_leads : (a b : Acting) → b ≡ broken_off a → LeadsOn a b
+broken_leads a b e = broken_from a a b e
+
 -- ---- what is no call
 
 module _ (events : List Event) (first : CloudState) where
@@ -215,6 +237,10 @@ module _ (events : List Event) (first : CloudState) where
   closes : (k : ℕ) (seen : Seen) (old new : World) → Has k closed_session old new → WorldApart events first old seen → WorldApart events first new seen
   closes k seen old new has h = changes k seen old new _ has.session_is (λ takes. closed_leads _ _ _ (ap (λ (a : Acting). a.work) has.session_is.does)) h
 
+  -- it is broken off
+  breaks : (k : ℕ) (seen : Seen) (old new : World) → BreaksOff k old new → WorldApart events first old seen → WorldApart events first new seen
+  breaks k seen old new off h = changes k seen old new _ off.session (λ takes. broken_leads off.session.before off.session.after off.session.does) h
+
   -- ---- a step
 
   module _ (lines : List Line) (n : ℕ) (at : length lines + 1 ≡ n) (k : ℕ) where
@@ -247,14 +273,22 @@ module _ (events : List Event) (first : CloudState) where
     -- memory ran out beside its call
     ran_short : (wish : Wish) (before after : Seen) (old new : World) → IsAdding lines first old before → RunsShort who wish before after old new → WorldApart events first old before
         → WorldApart events first new after
-    ran_short wish before after old new way (inl un) h =
-        apart_same Was first _ (session_at new.sessions) after (λ j. ap (λ (l : List Acting). session_at l j) un.sessions) (seen_stays _ before after un.looked.stays h)
-    ran_short wish before after old new way (inr p) h = called wish before p.from p.under p.to after old new p.turn way p.look_before p.wishes p.session p.look_after h
+    ran_short wish before after old new way s h = breaks k after s.left new s.breaks (falls s.falls)
+      where
+        falls : FallsShort who wish before after old s.left → WorldApart events first s.left after
+        falls (inl un) =
+            apart_same Was first _ (session_at s.left.sessions) after (λ j. ap (λ (l : List Acting). session_at l j) un.sessions) (seen_stays _ before after un.looked.stays h)
+        falls (inr p) = called wish before p.from p.under p.to after old s.left p.turn way p.look_before p.wishes p.session p.look_after h
+
+    made_once : (wish : Wish) (before after : Seen) (old new : World) (result : Result Reply WorldFault) → IsAdding lines first old before → StepsTo n k wish before after old new result
+        → WorldApart events first old before → WorldApart events first new after
+    made_once wish before after old new (Ok reply) way step h = stepped wish before after old new step.turn way step.steps h
+    made_once wish before after old new (Err why) way step h = breaks k after step.left new step.breaks (stepped wish before after old step.left step.turn way step.steps h)
 
     steps_once : (wish : Wish) (before after : Seen) (old new : World) (result : Result Reply WorldFault) → IsAdding lines first old before → MakesStep n k wish before after old new result
         → WorldApart events first old before → WorldApart events first new after
     steps_once wish before after old new result way (inl refuses) h = nothing_done before after old new refuses.declines.world refuses.declines.seen h
-    steps_once wish before after old new result way (inr (inl step)) h = stepped wish before after old new step.turn way step.steps h
+    steps_once wish before after old new result way (inr (inl step)) h = made_once wish before after old new result way step h
     steps_once wish before after old new result way (inr (inr memory)) h = ran_short wish before after old new way memory.1 h
 
     stopped_short : (before after : Seen) (old new : World) → IsAdding lines first old before → StopsShort who before after old new → WorldApart events first old before
@@ -262,12 +296,20 @@ module _ (events : List Event) (first : CloudState) where
     stopped_short before after old new way s h =
         ran_short Plain s.mid after s.world new (went_adding lines first who before old s.mid s.world (sym at) way s.went) s.short (went_on before old s.mid s.world way s.went h)
 
+    came_once : (before after : Seen) (old left : World) (answer : Answer) → IsAdding lines first old before → ComesTo who before after old left answer
+        → WorldApart events first old before → WorldApart events first left after
+    came_once before after old left answer way c h =
+        stepped Plain c.mid after c.world left _ (went_adding lines first who before old c.mid c.world (sym at) way c.went) c.steps (went_on before old c.mid c.world way c.went h)
+
+    ran_once : (before after : Seen) (old new : World) (result : Result Reply WorldFault) → IsAdding lines first old before → RunsTo n k before after old new result
+        → WorldApart events first old before → WorldApart events first new after
+    ran_once before after old new (Ok reply) way run h = came_once before after old new run.answer way run.comes h
+    ran_once before after old new (Err why) way run h = breaks k after run.left new run.breaks (came_once before after old run.left run.answer way run.comes h)
+
     runs_once : (before after : Seen) (old new : World) (result : Result Reply WorldFault) → IsAdding lines first old before → Runs n k before after old new result
         → WorldApart events first old before → WorldApart events first new after
     runs_once before after old new result way (inl refuses) h = nothing_done before after old new refuses.declines.world refuses.declines.seen h
-    runs_once before after old new result way (inr (inl run)) h =
-        let c = run.comes in
-        stepped Plain c.mid after c.world new _ (went_adding lines first who before old c.mid c.world (sym at) way c.went) c.steps (went_on before old c.mid c.world way c.went h)
+    runs_once before after old new result way (inr (inl run)) h = ran_once before after old new result way run h
     runs_once before after old new result way (inr (inr memory)) h = stopped_short before after old new way memory.1 h
 
     -- ---- a session that dies
@@ -321,9 +363,12 @@ module _ (events : List Event) (first : CloudState) where
 
     settler_short : (before after : Seen) (old new : World) → SettlerAdds n all first others old before → RunsShort (settler n) Plain before after old new
         → WorldApart events first old before → WorldApart events first new after
-    settler_short before after old new way (inl un) h =
-        apart_same Was first _ (session_at new.sessions) after (λ j. ap (λ (l : List Acting). session_at l j) un.sessions) (seen_stays _ before after un.looked.stays h)
-    settler_short before after old new way (inr p) h = settler_called before p.from p.under p.to after old new p.turn way p.look_before p.wishes p.session p.look_after h
+    settler_short before after old new way s h = breaks 0 after s.left new s.breaks (falls s.falls)
+      where
+        falls : FallsShort (settler n) Plain before after old s.left → WorldApart events first s.left after
+        falls (inl un) =
+            apart_same Was first _ (session_at s.left.sessions) after (λ j. ap (λ (l : List Acting). session_at l j) un.sessions) (seen_stays _ before after un.looked.stays h)
+        falls (inr p) = settler_called before p.from p.under p.to after old s.left p.turn way p.look_before p.wishes p.session p.look_after h
 
     settles_on : (before after : Seen) (old new : World) (result : Result Reply WorldFault) → SettlerAdds n all first others old before → SettlesOn (settler n) before after old new result
         → WorldApart events first old before → WorldApart events first new after
@@ -357,8 +402,12 @@ module _ (events : List Event) (first : CloudState) (n : ℕ) (before after : Se
       closed = (subst (λ (a : Acting). ActsAs a (standing lines 0)) w.rests (w.acts 0)).work
   settles_so (inr memory) = nothing_done events first before after old new memory.1.world memory.1.seen h
 
+  begun_within : (o : Op) (r : Result Reply WorldFault) (a b : Acting) → IsWithin o → BeginsOp o r a b → TakesNumber a.work → LeadsOn a b
+  begun_within o (Ok reply) a b within begins takes = begins_so o a b begins.begun within begins.begins takes
+  begun_within o (Err why) a b within begins takes = broken_from a begins.left b begins.breaks
+
   does_within : (k : ℕ) (o : Op) → IsWithin o → Does n k (Begin o) before after old new result → Apart
-  does_within k o within done = quietly events first k before after old new _ done.0.seen done.1 (begins_so o done.1.before done.1.after done.1.does.begun within done.1.does.begins) h
+  does_within k o within done = quietly events first k before after old new _ done.0.seen done.1 (begun_within o result done.1.before done.1.after within done.1.does) h
 
   waits_so : (ticks : ℕ) → Answers n (Wait ticks) before after old new result → Apart
   waits_so ticks (inl k) =
@@ -399,7 +448,8 @@ module _ (events : List Event) (first : CloudState) (n : ℕ) (before after : Se
     opens_so : (k client : ℕ) → Opens e client → Does n k (Begin (op.Open client)) before after old new result → Then
     opens_so k client opens done =
         let c = done.1 in
-        begins_one k client opens done.0.seen (record { before = c.before; after = c.after; there = c.there; does = (c.does.begun, c.does.begins); rest = c.rest })
+        let begins = opening_begins client result c.before c.after c.does in
+        begins_one k client opens done.0.seen (record { before = c.before; after = c.after; there = c.there; does = begins; rest = c.rest })
 
     does_so : (k : ℕ) (request : Request) → ((client : ℕ) → request ≡ Begin (op.Open client) → Opens e client) → Does n k request before after old new result → Then
     does_so k (Begin (op.Open client)) own done = opens_so k client (own client refl) done

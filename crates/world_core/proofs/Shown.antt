@@ -14,8 +14,8 @@ use Rattle.world_core.specs.declared.asked.Request.{Request}
 use Rattle.world_core.specs.declared.asked.Request.TheVariants.{Begin, Note, Abort, Step, Run, Crash}
 use Rattle.world_core.specs.World.{World}
 use Rattle.world_core.specs.declared.world.WorldFault.{WorldFault}
-use Rattle.world_core.specs.EachStep.{EachWent, EachCome, EachMade, EachRun, EachCrashed, EachSettlingOn, EachSettling, EachDone, EachServed, EachAsked}
-use Rattle.world_core.specs.Handled.{StepsLooked, MakesStep, Went, start, further, ComesTo, Runs, SettlesOn, Settles, Crashes, Does, Serves, Answers}
+use Rattle.world_core.specs.EachStep.{EachWent, EachCome, EachTold, EachMade, EachRunTold, EachRun, EachCrashed, EachSettlingOn, EachSettling, EachDone, EachServed, EachAsked}
+use Rattle.world_core.specs.Handled.{StepsLooked, StepsTo, MakesStep, Went, start, further, ComesTo, RunsTo, Runs, SettlesOn, Settles, Crashes, Does, Serves, Answers}
 use Rattle.world_core.specs.Shown.{StepShows, ShowsSteps}
 
 step_shows : (who : Caller) (wish : Wish) (before after : Seen) (old new : World) (turn : Turn Answer) (p : StepsLooked who wish before after old new turn)
@@ -32,14 +32,22 @@ comes_shows who before after old new answer comes =
     (went_shows who before old comes.mid comes.world comes.went, step_shows who _ comes.mid after comes.world new _ comes.steps)
 
 module _ (n : ℕ) (before after : Seen) (old new : World) (result : Result Reply WorldFault) where
+  told_shows : (k : ℕ) (wish : Wish) (r : Result Reply WorldFault) (h : StepsTo n k wish before after old new r) → EachTold StepShows n k wish before after old new r h
+  told_shows k wish (Ok reply) made = step_shows _ wish before after old new made.turn made.steps
+  told_shows k wish (Err why) made = step_shows _ wish before after old made.left made.turn made.steps
+
   made_shows : (k : ℕ) (wish : Wish) (h : MakesStep n k wish before after old new result) → EachMade StepShows n k wish before after old new result h
   made_shows k wish (inl refused) = tt
-  made_shows k wish (inr (inl made)) = step_shows _ wish before after old new made.turn made.steps
+  made_shows k wish (inr (inl made)) = told_shows k wish result made
   made_shows k wish (inr (inr memory)) = tt
+
+  ran_shows : (k : ℕ) (r : Result Reply WorldFault) (h : RunsTo n k before after old new r) → EachRunTold StepShows n k before after old new r h
+  ran_shows k (Ok reply) run = comes_shows _ before after old new run.answer run.comes
+  ran_shows k (Err why) run = comes_shows _ before after old run.left run.answer run.comes
 
   run_shows : (k : ℕ) (h : Runs n k before after old new result) → EachRun StepShows n k before after old new result h
   run_shows k (inl refused) = tt
-  run_shows k (inr (inl run)) = comes_shows _ before after old new run.answer run.comes
+  run_shows k (inr (inl run)) = ran_shows k result run
   run_shows k (inr (inr memory)) = tt
 
   crash_shows : (k : ℕ) (done : Bool) (h : Crashes n k done before after old new result) → EachCrashed StepShows n k done before after old new result h

@@ -20,7 +20,7 @@ use Rattle.world_core.specs.declared.asked.Request.{Request}
 use Rattle.world_core.specs.declared.asked.Request.TheVariants.{Step, Run, Crash}
 use Rattle.world_core.specs.World.{World}
 use Rattle.world_core.specs.declared.world.WorldFault.{WorldFault}
-use Rattle.world_core.specs.Handled.{StepsLooked, MakesStep, Went, start, further, ComesTo, Runs, Crashes, Does, Serves, Answers, Handled}
+use Rattle.world_core.specs.Handled.{StepsLooked, StepsTo, MakesStep, Went, start, further, ComesTo, RunsTo, Runs, Crashes, Does, Serves, Answers, Handled}
 use Rattle.world_core.specs.Stands.{WorldStands}
 
 -- ---- how many calls
@@ -40,19 +40,32 @@ calls_of who before after old new answer comes = steps_of who before old comes.m
 abbrev pub WereFew : ℕ → (who : Caller) (wish : Wish) (before after : Seen) (old new : World) → (turn : Turn Answer) → StepsLooked who wish before after old new turn → Type 0
 WereFew calls who wish before after old new turn p = (last : CloudState) → after.state ≡ Some last → FewFor calls last p.session.before.work
 
--- a step is one call more than the lines before it told
+-- a step is one call more than the lines before it told, whether its reply found memory or not
+abbrev pub WasSoon : List Line → (n number : ℕ) (wish : Wish) (before after : Seen) (old new : World) (result : Result Reply WorldFault) → StepsTo n number wish before after old new result → Type 0
+WasSoon lines n number wish before after old new (Ok reply) made =
+    WereFew (calls_told lines number + 1) (record { session = number; event = n }) wish before after old new made.turn made.steps
+WasSoon lines n number wish before after old new (Err why) made =
+    WereFew (calls_told lines number + 1) (record { session = number; event = n }) wish before after old made.left made.turn made.steps
+
 abbrev pub StepsSoon : List Line → (n number : ℕ) (wish : Wish) (before after : Seen) (old new : World) (result : Result Reply WorldFault) → MakesStep n number wish before after old new result → Type 0
 StepsSoon lines n number wish before after old new result (inl refused) = Unit {0}
-StepsSoon lines n number wish before after old new result (inr (inl made)) =
-    WereFew (calls_told lines number + 1) (record { session = number; event = n }) wish before after old new made.turn made.steps
+StepsSoon lines n number wish before after old new result (inr (inl made)) = WasSoon lines n number wish before after old new result made
 StepsSoon lines n number wish before after old new result (inr (inr memory)) = Unit {0}
+
+-- those of a run up to its answer
+abbrev pub CameSoon : List Line → (n number : ℕ) (before after : Seen) (old new : World) (answer : Answer) → ComesTo (record { session = number; event = n }) before after old new answer → Type 0
+CameSoon lines n number before after old new answer comes =
+    WereFew (calls_told lines number + calls_of (record { session = number; event = n }) before after old new answer comes)
+    (record { session = number; event = n }) Plain comes.mid after comes.world new (Ended answer) comes.steps
+
+abbrev pub RanSoon : List Line → (n number : ℕ) (before after : Seen) (old new : World) (result : Result Reply WorldFault) → RunsTo n number before after old new result → Type 0
+RanSoon lines n number before after old new (Ok reply) run = CameSoon lines n number before after old new run.answer run.comes
+RanSoon lines n number before after old new (Err why) run = CameSoon lines n number before after old run.left run.answer run.comes
 
 -- a run makes its own
 abbrev pub RunsSoon : List Line → (n number : ℕ) (before after : Seen) (old new : World) (result : Result Reply WorldFault) → Runs n number before after old new result → Type 0
 RunsSoon lines n number before after old new result (inl refused) = Unit {0}
-RunsSoon lines n number before after old new result (inr (inl run)) =
-    WereFew (calls_told lines number + calls_of (record { session = number; event = n }) before after old new run.answer run.comes)
-    (record { session = number; event = n }) Plain run.comes.mid after run.comes.world new (Ended run.answer) run.comes.steps
+RunsSoon lines n number before after old new result (inr (inl run)) = RanSoon lines n number before after old new result run
 RunsSoon lines n number before after old new result (inr (inr memory)) = Unit {0}
 
 -- a session that dies with its call in hand made one more

@@ -17,7 +17,7 @@ use Rattle.world_core.specs.declared.asked.Request.{Request}
 use Rattle.world_core.specs.declared.asked.Request.TheVariants.{Begin, Note, Abort, Step, Run, Crash}
 use Rattle.world_core.specs.World.{World}
 use Rattle.world_core.specs.declared.world.WorldFault.{WorldFault}
-use Rattle.world_core.specs.Handled.{StepsLooked, MakesStep, Went, start, further, ComesTo, Runs, SettlesOn, Settles, Crashes, Does, Serves, Answers, Handled}
+use Rattle.world_core.specs.Handled.{StepsLooked, StepsTo, MakesStep, Went, start, further, ComesTo, RunsTo, Runs, SettlesOn, Settles, Crashes, Does, Serves, Answers, Handled}
 
 -- what may be said of a step
 abbrev pub StepFact : Type 1
@@ -33,16 +33,26 @@ abbrev pub EachCome : StepFact → (who : Caller) (before after : Seen) (old new
 EachCome Holds who before after old new answer comes =
     EachWent Holds who before old comes.mid comes.world comes.went × Holds who Plain comes.mid after comes.world new (Ended answer) comes.steps
 
+-- of a step that was made, whether its reply found memory or not
+abbrev pub EachTold : StepFact → (n number : ℕ) (wish : Wish) (before after : Seen) (old new : World) (result : Result Reply WorldFault) → StepsTo n number wish before after old new result → Type 0
+EachTold Holds n number wish before after old new (Ok reply) made = Holds (record { session = number; event = n }) wish before after old new made.turn made.steps
+EachTold Holds n number wish before after old new (Err why) made = Holds (record { session = number; event = n }) wish before after old made.left made.turn made.steps
+
 -- of the one step that was made, where one was
 abbrev pub EachMade : StepFact → (n number : ℕ) (wish : Wish) (before after : Seen) (old new : World) (result : Result Reply WorldFault) → MakesStep n number wish before after old new result → Type 0
 EachMade Holds n number wish before after old new result (inl refused) = Unit {0}
-EachMade Holds n number wish before after old new result (inr (inl made)) = Holds (record { session = number; event = n }) wish before after old new made.turn made.steps
+EachMade Holds n number wish before after old new result (inr (inl made)) = EachTold Holds n number wish before after old new result made
 EachMade Holds n number wish before after old new result (inr (inr memory)) = Unit {0}
+
+-- of each step up to an answer, whether the reply to that found memory or not
+abbrev pub EachRunTold : StepFact → (n number : ℕ) (before after : Seen) (old new : World) (result : Result Reply WorldFault) → RunsTo n number before after old new result → Type 0
+EachRunTold Holds n number before after old new (Ok reply) run = EachCome Holds (record { session = number; event = n }) before after old new run.answer run.comes
+EachRunTold Holds n number before after old new (Err why) run = EachCome Holds (record { session = number; event = n }) before after old run.left run.answer run.comes
 
 -- of each step of a run
 abbrev pub EachRun : StepFact → (n number : ℕ) (before after : Seen) (old new : World) (result : Result Reply WorldFault) → Runs n number before after old new result → Type 0
 EachRun Holds n number before after old new result (inl refused) = Unit {0}
-EachRun Holds n number before after old new result (inr (inl run)) = EachCome Holds (record { session = number; event = n }) before after old new run.answer run.comes
+EachRun Holds n number before after old new result (inr (inl run)) = EachRunTold Holds n number before after old new result run
 EachRun Holds n number before after old new result (inr (inr memory)) = Unit {0}
 
 -- of the call in hand that a dying session still made

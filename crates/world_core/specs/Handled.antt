@@ -24,6 +24,7 @@ use Rattle.cloud_trait.specs.declared.turn.Turn.TheVariants.{More, Ended}
 use Rattle.client_work.specs.declared.answer.Answer.{Answer}
 use Rattle.client_work.specs.declared.answer.Begun.{Begun}
 use Rattle.client_work.specs.declared.op.Op.{Op}
+use Rattle.client_work.specs.BrokenOff.{broken_off}
 use Rattle.client_work.specs.Session.{Acting, closed_session, settling_session, Begins, StepsSession}
 use Rattle.history.specs.Fold.{of_tree}
 use Rattle.history.specs.Audited.{Audited}
@@ -41,7 +42,8 @@ use Rattle.world_core.specs.declared.world.WorldFault.{WorldFault}
 use Rattle.world_core.specs.declared.world.WorldFault.TheVariants as fault
 use Rattle.world_core.specs.Asked.{Asks}
 use Rattle.world_core.specs.Replying.{declined, done_reply, RepliesTo, RepliesBegun, RepliesSettled, RepliesTurn}
-use Rattle.world_core.specs.Sessions.{Changes, IsNotWorking, NotesIn, AbortsIn}
+use Rattle.world_core.specs.declared.put.Put.{Put}
+use Rattle.world_core.specs.Sessions.{Changes, HasPut, IsAtWork, IsNotWorking, NotesIn, AbortsIn}
 
 -- ---- a line that is not done
 
@@ -59,10 +61,22 @@ pub record MakesNoCall (before after : Seen) (old new : World) : Type 0 where
   pub audit : new.audit ≡ old.audit
   pub blind : new.blind ≡ old.blind
 
-pub record BeginsOp (op : Op) (result : Result Reply WorldFault) (old new : Acting) : Type 0 where
+pub record BeginsTold (op : Op) (reply : Reply) (old new : Acting) : Type 0 where
   pub begun : Result Begun Refused
   pub begins : Begins op old new begun
-  pub replies : RepliesBegun begun new result
+  pub replies : RepliesBegun begun new (Ok reply)
+
+-- an operation was answered at its begin, and the reply found no memory: the session is broken off as the begin left it
+pub record BeginsUntold (op : Op) (why : WorldFault) (old new : Acting) : Type 0 where
+  pub left : Acting
+  pub begun : Result Begun Refused
+  pub begins : Begins op old left begun
+  pub replies : RepliesBegun begun left (Err why)
+  pub breaks : new ≡ broken_off left
+
+abbrev pub BeginsOp : Op → Result Reply WorldFault → Acting → Acting → Type 0
+BeginsOp op (Ok reply) old new = BeginsTold op reply old new
+BeginsOp op (Err why) old new = BeginsUntold op why old new
 
 pub record NotesChange (tree : ℕ) (change : Change) (result : Result Reply WorldFault) (old new : Acting) : Type 0 where
   pub noted : Result (Unit {0}) Refused
@@ -79,6 +93,17 @@ pub record Has (number : ℕ) (session : Acting) (old new : World) : Type 0 wher
   pub session_is : Changes number (λ a b. b ≡ session) old.sessions new.sessions
   pub audit : new.audit ≡ old.audit
   pub blind : new.blind ≡ old.blind
+
+-- one session is broken off, and nothing else of the world changes
+pub record BreaksOff (number : ℕ) (old new : World) : Type 0 where
+  pub session : Changes number (λ a b. b ≡ broken_off a) old.sessions new.sessions
+  pub audit : new.audit ≡ old.audit
+  pub blind : new.blind ≡ old.blind
+
+-- behind a reply the world stays; where it found no memory, the session is broken off
+abbrev pub LeavesReplied : ℕ → Result Reply WorldFault → World → World → Type 0
+LeavesReplied number (Ok reply) old new = new ≡ old
+LeavesReplied number (Err why) old new = BreaksOff number old new
 
 -- ---- steps
 
@@ -112,10 +137,22 @@ pub record RefusesStep (number : ℕ) (before after : Seen) (old new : World) (r
   pub declines : Declines (refused.Rule rule.NotWorking) before after old new result
 
 -- one step was made under the wish, and its answer is the reply
-pub record StepsTo (n number : ℕ) (wish : Wish) (before after : Seen) (old new : World) (result : Result Reply WorldFault) : Type 0 where
+pub record StepsTold (n number : ℕ) (wish : Wish) (before after : Seen) (old new : World) (reply : Reply) : Type 0 where
   pub turn : Turn Answer
   pub steps : StepsLooked (record { session = number; event = n }) wish before after old new turn
-  pub replies : RepliesTurn turn steps.session.after result
+  pub replies : RepliesTurn turn steps.session.after (Ok reply)
+
+-- it was made, and the reply found no memory: the session is broken off as the step left it
+pub record StepsUntold (n number : ℕ) (wish : Wish) (before after : Seen) (old new : World) (why : WorldFault) : Type 0 where
+  pub left : World
+  pub turn : Turn Answer
+  pub steps : StepsLooked (record { session = number; event = n }) wish before after old left turn
+  pub replies : RepliesTurn turn steps.session.after (Err why)
+  pub breaks : BreaksOff number left new
+
+abbrev pub StepsTo : ℕ → ℕ → Wish → Seen → Seen → World → World → Result Reply WorldFault → Type 0
+StepsTo n number wish before after old new (Ok reply) = StepsTold n number wish before after old new reply
+StepsTo n number wish before after old new (Err why) = StepsUntold n number wish before after old new why
 
 -- want of memory has no reply
 abbrev pub FindsNoMemory : Result Reply WorldFault → Type 0
@@ -127,8 +164,10 @@ pub record IsUncalled (before after : Seen) (old new : World) : Type 0 where
   pub sessions : new.sessions ≡ old.sessions
   pub blind : new.blind ≡ old.blind
 
--- its call was made, and the look behind it was not
+-- its call, a put, was made, and the look behind it was not
 pub record IsUnlooked (who : Caller) (wish : Wish) (before after : Seen) (old new : World) : Type 0 where
+  pub put : Put
+  pub puts : HasPut who.session old.sessions (Some put)
   pub from : Seen
   pub under : Seen
   pub to : Seen
@@ -140,8 +179,15 @@ pub record IsUnlooked (who : Caller) (wish : Wish) (before after : Seen) (old ne
   pub blind : new.blind ≡ old.blind
 
 -- memory ran out beside a step: before its call, or at the look behind it
-abbrev pub RunsShort : Caller → Wish → Seen → Seen → World → World → Type 0
-RunsShort who wish before after old new = IsUncalled before after old new ⊎ IsUnlooked who wish before after old new
+abbrev pub FallsShort : Caller → Wish → Seen → Seen → World → World → Type 0
+FallsShort who wish before after old new = IsUncalled before after old new ⊎ IsUnlooked who wish before after old new
+
+-- and the session, which was at work, is broken off as that left it
+pub record RunsShort (who : Caller) (wish : Wish) (before after : Seen) (old new : World) : Type 0 where
+  pub works : IsAtWork who.session old.sessions
+  pub left : World
+  pub falls : FallsShort who wish before after old left
+  pub breaks : BreaksOff who.session left new
 
 -- a step is refused, or it is made; or memory ran out beside it
 abbrev pub MakesStep : ℕ → ℕ → Wish → Seen → Seen → World → World → Result Reply WorldFault → Type 0
@@ -169,10 +215,22 @@ pub record ComesTo (who : Caller) (before after : Seen) (old new : World) (answe
   pub steps : StepsLooked who Plain mid after world new (Ended answer)
 
 -- the answer is the reply
-pub record RunsTo (n number : ℕ) (before after : Seen) (old new : World) (result : Result Reply WorldFault) : Type 0 where
+pub record RunsTold (n number : ℕ) (before after : Seen) (old new : World) (reply : Reply) : Type 0 where
   pub answer : Answer
   pub comes : ComesTo (record { session = number; event = n }) before after old new answer
-  pub replies : RepliesTo answer comes.steps.session.after result
+  pub replies : RepliesTo answer comes.steps.session.after (Ok reply)
+
+-- or the reply found no memory: the session is broken off as the last step left it
+pub record RunsUntold (n number : ℕ) (before after : Seen) (old new : World) (why : WorldFault) : Type 0 where
+  pub left : World
+  pub answer : Answer
+  pub comes : ComesTo (record { session = number; event = n }) before after old left answer
+  pub replies : RepliesTo answer comes.steps.session.after (Err why)
+  pub breaks : BreaksOff number left new
+
+abbrev pub RunsTo : ℕ → ℕ → Seen → Seen → World → World → Result Reply WorldFault → Type 0
+RunsTo n number before after old new (Ok reply) = RunsTold n number before after old new reply
+RunsTo n number before after old new (Err why) = RunsUntold n number before after old new why
 
 -- a run is refused, or it comes to its answer; or memory ran out on the way
 abbrev pub Runs : ℕ → ℕ → Seen → Seen → World → World → Result Reply WorldFault → Type 0

@@ -7,6 +7,7 @@ pub mod Stands
 pub mod Sound
 pub mod Acknowledged
 pub mod LeftNone
+pub mod LeftShort
 pub mod EachStep
 pub mod Explained
 pub mod Bounded

@@ -37,6 +37,7 @@ impl<S: SessionCalls> Model for Sessions<S> {
 
 impl<S: SessionCalls> Sessions<S> {
     ghost use Rattle.std.specs.Prelude.{replicate, slice_get, IfOk, IfErr, OnOk, OnErr, Some, Ok};
+    ghost use Rattle.client_work.specs.BrokenOff.{broken_off};
     ghost use Rattle.client_work.specs.Session.{closed_session, settling_session, Begins, StepsSession};
     ghost use Rattle.world_core.specs.Sessions.{Changes, IsAtWork, NotesIn, AbortsIn};
 
@@ -107,6 +108,13 @@ impl<S: SessionCalls> Sessions<S> {
         ensures { Changes number (λ a b. b ≡ closed_session) self.old self.new }
     {
         self.list[place_of(number)].crash();
+    }
+
+    /// Breaks off what the session of a number has in hand.
+    pub(crate) fn break_off(&mut self, number: SessionNo)
+        ensures { Changes number (λ a b. b ≡ broken_off a) self.old self.new }
+    {
+        self.list[place_of(number)].break_off();
     }
 
     /// Makes a step of the session of a number, which has a call in hand.

@@ -78,10 +78,11 @@ impl<S: SessionCalls> World<S> {
     ghost use Rattle.world_core.specs.ShownByLines.{ShowsStepsBy};
     ghost use Rattle.world_core.specs.Calm.{AnswersWell};
     ghost use Rattle.world_core.specs.Bounded.{MakesFewCalls};
+    ghost use Rattle.world_core.specs.LeftShort.{LeavesShort};
     ghost use Rattle.world_core.specs.Settled.{SettlingEnds, SettlingIsRight, SettlingLeaves};
     ghost use Rattle.world_core.specs.Stands.{KeepsABook, WorldStands, StandsOn};
     ghost use Rattle.world_core.specs.Sessions.{Changes, IsNotWorking, IsAtWork, HasPut};
-    ghost use Rattle.world_core.specs.Handled.{Handled, Answers, Does, BeginsOp, NotesChange, DropsChanges, MakesStep, ComesTo, Runs, Settles, SettlesOn, Has, Crashes, CrashesDone, StepsLooked, StopsShort, RunsShort, Reports};
+    ghost use Rattle.world_core.specs.Handled.{Handled, Answers, Does, BeginsOp, NotesChange, DropsChanges, MakesStep, ComesTo, Runs, Settles, SettlesOn, Has, Crashes, CrashesDone, StepsLooked, StopsShort, FallsShort, RunsShort, Reports, BreaksOff, LeavesReplied};
 
     /// A world whose sessions are closed, and that saw nothing: over an empty cloud it stands for no lines. Refused for memory
     /// alone.
@@ -124,6 +125,8 @@ impl<S: SessionCalls> World<S> {
         ensures settled { SettlingLeaves n event.now (C.seen cloud.old) (C.seen cloud.new) self.old self.new result }
         ensures settles { SettlingEnds n event.now (C.seen cloud.old) (C.seen cloud.new) self.old self.new result }
         ensures settling { SettlingIsRight n event.now (C.seen cloud.old) (C.seen cloud.new) self.old self.new result }
+        // Where memory ran out, the session that it worked on is broken off.
+        ensures short { LeavesShort event.now self.old self.new result }
         ensures keeps { KeepsABook (C.seen cloud.old) (C.seen cloud.new) self.old self.new result }
         ensures grows { Grows n (C.seen cloud.old) (C.seen cloud.new) }
     {
@@ -198,7 +201,8 @@ impl<S: SessionCalls> World<S> {
         ensures blind { self.new.blind ≡ self.old.blind }
     {
         let begun = self.sessions.begin(alloc, number, op);
-        begun_reply(alloc, self.sessions.get(number), begun)
+        let reply = begun_reply(alloc, self.sessions.get(number), begun);
+        self.replied(number, reply)
     }
 
     fn note(&mut self, number: SessionNo, tree: TreeId, change: Change) -> Result<Reply, WorldFault>
@@ -239,6 +243,33 @@ impl<S: SessionCalls> World<S> {
         self.sessions.crash(number);
     }
 
+    /// Breaks the session off: of an open client its lease is left.
+    fn break_off(&mut self, number: SessionNo)
+        ensures { BreaksOff number self.old self.new }
+    {
+        self.sessions.break_off(number);
+    }
+
+    /// Hands on the reply to what the session did, and breaks the session off where that found no memory.
+    fn replied(
+        &mut self,
+        number: SessionNo,
+        reply: Result<Reply, WorldFault>,
+    ) -> Result<Reply, WorldFault>
+        ensures same { result ≡ reply }
+        ensures leaves { LeavesReplied number reply self.old self.new }
+        ensures audit { self.new.audit ≡ self.old.audit }
+        ensures blind { self.new.blind ≡ self.old.blind }
+    {
+        match reply {
+            Ok(reply) => Ok(reply),
+            Err(fault) => {
+                self.break_off(number);
+                Err(fault)
+            }
+        }
+    }
+
     /// Makes the call in hand of the session.
     fn call<C: Bench>(&mut self, alloc: Global, cloud: &mut C, who: Who) -> Turn<Answer>
         requires { IsAtWork who.session self.old.sessions }
@@ -272,7 +303,10 @@ impl<S: SessionCalls> World<S> {
             return Ok(Reply::Refused(Refusal::NotWorking));
         }
         match self.step_under(alloc, cloud, who, wish) {
-            Ok(turn) => turn_reply(alloc, self.session(who.session), turn),
+            Ok(turn) => {
+                let reply = turn_reply(alloc, self.session(who.session), turn);
+                self.replied(who.session, reply)
+            }
             Err(fault) => Err(fault),
         }
     }
@@ -286,7 +320,10 @@ impl<S: SessionCalls> World<S> {
             return Ok(Reply::Refused(Refusal::NotWorking));
         }
         match self.run_on(alloc, cloud, who) {
-            Ok(answer) => reply_of(alloc, self.session(who.session), answer),
+            Ok(answer) => {
+                let reply = reply_of(alloc, self.session(who.session), answer);
+                self.replied(who.session, reply)
+            }
             Err(fault) => Err(fault),
         }
     }
@@ -386,7 +423,7 @@ impl<S: SessionCalls> World<S> {
         Ok(Reply::Crashed)
     }
 
-    /// Makes a step of a session that is at work under a wish, between two looks where it is a put.
+    /// Makes a step of a session that is at work under a wish, and breaks the session off where memory runs out beside it.
     fn step_under<C: Bench>(
         &mut self,
         alloc: Global,
@@ -397,6 +434,28 @@ impl<S: SessionCalls> World<S> {
         requires works { IsAtWork who.session self.old.sessions }
         ensures looked { IfOk result (λ turn. StepsLooked who wish (C.seen cloud.old) (C.seen cloud.new) self.old self.new turn) }
         ensures short { OnErr result (RunsShort who wish (C.seen cloud.old) (C.seen cloud.new) self.old self.new) }
+        ensures grows { Grows who.event (C.seen cloud.old) (C.seen cloud.new) }
+    {
+        match self.step_looked(alloc, cloud, who, wish) {
+            Ok(turn) => Ok(turn),
+            Err(fault) => {
+                self.break_off(who.session);
+                Err(fault)
+            }
+        }
+    }
+
+    /// Makes a step of a session that is at work under a wish, between two looks where it is a put.
+    fn step_looked<C: Bench>(
+        &mut self,
+        alloc: Global,
+        cloud: &mut C,
+        who: Who,
+        wish: Wish,
+    ) -> Result<Turn<Answer>, WorldFault>
+        requires works { IsAtWork who.session self.old.sessions }
+        ensures looked { IfOk result (λ turn. StepsLooked who wish (C.seen cloud.old) (C.seen cloud.new) self.old self.new turn) }
+        ensures short { OnErr result (FallsShort who wish (C.seen cloud.old) (C.seen cloud.new) self.old self.new) }
         ensures grows { Grows who.event (C.seen cloud.old) (C.seen cloud.new) }
     {
         match put_in_hand(alloc, self.session(who.session)) {
@@ -417,7 +476,7 @@ impl<S: SessionCalls> World<S> {
         requires works { IsAtWork who.session self.old.sessions }
         requires no_put { HasPut who.session self.old.sessions None }
         ensures looked { IfOk result (λ turn. StepsLooked who wish (C.seen cloud.old) (C.seen cloud.new) self.old self.new turn) }
-        ensures short { OnErr result (RunsShort who wish (C.seen cloud.old) (C.seen cloud.new) self.old self.new) }
+        ensures short { OnErr result (FallsShort who wish (C.seen cloud.old) (C.seen cloud.new) self.old self.new) }
         ensures grows { Grows who.event (C.seen cloud.old) (C.seen cloud.new) }
     {
         cloud.wish(wish);
@@ -436,7 +495,7 @@ impl<S: SessionCalls> World<S> {
         requires works { IsAtWork who.session self.old.sessions }
         requires puts { HasPut who.session self.old.sessions (Some put.now) }
         ensures looked { IfOk result (λ turn. StepsLooked who wish (C.seen cloud.old) (C.seen cloud.new) self.old self.new turn) }
-        ensures short { OnErr result (RunsShort who wish (C.seen cloud.old) (C.seen cloud.new) self.old self.new) }
+        ensures short { OnErr result (FallsShort who wish (C.seen cloud.old) (C.seen cloud.new) self.old self.new) }
         ensures grows { Grows who.event (C.seen cloud.old) (C.seen cloud.new) }
     {
         let before = is_newest(cloud, put)?;

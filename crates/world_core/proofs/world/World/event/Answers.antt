@@ -9,6 +9,7 @@ use Rattle.world_core.proofs.ShownByLines.{shown_by}
 use Rattle.world_core.proofs.Sound.{sound_after}
 use Rattle.world_core.proofs.Acknowledged.{durable_after}
 use Rattle.world_core.proofs.LeftNone.{nothing_after}
+use Rattle.world_core.proofs.LeftShort.{left_short}
 use Rattle.world_core.proofs.world.World.event.Goals as goal
 
 pub returns-clause-stands : goal.returns-clause-stands
@@ -49,3 +50,6 @@ returns-clause-keeps g c = keeps_book _ _ _ _ _ _ _ c.handle.ensures.handled
 
 pub returns-clause-left_nothing : goal.returns-clause-left_nothing
 returns-clause-left_nothing g c = nothing_after _ _ _ _ _ _ _ c.handle.ensures.handled
+
+pub returns-clause-short : goal.returns-clause-short
+returns-clause-short g c = left_short _ _ _ _ _ _ _ c.handle.ensures.handled

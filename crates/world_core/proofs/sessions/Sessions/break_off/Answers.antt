@@ -1,0 +1,7 @@
+use Rattle.world_core.proofs.Placing.{changes_there}
+use Rattle.world_core.proofs.sessions.Sessions.break_off.Goals as goal
+
+pub returns : goal.returns
+returns g c =
+    changes_there g.S.SessionCalls.acting _ c.args.number c.place_of.result c.args.self.now c.self.inside.list.items c.index_mut.result.now c.break_off.new.self
+    c.self.view_is c.self.invariant c.place_of.ensures.is c.place_of.ensures.within c.index_mut.ensures.value c.break_off.ensures

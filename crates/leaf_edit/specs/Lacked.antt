@@ -1,5 +1,5 @@
 -- The items of a run that a leaf takes.
-use Rattle.std.specs.Prelude.{ℕ, Bool, ◌&&◌, nat_lt, List, filter}
+use Rattle.std.specs.Prelude.{◌≡◌, ℕ, Bool, true, false, ◌&&◌, nat_lt, List, [], ◌∷◌, filter}
 use Rattle.db_base.specs.Change.{key_of}
 use Rattle.leaf_view.specs.Leaf.{Leaf}
 use Rattle.leaf_view.specs.Lookup.{holds, number_of}
@@ -12,3 +12,9 @@ is_lacked l queue x = holds l (key_of x.rec.change) && nat_lt (number_of l.done 
 -- the items of the run that the leaf lacks, in the run's order
 abbrev pub lacked : Leaf → ℕ → List PuItem → List PuItem
 lacked l queue run = filter (is_lacked l queue) run
+
+-- where it is said that one was found, the first item of the run is lacked
+abbrev pub IsFirstLacked : Bool → Leaf → ℕ → List PuItem → Type 0
+IsFirstLacked found l queue [] = Unit {0}
+IsFirstLacked true l queue (x ∷ run) = is_lacked l queue x ≡ true
+IsFirstLacked false l queue (x ∷ run) = Unit {0}

@@ -12,24 +12,26 @@ pub(crate) struct Changes<'a> {
     // What the leaf has applied of the queue.
     done: &'a Numbers,
     rest: &'a [PuItem],
+    // Whether the first of the rest is known to be lacked, so that no record in front of it asks again.
+    found: bool,
 }
 
 impl<'a> Model for Changes<'a> {
-    ghost use Rattle.std.specs.Prelude.{List, slice_index};
+    ghost use Rattle.std.specs.Prelude.{◌≡◌, List, slice_index, true};
     ghost use Rattle.log_codec.specs.declared.record.PuItem.{PuItem as Item};
-    ghost use Rattle.leaf_edit.specs.Lacked.{lacked};
+    ghost use Rattle.leaf_edit.specs.Lacked.{lacked, IsFirstLacked};
     ghost use Rattle.leaf_view.specs.Lookup.{AreNumbers};
 
     ghost Value = { List Item };
 
     ghost view = { λ c. lacked c.leaf.now c.queue c.rest.now };
 
-    ghost invariant = { λ c. AreNumbers c.leaf.now.done c.queue (λ client. slice_index c.done.now client) };
+    ghost invariant = { λ c. AreNumbers c.leaf.now.done c.queue (λ client. slice_index c.done.now client) × IsFirstLacked c.found c.leaf.now c.queue c.rest.now };
 }
 
-ghost use Rattle.std.specs.Prelude.{◌≡◌, slice_index};
+ghost use Rattle.std.specs.Prelude.{◌≡◌, [], ◌∷◌, slice_index, true, IfSome, MatchOption};
 ghost use Rattle.leaf_view.specs.Lookup.{AreNumbers};
-ghost use Rattle.leaf_edit.specs.Lacked.{is_lacked};
+ghost use Rattle.leaf_edit.specs.Lacked.{is_lacked, lacked, IsFirstLacked};
 
 /// The first of the items that a leaf lacks.
 #[derive(Drop)]
@@ -69,6 +71,7 @@ impl<'a> Changes<'a> {
             queue,
             done,
             rest: run,
+            found: false,
         }
     }
 
@@ -81,6 +84,7 @@ impl<'a> Changes<'a> {
             queue: self.queue,
             done: self.done,
             rest: self.rest,
+            found: self.found,
         }
     }
 
@@ -94,6 +98,7 @@ impl<'a> Changes<'a> {
             queue: self.queue,
             done: self.done,
             rest: &[],
+            found: false,
         }
     }
 
@@ -102,30 +107,62 @@ impl<'a> Changes<'a> {
         ensures items { MatchOption result (self.entry ≡ []) (λ x. self.entry ≡ x.item.now ∷ x.rest) }
         ensures all { IfSome result (λ x. x.all ≡ self.entry) }
     {
-        let leaf = self.leaf;
-        let queue = self.queue;
-        let done = self.done;
-        let mut left = self.rest;
-        while let Some((x, rest)) = left.split_first() {
-            if lacks(leaf, queue, done, x) {
-                return Some(First {
-                    item: x,
-                    rest: Changes {
-                        leaf,
-                        queue,
-                        done,
-                        rest,
-                    },
-                    all: Changes {
-                        leaf,
-                        queue,
-                        done,
-                        rest: left,
-                    },
-                });
-            }
-            left = rest;
+        if self.found {
+            return first_of(self.leaf, self.queue, self.done, self.rest);
         }
-        None
+        first_lacked(self.leaf, self.queue, self.done, self.rest)
     }
+}
+
+/// The first of these items, which is lacked, with those behind it.
+fn first_of<'a>(
+    leaf: &'a LeafView<'a>,
+    queue: u64,
+    done: &'a Numbers,
+    items: &'a [PuItem],
+) -> Option<First<'a>>
+    requires numbers { AreNumbers leaf.now.done queue (λ client. slice_index done.now client) }
+    requires found { IsFirstLacked true leaf.now queue items.now }
+    ensures items { MatchOption result (lacked leaf.now queue items.now ≡ []) (λ x. lacked leaf.now queue items.now ≡ x.item.now ∷ x.rest) }
+    ensures all { IfSome result (λ x. x.all ≡ lacked leaf.now queue items.now) }
+{
+    let (item, rest) = items.split_first()?;
+    Some(First {
+        item,
+        rest: Changes {
+            leaf,
+            queue,
+            done,
+            rest,
+            found: false,
+        },
+        all: Changes {
+            leaf,
+            queue,
+            done,
+            rest: items,
+            found: true,
+        },
+    })
+}
+
+/// The first of these items that is lacked, with those behind it.
+fn first_lacked<'a>(
+    leaf: &'a LeafView<'a>,
+    queue: u64,
+    done: &'a Numbers,
+    items: &'a [PuItem],
+) -> Option<First<'a>>
+    requires { AreNumbers leaf.now.done queue (λ client. slice_index done.now client) }
+    ensures items { MatchOption result (lacked leaf.now queue items.now ≡ []) (λ x. lacked leaf.now queue items.now ≡ x.item.now ∷ x.rest) }
+    ensures all { IfSome result (λ x. x.all ≡ lacked leaf.now queue items.now) }
+{
+    let mut left = items;
+    while let Some((x, rest)) = left.split_first() {
+        if lacks(leaf, queue, done, x) {
+            return first_of(leaf, queue, done, left);
+        }
+        left = rest;
+    }
+    None
 }

@@ -1,14 +1,15 @@
 -- The list of a leaf's pairs has each of them once, in key order, and no other.
-use Rattle.std.proofs.Common.{◌≡◌, ℕ, Bool, true, false, ◌⊎◌, inl, inr, List, [], ◌∷◌, Option, Some, None, refl, ap, sym, subst, ◌∙◌, map, ◌+◌, ◌++◌, take, add-one, Bor}
-use Rattle.std.specs.Prelude.{◌&&◌, ◌||◌, nat_eq, nat_lt, ◌==◌, if◌then◌else◌, filter, fold, slice_get}
-use Rattle.std.proofs.lemmas.List.{map-append}
+use Rattle.std.proofs.Common.{◌≡◌, ℕ, Bool, true, false, List, [], ◌∷◌, Option, Some, None, refl, ap, sym, subst, ◌∙◌, map, ◌+◌, ◌++◌, take, add-one, Bor}
+use Rattle.std.specs.Prelude.{◌&&◌, nat_eq, nat_lt, ◌==◌, cond, if◌then◌else◌, filter, fold, slice_get}
+use Rattle.std.proofs.lemmas.Bool.{eq-eqb, eqb-true}
 use Rattle.std.proofs.lemmas.List.Sums.{fold_push}
 use Rattle.std.proofs.lemmas.Option.{slice_get_within, get_or_from_slice_get}
+use Rattle.std.proofs.lemmas.Slice.Eq.{bytes_eq-Decides}
 use Rattle.std.proofs.Math.Seq.{take-suc}
-use Rattle.std.specs.List.{list_any}
 use Rattle.std.specs.Str.{bytes_eq}
-use Rattle.std.specs.Ordering.{match_ordering, ordering_reverse, is_eq, nat_cmp}
+use Rattle.std.specs.Ordering.{match_ordering, ordering_reverse, is_eq, is_lt, nat_cmp}
 use Rattle.std.specs.Cmp.Lexicographic.{slice_cmp}
+use Rattle.std.specs.Map.{lookup, remove_entry}
 use Rattle.std.specs.declared.cmp.Ordering.{Ordering}
 use Rattle.std.specs.declared.cmp.Ordering.TheVariants.{Less, Equal, Greater}
 use Rattle.std.specs.BTreeMap.{insert_entry}
@@ -16,14 +17,16 @@ use Rattle.std.proofs.lemmas.Cmp.{tied_itself, nat_list_cmp_total}
 use Rattle.std.proofs.lemmas.Map.Text.{is_eq-slice_cmp}
 use Rattle.byte_format.specs.Order.{bytes_cmp, bytes_same}
 use Rattle.byte_format.proofs.OrderLemmas.{same_is, same_itself}
-use Rattle.leaf_view.specs.Leaf.{Entry, Leaf}
+use Rattle.leaf_view.specs.Fits.{Ascend, entry_below}
+use Rattle.leaf_view.specs.Leaf.{Entry}
 use Rattle.leaf_view.specs.Lookup.{payload_of, number_of}
 use Rattle.leaf_view.specs.Shown.{valued}
-use Rattle.db_base.specs.Change.{Value, key_of}
+use Rattle.db_base.specs.Change.{Value, act, key_of}
+use Rattle.db_base.specs.declared.change.Change.{Change}
 use Rattle.head_codec.specs.declared.lists.Pending.{Pending}
-use Rattle.txn_buffer.specs.Noted.{Noted, found_in}
-use Rattle.route_plan.specs.Seen.{seen, is_lacked_by, after_pending, after_buffered}
-use Rattle.range_scan.specs.Pairs.{Sight, BelowFirst, IsAscending, AreItems, is_listed, item_at, put_pair, with_payload, with_item, record_keys, pending_keys, buffered_keys, items_of}
+use Rattle.txn_buffer.specs.Noted.{Noted, AreDistinct, found_in, is_of}
+use Rattle.route_plan.specs.Seen.{is_lacked_by, after_pending, after_buffered}
+use Rattle.range_scan.specs.Pairs.{Sight, BelowFirst, IsAscending, AreItems, is_listed, put_pair, without_pair, with_payload, acted, with_record, is_listed_pending, with_pending, with_noted, items_of}
 
 -- ---- a pair in its place
 
@@ -89,181 +92,333 @@ put_finds q key payload (e ∷ es) = on (bytes_cmp key e.key) refl (put_finds q 
       (sym (same_of key e.key is)) (once (bytes_same e.key q))
   on Greater is h = twice (bytes_same key q) (bytes_same e.key q) (apart is) (payload_of q (put_pair es key payload)) h
 
--- ---- key by key
+-- ---- a pair taken out
 
--- the list has what the client sees at the key
-abbrev Has : Sight → List ℕ → List Entry → Type 0
-Has s q pairs = payload_of q pairs ≡ item_at s q
+same_flip : (a b : List ℕ) → bytes_same a b ≡ bytes_same b a
+same_flip a b = ap is_eq (nat_list_cmp_total.antisymm a b) ∙ turned (bytes_cmp b a) where
+  turned : (o : Ordering) → is_eq (ordering_reverse o) ≡ is_eq o
+  turned Less = refl
+  turned Equal = refl
+  turned Greater = refl
 
--- or it has nothing there
-abbrev MayHave : Sight → List ℕ → List Entry → Type 0
-MayHave s q pairs = (payload_of q pairs ≡ None) ⊎ Has s q pairs
+-- what a map of slices does to its entries
+pub valued_removed : (es : List (Bor (List ℕ) × Value)) (k : Bor (List ℕ))
+    → map valued (remove_entry (λ (a : Bor (List ℕ)). bytes_same k.now a.now) es) ≡ without_pair (map valued es) k.now
+valued_removed [] k = refl
+valued_removed (e ∷ es) k = on (bytes_same k.now e.0.now) (valued_removed es k) where
+  on : (b : Bool) → map valued (remove_entry (λ (a : Bor (List ℕ)). bytes_same k.now a.now) es) ≡ without_pair (map valued es) k.now
+      → map valued (cond b es (e ∷ remove_entry (λ (a : Bor (List ℕ)). bytes_same k.now a.now) es)) ≡ (if b then map valued es else valued e ∷ without_pair (map valued es) k.now)
+  on true h = refl
+  on false h = ap (λ (xs : List Entry). valued e ∷ xs) h
 
--- after one more key the list is at q as before, or it has what is seen there
-one_more : (s : Sight) (q key : List ℕ) (pairs : List Entry) → (payload_of q (with_item s pairs key) ≡ payload_of q pairs) ⊎ Has s q (with_item s pairs key)
-one_more s q key pairs = on (item_at s key) refl where
-  at : (payload : List ℕ) → item_at s key ≡ Some payload → (b : Bool) → bytes_same key q ≡ b → payload_of q (put_pair pairs key payload) ≡ (if b then Some payload else payload_of q pairs)
-      → (payload_of q (put_pair pairs key payload) ≡ payload_of q pairs) ⊎ (payload_of q (put_pair pairs key payload) ≡ item_at s q)
-  at payload is true same h = inr (h ∙ sym is ∙ ap (item_at s) (same_is key q same))
-  at payload is false same h = inl h
+pub valued_found : (es : List (Bor (List ℕ) × Value)) (k : Bor (List ℕ))
+    → lookup (λ (a : Bor (List ℕ)). bytes_same k.now a.now) es ≡ payload_of k.now (map valued es)
+valued_found [] k = refl
+valued_found (e ∷ es) k =
+    ap (λ (o : Option Value). cond (bytes_same k.now e.0.now) (Some e.1) o) (valued_found es k)
+    ∙ ap (λ (b : Bool). cond b (Some e.1) (payload_of k.now (map valued es))) (same_flip k.now e.0.now)
 
-  on : (o : Option (List ℕ)) → item_at s key ≡ o → (payload_of q (with_payload pairs key o) ≡ payload_of q pairs) ⊎ (payload_of q (with_payload pairs key o) ≡ item_at s q)
-  on None is = inl refl
-  on (Some payload) is = at payload is (bytes_same key q) refl (put_finds q key payload pairs)
+below_more : (key low : List ℕ) (es : List Entry) → bytes_cmp key low ≡ Less → BelowFirst low es → BelowFirst key es
+below_more key low [] below h = tt
+below_more key low (e ∷ es) below h = nat_list_cmp_total.trans key low e.key below h
 
-one_has : (s : Sight) (q key : List ℕ) (pairs : List Entry) → Has s q pairs → Has s q (with_item s pairs key)
-one_has s q key pairs h = on (one_more s q key pairs) where
-  on : (payload_of q (with_item s pairs key) ≡ payload_of q pairs) ⊎ Has s q (with_item s pairs key) → Has s q (with_item s pairs key)
-  on (inl same) = same ∙ h
-  on (inr has) = has
+-- a list that begins above a key has none there
+none_below : (key : List ℕ) (es : List Entry) → IsAscending es → BelowFirst key es → payload_of key es ≡ None
+none_below key [] h below = refl
+none_below key (e ∷ es) h below =
+    ap (λ (b : Bool). if b then Some e.payload else payload_of key es) (same_flip e.key key ∙ ap is_eq below)
+    ∙ none_below key es h.1 (below_more key e.key es below h.0)
 
-one_may : (s : Sight) (q key : List ℕ) (pairs : List Entry) → MayHave s q pairs → MayHave s q (with_item s pairs key)
-one_may s q key pairs h = on (one_more s q key pairs) h where
-  on : (payload_of q (with_item s pairs key) ≡ payload_of q pairs) ⊎ Has s q (with_item s pairs key) → MayHave s q pairs → MayHave s q (with_item s pairs key)
-  on (inr has) may = inr has
-  on (inl same) (inl none) = inl (same ∙ none)
-  on (inl same) (inr has) = inr (same ∙ has)
+without_below : (low key : List ℕ) (es : List Entry) → IsAscending es → BelowFirst low es → BelowFirst low (without_pair es key)
+without_below low key [] h below = tt
+without_below low key (e ∷ es) h below = on (bytes_same key e.key) where
+  on : (b : Bool) → BelowFirst low (if b then es else e ∷ without_pair es key)
+  on true = below_more low e.key es below h.0
+  on false = below
 
--- the key itself
-own_has : (s : Sight) (q key : List ℕ) (pairs : List Entry) → key ≡ q → MayHave s q pairs → Has s q (with_item s pairs key)
-own_has s q key pairs is may = on (item_at s key) refl may where
-  seen_as : (o : Option (List ℕ)) → item_at s key ≡ o → item_at s q ≡ o
-  seen_as o h = sym (ap (item_at s) is) ∙ h
+without_ascends : (key : List ℕ) (es : List Entry) → IsAscending es → IsAscending (without_pair es key)
+without_ascends key [] h = tt
+without_ascends key (e ∷ es) h = on (bytes_same key e.key) (without_ascends key es h.1) where
+  on : (b : Bool) → IsAscending (without_pair es key) → IsAscending (if b then es else e ∷ without_pair es key)
+  on true g = h.1
+  on false g = (without_below e.key key es h.1 h.0, g)
 
-  on : (o : Option (List ℕ)) → item_at s key ≡ o → MayHave s q pairs → payload_of q (with_payload pairs key o) ≡ item_at s q
-  on None h (inl none) = none ∙ sym (seen_as None h)
-  on None h (inr has) = has
-  on (Some payload) h m =
-      put_finds q key payload pairs
-      ∙ ap (λ (b : Bool). if b then Some payload else payload_of q pairs) (subst (λ (k : List ℕ). bytes_same key k ≡ true) is (same_itself key))
-      ∙ sym (seen_as (Some payload) h)
-
--- ---- all keys
-
-abbrev is_key : List (List ℕ) → List ℕ → Bool
-is_key keys q = list_any (λ k. bytes_same k q) keys
-
-all_has : (s : Sight) (q : List ℕ) (keys : List (List ℕ)) (pairs : List Entry) → Has s q pairs → Has s q (fold (with_item s) pairs keys)
-all_has s q [] pairs h = h
-all_has s q (k ∷ keys) pairs h = all_has s q keys (with_item s pairs k) (one_has s q k pairs h)
-
-all_may : (s : Sight) (q : List ℕ) (keys : List (List ℕ)) (pairs : List Entry) → MayHave s q pairs → MayHave s q (fold (with_item s) pairs keys)
-all_may s q [] pairs h = h
-all_may s q (k ∷ keys) pairs h = all_may s q keys (with_item s pairs k) (one_may s q k pairs h)
-
-key_has : (s : Sight) (q : List ℕ) (keys : List (List ℕ)) (pairs : List Entry) → is_key keys q ≡ true → MayHave s q pairs → Has s q (fold (with_item s) pairs keys)
-key_has s q [] pairs is may = absurd (cc (is))
-key_has s q (k ∷ keys) pairs is may = on (bytes_same k q) refl is (key_has s q keys (with_item s pairs k)) where
-  on : (b : Bool) → bytes_same k q ≡ b → (b || is_key keys q) ≡ true → (is_key keys q ≡ true → MayHave s q (with_item s pairs k) → Has s q (fold (with_item s) (with_item s pairs k) keys))
-      → Has s q (fold (with_item s) (with_item s pairs k) keys)
-  on true same h rest = all_has s q keys (with_item s pairs k) (own_has s q k pairs (same_is k q same) may)
-  on false same h rest = rest h (one_may s q k pairs may)
-
-with_ascends : (s : Sight) (key : List ℕ) (pairs : List Entry) → IsAscending pairs → IsAscending (with_item s pairs key)
-with_ascends s key pairs h = on (item_at s key) where
-  on : (o : Option (List ℕ)) → IsAscending (with_payload pairs key o)
-  on None = h
-  on (Some payload) = put_ascends pairs key payload h
-
-all_ascend : (s : Sight) (keys : List (List ℕ)) (pairs : List Entry) → IsAscending pairs → IsAscending (fold (with_item s) pairs keys)
-all_ascend s [] pairs h = h
-all_ascend s (k ∷ keys) pairs h = all_ascend s keys (with_item s pairs k) (with_ascends s k pairs h)
-
--- ---- where there is no such key
-
-unsame : (a b : List ℕ) → bytes_same a b ≡ false → bytes_eq a b ≡ false
-unsame a b h = sym (is_eq-slice_cmp a b) ∙ h
-
-unsame_back : (a b : List ℕ) → bytes_same a b ≡ false → bytes_eq b a ≡ false
-unsame_back a b h = on (bytes_same b a) refl where
-  on : (c : Bool) → bytes_same b a ≡ c → bytes_eq b a ≡ false
-  on false e = unsame b a e
-  on true e = absurd (cc (h, subst (λ (k : List ℕ). bytes_same k b ≡ true) (same_is b a e) (same_itself b)))
-
-no_record : (q : List ℕ) (records : List Entry) → is_key (map (λ e. e.key) records) q ≡ false → payload_of q records ≡ None
-no_record q [] h = refl
-no_record q (e ∷ es) h = on (bytes_same e.key q) h (no_record q es) where
-  on : (b : Bool) → (b || is_key (map (λ x. x.key) es) q) ≡ false → (is_key (map (λ x. x.key) es) q ≡ false → payload_of q es ≡ None)
-      → (if b then Some e.payload else payload_of q es) ≡ None
-  on true h rest = absurd (cc (h))
-  on false h rest = rest h
-
-no_pending : (l : Leaf) (client tree : ℕ) (q : List ℕ) (pending : List Pending) → is_key (map (λ e. key_of e.change) pending) q ≡ false
-    → filter (is_lacked_by l client tree q) pending ≡ []
-no_pending l client tree q [] h = refl
-no_pending l client tree q (p ∷ ps) h = on (bytes_same (key_of p.change) q) refl h (no_pending l client tree q ps) where
-  lacks : (a b c : Bool) → b ≡ false → filter (is_lacked_by l client tree q) ps ≡ []
-      → (if (a && b) && c then p ∷ filter (is_lacked_by l client tree q) ps else filter (is_lacked_by l client tree q) ps) ≡ []
-  lacks true true c is h = absurd (cc (is))
-  lacks true false c is h = h
-  lacks false b c is h = h
-
-  on : (b : Bool) → bytes_same (key_of p.change) q ≡ b → (b || is_key (map (λ e. key_of e.change) ps) q) ≡ false
-      → (is_key (map (λ e. key_of e.change) ps) q ≡ false → filter (is_lacked_by l client tree q) ps ≡ []) → filter (is_lacked_by l client tree q) (p ∷ ps) ≡ []
-  on true e h rest = absurd (cc (h))
-  on false e h rest =
-      lacks (p.tree == tree) (bytes_eq (key_of p.change) q) (nat_lt (number_of l.done p.page client) p.number) (unsame (key_of p.change) q e) (rest h)
-
-no_buffered : (tree : ℕ) (q : List ℕ) (buffer : List Noted) → is_key (map (λ n. key_of n.change) buffer) q ≡ false → found_in buffer tree q ≡ None
-no_buffered tree q [] h = refl
-no_buffered tree q (n ∷ ns) h = on (bytes_same (key_of n.change) q) refl h (no_buffered tree q ns) where
-  misses : (a b : Bool) → b ≡ false → found_in ns tree q ≡ None → (if a && b then Some n.change else found_in ns tree q) ≡ None
-  misses true true is h = absurd (cc (is))
-  misses true false is h = h
-  misses false b is h = h
-
-  on : (b : Bool) → bytes_same (key_of n.change) q ≡ b → (b || is_key (map (λ m. key_of m.change) ns) q) ≡ false
-      → (is_key (map (λ m. key_of m.change) ns) q ≡ false → found_in ns tree q ≡ None) → found_in (n ∷ ns) tree q ≡ None
-  on true e h rest = absurd (cc (h))
-  on false e h rest = misses (nat_eq tree n.tree) (bytes_eq q (key_of n.change)) (unsame_back (key_of n.change) q e) (rest h)
-
-no_item : (s : Sight) (q : List ℕ) → is_key (record_keys s) q ≡ false → is_key (pending_keys s) q ≡ false → is_key (buffered_keys s) q ≡ false → item_at s q ≡ None
-no_item s q a b c = on (is_listed s q) where
-  unseen : seen s.leaf s.tree q s.client s.head s.buffer ≡ None
-  unseen =
-      ap (after_buffered (after_pending (payload_of q s.leaf.records) (filter (is_lacked_by s.leaf s.client s.tree q) s.head.pending))) (no_buffered s.tree q s.buffer c)
-      ∙ ap (after_pending (payload_of q s.leaf.records)) (no_pending s.leaf s.client s.tree q s.head.pending b)
-      ∙ no_record q s.leaf.records a
-
-  on : (d : Bool) → (if d then seen s.leaf s.tree q s.client s.head s.buffer else None) ≡ None
-  on true = unseen
+without_finds : (q key : List ℕ) (es : List Entry) → IsAscending es → payload_of q (without_pair es key) ≡ (if bytes_same key q then None else payload_of q es)
+without_finds q key [] h = on (bytes_same key q) where
+  on : (b : Bool) → ◌≡◌ {A = Option (List ℕ)} None (if b then None else None)
+  on true = refl
   on false = refl
+without_finds q key (e ∷ es) h = on (bytes_same key e.key) refl (without_finds q key es h.1) where
+  first : (b : Bool) → bytes_same e.key q ≡ b → payload_of q es ≡ (if b then None else if b then Some e.payload else payload_of q es)
+  first true is = subst (λ (k : List ℕ). payload_of k es ≡ None) (same_is e.key q is) (none_below e.key es h.1 h.0)
+  first false is = refl
+
+  other : (a b : Bool) → (a ≡ true → b ≡ true → ⊥) → (x : Option (List ℕ)) → x ≡ (if a then None else payload_of q es)
+      → (if b then Some e.payload else x) ≡ (if a then None else if b then Some e.payload else payload_of q es)
+  other true true never x g = absurd (never refl refl)
+  other true false never x g = g
+  other false true never x g = refl
+  other false false never x g = g
+
+  apart : bytes_same key e.key ≡ false → bytes_same key q ≡ true → bytes_same e.key q ≡ true → ⊥
+  apart is one two =
+      let same : key ≡ e.key = same_is key q one ∙ sym (same_is e.key q two) in
+      absurd (cc (is, subst (λ (k : List ℕ). bytes_same key k ≡ true) same (same_itself key)))
+
+  on : (b : Bool) → bytes_same key e.key ≡ b → payload_of q (without_pair es key) ≡ (if bytes_same key q then None else payload_of q es)
+      → payload_of q (if b then es else e ∷ without_pair es key) ≡ (if bytes_same key q then None else payload_of q (e ∷ es))
+  on true is g =
+      subst (λ (k : List ℕ). payload_of q es ≡ (if bytes_same k q then None else if bytes_same e.key q then Some e.payload else payload_of q es))
+      (sym (same_is key e.key is)) (first (bytes_same e.key q) refl)
+  on false is g = other (bytes_same key q) (bytes_same e.key q) (apart is) (payload_of q (without_pair es key)) g
+
+-- ---- a change of one key
+
+with_finds : (q key : List ℕ) (o : Option (List ℕ)) (es : List Entry) → IsAscending es
+    → payload_of q (with_payload (without_pair es key) key o) ≡ (if bytes_same key q then o else payload_of q es)
+with_finds q key None es h = without_finds q key es h
+with_finds q key (Some payload) es h = put_finds q key payload (without_pair es key) ∙ on (bytes_same key q) (without_finds q key es h) where
+  on : (b : Bool) → payload_of q (without_pair es key) ≡ (if b then None else payload_of q es)
+      → (if b then Some payload else payload_of q (without_pair es key)) ≡ (if b then Some payload else payload_of q es)
+  on true g = refl
+  on false g = g
+
+acted_finds : (q : List ℕ) (es : List Entry) (c : Change) → IsAscending es → payload_of q (acted es c) ≡ (if bytes_same (key_of c) q then act (payload_of q es) c else payload_of q es)
+acted_finds q es c h = with_finds q (key_of c) (act (payload_of (key_of c) es) c) es h ∙ on (bytes_same (key_of c) q) refl where
+  on : (b : Bool) → bytes_same (key_of c) q ≡ b → (if b then act (payload_of (key_of c) es) c else payload_of q es) ≡ (if b then act (payload_of q es) c else payload_of q es)
+  on true is = ap (λ (k : List ℕ). act (payload_of k es) c) (same_is (key_of c) q is)
+  on false is = refl
+
+acted_ascends : (es : List Entry) (c : Change) → IsAscending es → IsAscending (acted es c)
+acted_ascends es c h = on (act (payload_of (key_of c) es) c) where
+  on : (o : Option (List ℕ)) → IsAscending (with_payload (without_pair es (key_of c)) (key_of c) o)
+  on None = without_ascends (key_of c) es h
+  on (Some payload) = put_ascends (without_pair es (key_of c)) (key_of c) payload (without_ascends (key_of c) es h)
+
+-- ---- in order
+
+if_ascends : (b : Bool) (new old : List Entry) → IsAscending new → IsAscending old → IsAscending (if b then new else old)
+if_ascends true new old h g = h
+if_ascends false new old h g = g
+
+all_ascend : {X : Type 0} (f : List Entry → X → List Entry) → ((pairs : List Entry) (x : X) → IsAscending pairs → IsAscending (f pairs x))
+    → (xs : List X) (pairs : List Entry) → IsAscending pairs → IsAscending (fold f pairs xs)
+all_ascend f keeps [] pairs h = h
+all_ascend f keeps (x ∷ xs) pairs h = all_ascend f keeps xs (f pairs x) (keeps pairs x h)
+
+record_ascends : (s : Sight) (pairs : List Entry) (e : Entry) → IsAscending pairs → IsAscending (with_record s pairs e)
+record_ascends s pairs e h = if_ascends (is_listed s e.key) _ _ (put_ascends pairs e.key e.payload h) h
+
+pending_ascends : (s : Sight) (pairs : List Entry) (p : Pending) → IsAscending pairs → IsAscending (with_pending s pairs p)
+pending_ascends s pairs p h = if_ascends (is_listed_pending s p) _ _ (acted_ascends pairs p.change h) h
+
+noted_ascends : (s : Sight) (pairs : List Entry) (n : Noted) → IsAscending pairs → IsAscending (with_noted s pairs n)
+noted_ascends s pairs n h = if_ascends ((n.tree == s.tree) && is_listed s (key_of n.change)) _ _ (acted_ascends pairs n.change h) h
+
+-- ---- what a list has at a key: a payload where the key is asked for, and nothing else
+
+abbrev Shows : Sight → List ℕ → Option Value → List Entry → Type 0
+Shows s q v pairs = payload_of q pairs ≡ (if is_listed s q then v else None)
+
+-- ---- the records
+
+is_less : (o : Ordering) → is_lt o ≡ true → o ≡ Less
+is_less Less e = refl
+is_less Equal e = absurd (cc (e))
+is_less Greater e = absurd (cc (e))
+
+ascending_behind : (before : Entry) (es : List Entry) → Ascend entry_below (Some before) es → BelowFirst before.key es × IsAscending es
+ascending_behind before [] h = (tt, tt)
+ascending_behind before (e ∷ es) h = (is_less (bytes_cmp before.key e.key) h.0, ascending_behind e es h.1)
+
+record_finds : (s : Sight) (q : List ℕ) (e : Entry) (pairs : List Entry)
+    → payload_of q (with_record s pairs e) ≡ (if bytes_same e.key q then (if is_listed s q then Some e.payload else payload_of q pairs) else payload_of q pairs)
+record_finds s q e pairs = on (bytes_same e.key q) refl where
+  put : (l : Bool) → payload_of q (if l then put_pair pairs e.key e.payload else pairs)
+      ≡ (if l then (if bytes_same e.key q then Some e.payload else payload_of q pairs) else payload_of q pairs)
+  put true = put_finds q e.key e.payload pairs
+  put false = refl
+
+  both : (l : Bool) → (if l then payload_of q pairs else payload_of q pairs) ≡ payload_of q pairs
+  both true = refl
+  both false = refl
+
+  on : (b : Bool) → bytes_same e.key q ≡ b
+      → payload_of q (with_record s pairs e) ≡ (if b then (if is_listed s q then Some e.payload else payload_of q pairs) else payload_of q pairs)
+  on true is =
+      put (is_listed s e.key)
+      ∙ ap (λ (b : Bool). if is_listed s e.key then (if b then Some e.payload else payload_of q pairs) else payload_of q pairs) is
+      ∙ ap (λ (k : List ℕ). if is_listed s k then Some e.payload else payload_of q pairs) (same_is e.key q is)
+  on false is =
+      put (is_listed s e.key)
+      ∙ ap (λ (b : Bool). if is_listed s e.key then (if b then Some e.payload else payload_of q pairs) else payload_of q pairs) is
+      ∙ both (is_listed s e.key)
+
+-- records of other keys leave a key as it is
+others_stay : (s : Sight) (q : List ℕ) (es pairs : List Entry) → payload_of q es ≡ None → payload_of q (fold (with_record s) pairs es) ≡ payload_of q pairs
+others_stay s q [] pairs h = refl
+others_stay s q (e ∷ es) pairs h = on (bytes_same e.key q) h (record_finds s q e pairs) (others_stay s q es (with_record s pairs e)) where
+  on : (b : Bool) → (if b then Some e.payload else payload_of q es) ≡ None
+      → payload_of q (with_record s pairs e) ≡ (if b then (if is_listed s q then Some e.payload else payload_of q pairs) else payload_of q pairs)
+      → (payload_of q es ≡ None → payload_of q (fold (with_record s) (with_record s pairs e) es) ≡ payload_of q (with_record s pairs e))
+      → payload_of q (fold (with_record s) (with_record s pairs e) es) ≡ payload_of q pairs
+  on true none g rest = absurd (cc (none))
+  on false none g rest = rest none ∙ g
+
+all_records : (s : Sight) (q : List ℕ) (es pairs : List Entry) → IsAscending es → payload_of q pairs ≡ None → Shows s q (payload_of q es) (fold (with_record s) pairs es)
+all_records s q [] pairs h none = none ∙ on (is_listed s q) where
+  on : (l : Bool) → ◌≡◌ {A = Option (List ℕ)} None (if l then None else None)
+  on true = refl
+  on false = refl
+all_records s q (e ∷ es) pairs h none = on (bytes_same e.key q) refl (record_finds s q e pairs) (all_records s q es (with_record s pairs e) h.1) where
+  on : (b : Bool) → bytes_same e.key q ≡ b
+      → payload_of q (with_record s pairs e) ≡ (if b then (if is_listed s q then Some e.payload else payload_of q pairs) else payload_of q pairs)
+      → (payload_of q (with_record s pairs e) ≡ None → Shows s q (payload_of q es) (fold (with_record s) (with_record s pairs e) es))
+      → payload_of q (fold (with_record s) (with_record s pairs e) es) ≡ (if is_listed s q then (if b then Some e.payload else payload_of q es) else None)
+  on true is g rest =
+      others_stay s q es (with_record s pairs e) (subst (λ (k : List ℕ). payload_of k es ≡ None) (same_is e.key q is) (none_below e.key es h.1 h.0))
+      ∙ g ∙ ap (λ (o : Option Value). if is_listed s q then Some e.payload else o) none
+  on false is g rest = rest (g ∙ none)
+
+-- ---- the client's own changes
+
+pending_shows : (s : Sight) (q : List ℕ) (p : Pending) (pairs : List Entry) (v : Option Value) → IsAscending pairs → Shows s q v pairs
+    → Shows s q (if is_lacked_by s.leaf s.client s.tree q p then act v p.change else v) (with_pending s pairs p)
+pending_shows s q p pairs v up h = on (bytes_same (key_of p.change) q) refl (acted_finds q pairs p.change up) where
+  hit : (t l n : Bool) → payload_of q (acted pairs p.change) ≡ act (payload_of q pairs) p.change → payload_of q pairs ≡ (if l then v else None)
+      → payload_of q (if t && (l && n) then acted pairs p.change else pairs) ≡ (if l then (if (t && true) && n then act v p.change else v) else None)
+  hit true true true f g = f ∙ ap (λ (o : Option Value). act o p.change) g
+  hit true true false f g = g
+  hit true false n f g = g
+  hit false true n f g = g
+  hit false false n f g = g
+
+  miss : (t c l n : Bool) → payload_of q (acted pairs p.change) ≡ payload_of q pairs → payload_of q pairs ≡ (if l then v else None)
+      → payload_of q (if t && c then acted pairs p.change else pairs) ≡ (if l then (if (t && false) && n then act v p.change else v) else None)
+  miss true true l n f g = f ∙ g
+  miss true false l n f g = g
+  miss false c l n f g = g
+
+  on : (b : Bool) → bytes_same (key_of p.change) q ≡ b → payload_of q (acted pairs p.change) ≡ (if b then act (payload_of q pairs) p.change else payload_of q pairs)
+      → Shows s q (if is_lacked_by s.leaf s.client s.tree q p then act v p.change else v) (with_pending s pairs p)
+  on true is f =
+      ap (λ (k : List ℕ). payload_of q (if (p.tree == s.tree) && (is_listed s k && nat_lt (number_of s.leaf.done p.page s.client) p.number) then acted pairs p.change else pairs))
+      (same_is (key_of p.change) q is)
+      ∙ hit (p.tree == s.tree) (is_listed s q) (nat_lt (number_of s.leaf.done p.page s.client) p.number) f h
+      ∙ ap (λ (e : Bool). if is_listed s q then (if ((p.tree == s.tree) && e) && nat_lt (number_of s.leaf.done p.page s.client) p.number then act v p.change else v) else None)
+      (sym (sym (is_eq-slice_cmp (key_of p.change) q) ∙ is))
+  on false is f =
+      miss (p.tree == s.tree) (is_listed s (key_of p.change) && nat_lt (number_of s.leaf.done p.page s.client) p.number) (is_listed s q)
+      (nat_lt (number_of s.leaf.done p.page s.client) p.number) f h
+      ∙ ap (λ (e : Bool). if is_listed s q then (if ((p.tree == s.tree) && e) && nat_lt (number_of s.leaf.done p.page s.client) p.number then act v p.change else v) else None)
+      (sym (sym (is_eq-slice_cmp (key_of p.change) q) ∙ is))
+
+all_pending : (s : Sight) (q : List ℕ) (ps : List Pending) (pairs : List Entry) (v : Option Value) → IsAscending pairs → Shows s q v pairs
+    → Shows s q (after_pending v (filter (is_lacked_by s.leaf s.client s.tree q) ps)) (fold (with_pending s) pairs ps)
+all_pending s q [] pairs v up h = h
+all_pending s q (p ∷ ps) pairs v up h =
+    all_pending s q ps (with_pending s pairs p) (if lacked then act v p.change else v) (pending_ascends s pairs p up) (pending_shows s q p pairs v up h)
+    ∙ ap (λ (o : Option Value). if is_listed s q then o else None) (on lacked)
+  where
+    lacked : Bool
+    lacked = is_lacked_by s.leaf s.client s.tree q p
+
+    rest : List Pending
+    rest = filter (is_lacked_by s.leaf s.client s.tree q) ps
+
+    on : (b : Bool) → after_pending (if b then act v p.change else v) rest ≡ after_pending v (if b then p ∷ rest else rest)
+    on true = refl
+    on false = refl
+
+bytes_same_eq : (a b : List ℕ) → bytes_eq b a ≡ bytes_same a b
+bytes_same_eq a b = sym (is_eq-slice_cmp b a) ∙ same_flip b a
+
+nat_flip : (m n : ℕ) → nat_eq m n ≡ nat_eq n m
+nat_flip m n = on (nat_eq m n) (nat_eq n m) refl refl where
+  on : (a b : Bool) → nat_eq m n ≡ a → nat_eq n m ≡ b → a ≡ b
+  on true true e f = refl
+  on false false e f = refl
+  on true false e f = absurd (cc (f, eq-eqb n m (sym (eqb-true m n e))))
+  on false true e f = absurd (cc (e, eq-eqb m n (sym (eqb-true n m f))))
+
+noted_shows : (s : Sight) (q : List ℕ) (n : Noted) (pairs : List Entry) (v : Option Value) → IsAscending pairs → Shows s q v pairs
+    → Shows s q (if is_of s.tree q n then act v n.change else v) (with_noted s pairs n)
+noted_shows s q n pairs v up h = on (bytes_same (key_of n.change) q) refl (acted_finds q pairs n.change up) where
+  hit : (t l : Bool) → payload_of q (acted pairs n.change) ≡ act (payload_of q pairs) n.change → payload_of q pairs ≡ (if l then v else None)
+      → payload_of q (if t && l then acted pairs n.change else pairs) ≡ (if l then (if t && true then act v n.change else v) else None)
+  hit true true f g = f ∙ ap (λ (o : Option Value). act o n.change) g
+  hit true false f g = g
+  hit false true f g = g
+  hit false false f g = g
+
+  miss : (t c l : Bool) → payload_of q (acted pairs n.change) ≡ payload_of q pairs → payload_of q pairs ≡ (if l then v else None)
+      → payload_of q (if t && c then acted pairs n.change else pairs) ≡ (if l then (if t && false then act v n.change else v) else None)
+  miss true true l f g = f ∙ g
+  miss true false l f g = g
+  miss false c l f g = g
+
+  as_is : (b : Bool) → bytes_same (key_of n.change) q ≡ b
+      → (if is_listed s q then (if (n.tree == s.tree) && b then act v n.change else v) else None) ≡ (if is_listed s q then (if is_of s.tree q n then act v n.change else v) else None)
+  as_is b is =
+      ap (λ (e : Bool). if is_listed s q then (if (n.tree == s.tree) && e then act v n.change else v) else None) (sym is ∙ sym (bytes_same_eq (key_of n.change) q))
+      ∙ ap (λ (t : Bool). if is_listed s q then (if t && bytes_eq q (key_of n.change) then act v n.change else v) else None) (nat_flip n.tree s.tree)
+
+  on : (b : Bool) → bytes_same (key_of n.change) q ≡ b → payload_of q (acted pairs n.change) ≡ (if b then act (payload_of q pairs) n.change else payload_of q pairs)
+      → Shows s q (if is_of s.tree q n then act v n.change else v) (with_noted s pairs n)
+  on true is f =
+      ap (λ (k : List ℕ). payload_of q (if (n.tree == s.tree) && is_listed s k then acted pairs n.change else pairs)) (same_is (key_of n.change) q is)
+      ∙ hit (n.tree == s.tree) (is_listed s q) f h
+      ∙ as_is true is
+  on false is f = miss (n.tree == s.tree) (is_listed s (key_of n.change)) (is_listed s q) f h ∙ as_is false is
+
+all_noted : (s : Sight) (q : List ℕ) (ns : List Noted) (pairs : List Entry) (v : Option Value) → AreDistinct ns → IsAscending pairs → Shows s q v pairs
+    → Shows s q (after_buffered v (found_in ns s.tree q)) (fold (with_noted s) pairs ns)
+all_noted s q [] pairs v apart up h = h
+all_noted s q (n ∷ ns) pairs v apart up h = on (is_of s.tree q n) refl (noted_shows s q n pairs v up h) (λ (w : Option Value). all_noted s q ns (with_noted s pairs n) w apart.1 (noted_ascends s pairs n up)) where
+  no_other : is_of s.tree q n ≡ true → found_in ns s.tree q ≡ None
+  no_other is = split (nat_eq s.tree n.tree) (bytes_eq q (key_of n.change)) refl refl is where
+    split : (a b : Bool) → nat_eq s.tree n.tree ≡ a → bytes_eq q (key_of n.change) ≡ b → (a && b) ≡ true → found_in ns s.tree q ≡ None
+    split true true same key both =
+        let trees : s.tree ≡ n.tree = eqb-true s.tree n.tree same in
+        let keys : q ≡ key_of n.change = (bytes_eq-Decides q (key_of n.change)).0 key in
+        ap (λ (t : ℕ). found_in ns t q) trees ∙ ap (λ (k : List ℕ). found_in ns n.tree k) keys ∙ apart.0
+    split true false same key both = absurd (cc (both))
+    split false b same key both = absurd (cc (both))
+
+  on : (b : Bool) → is_of s.tree q n ≡ b → Shows s q (if b then act v n.change else v) (with_noted s pairs n)
+      → ((w : Option Value) → Shows s q w (with_noted s pairs n) → Shows s q (after_buffered w (found_in ns s.tree q)) (fold (with_noted s) (with_noted s pairs n) ns))
+      → Shows s q (after_buffered v (if b then Some n.change else found_in ns s.tree q)) (fold (with_noted s) (with_noted s pairs n) ns)
+  on true is g rest =
+      rest (act v n.change) g
+      ∙ ap (λ (o : Option Change). if is_listed s q then after_buffered (act v n.change) o else None) (no_other is)
+  on false is g rest = rest v g
 
 -- ---- the whole list
 
-abbrev first_pairs : Sight → List Entry
-first_pairs s = fold (with_item s) [] (record_keys s)
+abbrev with_records : Sight → List Entry
+with_records s = fold (with_record s) [] s.leaf.records
 
-abbrev next_pairs : Sight → List Entry
-next_pairs s = fold (with_item s) (fold (with_item s) [] (record_keys s)) (pending_keys s)
+abbrev with_pendings : Sight → List Entry
+with_pendings s = fold (with_pending s) (with_records s) s.head.pending
 
-pub are_items : (s : Sight) → AreItems s (items_of s)
-are_items s = record { ascending = ascend; each = has } where
+are_items : (s : Sight) → Ascend entry_below None s.leaf.records → AreDistinct s.buffer → AreItems s (items_of s)
+are_items s h apart = record { ascending = ascend; each = has } where
+  ordered : (es : List Entry) → Ascend entry_below None es → IsAscending es
+  ordered [] g = tt
+  ordered (e ∷ es) g = ascending_behind e es g.1
+
+  up_first : IsAscending (with_records s)
+  up_first = all_ascend (with_record s) (record_ascends s) s.leaf.records [] tt
+
+  up_next : IsAscending (with_pendings s)
+  up_next = all_ascend (with_pending s) (pending_ascends s) s.head.pending (with_records s) up_first
+
   ascend : IsAscending (items_of s)
-  ascend = all_ascend s (buffered_keys s) (next_pairs s) (all_ascend s (pending_keys s) (first_pairs s) (all_ascend s (record_keys s) [] tt))
+  ascend = all_ascend (with_noted s) (noted_ascends s) s.buffer (with_pendings s) up_next
 
-  may_first : (q : List ℕ) → MayHave s q (first_pairs s)
-  may_first q = all_may s q (record_keys s) [] (inl refl)
-
-  may_next : (q : List ℕ) → MayHave s q (next_pairs s)
-  may_next q = all_may s q (pending_keys s) (first_pairs s) (may_first q)
-
-  none_has : (q : List ℕ) → item_at s q ≡ None → MayHave s q (items_of s) → Has s q (items_of s)
-  none_has q absent (inl none) = none ∙ sym absent
-  none_has q absent (inr h) = h
-
-  on : (q : List ℕ) (a b c : Bool) → is_key (record_keys s) q ≡ a → is_key (pending_keys s) q ≡ b → is_key (buffered_keys s) q ≡ c → Has s q (items_of s)
-  on q true b c x y z =
-      all_has s q (buffered_keys s) (next_pairs s) (all_has s q (pending_keys s) (first_pairs s) (key_has s q (record_keys s) [] x (inl refl)))
-  on q false true c x y z = all_has s q (buffered_keys s) (next_pairs s) (key_has s q (pending_keys s) (first_pairs s) y (may_first q))
-  on q false false true x y z = key_has s q (buffered_keys s) (next_pairs s) z (may_next q)
-  on q false false false x y z = none_has q (no_item s q x y z) (all_may s q (buffered_keys s) (next_pairs s) (may_next q))
-
-  has : (q : List ℕ) → Has s q (items_of s)
-  has q = on q (is_key (record_keys s) q) (is_key (pending_keys s) q) (is_key (buffered_keys s) q) refl refl refl
-
-pub items_are : (s : Sight) (pairs : List Entry) → pairs ≡ items_of s → AreItems s pairs
-items_are s pairs e = subst (AreItems s) (sym e) (are_items s)
+  has : (q : List ℕ) → Shows s q (after_buffered (after_pending (payload_of q s.leaf.records) (filter (is_lacked_by s.leaf s.client s.tree q) s.head.pending)) (found_in s.buffer s.tree q)) (items_of s)
+  has q = all_noted s q s.buffer (with_pendings s) _ apart up_next
+      (all_pending s q s.head.pending (with_records s) _ up_first (all_records s q s.leaf.records [] (ordered s.leaf.records h) refl))
 
 -- ---- one more of the buffer
 
@@ -274,39 +429,67 @@ take_one_more xs i x h =
     let t = take-suc xs i x below in
     rw add-one (cc)
 
-pub one_buffered : (s : Sight) (start now new : List Entry) (buffer : List Noted) (i : ℕ) (n : Noted) (key : List ℕ) → slice_get buffer i ≡ Some n
-    → now ≡ fold (with_item s) start (map (λ (m : Noted). key_of m.change) (take i buffer)) → key ≡ key_of n.change → new ≡ with_item s now key
-    → new ≡ fold (with_item s) start (map (λ (m : Noted). key_of m.change) (take (i + 1) buffer))
-one_buffered s start now new buffer i n key at before is added =
-    let f : Noted → List ℕ = λ m. key_of m.change in
-    added
-    ∙ ap (λ (k : List ℕ). with_item s now k) is
-    ∙ ap (λ (x : List Entry). with_item s x (key_of n.change)) before
-    ∙ sym (fold_push (with_item s) start (map f (take i buffer)) (key_of n.change))
-    ∙ ap (fold (with_item s) start) (sym (map-append f (take i buffer) (n ∷ [])) ∙ ap (map f) (sym (take_one_more buffer i n at)))
+pub one_buffered : (s : Sight) (start now new : List Entry) (buffer : List Noted) (i : ℕ) (n : Noted) → slice_get buffer i ≡ Some n
+    → now ≡ fold (with_noted s) start (take i buffer) → new ≡ with_noted s now n → new ≡ fold (with_noted s) start (take (i + 1) buffer)
+one_buffered s start now new buffer i n at before is =
+    is
+    ∙ ap (λ (x : List Entry). with_noted s x n) before
+    ∙ sym (fold_push (with_noted s) start (take i buffer) n)
+    ∙ ap (fold (with_noted s) start) (sym (take_one_more buffer i n at))
 
--- ---- what the code adds
+-- ---- what the code makes
 
-pub added : (s : Sight) (es new : List (Bor (List ℕ) × Value)) (old : List Entry) (k : Bor (List ℕ)) (v : Value) → Some v ≡ item_at s k.now → map valued es ≡ old
-    → new ≡ insert_entry (λ (a b : Bor (List ℕ)). slice_cmp nat_cmp a.now b.now) es k v → map valued new ≡ with_item s old k.now
-added s es new old k v is view e =
-    ap (map valued) e ∙ valued_inserted es k v ∙ ap (λ (x : List Entry). put_pair x k.now v) view ∙ ap (with_payload old k.now) is
+pub record_added : (s : Sight) (es new : List (Bor (List ℕ) × Value)) (old : List Entry) (k : Bor (List ℕ)) (e : Entry) (v : Value) → is_listed s e.key ≡ true → k.now ≡ e.key → v ≡ e.payload
+    → map valued es ≡ old → new ≡ insert_entry (λ (a b : Bor (List ℕ)). slice_cmp nat_cmp a.now b.now) es k v → map valued new ≡ with_record s old e
+record_added s es new old k e v is key payload view put =
+    ap (λ (x : List (Bor (List ℕ) × Value)). map valued x) put
+    ∙ valued_inserted es k v
+    ∙ ap (λ (x : List Entry). put_pair x k.now v) view
+    ∙ ap (λ (q : List ℕ). put_pair old q v) key
+    ∙ ap (λ (p : List ℕ). put_pair old e.key p) payload
+    ∙ ap (λ (b : Bool). if b then put_pair old e.key e.payload else old) (sym is)
+
+-- what a change leaves, by the payload before it
+by_payload : (es left : List (Bor (List ℕ) × Value)) (old : List Entry) (k : Bor (List ℕ)) (c : Change) (before after : Option Value) → k.now ≡ key_of c → map valued es ≡ old
+    → before ≡ lookup (λ (a : Bor (List ℕ)). bytes_same k.now a.now) es → left ≡ remove_entry (λ (a : Bor (List ℕ)). bytes_same k.now a.now) es → after ≡ act before c
+    → with_payload (map valued left) k.now after ≡ acted old c
+by_payload es left old k c before after key view was removed is =
+    let found : before ≡ payload_of (key_of c) old =
+    was ∙ valued_found es k ∙ ap (λ (x : List Entry). payload_of k.now x) view ∙ ap (λ (q : List ℕ). payload_of q old) key in
+    let gone : map valued left ≡ without_pair old k.now =
+    ap (λ (x : List (Bor (List ℕ) × Value)). map valued x) removed ∙ valued_removed es k ∙ ap (λ (x : List Entry). without_pair x k.now) view in
+    ap (λ (x : List Entry). with_payload x k.now after) gone
+    ∙ ap (λ (q : List ℕ). with_payload (without_pair old q) q after) key
+    ∙ ap (λ (o : Option Value). with_payload (without_pair old (key_of c)) (key_of c) o) (is ∙ ap (λ (o : Option Value). act o c) found)
+
+pub change_left : (es left : List (Bor (List ℕ) × Value)) (old : List Entry) (k : Bor (List ℕ)) (c : Change) (before : Option Value) → k.now ≡ key_of c → map valued es ≡ old
+    → before ≡ lookup (λ (a : Bor (List ℕ)). bytes_same k.now a.now) es → left ≡ remove_entry (λ (a : Bor (List ℕ)). bytes_same k.now a.now) es → None ≡ act before c
+    → map valued left ≡ acted old c
+change_left es left old k c before key view was removed is = by_payload es left old k c before None key view was removed is
+
+pub change_put : (es left new : List (Bor (List ℕ) × Value)) (old : List Entry) (k : Bor (List ℕ)) (c : Change) (before : Option Value) (v : Value) → k.now ≡ key_of c → map valued es ≡ old
+    → before ≡ lookup (λ (a : Bor (List ℕ)). bytes_same k.now a.now) es → left ≡ remove_entry (λ (a : Bor (List ℕ)). bytes_same k.now a.now) es → Some v ≡ act before c
+    → new ≡ insert_entry (λ (a b : Bor (List ℕ)). slice_cmp nat_cmp a.now b.now) left k v → map valued new ≡ acted old c
+change_put es left new old k c before v key view was removed is put =
+    ap (λ (x : List (Bor (List ℕ) × Value)). map valued x) put ∙ valued_inserted left k v ∙ by_payload es left old k c before (Some v) key view was removed is
 
 pub are_listed : (s x : Sight) (a b c d records : List Entry) (pending : List Pending) → x ≡ s → a ≡ [] → records ≡ x.leaf.records → pending ≡ x.head.pending
-    → b ≡ fold (with_item s) a (map (λ (e : Entry). e.key) records) → c ≡ fold (with_item s) b (map (λ (e : Pending). key_of e.change) pending)
-    → d ≡ fold (with_item s) c (map (λ (n : Noted). key_of n.change) x.buffer) → AreItems s d
+    → b ≡ fold (with_record s) a records → c ≡ fold (with_pending s) b pending → d ≡ fold (with_noted s) c x.buffer → d ≡ items_of s
 are_listed s x a b c d records pending same none of_leaf of_head one two three =
-    let B : b ≡ fold (with_item s) [] (record_keys s) =
+    let B : b ≡ with_records s =
     one
-    ∙ ap (λ (z : List Entry). fold (with_item s) z (map (λ (e : Entry). e.key) records)) none
-    ∙ ap (λ (r : List Entry). fold (with_item s) [] (map (λ (e : Entry). e.key) r)) of_leaf
-    ∙ ap (λ (y : Sight). fold (with_item s) [] (record_keys y)) same in
-    let C : c ≡ next_pairs s =
+    ∙ ap (λ (z : List Entry). fold (with_record s) z records) none
+    ∙ ap (λ (r : List Entry). fold (with_record s) [] r) of_leaf
+    ∙ ap (λ (y : Sight). fold (with_record s) [] y.leaf.records) same in
+    let C : c ≡ with_pendings s =
     two
-    ∙ ap (λ (p : List Pending). fold (with_item s) b (map (λ (e : Pending). key_of e.change) p)) of_head
-    ∙ ap (λ (y : Sight). fold (with_item s) b (pending_keys y)) same
-    ∙ ap (λ (z : List Entry). fold (with_item s) z (pending_keys s)) B in
-    items_are s d
-    (three
-    ∙ ap (λ (y : Sight). fold (with_item s) c (buffered_keys y)) same
-    ∙ ap (λ (z : List Entry). fold (with_item s) z (buffered_keys s)) C)
+    ∙ ap (λ (p : List Pending). fold (with_pending s) b p) of_head
+    ∙ ap (λ (y : Sight). fold (with_pending s) b y.head.pending) same
+    ∙ ap (λ (z : List Entry). fold (with_pending s) z s.head.pending) B in
+    three
+    ∙ ap (λ (y : Sight). fold (with_noted s) c y.buffer) same
+    ∙ ap (λ (z : List Entry). fold (with_noted s) z s.buffer) C
+
+pub items_are : (s x : Sight) (pairs : List Entry) → x ≡ s → Ascend entry_below None x.leaf.records → AreDistinct x.buffer → pairs ≡ items_of s → AreItems s pairs
+items_are s x pairs same h apart e =
+    subst (AreItems s) (sym e) (are_items s (subst (λ (y : Sight). Ascend entry_below None y.leaf.records) same h) (subst (λ (y : Sight). AreDistinct y.buffer) same apart))

@@ -1,12 +1,14 @@
 -- The pairs of one leaf of a scan, as a client sees them.
-use Rattle.std.specs.Prelude.{ℕ, ◌≡◌, ⊤, Bool, not, ◌&&◌, List, [], ◌∷◌, map, fold, Option, Some, None, if◌then◌else◌}
+use Rattle.std.specs.Prelude.{ℕ, ◌≡◌, ⊤, Bool, not, ◌&&◌, ◌==◌, nat_lt, List, [], ◌∷◌, fold, Option, Some, None, if◌then◌else◌}
 use Rattle.std.specs.declared.cmp.Ordering.TheVariants.{Less}
 use Rattle.std.specs.Ordering.{match_ordering}
-use Rattle.byte_format.specs.Order.{bytes_cmp, bytes_below, below_bound}
-use Rattle.db_base.specs.Change.{Value, key_of}
+use Rattle.byte_format.specs.Order.{bytes_cmp, bytes_below, bytes_same, below_bound}
+use Rattle.db_base.specs.Change.{Value, act, key_of}
+use Rattle.db_base.specs.declared.change.Change.{Change}
 use Rattle.head_codec.specs.declared.head.Head.{Head}
+use Rattle.head_codec.specs.declared.lists.Pending.{Pending}
 use Rattle.leaf_view.specs.Leaf.{Entry, Leaf}
-use Rattle.leaf_view.specs.Lookup.{holds, payload_of}
+use Rattle.leaf_view.specs.Lookup.{holds, number_of, payload_of}
 use Rattle.txn_buffer.specs.Noted.{Noted}
 use Rattle.route_plan.specs.Seen.{seen}
 use Rattle.tree_walk.specs.Walk.{sought}
@@ -55,26 +57,38 @@ put_pair [] key payload = record { key = key; payload = payload } ∷ []
 put_pair (e ∷ es) key payload =
     match_ordering (bytes_cmp key e.key) (record { key = key; payload = payload } ∷ e ∷ es) (record { key = e.key; payload = payload } ∷ es) (e ∷ put_pair es key payload)
 
+-- the pairs without that of a key
+abbrev pub without_pair : List Entry → List ℕ → List Entry
+without_pair [] key = []
+without_pair (e ∷ es) key = if bytes_same key e.key then es else e ∷ without_pair es key
+
 abbrev pub with_payload : List Entry → List ℕ → Option (List ℕ) → List Entry
 with_payload pairs key None = pairs
 with_payload pairs key (Some payload) = put_pair pairs key payload
 
--- the pair of a key in its place, where there is one
-abbrev pub with_item : Sight → List Entry → List ℕ → List Entry
-with_item s pairs key = with_payload pairs key (item_at s key)
+-- the pairs after a change of one key
+abbrev pub acted : List Entry → Change → List Entry
+acted pairs change = with_payload (without_pair pairs (key_of change)) (key_of change) (act (payload_of (key_of change) pairs) change)
 
-abbrev pub record_keys : Sight → List (List ℕ)
-record_keys s = map (λ e. e.key) s.leaf.records
+-- with a record of the leaf, where its key is asked for
+abbrev pub with_record : Sight → List Entry → Entry → List Entry
+with_record s pairs e = if is_listed s e.key then put_pair pairs e.key e.payload else pairs
 
-abbrev pub pending_keys : Sight → List (List ℕ)
-pending_keys s = map (λ e. key_of e.change) s.head.pending
+-- whether a pending entry is of a key that is asked for, and the leaf lacks it
+abbrev pub is_listed_pending : Sight → Pending → Bool
+is_listed_pending s p = (p.tree == s.tree) && (is_listed s (key_of p.change) && nat_lt (number_of s.leaf.done p.page s.client) p.number)
 
-abbrev pub buffered_keys : Sight → List (List ℕ)
-buffered_keys s = map (λ n. key_of n.change) s.buffer
+-- after a pending entry
+abbrev pub with_pending : Sight → List Entry → Pending → List Entry
+with_pending s pairs p = if is_listed_pending s p then acted pairs p.change else pairs
 
--- the pairs of the keys of the leaf's records, of the client's pending changes, and of its buffered ones
+-- after a buffered change
+abbrev pub with_noted : Sight → List Entry → Noted → List Entry
+with_noted s pairs n = if (n.tree == s.tree) && is_listed s (key_of n.change) then acted pairs n.change else pairs
+
+-- the leaf's records, after the client's pending entries and then its buffered changes
 abbrev pub items_of : Sight → List Entry
-items_of s = fold (with_item s) (fold (with_item s) (fold (with_item s) [] (record_keys s)) (pending_keys s)) (buffered_keys s)
+items_of s = fold (with_noted s) (fold (with_pending s) (fold (with_record s) [] s.leaf.records) s.head.pending) s.buffer
 
 -- ---- of a scan
 

@@ -1,11 +1,13 @@
 //! The pairs of a leaf.
 
-ghost use Rattle.std.specs.Prelude.{◌≡◌, ◌∷◌, [], fold, map, OnOk, IfOk, MatchOption};
-ghost use Rattle.db_base.specs.Change.{key_of};
+ghost use Rattle.std.specs.Prelude.{◌≡◌, ◌∷◌, [], fold, OnOk, IfOk, MatchOption};
 ghost use Rattle.leaf_view.specs.Shown.{valued};
-ghost use Rattle.range_scan.specs.Pairs.{AreItems, with_item, items_of};
+ghost use Rattle.txn_buffer.specs.Noted.{AreNoted};
+ghost use Rattle.range_scan.specs.Pairs.{AreItems, acted, with_record, with_pending, with_noted, items_of};
 
 use crate::sight::Sight;
+use db_base::change::{Change, act};
+use db_base::ids::TreeId;
 use db_base::value::Value;
 use head_codec::lists::Pending;
 use leaf_view::Records;
@@ -45,47 +47,88 @@ impl<'a> Items<'a> {
         }
     }
 
-    /// Puts the pair of a key in its place, where there is one. Fails for memory alone.
-    fn add(&mut self, sight: &Sight<'a>, key: &'a [u8]) -> Result<(), AllocError>
-        ensures { OnOk result (self.new ≡ with_item sight.now self.old key.now) }
+    /// Puts a record's pair in its place, where its key is asked for. Fails for memory alone.
+    fn add_record(
+        &mut self,
+        sight: &Sight<'a>,
+        key: &'a [u8],
+        payload: &'a [u8],
+    ) -> Result<(), AllocError>
+        ensures { OnOk result (self.new ≡ with_record sight.now self.old (record { key = key.now; payload = payload.now })) }
     {
-        let Some(value) = sight.item(key) else {
+        if sight.is_listed(key) {
+            self.pairs.insert(key, Value::of(payload))?;
+        }
+        Ok(())
+    }
+
+    /// Has a change act on the pair of its key. Fails for memory alone.
+    fn change(&mut self, change: &'a Change) -> Result<(), AllocError>
+        ensures { OnOk result (self.new ≡ acted self.old change.now) }
+    {
+        let key = change.key().as_slice();
+        let old = self.pairs.remove(key);
+        let Some(value) = act(old, change) else {
             return Ok(());
         };
         self.pairs.insert(key, value)?;
         Ok(())
     }
 
+    fn add_entry(&mut self, sight: &Sight<'a>, entry: &'a Pending) -> Result<(), AllocError>
+        ensures { OnOk result (self.new ≡ with_pending sight.now self.old entry.now) }
+    {
+        if sight.lists_pending(entry) {
+            self.change(&entry.change)?;
+        }
+        Ok(())
+    }
+
+    fn add_noted(
+        &mut self,
+        sight: &Sight<'a>,
+        noted: (TreeId, &'a Change),
+    ) -> Result<(), AllocError>
+        ensures { OnOk result (self.new ≡ with_noted sight.now self.old (record { tree = noted.entry.0; change = noted.entry.1.now })) }
+    {
+        let (tree, change) = noted;
+        if sight.lists_noted(tree, change) {
+            self.change(change)?;
+        }
+        Ok(())
+    }
+
     fn add_records(&mut self, sight: &Sight<'a>, records: Records<'a>) -> Result<(), AllocError>
-        ensures { OnOk result (self.new ≡ fold (with_item sight.now) self.old (map (λ e. e.key) records.entry)) }
+        ensures { OnOk result (self.new ≡ fold (with_record sight.now) self.old records.entry) }
     {
         let mut left = records;
-        while let Some(((key, _), rest)) = left.split() {
-            self.add(sight, key)?;
+        while let Some(((key, payload), rest)) = left.split() {
+            self.add_record(sight, key, payload)?;
             left = rest;
         }
         Ok(())
     }
 
     fn add_pending(&mut self, sight: &Sight<'a>, pending: &'a [Pending]) -> Result<(), AllocError>
-        ensures { OnOk result (self.new ≡ fold (with_item sight.now) self.old (map (λ e. key_of e.change) pending.now)) }
+        ensures { OnOk result (self.new ≡ fold (with_pending sight.now) self.old pending.now) }
     {
         let mut left = pending;
         while let Some((entry, rest)) = left.split_first() {
-            self.add(sight, entry.change.key().as_slice())?;
+            self.add_entry(sight, entry)?;
             left = rest;
         }
         Ok(())
     }
 
     fn add_buffered(&mut self, sight: &Sight<'a>, buffer: &'a TxnBuffer) -> Result<(), AllocError>
-        ensures { OnOk result (self.new ≡ fold (with_item sight.now) self.old (map (λ n. key_of n.change) buffer.now)) }
+        ensures added { OnOk result (self.new ≡ fold (with_noted sight.now) self.old buffer.now) }
+        ensures noted { AreNoted buffer.now }
     {
         for i in 0..buffer.len() {
-            let Some((_, change)) = buffer.at(i) else {
+            let Some(noted) = buffer.at(i) else {
                 unreachable!();
             };
-            self.add(sight, change.key().as_slice())?;
+            self.add_noted(sight, noted)?;
         }
         Ok(())
     }

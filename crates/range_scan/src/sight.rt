@@ -1,14 +1,15 @@
-//! What a client sees at a key.
+//! What of its own a client sees in a leaf.
 
-ghost use Rattle.std.specs.Prelude.{◌≡◌};
-ghost use Rattle.range_scan.specs.Pairs.{is_listed, item_at};
+ghost use Rattle.std.specs.Prelude.{◌≡◌, ◌==◌, ◌&&◌};
+ghost use Rattle.db_base.specs.Change.{key_of};
+ghost use Rattle.range_scan.specs.Pairs.{is_listed, is_listed_pending};
 
 use byte_format::{is_below, is_below_bound};
+use db_base::change::Change;
 use db_base::ids::{ClientId, TreeId};
-use db_base::value::Value;
 use head_codec::head::Head;
+use head_codec::lists::Pending;
 use leaf_view::LeafView;
-use route_plan::seen::seen;
 use std::marker::Model;
 use txn_buffer::buffer::TxnBuffer;
 
@@ -48,26 +49,25 @@ impl<'a> Model for Sight<'a> {
 
 impl<'a> Sight<'a> {
     /// Whether a key is asked for, and one of the leaf's.
-    fn is_listed(&self, key: &[u8]) -> bool
+    pub(crate) fn is_listed(&self, key: &[u8]) -> bool
         ensures { result ≡ is_listed self.now key.now }
     {
         self.leaf.holds(key) && !is_below(key, self.from) && is_below_bound(key, self.to)
     }
 
-    /// The payload that the client sees at a key that is listed.
-    pub(crate) fn item(&self, key: &[u8]) -> Option<Value<'a>>
-        ensures { result ≡ item_at self.now key.now }
+    /// Whether a pending entry is of a key that is asked for, and the leaf lacks it.
+    pub(crate) fn lists_pending(&self, entry: &Pending) -> bool
+        ensures { result ≡ is_listed_pending self.now entry.now }
     {
-        if !self.is_listed(key) {
-            return None;
-        }
-        seen(
-            &self.leaf,
-            self.tree,
-            key,
-            self.client,
-            self.head,
-            self.buffer,
-        )
+        entry.tree.get() == self.tree.get()
+            && self.is_listed(entry.change.key().as_slice())
+            && self.leaf.done(entry.page, self.client) < entry.number
+    }
+
+    /// Whether a change that is noted for a tree is of a key that is asked for.
+    pub(crate) fn lists_noted(&self, tree: TreeId, change: &Change) -> bool
+        ensures { result ≡ ((tree == self.now.tree) && is_listed self.now (key_of change.now)) }
+    {
+        tree.get() == self.tree.get() && self.is_listed(change.key().as_slice())
     }
 }

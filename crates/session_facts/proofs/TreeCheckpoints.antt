@@ -16,3 +16,8 @@ pub mod Hands
 pub mod Meeting
 pub mod Explaining
 pub mod Steps
+pub mod Nesting
+pub mod Noted
+pub mod NestingSteps
+pub mod Shortness
+pub mod PiecesNamed

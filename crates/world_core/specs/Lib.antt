@@ -10,6 +10,7 @@ pub mod LeftNone
 pub mod EachStep
 pub mod Explained
 pub mod Bounded
+pub mod Named
 pub mod Calm
 pub mod Settled
 pub mod Added

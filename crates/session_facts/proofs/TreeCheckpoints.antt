@@ -21,3 +21,4 @@ pub mod Noted
 pub mod NestingSteps
 pub mod Shortness
 pub mod PiecesNamed
+pub mod Landed

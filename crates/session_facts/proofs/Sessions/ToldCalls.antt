@@ -1,5 +1,5 @@
 -- The calls of a tree checkpoint from its begin on, as a session makes them: the cloud told them, and what they brought nests.
-use Rattle.std.proofs.Common.{◌≡◌, ◌≤◌, ◌+◌, ℕ, List, [], ◌∷◌, Some, Ok, refl, sym, subst, ◌∙◌, arith}
+use Rattle.std.proofs.Common.{◌≡◌, ℕ, List, [], ◌∷◌, Some, None, refl, sym, subst, ◌∙◌, arith}
 use Rattle.cloud_facts.proofs.Calls.Calls.{call_of}
 use Rattle.cloud_facts.proofs.Calls.Copies.{begins_on}
 use Rattle.cloud_facts.specs.Book.Book.{Book}
@@ -7,8 +7,10 @@ use Rattle.cloud_facts.specs.Calls.Standing.{StandsUnder}
 use Rattle.cloud_facts.specs.Tellings.Told.{store_of}
 use Rattle.cloud_trait.proofs.EffectLemmas.{grown_itself}
 use Rattle.cloud_trait.specs.declared.answer.Answer.{Answer}
+use Rattle.cloud_trait.specs.declared.answer.Answer.TheVariants.{Done}
 use Rattle.cloud_trait.specs.declared.turn.CkptAnswer.{CkptAnswer}
 use Rattle.cloud_trait.specs.declared.turn.Turn.TheVariants.{Ended}
+use Rattle.cloud_trait.specs.Ask.{PutHeld}
 use Rattle.cloud_trait.specs.Caller.{Caller}
 use Rattle.cloud_trait.specs.Growth.{HasGrown}
 use Rattle.cloud_trait.specs.Machine.{Deed, Came, Goes, Took, Follows, calls_of}
@@ -16,18 +18,20 @@ use Rattle.cloud_trait.specs.Seen.{Seen}
 use Rattle.cloud_trait.specs.State.{CloudState}
 use Rattle.cloud_trait.specs.Upto.{posts_of}
 use Rattle.cloud_trait.specs.Weather.{Makes}
-use Rattle.db_base.specs.Ids.{IsTree}
 use Rattle.report_types.specs.declared.entry.Entry.{Entry}
+use Rattle.db_base.specs.declared.names.ObjName.{ObjName}
+use Rattle.session_facts.proofs.TreeCheckpoints.Landed.{up_told, work_told}
 use Rattle.session_facts.proofs.TreeCheckpoints.NestingSteps.{step_nests}
 use Rattle.session_facts.proofs.TreeCheckpoints.PiecesNamed.{works_is, done_names}
 use Rattle.session_facts.specs.TreeCheckpoints.Checkpoint.{KnowsWork}
-use Rattle.session_facts.specs.TreeCheckpoints.Named.{AreTold, CameTold, NamesPieces}
+use Rattle.session_facts.specs.TreeCheckpoints.Named.{AreTold, HasLanded, CameTold, NamesPieces}
 use Rattle.session_facts.specs.TreeCheckpoints.Nesting.{NestsOver, AreNested}
 use Rattle.tree_ckpt.proofs.Causing.{went_brought}
 use Rattle.tree_ckpt.proofs.Doing.{went_done, took_done}
+use Rattle.tree_ckpt.specs.Causing.{Calls}
 use Rattle.tree_ckpt.specs.Making.{Making, new_making, making_ask, MakingLeads, KeepsLeases}
-use Rattle.tree_ckpt.specs.Meaning.{IsDone}
-use Rattle.tree_ckpt.specs.Standing.{Went}
+use Rattle.tree_ckpt.specs.Meaning.{IsDone, opening_calls}
+use Rattle.tree_ckpt.specs.Working.{IsAmong, Worked, worked_calls}
 
 pub grown_on : (r s t : CloudState) → HasGrown r s → HasGrown s t → HasGrown r t
 grown_on r s t one other = record {
@@ -95,7 +99,14 @@ module _ (who : Caller) (before after : Seen) (s : CloudState) (told : before.st
     done = done;
     pieces = λ w e. done_names (making_ask m) m.tree m.received k.made x done k.nested w e;
     rights = λ w e. (works_is m.tree done.lease done.opening.run done.opening.got done.work done.worked w e done.each).1.rights;
+    lands = λ w e level entry named. up_told m.tree done.lease s w level entry (told_by w (works_is m.tree done.lease done.opening.run done.opening.got done.work done.worked w e done.each).0) named;
   }
     where
       done : IsDone (making_ask m) m.tree m.received k.made x
       done = took_done m n k.made a (Ended x) k.came (went_brought m k.made k.came) (went_done m k.made k.came) took
+
+      told_by : (w : Worked) → done.work ≡ worked_calls m.tree done.lease w → (name : ObjName) (bytes : List ℕ)
+          → IsAmong (PutHeld name bytes done.lease None, Done) (worked_calls m.tree done.lease w) → HasLanded s name bytes
+      told_by w is name bytes there =
+          work_told (new_making m.tree) k.made m s m.tree done.lease done.tried done.work (opening_calls m.tree done.lease done.opening) k.came k.told done.calls name bytes
+          (subst (λ (cs : Calls). IsAmong (PutHeld name bytes done.lease None, Done) cs) (sym is) there)

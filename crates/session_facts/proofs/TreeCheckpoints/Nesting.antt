@@ -10,7 +10,7 @@ use Rattle.cloud_facts.specs.Book.Book.{Link}
 use Rattle.cloud_facts.specs.Book.Records.{StandsAt, IsIn}
 use Rattle.cloud_facts.specs.Book.Tally.{Node, Leafy, Branch, low_of, right_of, high_of}
 use Rattle.cloud_facts.specs.Chains.Chain.{IsChained, IsVersionOf, NamesRight}
-use Rattle.cloud_facts.specs.Chains.Links.{link_below, link_of, newest_node, top_of, low_after, IsOfLevel, EndsBefore, NamesLinks, NodeNames}
+use Rattle.cloud_facts.specs.Chains.Links.{link_below, link_of, newest_node, top_of, low_after, IsOfLevel, NodeNames}
 use Rattle.leaf_edit.proofs.InOrder.{below_upto}
 use Rattle.leaf_view.specs.Fits.{Ascend}
 use Rattle.leaf_view.specs.Lookup.{empty_leaf}

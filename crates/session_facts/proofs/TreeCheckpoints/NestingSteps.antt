@@ -1,10 +1,9 @@
 -- Each call of a checkpoint brings what nests with the nodes that were got before it.
-use Rattle.std.proofs.Common.{◌≡◌, ◌≢◌, ◌+◌, ◌<◌, ◌⊎◌, inl, inr, ℕ, zero, suc, List, [], ◌∷◌, ◌++◌, length, map, Option, Some, None, refl, sym, ap, subst, ◌∙◌, arith}
+use Rattle.std.proofs.Common.{◌≡◌, ◌+◌, ◌<◌, ◌⊎◌, inl, inr, ℕ, zero, suc, List, [], ◌∷◌, ◌++◌, length, map, Option, Some, None, sym, ap, subst, ◌∙◌, arith}
 use Rattle.std.specs.Prelude.{unwrap_or}
 use Rattle.std.specs.List.{AllByRecursion}
 use Rattle.std.proofs.lemmas.List.{length-reverse}
 use Rattle.byte_format.proofs.Wholes.{whole_only}
-use Rattle.byte_format.specs.Whole.{whole}
 use Rattle.cloud_facts.proofs.Calls.Heads.{held_seen}
 use Rattle.cloud_facts.proofs.Calls.Pages.{none_landed}
 use Rattle.cloud_facts.proofs.Chains.Newest.{newest_is, last_in}
@@ -12,7 +11,7 @@ use Rattle.cloud_facts.proofs.Decoding.Values.{newest_page_decodes}
 use Rattle.cloud_facts.specs.Book.Book.{Book, Link}
 use Rattle.cloud_facts.specs.Book.Records.{IsIn}
 use Rattle.cloud_facts.specs.Book.Tally.{Node, Leafy, Branch, Store, low_of, high_of}
-use Rattle.cloud_facts.specs.Book.Telling.{leaf_in, nodes_of, roots_of, newest_leaf, newest_root}
+use Rattle.cloud_facts.specs.Book.Telling.{leaf_in, nodes_of, roots_of, newest_root}
 use Rattle.cloud_facts.specs.Calls.Call.{IsCall}
 use Rattle.cloud_facts.specs.Calls.Standing.{StandsUnder}
 use Rattle.cloud_facts.specs.Chains.Chain.{IsChained}
@@ -33,7 +32,7 @@ use Rattle.db_base.specs.declared.names.Lock.TheVariants as lock
 use Rattle.db_base.specs.declared.names.ObjName.{ObjName}
 use Rattle.db_base.specs.declared.names.ObjName.TheVariants as object
 use Rattle.leaf_fold.specs.declared.folding.Folding.{Folding as Leafing}
-use Rattle.leaf_fold.specs.Folding.{no_placing, folding_ask}
+use Rattle.leaf_fold.specs.Folding.{folding_ask}
 use Rattle.leaf_view.proofs.Exactness.{leaf_exact}
 use Rattle.leaf_view.specs.Fits.{IsWellFormed, IsEntryIn}
 use Rattle.leaf_view.specs.Leaf.{Leaf, Entry as Rec, leaf}
@@ -53,7 +52,7 @@ use Rattle.split_plan.specs.Plan.{put_of, on_pages, leaf_bytes}
 use Rattle.tree_ckpt.proofs.Doing.{Amid, DoneAt}
 use Rattle.tree_ckpt.proofs.Lows.{ComesUpto}
 use Rattle.tree_ckpt.proofs.Sound.{leaf_no_node}
-use Rattle.tree_ckpt.proofs.Tours.{ToursAt, AtLeaf, Begins, Puts}
+use Rattle.tree_ckpt.proofs.Tours.{ToursAt, AtLeaf, Begins}
 use Rattle.tree_ckpt.proofs.Turns.{place_of}
 use Rattle.tree_ckpt.proofs.Whole.{IsNoted}
 use Rattle.tree_ckpt.specs.Causing.{Calls, Brings, WasGot, WasNode}

@@ -1,10 +1,8 @@
 -- Each inner node that the calls of a checkpoint brought is kept on the way down.
 use Rattle.std.proofs.Common.{◌≡◌, ◌⊎◌, inl, inr, ℕ, suc, List, [], ◌∷◌, ◌++◌, Option, Some, refl, ap, subst}
-use Rattle.ckpt_parts.specs.Leasing.{newest_lease}
 use Rattle.cloud_facts.specs.Book.Records.{IsIn}
 use Rattle.cloud_trait.specs.declared.answer.Answer.{Answer}
-use Rattle.cloud_trait.specs.declared.answer.Answer.TheVariants as call
-use Rattle.cloud_trait.specs.Ask.{Ask, GetHeld, PutHeld, Receive, Take, Release}
+use Rattle.cloud_trait.specs.Ask.{Ask, GetHeld, Receive, Take}
 use Rattle.cloud_trait.specs.Claim.{Claim}
 use Rattle.db_base.specs.declared.names.Lock.TheVariants as lock
 use Rattle.db_base.specs.declared.names.ObjName.{ObjName}
@@ -16,8 +14,7 @@ use Rattle.tree_ckpt.proofs.Under.{on_ways}
 use Rattle.tree_ckpt.proofs.Whole.{IsNoted}
 use Rattle.tree_ckpt.specs.Causing.{Calls, WasGot}
 use Rattle.tree_ckpt.specs.Meaning.{Opening, opening_calls}
-use Rattle.tree_ckpt.specs.Working.{Place, looks_of, visits_over}
-use Rattle.tree_moves.specs.Work.{take_tree}
+use Rattle.tree_ckpt.specs.Working.{Place, looks_of}
 use Rattle.tree_parts.specs.declared.chart.Chart.{Chart}
 use Rattle.tree_parts.specs.declared.kept.KeptNode.{KeptNode}
 

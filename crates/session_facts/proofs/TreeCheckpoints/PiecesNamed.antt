@@ -1,18 +1,17 @@
 -- Behind a checkpoint that is done each new piece is named by the level above.
-use Rattle.std.proofs.Common.{◌≡◌, ◌<◌, ◌≤◌, ◌+◌, ◌⊎◌, inl, inr, ℕ, Bool, true, false, List, [], ◌∷◌, ◌++◌, length, Option, Some, None, refl, sym, ap, subst, ◌∙◌, arith}
+use Rattle.std.proofs.Common.{◌≡◌, ◌<◌, ◌≤◌, ◌+◌, ◌⊎◌, inl, inr, ℕ, true, List, [], ◌∷◌, ◌++◌, length, Option, Some, None, refl, sym, ap, subst, ◌∙◌, arith}
 use Rattle.std.specs.Prelude.{not}
 use Rattle.std.proofs.lemmas.Bool.{and_parts, not-true}
 use Rattle.byte_format.specs.Order.{bytes_below, below_bound}
 use Rattle.cloud_trait.specs.declared.answer.Answer.{Answer}
 use Rattle.cloud_trait.specs.declared.answer.Answer.TheVariants.{Got, Done, Given}
 use Rattle.cloud_trait.specs.declared.turn.CkptAnswer.{CkptAnswer}
-use Rattle.cloud_trait.specs.Ask.{Ask, GetHeld, PutHeld, Take, Release}
+use Rattle.cloud_trait.specs.Ask.{Ask, GetHeld, Take}
 use Rattle.cloud_trait.specs.Claim.{Claim}
 use Rattle.cloud_trait.specs.Machine.{Deed, calls_of}
 use Rattle.db_base.specs.declared.names.Lock.TheVariants as lock
 use Rattle.db_base.specs.declared.names.ObjName.{ObjName}
 use Rattle.db_base.specs.declared.names.ObjName.TheVariants as object
-use Rattle.leaf_view.specs.Leaf.{Leaf}
 use Rattle.leaf_view.specs.Lookup.{holds}
 use Rattle.node_codec.specs.Inner.{Inner, inner_of}
 use Rattle.run_cursor.specs.Run.{Taken}
@@ -26,7 +25,7 @@ use Rattle.tree_ckpt.proofs.Named.{level_of, same_node}
 use Rattle.tree_ckpt.proofs.Under.{on_ways, visits_level, leaves_under, climbs_level}
 use Rattle.tree_ckpt.specs.Causing.{Calls, WasGot, WasNode}
 use Rattle.tree_ckpt.specs.Meaning.{Tried, deletes_over, IsDone, opening_calls}
-use Rattle.tree_ckpt.specs.Working.{IsAmong, Visit, Outcome, Planned, Spared, Passed, AreVisits, IsPieceOf, IsLeafPiece, IsNodePiece, IsInRange, IsUnder, Climb, AreClimbs, HasLevel, Worked, IsWorked, WorksBy, HoldsLow, leaf_place, node_place, link_to, done_over, puts_of, placing_of, visits_over, looks_of, root_behind, links_behind, climbs_over, fold_calls, worked_calls, last_root, last_links}
+use Rattle.tree_ckpt.specs.Working.{IsAmong, Visit, Outcome, Planned, Spared, Passed, AreVisits, IsPieceOf, IsLeafPiece, IsNodePiece, IsUnder, Climb, AreClimbs, HasLevel, Worked, IsWorked, WorksBy, HoldsLow, leaf_place, node_place, link_to, done_over, puts_of, placing_of, visits_over, looks_of, root_behind, links_behind, climbs_over, fold_calls, worked_calls, last_root, last_links}
 use Rattle.tree_parts.specs.declared.link.Link.{Link}
 use Rattle.tree_parts.specs.Kept.{links_at}
 use Rattle.tree_parts.specs.Read.{tree_held}

@@ -1,5 +1,5 @@
 -- The low key of a new piece of a leaf is no longer than a key.
-use Rattle.std.proofs.Common.{◌≡◌, ◌≤◌, ◌+◌, ◌⊎◌, inl, inr, ℕ, zero, suc, Bool, true, false, cond, List, [], ◌∷◌, ◌++◌, length, map, Option, Some, None, Result, Ok, Err, refl, sym, ap, subst, ◌∙◌, arith}
+use Rattle.std.proofs.Common.{◌≡◌, ◌≤◌, ◌+◌, inl, inr, ℕ, zero, suc, Bool, true, false, cond, List, [], ◌∷◌, ◌++◌, length, map, Option, Some, None, Result, Ok, Err, refl, sym, ap, subst, ◌∙◌, arith}
 use Rattle.std.specs.Prelude.{drop}
 use Rattle.std.specs.List.{AllByRecursion, flat_map}
 use Rattle.ckpt_parts.specs.Intakes.{item_with, with_first, items_of}
@@ -8,22 +8,21 @@ use Rattle.cloud_trait.specs.declared.message.Message.{Message}
 use Rattle.db_base.specs.Change.{key_of}
 use Rattle.leaf_edit.specs.Applied.{applied}
 use Rattle.leaf_edit.specs.Lacked.{is_lacked, lacked}
-use Rattle.leaf_view.specs.Leaf.{Leaf, Entry}
+use Rattle.leaf_view.specs.Leaf.{Leaf}
 use Rattle.log_codec.proofs.PuLaws.{pu_of-some}
 use Rattle.log_codec.specs.declared.record.PuItem.{PuItem}
 use Rattle.log_codec.specs.declared.record.PuRec.{PuRec}
 use Rattle.log_codec.specs.Pu.{pu_of}
-use Rattle.node_codec.specs.Tree.{Tree}
 use Rattle.run_cursor.specs.Run.{Taken}
 use Rattle.session_facts.proofs.Runs.Runs.{run_in}
 use Rattle.session_facts.specs.TreeCheckpoints.Nesting.{AreShort}
 use Rattle.split_plan.specs.Cut.{IsCut, IsNewPart, first_key_of}
 use Rattle.split_plan.specs.declared.entry_list.NewEntry.{NewEntry}
 use Rattle.split_plan.specs.Part.{Part, record_key, part_of_leaf}
-use Rattle.split_plan.specs.Plan.{entry_of, on_pages, leaf_bytes}
+use Rattle.split_plan.specs.Plan.{entry_of, on_pages}
 use Rattle.tree_ckpt.proofs.Keyed.{edited_by-keys}
 use Rattle.tree_ckpt.specs.Meaning.{Opening, IsOpened}
-use Rattle.tree_ckpt.specs.Working.{IsAmong, PutsPieces, PutsLeaf, Outcome, Planned, Spared, Passed, IsLeft, IsPieceOf}
+use Rattle.tree_ckpt.specs.Working.{IsAmong, Outcome, Planned, Spared, Passed, IsLeft, IsPieceOf}
 use Rattle.tree_parts.specs.declared.link.Link.{Link}
 use Rattle.tree_parts.specs.Kept.{links_at}
 

@@ -20,6 +20,7 @@ pub mod SettlingExplaining
 pub mod Quiet
 pub mod Waiting
 pub mod Calling
+pub mod ToldCalls
 pub mod CheckpointCalls
 pub mod HeadPuts
 pub mod SettlingStops

@@ -17,3 +17,9 @@ pub mod Meeting
 pub mod Spending
 pub mod Explaining
 pub mod Steps
+pub mod Nesting
+pub mod Noted
+pub mod NestingSteps
+pub mod Shortness
+pub mod PiecesNamed
+pub mod Landed

@@ -13,6 +13,7 @@ use Rattle.reply_text.specs.declared.reply.Reply.TheVariants as reply
 use Rattle.session_facts.specs.Few.{IsFew}
 use Rattle.session_facts.specs.Sessions.Sessions.{Sessions}
 use Rattle.session_facts.specs.TreeCheckpoints.Counting.{IsCounted}
+use Rattle.session_facts.specs.TreeCheckpoints.Named.{CameTold}
 
 -- ---- what lines tell
 
@@ -51,9 +52,9 @@ pub record CameBy (calls : ℕ) (s : CloudState) (p : Page) : Type 0 where
   pub many : length made ≡ calls
   pub behind : IsBehind made s
 
--- what is in hand made so many calls; those of a tree checkpoint are few, with those that are left
+-- what is in hand made so many calls; those of a tree checkpoint are few, with those that are left, and the cloud told them
 abbrev pub CountsWork : ℕ → CloudState → Work → Type 0
-CountsWork calls s (Folding home m) = IsCounted calls s m
+CountsWork calls s (Folding home m) = IsCounted calls s m × CameTold s m
 CountsWork calls s (Paging home p) = CameBy calls s p
 CountsWork calls s work = Unit {0}
 

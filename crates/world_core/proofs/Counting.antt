@@ -40,7 +40,7 @@ use Rattle.reply_text.specs.declared.reply.Reply.{Reply}
 use Rattle.reply_text.specs.declared.reply.Reply.TheVariants as reply
 use Rattle.report_types.specs.declared.entry.Entry.{Entry}
 use Rattle.session_facts.proofs.LineLemmas.{line_of}
-use Rattle.session_facts.proofs.Sessions.CheckpointCalls.{IsOther, Leads, begun_counts, page_begun, counts_beside, other_counts, session_few, more_counts, end_counts}
+use Rattle.session_facts.proofs.Sessions.CheckpointCalls.{IsOther, Leads, begun_counts, page_begun, counts_beside, other_counts, session_few, session_names, more_counts, end_counts}
 use Rattle.session_facts.proofs.SettlerLemmas.{settler_row}
 use Rattle.session_facts.proofs.Steps.{CallLeaves, CallLeavesUpto, wish_holds}
 use Rattle.session_facts.proofs.CallKinds.{IsSettlersRow}
@@ -48,6 +48,7 @@ use Rattle.session_facts.specs.Counted.{counted, counted_line, counted_from, cal
 use Rattle.session_facts.specs.Facts.{session_at, CloudHolds}
 use Rattle.session_facts.specs.Few.{next_page}
 use Rattle.session_facts.specs.Sessions.Sessions.{Sessions, SessionsStand}
+use Rattle.session_facts.specs.TreeCheckpoints.Named.{NamesPieces}
 use Rattle.txn_buffer.specs.Noted.{Noted}
 use Rattle.world_core.proofs.Behind.{LinesStand}
 use Rattle.world_core.proofs.EveryLine.{line_leaves}
@@ -55,6 +56,7 @@ use Rattle.world_core.proofs.StandsLemmas.{IsUnderWay, IsNoReport, SettlerGoes, 
 use Rattle.world_core.specs.Asked.{Asks}
 use Rattle.world_core.specs.Bounded.{steps_of}
 use Rattle.world_core.specs.Handled.{Declines, Has, MakesNoCall, BeginsOp, NotesChange, DropsChanges, StepsLooked, MakesStep, Went, start, further, ComesTo, Runs, SettlesOn, Settles, Dies, Crashes, Does, Serves, ReportReply, Reports, Answers, Handled}
+use Rattle.world_core.specs.Named.{StepNames}
 use Rattle.world_core.specs.Replying.{declined, done_reply, unsettled_reply, RepliesBegun, RepliesTurn, RepliesSettled}
 use Rattle.world_core.specs.Sessions.{Changes, NotesIn, AbortsIn}
 use Rattle.world_core.specs.Stands.{StandsOn}
@@ -262,6 +264,12 @@ module _ (who : Caller) (wish : Wish) (before after : Seen) (old new : World) (t
       (subst (λ (z : CloudState). FewFor (calls who.session + 1) z (session_at old.sessions who.session).work) last_is
       (session_few who p.under p.to wished y book order (session_at old.sessions) told_wished left stand calls p.session.after turn under_wish own))
 
+  pub step_names : StepNames who wish before after old new turn p
+  step_names s told_at home m done works ends =
+      subst (λ (z : CloudState). NamesPieces z m done) (state_is wished s (sym told_wished ∙ told_at))
+      (session_names who p.under p.to wished y book order (session_at old.sessions) told_wished left stand calls p.session.after turn under_wish own home m done
+      (ap (λ (a : Acting). a.work) (changed_was who.session _ old.sessions new.sessions p.session) ∙ works) ends)
+
   left_by : (c : ℕ → ℕ) → CountsAll c y (at who.session p.session.after (session_at old.sessions)) → CountsAll c last (session_at new.sessions)
   left_by c k =
       subst (λ (z : CloudState). CountsAll c z (session_at new.sessions)) last_is
@@ -307,6 +315,10 @@ module _ (lines : List Line) (who : Caller) (number : who.event ≡ length lines
         subst (λ (n : ℕ). FewFor (n + 1) last p.session.before.work) mine_is
         (step_few who wish before after old new turn p way.after way.told held.book held.order held.stand steps leaves.state leaves.told (at who.session mine calls) all last seen)
 
+    pub names_to : StepNames who wish before after old new turn p
+    names_to =
+        step_names who wish before after old new turn p way.after way.told held.book held.order held.stand steps leaves.state leaves.told (at who.session mine calls) all last seen
+
     pub more_of : turn ≡ More → Own (mine + 1) last new
     more_of more =
         counts_like (at who.session (at who.session mine calls who.session + 1) (at who.session mine calls)) (at who.session (mine + 1) calls) last
@@ -320,6 +332,13 @@ module _ (lines : List Line) (who : Caller) (number : who.event ≡ length lines
         counts_like (at who.session k (at who.session mine calls)) (at who.session k calls) last (session_at new.sessions) (session_at new.sessions)
         (λ n. sym (own_twice who.session mine k calls n)) (λ n. refl)
         (step_end who wish before after old new turn p way.after way.told held.book held.order held.stand steps leaves.state leaves.told (at who.session mine calls) all last seen a k ends)
+
+  -- what is left of a call that was made is told
+  pub names_of : (wish : Wish) (before after : Seen) (old new : World) (turn : Turn Answer) (way : IsUnderWay lines old before) (p : StepsLooked who wish before after old new turn)
+      (mine : ℕ) → Own mine way.after old → StepNames who wish before after old new turn p
+  names_of wish before after old new turn way p mine all =
+      let c = call lines who wish before after old new turn number way p in
+      names_to wish before after old new turn way p mine all c.state (p.look_after.stays c.state c.told)
 
   -- behind some steps
   pub went_counts : (before : Seen) (old : World) (after : Seen) (new : World) → (way : IsUnderWay lines old before) → CountsAll calls way.after (session_at old.sessions)

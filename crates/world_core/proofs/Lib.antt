@@ -21,6 +21,7 @@ pub mod LeftNone
 pub mod Explained
 pub mod Counting
 pub mod Bounded
+pub mod Named
 pub mod Calm
 pub mod Settled
 pub mod Seeing

@@ -11,6 +11,7 @@ pub mod LeftShort
 pub mod EachStep
 pub mod Explained
 pub mod Bounded
+pub mod Named
 pub mod Calm
 pub mod Settled
 pub mod Added

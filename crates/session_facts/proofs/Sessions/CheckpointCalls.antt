@@ -10,7 +10,6 @@ use Rattle.client_work.specs.declared.work.Work.{Work}
 use Rattle.client_work.specs.declared.work.Work.TheVariants.{Closed, Idle, Opening, Committing, Reading, Scanning, Paging, Folding, Closing, Renewing, Settling, Broken}
 use Rattle.cloud_facts.proofs.Book.Names.{at_same, at_other}
 use Rattle.cloud_facts.proofs.Calls.Calls.{call_of}
-use Rattle.cloud_facts.proofs.Calls.Copies.{begins_on}
 use Rattle.cloud_facts.specs.Book.Book.{Book}
 use Rattle.cloud_facts.specs.Book.Tally.{at}
 use Rattle.cloud_facts.specs.Calls.Call.{IsCall}
@@ -22,9 +21,9 @@ use Rattle.cloud_trait.specs.Growth.{HasGrown}
 use Rattle.cloud_trait.specs.Machine.{Deed, Follows as ComesBehind}
 use Rattle.cloud_trait.specs.Seen.{Seen}
 use Rattle.cloud_trait.specs.State.{CloudState}
-use Rattle.cloud_trait.specs.Upto.{posts_of}
 use Rattle.cloud_trait.specs.Weather.{Makes, Leaves}
 use Rattle.cloud_trait.specs.declared.answer.Answer.{Answer as Reply}
+use Rattle.cloud_trait.specs.declared.turn.CkptAnswer.{CkptAnswer}
 use Rattle.cloud_trait.specs.declared.turn.Turn.{Turn}
 use Rattle.cloud_trait.specs.declared.turn.Turn.TheVariants.{More, Ended, Stopped}
 use Rattle.db_base.specs.declared.trouble.CommitAnswer.{CommitAnswer}
@@ -38,6 +37,7 @@ use Rattle.page_ckpt.specs.Standing.{AreFew}
 use Rattle.recover_run.specs.declared.home.Home.{Home}
 use Rattle.report_types.specs.declared.entry.Entry.{Entry}
 use Rattle.session_facts.proofs.Sessions.Calling.{session_keeps}
+use Rattle.session_facts.proofs.Sessions.ToldCalls.{grown_on, told_begun, told_beside, told_goes, told_names}
 use Rattle.session_facts.proofs.Steps.{MadeCall, made_call}
 use Rattle.session_facts.proofs.Settled.TreeReceives.{IsReceiving}
 use Rattle.session_facts.proofs.Settled.TreeTurns.{first_few, few_beside, few_on, ends_few}
@@ -46,6 +46,7 @@ use Rattle.session_facts.specs.Few.{next_page, IsFew}
 use Rattle.session_facts.specs.Sessions.Sessions.{KnowsWork, Knows, Sessions, SessionsStand}
 use Rattle.session_facts.specs.TreeCheckpoints.Checkpoint.{KnowsWork as KnowsMoves, KnowsMaking}
 use Rattle.session_facts.specs.TreeCheckpoints.Counting.{MadeFew, IsCounted}
+use Rattle.session_facts.specs.TreeCheckpoints.Named.{CameTold, NamesPieces}
 use Rattle.tree_ckpt.specs.Ending.{calls_in}
 use Rattle.tree_ckpt.specs.Making.{Making, new_making, making_ask}
 use Rattle.tree_moves.specs.Work.{work_ask}
@@ -57,7 +58,7 @@ use Rattle.txn_buffer.specs.Noted.{Noted}
 
 -- a checkpoint before its first call
 pub begun_counts : (s : CloudState) (home : Home) (tree : ℕ) → CountsWork 0 s (Folding home (new_making tree))
-begun_counts s home tree = record { early = omega arith; made = first_few tree s }
+begun_counts s home tree = (record { early = omega arith; made = first_few tree s }, told_begun s tree)
 
 pub page_begun : (s : CloudState) (home : Home) (tree page : ℕ) → CountsWork 0 s (Paging home (new_paging tree page))
 page_begun s home tree page = record { tree = tree; page = page; made = []; came = refl; many = refl; behind = tt }
@@ -67,21 +68,16 @@ pub record Leads (s t : CloudState) : Type 0 where
   pub next : (tree : ℕ) → next_page s tree ≤ next_page t tree
   pub grown : HasGrown s t
 
-grown_on : (r s t : CloudState) → HasGrown r s → HasGrown s t → HasGrown r t
-grown_on r s t one other = record {
-  versions = λ name. begins_on (r.versions name) (s.versions name) (t.versions name) (one.versions name) (other.versions name);
-  messages = λ queue. begins_on (posts_of (r.messages queue)) (posts_of (s.messages queue)) (posts_of (t.messages queue)) (one.messages queue) (other.messages queue);
-  trace = begins_on r.trace s.trace t.trace one.trace other.trace;
-  later = let a = one.later in let b = other.later in omega (arith, a, b);
-}
-
 behind_on : (h : List Deed) (s t : CloudState) → HasGrown s t → IsBehind h s → IsBehind h t
 behind_on [] s t grown is = tt
 behind_on (last ∷ h) s t grown is = λ x seen. grown_on x s t (is x seen) grown
 
 -- and so what is in hand is counted as before
 pub counts_beside : (calls : ℕ) (s t : CloudState) (w : Work) → Leads s t → CountsWork calls s w → CountsWork calls t w
-counts_beside calls s t (Folding home m) leads k = record { early = k.early; made = few_beside m.tree calls s t m.work m.received (leads.next m.tree) k.made }
+counts_beside calls s t (Folding home m) leads k = (
+  record { early = k.0.early; made = few_beside m.tree calls s t m.work m.received (leads.next m.tree) k.0.made },
+  told_beside s t m leads.grown k.1,
+)
 counts_beside calls s t (Paging home p) leads k = record {
   tree = k.tree;
   page = k.page;
@@ -232,15 +228,18 @@ module _ (who : Caller) (before after : Seen) (s t : CloudState) (book : Book) (
               subst (λ (a : Acting). Knows (store_of next order_next t) t.now a (stand_next.parts who.session)) (at_same who.session new sessions who.session refl)
               (stand_next.each who.session)
 
-      goes_by : StepsFolding home who before after m new.work More → CountsWork (calls + 1) t new.work
-      goes_by (n, steps, works, less) = subst (λ (w : Work). CountsWork (calls + 1) t w) (sym works) (record {
-        early = let was = k.early in omega (arith, was, less);
-        made = subst (λ (tree : ℕ). MadeFew tree (calls + 1) t n.work n.received) (sym steps.took.0.0)
-            (few_on m.tree calls s t who steps.answer m.work m.received book order stand.cloud known (asked steps.answer steps.made) (grows m.tree) k.made n.work n.received next
-            order_next stand_next.cloud
-            (subst (λ (x : ℕ). KnowsMoves (store_of next order_next t) t.now x n.work) steps.took.0.0 (knows n works).work)
-            steps.made.fits steps.took.1 steps.took.0.1 (receives_early m.work calls k.early));
-      })
+      goes_by : CameTold s m → StepsFolding home who before after m new.work More → CountsWork (calls + 1) t new.work
+      goes_by came (n, steps, works, less) = subst (λ (w : Work). CountsWork (calls + 1) t w) (sym works) (
+        record {
+          early = let was = k.early in omega (arith, was, less);
+          made = subst (λ (tree : ℕ). MadeFew tree (calls + 1) t n.work n.received) (sym steps.took.0.0)
+              (few_on m.tree calls s t who steps.answer m.work m.received book order stand.cloud known (asked steps.answer steps.made) (grows m.tree) k.made n.work n.received next
+              order_next stand_next.cloud
+              (subst (λ (x : ℕ). KnowsMoves (store_of next order_next t) t.now x n.work) steps.took.0.0 (knows n works).work)
+              steps.made.fits steps.took.1 steps.took.0.1 (receives_early m.work calls k.early));
+        },
+        told_goes who before after s told m came steps.answer steps.made t book order n told_after stand.cloud known steps.took,
+      )
 
     -- whatever a step comes to
     call_made : (work : Work) (turn : Turn Answer) → StepsFolding home who before after m work turn → Asks (making_ask m) who before after
@@ -284,20 +283,34 @@ module _ (who : Caller) (before after : Seen) (s t : CloudState) (book : Book) (
   goes_at : (calls : ℕ) (new : Acting) (next : Book) (order_next : List Entry) → SessionsStand next order_next t (at who.session new sessions)
       → ((tree : ℕ) → next_page s tree ≤ next_page t tree) → (w : Work) → (sessions who.session).work ≡ w → CountsWork calls s w
       → StepsAt who before after w new.work More → CountsWork (calls + 1) t new.work
-  goes_at calls new next order_next stand_next grows (Folding home m) is k p = goes_by grows calls home m is k new next order_next stand_next p
+  goes_at calls new next order_next stand_next grows (Folding home m) is k p = goes_by grows calls home m is k.0 new next order_next stand_next k.1 p
   goes_at calls new next order_next stand_next grows (Paging home q) is k p = page_goes calls home q k new.work p
   goes_at calls new next order_next stand_next grows w is k p = other_counts (calls + 1) t new.work (other_goes who before after w new.work tt p)
 
   -- and however it ends, its calls were few
   few_at : (calls : ℕ) (new : Acting) (turn : Turn Answer) → ((tree : ℕ) → next_page s tree ≤ next_page t tree) → (w : Work) → (sessions who.session).work ≡ w
       → CountsWork calls s w → StepsAt who before after w new.work turn → FewFor (calls + 1) t w
-  few_at calls new turn grows (Folding home m) is k p = few_by grows calls home m is k new.work turn p
+  few_at calls new turn grows (Folding home m) is k p = few_by grows calls home m is k.0 new.work turn p
   few_at calls new turn grows (Paging home q) is k p = page_few calls home q k
   few_at calls new turn grows w is k p = tt
 
   pub session_few : (calls : ℕ → ℕ) (new : Acting) (turn : Turn Answer) → CountsAll calls s sessions → StepsSession who before after (sessions who.session) new (Ok turn)
       → FewFor (calls who.session + 1) t (sessions who.session).work
   session_few calls new turn all p = few_at (calls who.session) new turn ((call_leads new turn p).next) (sessions who.session).work refl (all who.session) p.work
+
+  -- a tree checkpoint that is done named its pieces
+  pub session_names : (calls : ℕ → ℕ) (new : Acting) (turn : Turn Answer) → CountsAll calls s sessions → StepsSession who before after (sessions who.session) new (Ok turn)
+      → (home : Home) (m : Making) (x : CkptAnswer) → (sessions who.session).work ≡ Folding home m → turn ≡ Ended (answer.Done x) → NamesPieces s m x
+  session_names calls new turn all p home m x works ends = on (subst (λ (u : Turn Answer). StepsFolding home who before after m new.work u) ends folds)
+    where
+      folds : StepsFolding home who before after m new.work turn
+      folds = subst (λ (w : Work). StepsAt who before after w new.work turn) works p.work
+
+      came : CameTold s m
+      came = (subst (λ (w : Work). CountsWork (calls who.session) s w) works (all who.session)).1
+
+      on : StepsFolding home who before after m new.work (Ended (answer.Done x)) → NamesPieces s m x
+      on (n, steps, is) = told_names who before after s told m came steps.answer steps.made n x steps.took
 
   -- a step leaves each session counted
   module _ (calls : ℕ → ℕ) (all : CountsAll calls s sessions) (new : Acting) where

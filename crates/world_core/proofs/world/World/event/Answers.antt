@@ -4,6 +4,7 @@ use Rattle.world_core.proofs.Calm.{well_after}
 use Rattle.world_core.proofs.Explained.{explained}
 use Rattle.world_core.proofs.Keeping.{keeps_book}
 use Rattle.world_core.proofs.Settled.{settling_ends, settling_leaves, settling_right}
+use Rattle.world_core.proofs.Named.{names_pieces}
 use Rattle.world_core.proofs.Shown.{shown}
 use Rattle.world_core.proofs.ShownByLines.{shown_by}
 use Rattle.world_core.proofs.Sound.{sound_after}
@@ -35,6 +36,9 @@ returns-clause-calm g c = well_after _ _ _ _ _ _ _
 
 pub returns-clause-bounded : goal.returns-clause-bounded
 returns-clause-bounded g c = few_calls _ _ _ _ _ _ _
+
+pub returns-clause-named : goal.returns-clause-named
+returns-clause-named g c = names_pieces _ _ _ _ _ _ _
 
 pub returns-clause-settled : goal.returns-clause-settled
 returns-clause-settled g c = settling_leaves _ _ _ _ _ _ _

@@ -1,3 +1,4 @@
+pub mod Causing
 pub mod Left
 pub mod Opening
 pub mod Phase

@@ -10,14 +10,18 @@ use Rattle.client_work.specs.declared.phase.Phase.{Phase}
 use Rattle.client_work.specs.declared.shown.Shown.{Shown}
 use Rattle.client_work.specs.declared.work.Work.{Work}
 use Rattle.client_work.specs.Phase.{kept_in, noted_in, phase_of}
+use Rattle.client_work.specs.Causing.{HasCome, CausesAt, MachineSteps}
 use Rattle.client_work.specs.Session.{Acting, StepsSession, StepsAt, ShowsAt, ShowsWhole, noted_behind, shown_behind}
 use Rattle.client_work.specs.Showing.{IsKnown}
+use Rattle.client_work.proofs.Causing.{step_causes}
+use Rattle.client_work.proofs.Coming.{steps_come}
 use Rattle.client_work.proofs.Showing.{step_known}
 use Rattle.client_session.proofs.Phases.{kept_by, noted_by}
 
 module _ (who : Caller) (before after : Seen) (work left : Work) (buffer noted : List Noted) (c d kept : Cache) (earlier shown : Shown) (turn : Turn Answer) (p q : Phase)
-    (is_p : p ≡ phase_of work) (is_q : q ≡ phase_of left) (is_noted : noted ≡ noted_in p buffer) (is_kept : kept ≡ kept_in q d) (known : IsKnown buffer work c)
-    (steps : StepsAt who before after work left turn) (shows : ShowsAt who before after noted work c d left shown turn) where
+    (is_p : p ≡ phase_of work) (is_q : q ≡ phase_of left) (is_noted : noted ≡ noted_in p buffer) (is_kept : kept ≡ kept_in q d) (known : IsKnown buffer work c × HasCome work c)
+    (steps : StepsAt who before after work left turn) (shows : ShowsAt who before after noted work c d left shown turn)
+    (machine : MachineSteps who before after work c d left turn) where
   noted_so : noted ≡ noted_behind work buffer
   noted_so = is_noted ∙ (ap (λ (z : Phase). noted_in z buffer) is_p ∙ noted_by work buffer)
 
@@ -31,11 +35,17 @@ module _ (who : Caller) (before after : Seen) (work left : Work) (buffer noted :
   new_with k = record { buffer = noted; work = left; cache = k; shown = shown }
 
   both : IsKnown noted left (shown_behind left d) × ShowsWhole who before after old_is (new_with (shown_behind left d)) (Ok turn)
-  both = step_known who before after buffer noted c d earlier work left shown turn noted_so known steps shows
+  both = step_known who before after buffer noted c d earlier work left shown turn noted_so known.0 steps shows
+
+  came : HasCome left (shown_behind left d)
+  came = steps_come who before after noted c d work left shown turn known.1 steps shows machine
+
+  causes : CausesAt who before after work c d left turn
+  causes = step_causes who before after noted c d buffer work left shown turn known.0 known.1 steps shows machine
 
   -- what is known of the session behind the step
-  pub known_on : IsKnown noted left kept
-  known_on = subst (IsKnown noted left) (sym kept_so) both.0
+  pub known_on : IsKnown noted left kept × HasCome left kept
+  known_on = (subst (IsKnown noted left) (sym kept_so) both.0, subst (HasCome left) (sym kept_so) came)
 
   pub stepped : (old : Acting) → old_is ≡ old → StepsSession who before after old (new_with kept) (Ok turn)
   stepped old is_old =
@@ -44,4 +54,5 @@ module _ (who : Caller) (before after : Seen) (work left : Work) (buffer noted :
         work = steps;
         shown = (d, shows, kept_so);
         whole = subst (λ (k : Cache). ShowsWhole who before after old_is (new_with k) (Ok turn)) (sym kept_so) both.1;
+        causes = (d, causes, kept_so);
       })

@@ -47,6 +47,7 @@ impl<H: Hand> Drop for Session<H> {
 }
 
 impl<H: Hand> Model for Session<H> {
+    ghost use Rattle.client_work.specs.Causing.{HasCome};
     ghost use Rattle.client_work.specs.Session.{Acting};
     ghost use Rattle.client_work.specs.Showing.{IsKnown};
 
@@ -54,7 +55,7 @@ impl<H: Hand> Model for Session<H> {
 
     ghost view = { λ s. record { buffer = s.buffer; work = H.work s.work; cache = s.cache; shown = s.shown } };
 
-    ghost invariant = { λ s. IsKnown s.buffer (H.work s.work) s.cache };
+    ghost invariant = { λ s. IsKnown s.buffer (H.work s.work) s.cache × HasCome (H.work s.work) s.cache };
 }
 
 impl<H: Hand> Session<H> {

@@ -1,3 +1,5 @@
+pub mod Causing
+pub mod Coming
 pub mod Ending
 pub mod Opens
 pub mod Readying

@@ -13,14 +13,14 @@ use Rattle.settle_run.specs.Settling.{Settling, settle_ask, SettleLeads, KeepsSe
 use Rattle.client_work.specs.Settling.{IsSettling, IsUntold}
 
 -- what is seen of a cloud but for what it tells
-abbrev untold : Seen → Seen
+abbrev pub untold : Seen → Seen
 untold s = record { counts = s.counts; state = None; heard = None; shown = None }
 
 none_some : {A : Type 0} (a : A) → (let o : Option A = None in o ≡ Some a) → ⊥
 none_some a e = cc
 
 -- a call was made, whatever is told of it
-made_untold : (who : Caller) (ask : Ask) (a : Answer) (before after : Seen) → Makes who ask a before after → Makes who ask a (untold before) (untold after)
+pub made_untold : (who : Caller) (ask : Ask) (a : Answer) (before after : Seen) → Makes who ask a before after → Makes who ask a (untold before) (untold after)
 made_untold who ask a before after m = record {
   fits = m.fits;
   heard = λ b e. absurd (none_some b e);
@@ -33,7 +33,7 @@ made_untold who ask a before after m = record {
 }
 
 -- where nothing is told nothing was lost
-follows_untold : (h : List Deed) (d : Deed) → IsUntold h → Follows h d
+pub follows_untold : (h : List Deed) (d : Deed) → IsUntold h → Follows h d
 follows_untold [] d is = tt
 follows_untold (last ∷ h) d is = λ s t e f. absurd (none_some s (subst (λ o. o ≡ Some s) is e))
 

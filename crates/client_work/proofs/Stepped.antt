@@ -14,6 +14,7 @@ use Rattle.client_work.specs.declared.op.Op.TheVariants as op
 use Rattle.client_work.specs.declared.shown.Shown.{Shown}
 use Rattle.client_work.specs.declared.work.Work.{Work}
 use Rattle.client_work.specs.declared.work.Work.TheVariants.{Idle}
+use Rattle.client_work.specs.Causing.{MachineSteps}
 use Rattle.client_work.specs.Phase.{BeginsAt}
 use Rattle.client_work.specs.Session.{StepsAt, ShowsAt, ReadsOf}
 
@@ -26,6 +27,11 @@ pub shows_by : (who : Caller) (before after : Seen) (buffer : List Noted) (old w
 shows_by who before after buffer old was new left c d shown turn is_was is_left shows =
     subst (λ (w : Work). ShowsAt who before after buffer w c d new shown turn) (sym is_was)
     (subst (λ (w : Work). ShowsAt who before after buffer was c d w shown turn) (sym is_left) shows)
+
+pub machine_by : (who : Caller) (before after : Seen) (old was new left : Work) (c d : Cache) (turn : Turn Answer) → old ≡ was → new ≡ left
+    → MachineSteps who before after was c d left turn → MachineSteps who before after old c d new turn
+machine_by who before after old was new left c d turn is_was is_left steps =
+    subst (λ (w : Work). MachineSteps who before after w c d new turn) (sym is_was) (subst (λ (w : Work). MachineSteps who before after was c d w turn) (sym is_left) steps)
 
 -- a read that begins beside an open client begins an operation
 pub reads_by : (o : Op) (tree : ℕ) (key : List ℕ) (buffer noted : List Noted) (old new left : Work) (home : Home) (start : Walk) (c d : Cache) (shown : Shown) (begun : Begun)

@@ -1,4 +1,5 @@
 pub mod BrokenOff
+pub mod Causing
 pub mod Left
 pub mod Opening
 pub mod Phase

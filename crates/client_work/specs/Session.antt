@@ -63,6 +63,7 @@ use Rattle.client_work.specs.declared.op.Op.{Op}
 use Rattle.client_work.specs.declared.op.Op.TheVariants as op
 use Rattle.client_work.specs.declared.work.Work.{Work}
 use Rattle.client_work.specs.declared.work.Work.TheVariants.{Closed, Idle, Opening, Committing, Reading, Scanning, Paging, Folding, Closing, Renewing, Settling, Broken}
+use Rattle.client_work.specs.Causing.{CausesAt}
 use Rattle.client_work.specs.Showing.{pair_of, ShowsValue, ShowsRecords}
 
 -- a session: the changes that it noted, what it has in hand, what it keeps of the cloud, and what its newest operation shows beside its
@@ -506,12 +507,18 @@ ShowsWhole who before after old new (Ok (Ended answer.Scan)) =
     (home : Home) × (m : Listing) × (old.work ≡ Scanning home m) × ShowsRecords who before after home old.buffer m old.cache (items_of new)
 ShowsWhole who before after old new result = Unit {0}
 
+-- each step has the cause that its machine's contract names, behind the calls that led to it
+abbrev pub HasCauses : Caller → Seen → Seen → Acting → Acting → Result (Turn Answer) Refused → Type 0
+HasCauses who before after old new (Ok turn) = (c : Cache) × CausesAt who before after old.work old.cache c new.work turn × (new.cache ≡ shown_behind new.work c)
+HasCauses who before after old new (Err e) = Unit {0}
+
 -- one step of a session
 pub record StepsSession (who : Caller) (before after : Seen) (old new : Acting) (result : Result (Turn Answer) Refused) : Type 0 where
   pub buffer : new.buffer ≡ noted_behind old.work old.buffer
   pub work : StepsWork who before after old.work new.work result
   pub shown : Shows who before after old new result
   pub whole : ShowsWhole who before after old new result
+  pub causes : HasCauses who before after old new result
 
 -- how many calls the work has left at most
 abbrev pub calls_left : Work → ℕ

@@ -1,7 +1,9 @@
 ghost use Rattle.std.specs.Prelude.{◌≡◌, ◌≤◌, length};
 ghost use Rattle.commit_run.specs.Run.{home_of as home_of_run};
 ghost use Rattle.commit_run.specs.Sound.{IsSoundRun};
+ghost use Rattle.commit_run.specs.Stepped.{Stepped as StepsRun};
 ghost use Rattle.client_work.specs.declared.work.Work.TheVariants as work;
+ghost use Rattle.client_work.specs.Causing.{CommitBy};
 ghost use Rattle.client_work.specs.Left.{at_rest, behind_commit};
 ghost use Rattle.client_work.specs.Session.{CommitsNoted, StepsCommit, behind_step, committed_work};
 
@@ -70,6 +72,7 @@ pub(crate) fn advance<C: Cloud>(
 ) -> Turn<Answer>
     ensures sound { IsSoundRun machine.old }
     ensures steps { StepsCommit who (C.seen cloud.old) (C.seen cloud.new) machine.old cache.old cache.new (behind_step machine.new result) result }
+    ensures machine { CommitBy (λ n. StepsRun who (C.seen cloud.old) (C.seen cloud.new) (machine.old, cache.old) (n, cache.new)) (behind_step machine.new result) result }
 {
     match machine.step(alloc, cloud, who, cache) {
         Turn::More => Turn::More,

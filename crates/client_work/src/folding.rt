@@ -1,5 +1,7 @@
 ghost use Rattle.std.specs.Prelude.{◌≡◌};
 ghost use Rattle.recover_run.specs.declared.home.Home.{Home as AnyHome};
+ghost use Rattle.tree_ckpt.specs.Stepped.{Stepped as StepsMaking};
+ghost use Rattle.client_work.specs.Causing.{FoldingBy};
 ghost use Rattle.client_work.specs.Left.{behind_tree};
 ghost use Rattle.client_work.specs.Session.{StepsFolding, behind_fold};
 
@@ -20,7 +22,8 @@ pub(crate) fn fold<C: Cloud>(
     who: Who,
     machine: &mut TreeCkpt,
 ) -> Turn<Answer>
-    ensures { (home : AnyHome) → StepsFolding home who (C.seen cloud.old) (C.seen cloud.new) machine.old (behind_fold home machine.new result) result }
+    ensures steps { (home : AnyHome) → StepsFolding home who (C.seen cloud.old) (C.seen cloud.new) machine.old (behind_fold home machine.new result) result }
+    ensures machine { (home : AnyHome) → FoldingBy home (StepsMaking who (C.seen cloud.old) (C.seen cloud.new) machine.old) (behind_fold home machine.new result) result }
 {
     match machine.step(alloc, cloud, who) {
         Turn::More => Turn::More,

@@ -7,6 +7,7 @@ ghost use Rattle.settle_run.specs.Settling.{new_settling};
 ghost use Rattle.client_work.specs.declared.work.Work.{Work};
 ghost use Rattle.client_work.specs.declared.work.Work.TheVariants.{Closed, Settling};
 ghost use Rattle.client_work.specs.BrokenOff.{broken_work};
+ghost use Rattle.client_work.specs.Causing.{MachineSteps};
 ghost use Rattle.client_work.specs.Phase.{BeginsAt, bar_of, phase_of};
 ghost use Rattle.client_work.specs.Session.{ShowsAt, StepsAt, ask_of_work, committing_of, opens_of, applying_of, value_in, is_working};
 
@@ -94,5 +95,6 @@ pub trait Hand: Drop {
     ) -> (Shown, Turn<Answer>)
         requires { is_working (work self.old) ≡ true }
         ensures steps { StepsAt who (C.seen cloud.old) (C.seen cloud.new) (work self.old) (work self.new) result.1 }
-        ensures shows { ShowsAt who (C.seen cloud.old) (C.seen cloud.new) buffer.now (work self.old) cache.old cache.new (work self.new) result.0 result.1 };
+        ensures shows { ShowsAt who (C.seen cloud.old) (C.seen cloud.new) buffer.now (work self.old) cache.old cache.new (work self.new) result.0 result.1 }
+        ensures machine { MachineSteps who (C.seen cloud.old) (C.seen cloud.new) (work self.old) cache.old cache.new (work self.new) result.1 };
 }

@@ -2,6 +2,8 @@ ghost use Rattle.std.specs.Prelude.{◌≡◌};
 ghost use Rattle.cloud_trait.specs.Call.{ask_of};
 ghost use Rattle.recover_run.specs.declared.stage.Aim.TheVariants as aim;
 ghost use Rattle.recover_run.specs.Recovery.{home_of, new_recovery, recovery_ask, IsSound as IsSoundOpening};
+ghost use Rattle.recover_run.specs.Stepped.{Stepped as StepsRecovery};
+ghost use Rattle.client_work.specs.Causing.{OpeningBy};
 ghost use Rattle.client_work.specs.Left.{at_rest, behind_opening};
 ghost use Rattle.client_work.specs.Session.{StepsOpening, opened_work};
 
@@ -68,6 +70,7 @@ impl OpeningRun {
     ) -> (Left<OpeningRun>, Turn<Answer>)
         ensures sound { IsSoundOpening self }
         ensures steps { StepsOpening who (C.seen cloud.old) (C.seen cloud.new) self (behind_opening result.0) result.1 }
+        ensures machine { OpeningBy (StepsRecovery who (C.seen cloud.old) (C.seen cloud.new) self) (behind_opening result.0) result.1 }
     {
         let OpeningRun { mut run } = self;
         match run.step(alloc, cloud, who) {

@@ -1,3 +1,5 @@
+ghost use Rattle.page_ckpt.specs.Stepped.{Stepped as StepsPage};
+ghost use Rattle.client_work.specs.Causing.{PagingBy};
 ghost use Rattle.client_work.specs.Left.{behind_page};
 ghost use Rattle.client_work.specs.Session.{StepsPaging};
 
@@ -19,7 +21,8 @@ pub(crate) fn step_paging<C: Cloud>(
     home: Home,
     mut machine: PageCkpt,
 ) -> (Left<(Home, PageCkpt)>, Turn<Answer>)
-    ensures { StepsPaging home who (C.seen cloud.old) (C.seen cloud.new) machine (behind_page result.0) result.1 }
+    ensures steps { StepsPaging home who (C.seen cloud.old) (C.seen cloud.new) machine (behind_page result.0) result.1 }
+    ensures machine { PagingBy home (StepsPage who (C.seen cloud.old) (C.seen cloud.new) machine) (behind_page result.0) result.1 }
 {
     match machine.step(alloc, cloud, who) {
         Turn::More => (Left::Goes((home, machine)), Turn::More),

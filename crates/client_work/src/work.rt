@@ -1,4 +1,5 @@
 ghost use Rattle.std.specs.Prelude.{◌≡◌, true, None};
+ghost use Rattle.client_work.specs.Causing.{MachineSteps};
 ghost use Rattle.client_work.specs.Left.{at_rest, behind_opening, behind_commit, behind_read, behind_scan, behind_page, behind_tree, behind_settling};
 ghost use Rattle.client_work.specs.Session.{ShowsAt, StepsAt, ended_by, is_other, old_lease, rule_of, stopped_work};
 
@@ -340,6 +341,7 @@ impl Work {
         requires { is_other self.old ≡ true }
         ensures steps { StepsAt who (C.seen cloud.old) (C.seen cloud.new) self.old self.new result.1 }
         ensures shows { ShowsAt who (C.seen cloud.old) (C.seen cloud.new) buffer.now self.old cache.old cache.new self.new result.0 result.1 }
+        ensures machine { MachineSteps who (C.seen cloud.old) (C.seen cloud.new) self.old cache.old cache.new self.new result.1 }
     {
         let work = mem::replace(self, Work::Closed);
         let (work, shown, turn) = work.step_other(alloc, cloud, who, cache, buffer);
@@ -359,6 +361,7 @@ impl Work {
         requires { is_other self ≡ true }
         ensures steps { StepsAt who (C.seen cloud.old) (C.seen cloud.new) self result.0 result.2 }
         ensures shows { ShowsAt who (C.seen cloud.old) (C.seen cloud.new) buffer.now self cache.old cache.new result.0 result.1 result.2 }
+        ensures machine { MachineSteps who (C.seen cloud.old) (C.seen cloud.new) self cache.old cache.new result.0 result.2 }
     {
         match self {
             Work::Reading(home, read) => {

@@ -1,6 +1,6 @@
 use Rattle.std.proofs.Common.{refl}
 use Rattle.client_work.proofs.Resting.{other_work}
-use Rattle.client_work.proofs.Stepped.{shows_by, steps_by}
+use Rattle.client_work.proofs.Stepped.{machine_by, shows_by, steps_by}
 use Rattle.client_work.proofs.work.WorkHand.step.Goals as goal
 
 pub step_apart-requires : goal.step_apart-requires
@@ -10,10 +10,12 @@ pub returns-in_default-advance : goal.returns-in_default-advance
 returns-in_default-advance g c = record {
   steps = steps_by _ _ _ _ _ _ _ _ c.in-Committing.is c.end.ensures (c.advance.ensures.sound, c.args.cache.now, c.advance.new.cache, c.advance.ensures.steps);
   shows = shows_by _ _ _ _ _ _ _ _ _ _ _ _ c.in-Committing.is c.end.ensures (c.advance.ensures.steps, refl);
+  machine = machine_by _ _ _ _ _ _ _ _ _ _ c.in-Committing.is c.end.ensures c.advance.ensures.machine;
 }
 
 pub returns-in_default-fold : goal.returns-in_default-fold
 returns-in_default-fold g c = record {
-  steps = steps_by _ _ _ _ _ _ _ _ c.in-Folding.is c.end-in_default-fold.ensures (c.fold.ensures c.in-Folding.field-0);
+  steps = steps_by _ _ _ _ _ _ _ _ c.in-Folding.is c.end-in_default-fold.ensures (c.fold.ensures.steps c.in-Folding.field-0);
   shows = shows_by _ _ _ _ _ _ _ _ _ _ _ _ c.in-Folding.is c.end-in_default-fold.ensures (refl, refl);
+  machine = machine_by _ _ _ _ _ _ _ _ _ _ c.in-Folding.is c.end-in_default-fold.ensures (c.fold.ensures.machine c.in-Folding.field-0);
 }

@@ -1,6 +1,6 @@
 -- Where a checkpoint of a tree finds a version spent, the cloud tells so: what is to be put next was got, or put by the checkpoint, and it landed.
 use Rattle.std.proofs.Common.{◌≡◌, ◌+◌, ◌≤◌, ◌==◌, ◌⊎◌, inl, inr, ℕ, true, false, List, [], ◌∷◌, length, map, drop, Option, Some, None, Result, Ok, Err, refl, sym, ap, subst, ◌∙◌, arith}
-use Rattle.std.specs.Prelude.{◌-◌, ◌&&◌, is_none, is_some, reverse, slice_get}
+use Rattle.std.specs.Prelude.{◌&&◌, is_none, is_some, reverse, slice_get}
 use Rattle.std.proofs.lemmas.Bool.{eqb-true}
 use Rattle.std.proofs.lemmas.List.{length-reverse, length-map}
 use Rattle.byte_format.specs.Format.{greatest}

@@ -26,6 +26,7 @@ use Rattle.world_core.proofs.ShownByLines.{settled_by}
 use Rattle.world_core.proofs.Settled.{settling_leaves, settling_ends, settling_right}
 use Rattle.world_core.proofs.StandsLemmas.{no_memory}
 use Rattle.world_core.specs.Bounded.{AnswersSoon}
+use Rattle.world_core.specs.Named.{NamesAt}
 use Rattle.world_core.specs.Handled.{SettlesOn, Settles as SettlesLine, Answers, Handled}
 use Rattle.world_core.specs.Replying.{RepliesSettled, unsettled_reply}
 use Rattle.world_core.specs.Stands.{LeftIsRight}
@@ -61,6 +62,14 @@ no_run lines n Settle before after old new result is answers = tt
 no_run lines n (Session k request) before after old new result is answers = absurd (cc (is))
 no_run lines n (Wait ticks) before after old new result is answers = tt
 no_run lines n (Report tree) before after old new result is answers = tt
+
+-- and none of a checkpoint
+no_checkpoint : (n : ℕ) (asked : Asked) (before after : Seen) (old new : World) (result : Result Reply WorldFault) → asked ≡ Settle → (answers : Answers n asked before after old new result)
+    → NamesAt n asked before after old new result answers
+no_checkpoint n Settle before after old new result is answers = tt
+no_checkpoint n (Session k request) before after old new result is answers = absurd (cc (is))
+no_checkpoint n (Wait ticks) before after old new result is answers = tt
+no_checkpoint n (Report tree) before after old new result is answers = tt
 
 -- what holds of each reply to a settling holds of its own
 unsettled_is : (P : Reply → Type 0) (r : Reply) (q : Trouble) → ((k : Trouble) → P (reply.NotSettled k)) → (let result : Result Reply WorldFault = Ok r in result ≡ unsettled_reply q) → P r
@@ -102,6 +111,7 @@ settles_so lines event.Settle r before after old new t told stands handled =
         explains = right.explains;
         calm = λ each s u seen told_after well. right.calm each u told_after;
         bounded = no_run lines (length lines + 1) handled.asked before after old new (Ok r) handled.asks handled.answers;
+        names = no_checkpoint (length lines + 1) handled.asked before after old new (Ok r) handled.asks handled.answers;
         leaves = leaves_so (length lines + 1) event.Settle before after old new r (settling_leaves (length lines + 1) event.Settle before after old new (Ok r)) t told stands handled;
         ends = ends_so (length lines + 1) event.Settle before after old new r (settling_ends (length lines + 1) event.Settle before after old new (Ok r)) t told stands handled;
         kept = λ u seen.

@@ -26,6 +26,7 @@ use Rattle.world_core.proofs.Counting.{stands_after}
 use Rattle.world_core.proofs.Calm.{well_after}
 use Rattle.world_core.proofs.Explained.{explained}
 use Rattle.world_core.proofs.LeftNone.{nothing_after}
+use Rattle.world_core.proofs.Named.{names_pieces}
 use Rattle.world_core.proofs.Shown.{shown}
 use Rattle.world_core.proofs.ShownByLines.{shown_by}
 use Rattle.world_core.proofs.Settled.{settling_leaves, settling_ends}
@@ -124,6 +125,7 @@ went_explained before old t lines after new (further earlier line mid _ world _ 
             well_after (length earlier + 1) line.event mid after world new (Ok line.reply) earlier o.state u refl o.told told_after o.stands handled each
             (subst (λ x. IsUntroubled x (work_at world (session_of line.event))) (same_some s o.state (sym seen ∙ o.told)) well);
         bounded = few_calls (length earlier + 1) line.event mid after world new (Ok line.reply) earlier o.state refl o.told o.stands handled;
+        names = names_pieces (length earlier + 1) line.event mid after world new (Ok line.reply) earlier o.state refl o.told o.stands handled;
         leaves =
             leaves_so (length earlier + 1) line.event mid after world new line.reply
             (settling_leaves (length earlier + 1) line.event mid after world new (Ok line.reply)) o.state o.told (on_book earlier world o.state o.stands) handled;

@@ -30,6 +30,7 @@ use Rattle.world_core.specs.Calm.{StepIsCalm, RepliesWell, work_at}
 use Rattle.world_core.specs.EachStep.{EachStep}
 use Rattle.world_core.specs.Explained.{StepExplains}
 use Rattle.world_core.specs.Handled.{Handled}
+use Rattle.world_core.specs.Named.{NamesAt}
 use Rattle.world_core.specs.Opened.{OpenEachOnce}
 use Rattle.world_core.specs.Shown.{StepShows}
 use Rattle.world_core.specs.ShownByLines.{StepShowsBy}
@@ -66,7 +67,8 @@ abbrev pub IsKeptLine : List Entry → List Line → Line → Type 0
 IsKeptLine entries before line = IsKeptReply entries (standing before (session_of line.event)).client (standing before (session_of line.event)).posture line.reply
 
 -- a line that was handled explains the steps that it made; where its session was untroubled and each of these was calm, the session is untroubled
--- behind it, and the line is answered well; the calls of a checkpoint are few up to it; a settling leaves nothing and comes to its end so;
+-- behind it, and the line is answered well; the calls of a checkpoint are few up to it, and that of a tree names its new pieces at its end; a settling
+-- leaves nothing and comes to its end so;
 -- a commit that it answers as committed is among what was committed, and of one that it answers as not committed nothing is; the two numbers of a
 -- report count what is left then; and a read and a scan show what their own calls served, by what the lines say of the client
 pub record IsExplained (lines : List Line) (line : Line) (before after : Seen) (old new : World) (handled : Handled (length lines + 1) line.event before after old new (Ok line.reply))
@@ -76,6 +78,7 @@ pub record IsExplained (lines : List Line) (line : Line) (before after : Seen) (
       → before.state ≡ Some t → after.state ≡ Some u → IsUntroubled t (work_at old (session_of line.event))
       → IsUntroubled u (work_at new (session_of line.event)) × RepliesWell u line.event (standing lines (session_of line.event)).posture line.reply
   pub bounded : AnswersSoon lines (length lines + 1) handled.asked before after old new (Ok line.reply) handled.answers
+  pub names : NamesAt (length lines + 1) handled.asked before after old new (Ok line.reply) handled.answers
   pub leaves : LeavesSo (length lines + 1) line.event before after old new line.reply handled
   pub ends : (t : CloudState) → before.state ≡ Some t → EndsSo t (length lines + 1) line.event before after old new line.reply handled
   pub kept : (u : CloudState) → after.state ≡ Some u → IsKeptLine (committed (lines ++ line ∷ []) u) lines line

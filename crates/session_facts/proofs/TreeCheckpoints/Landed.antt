@@ -1,5 +1,5 @@
 -- What a checkpoint put on the way up is a version that the cloud tells.
-use Rattle.std.proofs.Common.{◌≡◌, ◌+◌, ◌⊎◌, inl, inr, ℕ, List, [], ◌∷◌, ◌++◌, Option, Some, None, refl, sym, ap, subst, ◌∙◌}
+use Rattle.std.proofs.Common.{◌≡◌, ◌⊎◌, inl, inr, ℕ, List, [], ◌∷◌, ◌++◌, Option, Some, None, refl, sym, ap, subst, ◌∙◌}
 use Rattle.cloud_facts.proofs.Book.Places.{in_front}
 use Rattle.cloud_facts.proofs.Calls.Calls.{call_of}
 use Rattle.cloud_facts.proofs.Chains.Pieces.{in_back}
@@ -21,7 +21,6 @@ use Rattle.cloud_trait.specs.State.{CloudState, landed, called}
 use Rattle.db_base.specs.declared.names.ObjName.{ObjName}
 use Rattle.db_base.specs.declared.names.ObjName.TheVariants as object
 use Rattle.node_codec.specs.Node.{Entry}
-use Rattle.node_codec.specs.Tree.{Tree}
 use Rattle.session_facts.specs.TreeCheckpoints.Named.{AreTold, HasLanded, IsTold}
 use Rattle.split_plan.specs.declared.put_list.PagePut.{PagePut}
 use Rattle.split_plan.specs.Part.{NodePart}

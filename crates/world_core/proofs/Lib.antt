@@ -28,6 +28,8 @@ pub mod AddedSteps
 pub mod AddedLines
 pub mod AddedShort
 pub mod OpenedLines
+pub mod EachAny
+pub mod Caused
 pub mod Shown
 pub mod EachUnderWay
 pub mod ShownByLines

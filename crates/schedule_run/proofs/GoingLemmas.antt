@@ -27,12 +27,14 @@ use Rattle.world_core.specs.declared.world.WorldFault.TheVariants as world
 use Rattle.world_core.specs.Handled.{Handled}
 use Rattle.world_core.specs.Stands.{WorldStands, StandsOn, Grows}
 use Rattle.world_core.proofs.StartLemmas.{new_stands}
+use Rattle.world_core.proofs.Caused.{caused}
 use Rattle.schedule_run.specs.declared.replay.LineFault.{LineFault}
 use Rattle.schedule_run.specs.declared.replay.LineFault.TheVariants.{BadLine, WriteFault, Memory}
 use Rattle.schedule_run.specs.Answered.{IsNew, WentOn, start, further, AreAnswered, AreExplained, ReportsAreRight, RepliesAreSound, ActsByTheLines, AcknowledgedStay, KeepsTheTheorem, ReportsCome}
 use Rattle.schedule_run.proofs.BehindLemmas.{lines_left, lines_settled}
 use Rattle.schedule_run.proofs.SoundLemmas.{get_before, take_whole, went_soundly, went_explained}
 use Rattle.schedule_run.proofs.SeeingLemmas.{went_comes}
+use Rattle.schedule_run.proofs.CausedLemmas.{lines_caused}
 use Rattle.schedule_run.proofs.OnceLemmas.{went_adds, lines_once, unanswered_kinds, unanswered_once}
 use Rattle.schedule_run.proofs.StayLemmas.{stay_upto, went_stay}
 use Rattle.run_text.specs.Written.{reply_line, replies_from, replies, bad_line}
@@ -220,6 +222,7 @@ answered texts w v s t first world fresh h = record {
   reports = λ x told empty. reports_come h.lines s t first world x h.went fresh told empty;
   kinds = λ x told. went_adds s first x told fresh h.lines t world h.went;
   once = lines_once h.lines s t first world h.went fresh;
+  caused = lines_caused s first h.lines t world h.went;
 }
 
 pub at_end : (text rest : List ℕ) (n : ℕ) (w v : Written) (s t : Seen) (first world : World) → IsNew first
@@ -322,6 +325,7 @@ with_answer {text} {rest} {behind} {line} {n} {m} {w} {v} {s} {t} {z} {first} {o
       reports = λ x told empty. reports_come (met.is.handles.lines ++ one ∷ []) s z first new x went met.fresh told empty;
       kinds = λ x told. went_adds s first x told met.fresh (met.is.handles.lines ++ one ∷ []) z new went;
       once = lines_once (met.is.handles.lines ++ one ∷ []) s z first new went met.fresh;
+      caused = lines_caused s first (met.is.handles.lines ++ one ∷ []) z new went;
     }
 
 -- the run ends behind a text that has a reply
@@ -368,6 +372,7 @@ no_answer {text} {rest} {behind} {line} {n} {m} {w} {v} {s} {t} {z} {first} {old
         handled = own;
         kinds = unanswered_kinds h.lines event fault s t z first old new h.went met.fresh own;
         once = unanswered_once h.lines event fault s t z first old new h.went met.fresh own;
+        caused = caused (length h.lines + 1) event t z old new (Err fault) own;
       };
       wrote = subst (λ x. AddsEach w x (replies h.lines)) (sym same) h.wrote;
     }

@@ -1,3 +1,4 @@
+pub mod CausedLemmas
 pub mod SoundLemmas
 pub mod BehindLemmas
 pub mod StayLemmas

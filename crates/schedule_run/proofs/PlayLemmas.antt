@@ -15,11 +15,13 @@ use Rattle.world_core.specs.declared.world.WorldFault.{WorldFault}
 use Rattle.world_core.specs.declared.world.WorldFault.TheVariants as world
 use Rattle.world_core.specs.Handled.{Handled}
 use Rattle.world_core.specs.Stands.{WorldStands, StandsOn, Grows}
+use Rattle.world_core.proofs.Caused.{caused}
 use Rattle.schedule_run.specs.InPlay.{Play}
 use Rattle.schedule_run.specs.Answered.{WentOn, start, further, ReportsAreRight, KeepsTheTheorem}
 use Rattle.schedule_run.specs.Play.{IsFresh, IsNext, RanOut, uncounted, no_answer, Takes, answered_run, stops_run, RunsWhole, Played, StoppedAt, stopped_before, stopped_within}
 use Rattle.schedule_run.proofs.BehindLemmas.{lines_left, lines_settled}
 use Rattle.schedule_run.proofs.GoingLemmas.{stands_more, fresh_stands, replies_sound, lines_explained, reports_come, report_same, acts_upto, acknowledged_stay, keeps_now}
+use Rattle.schedule_run.proofs.CausedLemmas.{lines_caused}
 use Rattle.schedule_run.proofs.OnceLemmas.{went_adds, lines_once, unanswered_kinds, unanswered_once}
 use Rattle.schedule_run.proofs.StayLemmas.{stay_upto}
 
@@ -32,6 +34,7 @@ played_nothing s play fresh = record {
   went = start;
   kinds = λ t told. went_adds s play.world t told fresh.world [] s play.world start;
   once = lines_once [] s s play.world play.world start fresh.world;
+  caused = tt;
   settled = λ t told runs. tt;
   left = lines_left [] s s play.world play.world start fresh.world;
   stands = stands;
@@ -60,6 +63,7 @@ played_more lines event reply s t z old new p n =
       went = went;
       kinds = λ x told. went_adds s p.first x told p.fresh (lines ++ line ∷ []) z new.world went;
       once = lines_once (lines ++ line ∷ []) s z p.first new.world went p.fresh;
+      caused = lines_caused s p.first (lines ++ line ∷ []) z new.world went;
       settled = lines_settled (lines ++ line ∷ []) s z p.first new.world went p.fresh;
       left = lines_left (lines ++ line ∷ []) s z p.first new.world went p.fresh;
       stands = stands at;
@@ -112,11 +116,13 @@ stopped_at lines event s t z old new p (no_answer handled grows) =
         reports = p.reports;
         kinds = p.kinds;
         once = p.once;
+        caused = p.caused;
       };
       last = new.world;
       handled = own at;
       kinds = unanswered_kinds lines event world.Memory s t z p.first old.world new.world p.went p.fresh (own at);
       once = unanswered_once lines event world.Memory s t z p.first old.world new.world p.went p.fresh (own at);
+      caused = caused (length lines + 1) event t z old.world new.world (Err world.Memory) (own at);
     })
     (keeps_behind lines (old.handled + 1) s t z old p at grows)
   where

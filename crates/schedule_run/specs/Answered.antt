@@ -26,6 +26,7 @@ use Rattle.world_core.specs.World.{World}
 use Rattle.world_core.specs.declared.world.WorldFault.{WorldFault}
 use Rattle.world_core.specs.Added.{WorldAdds}
 use Rattle.world_core.specs.Bounded.{AnswersSoon}
+use Rattle.world_core.specs.Caused.{StepHasCauses}
 use Rattle.world_core.specs.Calm.{StepIsCalm, RepliesWell, work_at}
 use Rattle.world_core.specs.EachStep.{EachStep}
 use Rattle.world_core.specs.Explained.{StepExplains}
@@ -129,13 +130,19 @@ ReportsCome lines before after =
 abbrev pub events_of : List Line → List Event
 events_of lines = map (λ line. line.event) lines
 
+-- each step of these lines has the cause that the contract of its machine names
+abbrev pub AreCaused : (before : Seen) (old : World) (lines : List Line) (after : Seen) (new : World) → WentOn before old lines after new → Type 0
+AreCaused before old lines after new start = Unit {0}
+AreCaused before old _ after new (further lines line mid _ world _ went handled) =
+    AreCaused before old lines mid world went × EachStep StepHasCauses (length lines + 1) line.event mid after world new (Ok line.reply) handled
+
 -- no two of the rows that were added to the trace of a cloud that tells its state open one transaction
 abbrev pub OpensNoneTwice : Seen → Seen → Type 0
 OpensNoneTwice before after = (t : CloudState) → before.state ≡ Some t → AddsNoneTwice t after
 
 -- these lines were handled from a new world on; over a cloud that was empty and told its state each of them explains itself, and reports come; over
 -- one that earlier runs left each settling among them explains itself; and over any one each row that they added is of a kind that its session's
--- standing by them allows, and where they open no client twice no transaction was opened twice
+-- standing by them allows, each step that they made has its cause, and where they open no client twice no transaction was opened twice
 pub record AreAnswered (lines : List Line) (before after : Seen) : Type 0 where
   pub first : World
   pub fresh : IsNew first
@@ -147,9 +154,10 @@ pub record AreAnswered (lines : List Line) (before after : Seen) : Type 0 where
   pub reports : (t : CloudState) → before.state ≡ Some t → IsEmptyCloud t → ReportsCome lines before after
   pub kinds : (t : CloudState) → before.state ≡ Some t → WorldAdds lines t last after
   pub once : OpenEachOnce (events_of lines) → OpensNoneTwice before after
+  pub caused : AreCaused before first lines after last went
 
 -- behind these lines this event was handled, and has no reply, by this fault; what it added to any cloud is of its kind too, whatever its reply would
--- have been, and where it opens no client of theirs no transaction was opened twice
+-- have been, each step that it made has its cause, and where it opens no client of theirs no transaction was opened twice
 pub record IsUnanswered (lines : List Line) (event : Event) (fault : WorldFault) (before after : Seen) : Type 0 where
   pub mid : Seen
   pub answered : AreAnswered lines before mid
@@ -157,6 +165,7 @@ pub record IsUnanswered (lines : List Line) (event : Event) (fault : WorldFault)
   pub handled : Handled (length lines + 1) event mid after answered.last last (Err fault)
   pub kinds : (t : CloudState) (reply : Reply) → before.state ≡ Some t → AddsTo (length lines + 1) (lines ++ record { event = event; reply = reply } ∷ []) t after
   pub once : OpenEachOnce (events_of lines ++ event ∷ []) → OpensNoneTwice before after
+  pub caused : EachStep StepHasCauses (length lines + 1) event mid after answered.last last (Err fault) handled
 
 -- every report is right for the lines up to its own and the state up to its line
 abbrev pub ReportsAreRight : List Line → CloudState → Type 0

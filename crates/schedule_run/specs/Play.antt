@@ -16,7 +16,7 @@ use Rattle.world_core.specs.Added.{WorldAdds}
 use Rattle.world_core.specs.Opened.{OpenEachOnce}
 use Rattle.world_core.specs.Stands.{WorldStands, StandsOn, Grows}
 use Rattle.schedule_run.specs.InPlay.{Play}
-use Rattle.schedule_run.specs.Answered.{IsNew, WentOn, AreSettled, IsOfRuns, LeavesOne, IsUnanswered, events_of, OpensNoneTwice, ReportsAreRight, KeepsTheTheorem, AreExplained, ReportsCome}
+use Rattle.schedule_run.specs.Answered.{IsNew, WentOn, AreSettled, IsOfRuns, LeavesOne, IsUnanswered, events_of, OpensNoneTwice, ReportsAreRight, KeepsTheTheorem, AreExplained, AreCaused, ReportsCome}
 
 -- a new world that has handled nothing
 pub record IsFresh (play : Play) : Type 0 where
@@ -62,9 +62,10 @@ RunsWhole event (Err fault) before after old new = StopsRun event before after o
 
 -- ---- lines from a new world on
 
--- these lines were handled from a new world on; over any cloud that tells its state each row that they added is of a kind that its session's standing
--- by them allows, and where they open no client twice no transaction was opened twice, over one that earlier runs left each settling among them explains itself and another one is left, and over one that was empty all
--- stands for them, they keep the theorem, each explains itself, and reports come
+-- these lines were handled from a new world on, and each step that they made has its cause; over any cloud that tells its state each row that they
+-- added is of a kind that its session's standing by them allows, and where they open no client twice no transaction was opened twice; over one that
+-- earlier runs left each settling among them explains itself and another one is left; and over one that was empty all stands for them, they keep the
+-- theorem, each explains itself, and reports come
 pub record Played (lines : List Line) (start now : Seen) (play : Play) : Type 0 where
   pub count : play.handled ≡ length lines
   pub first : World
@@ -72,6 +73,7 @@ pub record Played (lines : List Line) (start now : Seen) (play : Play) : Type 0 
   pub went : WentOn start first lines now play.world
   pub kinds : (t : CloudState) → start.state ≡ Some t → WorldAdds lines t play.world now
   pub once : OpenEachOnce (events_of lines) → OpensNoneTwice start now
+  pub caused : AreCaused start first lines now play.world went
   pub settled : (t : CloudState) → start.state ≡ Some t → IsOfRuns t → AreSettled start first lines now play.world went
   pub left : LeavesOne start now
   pub stands : (t : CloudState) → start.state ≡ Some t → IsEmptyCloud t

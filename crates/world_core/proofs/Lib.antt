@@ -31,6 +31,8 @@ pub mod AddedShort
 pub mod BrokenOff
 pub mod LeftShort
 pub mod OpenedLines
+pub mod EachAny
+pub mod Caused
 pub mod Shown
 pub mod EachUnderWay
 pub mod ShownByLines

@@ -17,5 +17,6 @@ pub mod Settled
 pub mod Added
 pub mod Opened
 pub mod World
+pub mod Caused
 pub mod Shown
 pub mod ShownByLines

@@ -74,6 +74,7 @@ impl<S: SessionCalls> World<S> {
     ghost use Rattle.world_core.specs.Acknowledged.{AnswersDurably};
     ghost use Rattle.world_core.specs.LeftNone.{LeavesNoCommit};
     ghost use Rattle.world_core.specs.Explained.{ExplainsSteps};
+    ghost use Rattle.world_core.specs.Caused.{CausesSteps};
     ghost use Rattle.world_core.specs.Shown.{ShowsSteps};
     ghost use Rattle.world_core.specs.ShownByLines.{ShowsStepsBy};
     ghost use Rattle.world_core.specs.Calm.{AnswersWell};
@@ -118,6 +119,8 @@ impl<S: SessionCalls> World<S> {
         // A commit that is answered as not committed left nothing among what was committed.
         ensures left_nothing { LeavesNoCommit n event.now (C.seen cloud.old) (C.seen cloud.new) self.old self.new result }
         ensures explained { ExplainsSteps n event.now (C.seen cloud.old) (C.seen cloud.new) self.old self.new result }
+        // Over any cloud, why each step came to what it came to.
+        ensures caused { CausesSteps n event.now (C.seen cloud.old) (C.seen cloud.new) self.old self.new result }
         ensures shown { ShowsSteps n event.now (C.seen cloud.old) (C.seen cloud.new) self.old self.new result }
         // What it shows is by what the lines say of its client.
         ensures shown_by_lines { ShowsStepsBy n event.now (C.seen cloud.old) (C.seen cloud.new) self.old self.new result }

@@ -1,6 +1,7 @@
 use Rattle.world_core.proofs.Counting.{stands_after}
 use Rattle.world_core.proofs.Bounded.{few_calls}
 use Rattle.world_core.proofs.Calm.{well_after}
+use Rattle.world_core.proofs.Caused.{caused}
 use Rattle.world_core.proofs.Explained.{explained}
 use Rattle.world_core.proofs.Keeping.{keeps_book}
 use Rattle.world_core.proofs.Settled.{settling_ends, settling_leaves, settling_right}
@@ -24,6 +25,9 @@ returns-clause-acknowledged g c = durable_after _ _ _ _ _ _ _ c.handle.ensures.h
 
 pub returns-clause-explained : goal.returns-clause-explained
 returns-clause-explained g c = explained _ _ _ _ _ _ _
+
+pub returns-clause-caused : goal.returns-clause-caused
+returns-clause-caused g c = caused _ _ _ _ _ _ _
 
 pub returns-clause-shown : goal.returns-clause-shown
 returns-clause-shown g c = shown _ _ _ _ _ _ _

@@ -1,0 +1,73 @@
+-- What holds of every step, whatever led to it, holds of each step of a line.
+use Rattle.std.proofs.Common.{inl, inr, ℕ, Bool, true, false, Result, Ok, Err}
+use Rattle.client_work.specs.declared.answer.Answer.{Answer}
+use Rattle.cloud_trait.specs.Caller.{Caller}
+use Rattle.cloud_trait.specs.Seen.{Seen}
+use Rattle.cloud_trait.specs.declared.turn.Turn.{Turn}
+use Rattle.db_base.specs.declared.refusal.Refused.{Refused}
+use Rattle.db_base.specs.declared.wish.Wish.{Wish}
+use Rattle.reply_text.specs.declared.reply.Reply.{Reply}
+use Rattle.world_core.specs.declared.asked.Asked.{Asked}
+use Rattle.world_core.specs.declared.asked.Asked.TheVariants.{Session, Wait, Report, Settle}
+use Rattle.world_core.specs.declared.asked.Request.{Request}
+use Rattle.world_core.specs.declared.asked.Request.TheVariants.{Begin, Note, Abort, Step, Run, Crash}
+use Rattle.world_core.specs.World.{World}
+use Rattle.world_core.specs.declared.world.WorldFault.{WorldFault}
+use Rattle.world_core.specs.EachStep.{StepFact, EachWent, EachCome, EachMade, EachRun, EachCrashed, EachSettlingOn, EachSettling, EachDone, EachServed, EachAsked}
+use Rattle.world_core.specs.Handled.{StepsLooked, MakesStep, Went, start, further, ComesTo, Runs, SettlesOn, Settles, Crashes, Does, Serves, Answers}
+
+module _ (Holds : StepFact)
+    (own : (who : Caller) (wish : Wish) (before after : Seen) (old new : World) (turn : Turn Answer) (p : StepsLooked who wish before after old new turn)
+    → Holds who wish before after old new turn p) where
+  went_each : (who : Caller) (before : Seen) (old : World) (after : Seen) (new : World) (went : Went who before old after new) → EachWent Holds who before old after new went
+  went_each who before old after new start = tt
+  went_each who before old after new (further mid _ world _ went step) = (went_each who before old mid world went, own who _ mid after world new _ step)
+
+  comes_each : (who : Caller) (before after : Seen) (old new : World) (answer : Answer) (comes : ComesTo who before after old new answer)
+      → EachCome Holds who before after old new answer comes
+  comes_each who before after old new answer comes =
+      (went_each who before old comes.mid comes.world comes.went, own who _ comes.mid after comes.world new _ comes.steps)
+
+  module _ (n : ℕ) (before after : Seen) (old new : World) (result : Result Reply WorldFault) where
+    made_each : (k : ℕ) (wish : Wish) (h : MakesStep n k wish before after old new result) → EachMade Holds n k wish before after old new result h
+    made_each k wish (inl refused) = tt
+    made_each k wish (inr (inl made)) = own _ wish before after old new made.turn made.steps
+    made_each k wish (inr (inr memory)) = tt
+
+    run_each : (k : ℕ) (h : Runs n k before after old new result) → EachRun Holds n k before after old new result h
+    run_each k (inl refused) = tt
+    run_each k (inr (inl run)) = comes_each _ before after old new run.answer run.comes
+    run_each k (inr (inr memory)) = tt
+
+    crash_each : (k : ℕ) (done : Bool) (h : Crashes n k done before after old new result) → EachCrashed Holds n k done before after old new result h
+    crash_each k false dies = tt
+    crash_each k true (inl idle) = tt
+    crash_each k true (inr (inl dies)) = own _ _ before after old dies.world dies.turn dies.steps
+    crash_each k true (inr (inr memory)) = tt
+
+    does_each : (k : ℕ) (request : Request) (h : Does n k request before after old new result) → EachDone Holds n k request before after old new result h
+    does_each k (Step wish) h = made_each k wish h
+    does_each k Run h = run_each k h
+    does_each k (Crash done) h = crash_each k done h
+    does_each k (Begin o) h = tt
+    does_each k (Note tree change) h = tt
+    does_each k Abort h = tt
+
+    serves_each : (k : ℕ) (request : Result Request Refused) (h : Serves n k request before after old new result) → EachServed Holds n k request before after old new result h
+    serves_each k (Ok request) h = does_each k request h
+    serves_each k (Err why) h = tt
+
+    settles_each : (h : Settles n before after old new result) → EachSettling Holds n before after old new result h
+    settles_each (inr memory) = tt
+    settles_each (inl h) = on h.settles
+      where
+        on : (s : SettlesOn (record { session = 0; event = n }) before after h.begun new result) → EachSettlingOn Holds (record { session = 0; event = n }) before after h.begun new result s
+        on (inr memory) = tt
+        on (inl s) = comes_each _ before after h.begun s.left s.answer s.comes
+
+    pub asked_each : (asked : Asked) (h : Answers n asked before after old new result) → EachAsked Holds n asked before after old new result h
+    asked_each (Session k request) (inl served) = serves_each k request served.1
+    asked_each (Session k request) (inr none) = tt
+    asked_each (Wait ticks) waits = tt
+    asked_each (Report tree) reports = tt
+    asked_each Settle settles = settles_each settles

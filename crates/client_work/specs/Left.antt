@@ -3,7 +3,6 @@ use Rattle.commit_run.specs.Run.{Run}
 use Rattle.page_ckpt.specs.Paging.{Paging as Page}
 use Rattle.recover_run.specs.declared.home.Home.{Home}
 use Rattle.recover_run.specs.Recovery.{Recovery}
-use Rattle.settle_run.specs.Settling.{Settling as SettlingState}
 use Rattle.tree_ckpt.specs.Making.{Making}
 use Rattle.tree_walk.specs.Walk.{Walk}
 use Rattle.client_work.specs.declared.left.Left.{Left}
@@ -12,7 +11,7 @@ use Rattle.client_work.specs.declared.left.Rest.{Rest}
 use Rattle.client_work.specs.declared.left.Rest.TheVariants as rest
 use Rattle.client_work.specs.declared.listing.Listing.{Listing}
 use Rattle.client_work.specs.declared.work.Work.{Work}
-use Rattle.client_work.specs.declared.work.Work.TheVariants.{Closed, Idle, Opening, Committing, Reading, Scanning, Paging, Folding, Settling, Broken}
+use Rattle.client_work.specs.declared.work.Work.TheVariants.{Closed, Idle, Opening, Committing, Reading, Scanning, Paging, Folding, Broken}
 
 -- what is in hand where nothing is at work
 abbrev pub at_rest : Rest → Work
@@ -45,7 +44,3 @@ behind_page (Rests r) = at_rest r
 abbrev pub behind_tree : Left (Home × Making) → Work
 behind_tree (Goes (home, m)) = Folding home m
 behind_tree (Rests r) = at_rest r
-
-abbrev pub behind_settling : Left SettlingState → Work
-behind_settling (Goes m) = Settling m
-behind_settling (Rests r) = at_rest r

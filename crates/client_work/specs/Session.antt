@@ -314,10 +314,16 @@ behind_fold home m (Ended (answer.Done a)) = Idle home
 behind_fold home m (Ended (answer.Trouble k)) = stopped_work k home
 behind_fold home m turn = Folding home m
 
--- the same of whatever is in hand: what is neither stays
+-- the same of a settling
+abbrev pub behind_settling : SettlingState → Turn Answer → Work
+behind_settling m More = Settling m
+behind_settling m turn = Closed
+
+-- the same of whatever is in hand: what is none of these stays
 abbrev pub ended_by : Work → Turn Answer → Work
 ended_by (Committing m) turn = behind_step m turn
 ended_by (Folding home m) turn = behind_fold home m turn
+ended_by (Settling m) turn = behind_settling m turn
 ended_by work turn = work
 
 -- a call was made, and answered
@@ -439,7 +445,7 @@ is_working (Renewing home) = true
 is_working (Settling m) = true
 is_working (Broken lease) = false
 
--- whether something is at work that is neither a commit nor a tree checkpoint
+-- whether something is at work that is neither a commit nor a tree checkpoint nor a settling
 abbrev pub is_other : Work → Bool
 is_other (Opening m) = true
 is_other (Committing m) = false
@@ -451,7 +457,7 @@ is_other Closed = false
 is_other (Idle home) = false
 is_other (Closing lease) = true
 is_other (Renewing home) = true
-is_other (Settling m) = true
+is_other (Settling m) = false
 is_other (Broken lease) = false
 
 -- one step of what is in hand; where nothing is at work it is refused and changes nothing

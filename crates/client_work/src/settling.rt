@@ -2,11 +2,9 @@ ghost use Rattle.std.specs.Prelude.{◌≡◌};
 ghost use Rattle.cloud_trait.specs.Call.{ask_of};
 ghost use Rattle.settle_run.specs.Parts.{IsSoundPart, part_applying};
 ghost use Rattle.settle_run.specs.Settling.{new_settling, settle_ask};
-ghost use Rattle.client_work.specs.Left.{behind_settling};
-ghost use Rattle.client_work.specs.Session.{StepsSettling};
+ghost use Rattle.client_work.specs.Session.{StepsSettling, behind_settling};
 
 use crate::answer::Answer;
-use crate::left::{Left, Rest};
 use cloud_trait::call::Call;
 use cloud_trait::cloud::Cloud;
 use cloud_trait::turn::Turn;
@@ -64,32 +62,20 @@ impl SettlingRun {
         self.run.applying()
     }
 
-    /// Makes the call in hand: what is in hand then, and what it came to.
-    pub(crate) fn step<C: Cloud>(
-        self,
-        alloc: Global,
-        cloud: &mut C,
-        who: Who,
-    ) -> (Left<SettlingRun>, Turn<Answer>)
-        ensures sound { IsSoundPart self.part }
-        ensures steps { StepsSettling who (C.seen cloud.old) (C.seen cloud.new) self (behind_settling result.0) result.1 }
+    /// Makes the call in hand where the settling stands.
+    pub(crate) fn step<C: Cloud>(&mut self, alloc: Global, cloud: &mut C, who: Who) -> Turn<Answer>
+        ensures sound { IsSoundPart self.old.part }
+        ensures steps { StepsSettling who (C.seen cloud.old) (C.seen cloud.new) self.old (behind_settling self.new result) result }
     {
-        let SettlingRun { mut run } = self;
-        match run.step(alloc, cloud, who) {
-            Turn::More => (Left::Goes(SettlingRun { run }), Turn::More),
+        match self.run.step(alloc, cloud, who) {
+            Turn::More => Turn::More,
             Turn::Ended(settled) => {
-                drop_run(run);
-                (
-                    Left::Rests(Rest::Closed),
-                    Turn::Ended(Answer::Settled(settled)),
-                )
+                restart(&mut self.run, alloc);
+                Turn::Ended(Answer::Settled(settled))
             }
             Turn::Stopped(trouble) => {
-                drop_run(run);
-                (
-                    Left::Rests(Rest::Closed),
-                    Turn::Ended(Answer::Trouble(trouble)),
-                )
+                restart(&mut self.run, alloc);
+                Turn::Ended(Answer::Trouble(trouble))
             }
         }
     }
@@ -97,3 +83,10 @@ impl SettlingRun {
 
 /// Lets a settling go.
 fn drop_run(_run: SettleRun) {}
+
+/// Begins a settling anew, so that the one that ended is let go.
+fn restart(run: &mut SettleRun, alloc: Global)
+    ensures { run.new ≡ new_settling }
+{
+    *run = SettleRun::new(alloc);
+}

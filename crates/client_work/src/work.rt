@@ -1,7 +1,7 @@
 ghost use Rattle.std.specs.Prelude.{◌≡◌, true, None};
 ghost use Rattle.client_work.specs.Causing.{MachineSteps};
-ghost use Rattle.client_work.specs.Left.{at_rest, behind_opening, behind_commit, behind_read, behind_scan, behind_page, behind_tree, behind_settling};
-ghost use Rattle.client_work.specs.Session.{ShowsAt, StepsAt, ended_by, is_other, old_lease, rule_of, stopped_work};
+ghost use Rattle.client_work.specs.Left.{at_rest, behind_opening, behind_commit, behind_read, behind_scan, behind_page, behind_tree};
+ghost use Rattle.client_work.specs.Session.{ShowsAt, StepsAt, behind_settling, ended_by, is_other, old_lease, rule_of, stopped_work};
 
 use crate::answer::{Answer, Begun};
 use crate::closing::step_close;
@@ -279,8 +279,8 @@ impl Hand for Work {
         }
     }
 
-    // Commits and tree checkpoints go on where they stand: most steps are theirs, and to move one costs as much as a step of it. Here
-    // stands nothing that would need room for a whole machine, since that would be cleared at each step.
+    // Commits, tree checkpoints and settlings go on where they stand: most steps are theirs, and to move one costs as much as a step of
+    // it. Here stands nothing that would need room for a whole machine, since that would be cleared at each step.
     fn step<C: Cloud>(
         &mut self,
         alloc: Global,
@@ -304,24 +304,32 @@ impl Hand for Work {
                     (Shown::Nothing, turn)
                 }
             },
+            Work::Settling(machine) => match machine.step(alloc, cloud, who) {
+                Turn::More => (Shown::Nothing, Turn::More),
+                turn => {
+                    self.end(&turn);
+                    (Shown::Nothing, turn)
+                }
+            },
             _ => self.step_apart(alloc, cloud, who, cache, buffer),
         }
     }
 }
 
 impl Work {
-    /// What is in hand behind the last step of a commit or a tree checkpoint.
+    /// What is in hand behind the last step of a commit, a tree checkpoint or a settling.
     fn ended(self, turn: &Turn<Answer>) -> Work
         ensures { result ≡ ended_by self turn.now }
     {
         match self {
             Work::Committing(machine) => after_commit(left_by(machine, turn)),
             Work::Folding(home, machine) => after_tree(left_by_fold(home, machine, turn)),
+            Work::Settling(machine) => after_settling(machine, turn),
             other => other,
         }
     }
 
-    /// Has in hand what the last step of a commit or a tree checkpoint leaves.
+    /// Has in hand what the last step of a commit, a tree checkpoint or a settling leaves.
     fn end(&mut self, turn: &Turn<Answer>)
         ensures { self.new ≡ ended_by self.old turn.now }
     {
@@ -329,7 +337,7 @@ impl Work {
         *self = work.ended(turn);
     }
 
-    /// Takes out what is neither, makes its step, and puts back what that leaves.
+    /// Takes out what is none of these, makes its step, and puts back what that leaves.
     fn step_apart<C: Cloud>(
         &mut self,
         alloc: Global,
@@ -349,7 +357,7 @@ impl Work {
         (shown, turn)
     }
 
-    /// The step of what is neither.
+    /// The step of what is none of these.
     fn step_other<C: Cloud>(
         self,
         alloc: Global,
@@ -390,12 +398,9 @@ impl Work {
                 let (rest, turn) = step_renewal(cloud, who, home);
                 (resting(rest), Shown::Nothing, turn)
             }
-            Work::Settling(machine) => {
-                let (left, turn) = machine.step(alloc, cloud, who);
-                (after_settling(left), Shown::Nothing, turn)
-            }
             Work::Committing(_) => unreachable!(),
             Work::Folding(_, _) => unreachable!(),
+            Work::Settling(_) => unreachable!(),
             Work::Closed => unreachable!(),
             Work::Idle(_) => unreachable!(),
             Work::Broken(_) => unreachable!(),
@@ -495,12 +500,12 @@ fn after_tree(left: Left<(Home, TreeCkpt)>) -> Work
 }
 
 /// What is in hand behind a settling.
-fn after_settling(left: Left<SettlingRun>) -> Work
-    ensures { result ≡ behind_settling left }
+fn after_settling(machine: SettlingRun, turn: &Turn<Answer>) -> Work
+    ensures { result ≡ behind_settling machine turn.now }
 {
-    match left {
-        Left::Goes(machine) => Work::Settling(machine),
-        Left::Rests(rest) => resting(rest),
+    match turn {
+        Turn::More => Work::Settling(machine),
+        _ => Work::Closed,
     }
 }
 

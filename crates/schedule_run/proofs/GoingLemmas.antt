@@ -35,7 +35,7 @@ use Rattle.schedule_run.proofs.BehindLemmas.{lines_left, lines_settled}
 use Rattle.schedule_run.proofs.SoundLemmas.{get_before, take_whole, went_soundly, went_explained}
 use Rattle.schedule_run.proofs.SeeingLemmas.{went_comes}
 use Rattle.schedule_run.proofs.CausedLemmas.{lines_caused}
-use Rattle.schedule_run.proofs.OnceLemmas.{went_adds, lines_once, unanswered_kinds, unanswered_once}
+use Rattle.schedule_run.proofs.OnceLemmas.{went_adds, lines_once, unanswered_short, unanswered_kinds, unanswered_once}
 use Rattle.schedule_run.proofs.StayLemmas.{stay_upto, went_stay}
 use Rattle.run_text.specs.Written.{reply_line, replies_from, replies, bad_line}
 use Rattle.schedule_run.specs.Replayed.{AreSpelled, WroteFront, reply_cut, refusal_cut, EndedBy, between, writing, handling, Ended, WentThrough, Handles, IsAt, IsAnswered, LineWent, event_handled, refused, unread}
@@ -370,6 +370,7 @@ no_answer {text} {rest} {behind} {line} {n} {m} {w} {v} {s} {t} {z} {first} {old
         answered = answered met.is.earlier w v s t first old met.fresh h;
         last = new;
         handled = own;
+        short = unanswered_short h.lines event fault s t z first old new h.went met.fresh own;
         kinds = unanswered_kinds h.lines event fault s t z first old new h.went met.fresh own;
         once = unanswered_once h.lines event fault s t z first old new h.went met.fresh own;
         caused = caused (length h.lines + 1) event t z old new (Err fault) own;

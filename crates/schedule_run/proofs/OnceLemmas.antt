@@ -16,9 +16,11 @@ use Rattle.world_core.specs.World.{World}
 use Rattle.world_core.specs.declared.world.WorldFault.{WorldFault}
 use Rattle.world_core.specs.Added.{WorldAdds}
 use Rattle.world_core.specs.Handled.{Handled}
+use Rattle.world_core.specs.LeftShort.{LeavesShort}
 use Rattle.world_core.specs.Opened.{Opens, IsOpenedIn, OpenEachOnce, WorldApart}
 use Rattle.world_core.proofs.AddedLines.{handled_adds}
 use Rattle.world_core.proofs.AddedShort.{handled_rows}
+use Rattle.world_core.proofs.LeftShort.{left_short}
 use Rattle.world_core.proofs.OpenedLines.{handled_apart, none_twice, once_before}
 use Rattle.schedule_run.specs.Answered.{IsNew, WentOn, start, further, events_of, OpensNoneTwice}
 use Rattle.schedule_run.specs.Play.{StoppedAt, stopped_before, stopped_within}
@@ -102,6 +104,9 @@ lines_once lines s t first world went fresh once x told = none_twice (events_of 
 -- and behind them an event that has no reply
 module _ (lines : List Line) (event : Event) (fault : WorldFault) (s t z : Seen) (first old new : World) (went : WentOn s first lines t old) (fresh : IsNew first)
     (handled : Handled (length lines + 1) event t z old new (Err fault)) where
+  pub unanswered_short : LeavesShort event old new (Err fault)
+  unanswered_short = left_short (length lines + 1) event t z old new (Err fault) handled
+
   pub unanswered_kinds : (x : CloudState) (reply : Reply) → s.state ≡ Some x → AddsTo (length lines + 1) (lines ++ record { event = event; reply = reply } ∷ []) x z
   unanswered_kinds x reply told = handled_rows (length lines + 1) event t z old new (Err fault) lines x refl handled (went_adds s first x told fresh lines t old went) reply
 

@@ -22,7 +22,7 @@ use Rattle.schedule_run.specs.Play.{IsFresh, IsNext, RanOut, uncounted, no_answe
 use Rattle.schedule_run.proofs.BehindLemmas.{lines_left, lines_settled}
 use Rattle.schedule_run.proofs.GoingLemmas.{stands_more, fresh_stands, replies_sound, lines_explained, reports_come, report_same, acts_upto, acknowledged_stay, keeps_now}
 use Rattle.schedule_run.proofs.CausedLemmas.{lines_caused}
-use Rattle.schedule_run.proofs.OnceLemmas.{went_adds, lines_once, unanswered_kinds, unanswered_once}
+use Rattle.schedule_run.proofs.OnceLemmas.{went_adds, lines_once, unanswered_short, unanswered_kinds, unanswered_once}
 use Rattle.schedule_run.proofs.StayLemmas.{stay_upto}
 
 -- nothing is handled yet
@@ -120,6 +120,7 @@ stopped_at lines event s t z old new p (no_answer handled grows) =
       };
       last = new.world;
       handled = own at;
+      short = unanswered_short lines event world.Memory s t z p.first old.world new.world p.went p.fresh (own at);
       kinds = unanswered_kinds lines event world.Memory s t z p.first old.world new.world p.went p.fresh (own at);
       once = unanswered_once lines event world.Memory s t z p.first old.world new.world p.went p.fresh (own at);
       caused = caused (length lines + 1) event t z old.world new.world (Err world.Memory) (own at);

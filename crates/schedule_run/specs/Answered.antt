@@ -31,6 +31,7 @@ use Rattle.world_core.specs.Calm.{StepIsCalm, RepliesWell, work_at}
 use Rattle.world_core.specs.EachStep.{EachStep}
 use Rattle.world_core.specs.Explained.{StepExplains}
 use Rattle.world_core.specs.Handled.{Handled}
+use Rattle.world_core.specs.LeftShort.{LeavesShort}
 use Rattle.world_core.specs.Named.{NamesAt}
 use Rattle.world_core.specs.Opened.{OpenEachOnce}
 use Rattle.world_core.specs.Shown.{StepShows}
@@ -156,13 +157,15 @@ pub record AreAnswered (lines : List Line) (before after : Seen) : Type 0 where
   pub once : OpenEachOnce (events_of lines) → OpensNoneTwice before after
   pub caused : AreCaused before first lines after last went
 
--- behind these lines this event was handled, and has no reply, by this fault; what it added to any cloud is of its kind too, whatever its reply would
--- have been, each step that it made has its cause, and where it opens no client of theirs no transaction was opened twice
+-- behind these lines this event was handled, and has no reply, by this fault; the session of its operation is broken off; each step that it made has
+-- its cause; and what it added to any cloud is of its kind too, whatever its reply would have been, and where it opens no client of theirs no
+-- transaction was opened twice
 pub record IsUnanswered (lines : List Line) (event : Event) (fault : WorldFault) (before after : Seen) : Type 0 where
   pub mid : Seen
   pub answered : AreAnswered lines before mid
   pub last : World
   pub handled : Handled (length lines + 1) event mid after answered.last last (Err fault)
+  pub short : LeavesShort event answered.last last (Err fault)
   pub kinds : (t : CloudState) (reply : Reply) → before.state ≡ Some t → AddsTo (length lines + 1) (lines ++ record { event = event; reply = reply } ∷ []) t after
   pub once : OpenEachOnce (events_of lines ++ event ∷ []) → OpensNoneTwice before after
   pub caused : EachStep StepHasCauses (length lines + 1) event mid after answered.last last (Err fault) handled

@@ -1,2 +1,4 @@
 pub mod NoteLemmas
 pub mod DueLemmas
+pub mod Limits
+pub mod Pending

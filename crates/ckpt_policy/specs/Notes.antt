@@ -24,6 +24,12 @@ place_of (Atomic client) = None
 place_of (TreePu tree) = Some (record { tree = tree; page = 0 })
 place_of (PagePu tree page) = Some (record { tree = tree; page = page })
 
+-- a queue of pending updates
+abbrev pub IsPending : QueueName → Type 0
+IsPending (Atomic client) = ⊥
+IsPending (TreePu tree) = Unit {0}
+IsPending (PagePu tree page) = Unit {0}
+
 -- the queue at a place
 abbrev pub queue_at : Place → QueueName
 queue_at p = if p.page == 0 then TreePu p.tree else PagePu p.tree p.page

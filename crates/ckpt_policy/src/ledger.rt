@@ -1,10 +1,10 @@
 //! A session's account of its notes.
 
-ghost use Rattle.std.specs.Prelude.{◌≡◌, ◌↔◌, [], ◌∷◌, ◌++◌, if◌then◌else◌, map, take, List, IfErr, IfOk, IsOk, OnErr, OnOk};
+ghost use Rattle.std.specs.Prelude.{◌≡◌, ◌↔◌, ◌≤◌, true, All, [], ◌∷◌, ◌++◌, if◌then◌else◌, map, take, List, IfErr, IfOk, IsOk, OnErr, OnOk};
 ghost use Rattle.ckpt_policy.specs.declared.note.Note.{Note as Noted};
 ghost use Rattle.ckpt_policy.specs.Due.{due};
-ghost use Rattle.ckpt_policy.specs.Ledger.{Account, IsNumber, StandsFor};
-ghost use Rattle.ckpt_policy.specs.Notes.{queue_at};
+ghost use Rattle.ckpt_policy.specs.Ledger.{Account, IsNumber, StandsFor, StaysShort};
+ghost use Rattle.ckpt_policy.specs.Notes.{queue_at, IsPending};
 ghost use Rattle.ckpt_policy.specs.Picking.{picks, picked_from, ranked_from, ranks_from};
 
 use crate::counts::Counts;
@@ -59,6 +59,15 @@ fn push_if(queues: &mut Vec<QueueName>, place: &Place, is_due: bool) -> Result<(
     Ok(())
 }
 
+/// Whether a ledger may have this number: where the queues of its writer stay shorter than what one receive takes.
+pub fn is_number(k: u64) -> bool
+    ensures number { result ≡ true ↔ IsNumber k }
+    // Why 56 is the greatest: with 200 changes a commit, and 256 messages a receive.
+    ensures short { IsNumber k ↔ ((1 ≤ k) × StaysShort k) }
+{
+    k >= 1 && k <= 56
+}
+
 impl Ledger {
     /// A ledger without notes. BadNumber exactly where `k` is not in 1 to 56.
     pub fn new(alloc: Global, role: Role, k: u64, client: ClientId) -> Result<Ledger, Refused>
@@ -67,7 +76,7 @@ impl Ledger {
         ensures number { IsOk result ↔ IsNumber k }
         ensures refused { IfErr result (λ e. e ≡ Refused.Rule Refusal.BadNumber) }
     {
-        if k < 1 || k > 56 {
+        if !is_number(k) {
             return Err(Refused::Rule(Refusal::BadNumber));
         }
         Ok(Ledger {
@@ -98,10 +107,11 @@ impl Ledger {
         Ok(())
     }
 
-    /// The queues that its session is to checkpoint, in their order. Refused for memory alone.
+    /// The queues that its session is to checkpoint, in their order: pending update queues. Refused for memory alone.
     pub fn due(&self, alloc: Global) -> Result<Vec<QueueName>, Refused>
         ensures due { IfOk result (λ queues. (notes : List Noted) → StandsFor self.now notes
             → queues.items ≡ due self.now.role self.now.k self.now.client notes) }
+        ensures pending { IfOk result (λ queues. All IsPending queues.items) }
         ensures memory { IfErr result (λ e. e ≡ Refused.Memory) }
     {
         match self.role {

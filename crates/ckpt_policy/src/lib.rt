@@ -8,6 +8,6 @@ mod place;
 mod rank;
 mod role;
 
-pub use ledger::Ledger;
+pub use ledger::{Ledger, is_number};
 pub use note::Note;
 pub use role::Role;

@@ -13,8 +13,8 @@ use Rattle.world_core.specs.declared.asked.Request.{Request}
 use Rattle.world_core.specs.declared.asked.Request.TheVariants.{Begin, Note, Abort, Step, Run, Crash}
 use Rattle.world_core.specs.World.{World}
 use Rattle.world_core.specs.declared.world.WorldFault.{WorldFault}
-use Rattle.world_core.specs.EachStep.{StepFact, EachWent, EachCome, EachMade, EachRun, EachCrashed, EachSettlingOn, EachSettling, EachDone, EachServed, EachAsked}
-use Rattle.world_core.specs.Handled.{StepsLooked, MakesStep, Went, start, further, ComesTo, Runs, SettlesOn, Settles, Crashes, Does, Serves, Answers}
+use Rattle.world_core.specs.EachStep.{StepFact, EachWent, EachCome, EachTold, EachMade, EachRunTold, EachRun, EachCrashed, EachSettlingOn, EachSettling, EachDone, EachServed, EachAsked}
+use Rattle.world_core.specs.Handled.{StepsLooked, StepsTo, MakesStep, Went, start, further, ComesTo, RunsTo, Runs, SettlesOn, Settles, Crashes, Does, Serves, Answers}
 
 module _ (Holds : StepFact)
     (own : (who : Caller) (wish : Wish) (before after : Seen) (old new : World) (turn : Turn Answer) (p : StepsLooked who wish before after old new turn)
@@ -29,14 +29,22 @@ module _ (Holds : StepFact)
       (went_each who before old comes.mid comes.world comes.went, own who _ comes.mid after comes.world new _ comes.steps)
 
   module _ (n : ℕ) (before after : Seen) (old new : World) (result : Result Reply WorldFault) where
+    told_each : (k : ℕ) (wish : Wish) (r : Result Reply WorldFault) (h : StepsTo n k wish before after old new r) → EachTold Holds n k wish before after old new r h
+    told_each k wish (Ok reply) made = own _ wish before after old new made.turn made.steps
+    told_each k wish (Err why) made = own _ wish before after old made.left made.turn made.steps
+
     made_each : (k : ℕ) (wish : Wish) (h : MakesStep n k wish before after old new result) → EachMade Holds n k wish before after old new result h
     made_each k wish (inl refused) = tt
-    made_each k wish (inr (inl made)) = own _ wish before after old new made.turn made.steps
+    made_each k wish (inr (inl made)) = told_each k wish result made
     made_each k wish (inr (inr memory)) = tt
+
+    ran_each : (k : ℕ) (r : Result Reply WorldFault) (h : RunsTo n k before after old new r) → EachRunTold Holds n k before after old new r h
+    ran_each k (Ok reply) run = comes_each _ before after old new run.answer run.comes
+    ran_each k (Err why) run = comes_each _ before after old run.left run.answer run.comes
 
     run_each : (k : ℕ) (h : Runs n k before after old new result) → EachRun Holds n k before after old new result h
     run_each k (inl refused) = tt
-    run_each k (inr (inl run)) = comes_each _ before after old new run.answer run.comes
+    run_each k (inr (inl run)) = ran_each k result run
     run_each k (inr (inr memory)) = tt
 
     crash_each : (k : ℕ) (done : Bool) (h : Crashes n k done before after old new result) → EachCrashed Holds n k done before after old new result h

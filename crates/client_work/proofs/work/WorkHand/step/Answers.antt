@@ -24,4 +24,5 @@ pub returns-in_default-step : goal.returns-in_default-step
 returns-in_default-step g c = record {
   steps = steps_by _ _ _ _ _ _ _ _ c.in-Settling.is c.end-in_default-step.ensures (c.step.ensures.sound, c.step.ensures.steps);
   shows = shows_by _ _ _ _ _ _ _ _ _ _ _ _ c.in-Settling.is c.end-in_default-step.ensures (refl, refl);
+  machine = machine_by _ _ _ _ _ _ _ _ _ _ c.in-Settling.is c.end-in_default-step.ensures tt;
 }

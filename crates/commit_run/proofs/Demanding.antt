@@ -19,7 +19,7 @@ use Rattle.commit_plan.specs.Plan.{seeks, pages_of}
 use Rattle.commit_writes.specs.Writing.{Writing, waiting, is_spent, with_attempt, with_home}
 use Rattle.commit_run.specs.Demanding.{MeetsFirst, DemandsReady}
 use Rattle.commit_run.specs.Draft.{Draft, new_draft, planned, pruned_behind}
-use Rattle.commit_run.specs.Run.{Run, Led, begin_walks, begun_turn, by_turn, long_target, long_walk, new_run, plan_on, refused, run_ready, seek, target_of, troubled, walk_to}
+use Rattle.commit_run.specs.Run.{Run, Led, begin_walks, begun_turn, by_turn, long_target, long_walk, new_run, plan_on, refused, run_ready, seek, target_of, walk_to}
 use Rattle.commit_run.proofs.Exacting.{EndsBy, troubled_by, led_by}
 
 -- behind the pages that are known without a walk stands the first change that seeks a leaf

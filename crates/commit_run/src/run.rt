@@ -114,7 +114,7 @@ impl CommitRun {
         ensures exact { (home : Home) (changes : List Noted) → self.old ≡ new_run home changes → ExactReady home result }
         // Where nothing is committed, what the cache keeps shows why.
         ensures causes { (home : Home) (changes : List Noted) → self.old ≡ new_run home changes → CausesReady (self.old, cache.old) self.new result }
-        // Where that shows a trouble on the way of the first walk, it ends with it.
+        // Where that shows a trouble on the way of the first walk, or there is none and a number is too great, it ends with that.
         ensures demands { (home : Home) (changes : List Noted) → self.old ≡ new_run home changes → DemandsReady home changes cache.old result }
     {
         // Read for the clause `demands`: what the cache keeps is in the spelling of its kind.

@@ -207,7 +207,7 @@ EndsBy t (Goes m) = ⊥
 EndsBy t (Ends m y) = y ≡ NotCommitted t
 EndsBy t (Stops m u) = u ≡ trouble.Memory
 
-troubled_by : (d : Draft) (c : Cache) (t : Trouble) → EndsBy t (troubled d c t)
+pub troubled_by : (d : Draft) (c : Cache) (t : Trouble) → EndsBy t (troubled d c t)
 troubled_by d c trouble.Memory = refl
 troubled_by d c t = refl
 
@@ -536,11 +536,11 @@ never_number e = absurd (cc (e))
 never_link : (c : Cache) (old w : Walk) → LinkShows c old w (trouble.Exhausted counter.Txn) → ⊥
 never_link c old w link = link_is c old w (trouble.Exhausted counter.Txn) link
 
-spent_ready : (home : Home) (changes : List Noted) (c : Cache) (n : Run × Cache) (turn : Turn CommitAnswer) → EndsBy (trouble.Exhausted counter.Txn) (run_ready (new_run home changes, c)) → Led (run_ready (new_run home changes, c)) n turn
-    → (turn ≡ Ended (NotCommitted (trouble.Exhausted counter.Txn))) ⊎ (turn ≡ Stopped trouble.Memory)
-spent_ready home changes c n More by led = absurd (subst (EndsBy (trouble.Exhausted counter.Txn)) led by)
-spent_ready home changes c n (Ended z) by led = inl (ap Ended (subst (EndsBy (trouble.Exhausted counter.Txn)) led by))
-spent_ready home changes c n (Stopped u) by led = inr (ap Stopped (only_memory u (λ other. subst (EndsBy (trouble.Exhausted counter.Txn)) (led other) by)))
+-- the code was led to the trouble, unless memory ran out
+pub led_by : (t : Trouble) (next : Next (Run × Cache) CommitAnswer) (n : Run × Cache) (turn : Turn CommitAnswer) → EndsBy t next → Led next n turn → (turn ≡ Ended (NotCommitted t)) ⊎ (turn ≡ Stopped trouble.Memory)
+led_by t next n More by led = absurd (subst (EndsBy t) led by)
+led_by t next n (Ended z) by led = inl (ap Ended (subst (EndsBy t) led by))
+led_by t next n (Stopped u) by led = inr (ap Stopped (only_memory u (λ other. subst (EndsBy t) (led other) by)))
 
 ends_spent : (home : Home) (changes : List Noted) (c : Cache) → is_spent home ≡ true → EndsBy (trouble.Exhausted counter.Txn) (run_ready (new_run home changes, c))
 ends_spent home changes c e =
@@ -556,5 +556,5 @@ pub ready_exact : (home : Home) (changes : List Noted) (c : Cache) (old : Run) (
 ready_exact home changes c old n turn new led = record {
   only = λ e. ready_other home changes c n.0
       (subst (λ (r : Run). ShowsReady (r, c) n.0 (trouble.Exhausted counter.Txn)) new (subst (CausesReady (old, c) n.0) e (ready_causes home changes c old n turn new led)));
-  always = λ e. spent_ready home changes c n turn (ends_spent home changes c e) (subst (λ (r : Run). Led (run_ready (r, c)) n turn) new led);
+  always = λ e. led_by (trouble.Exhausted counter.Txn) (run_ready (new_run home changes, c)) n turn (ends_spent home changes c e) (subst (λ (r : Run). Led (run_ready (r, c)) n turn) new led);
 }

@@ -15,3 +15,4 @@ pub mod Causing
 pub mod Grouping
 pub mod Plainly
 pub mod Exacting
+pub mod Demanding

@@ -1,4 +1,5 @@
 pub mod Causing
+pub mod Demanding
 pub mod Draft
 pub mod Ending
 pub mod Exact

@@ -45,6 +45,7 @@ impl Model for CommitRun {
 impl CommitRun {
     ghost use Rattle.commit_run.specs.Run.{new_run, run_ask, run_ready, run_opens, home_of, Led, Keeps};
     ghost use Rattle.commit_run.specs.Causing.{CausesReady};
+    ghost use Rattle.commit_run.specs.Demanding.{DemandsReady};
     ghost use Rattle.commit_run.specs.Exact.{ExactReady};
     ghost use Rattle.commit_run.specs.Names.{Names};
     ghost use Rattle.commit_run.specs.Stepped.{Stepped};
@@ -113,7 +114,11 @@ impl CommitRun {
         ensures exact { (home : Home) (changes : List Noted) → self.old ≡ new_run home changes → ExactReady home result }
         // Where nothing is committed, what the cache keeps shows why.
         ensures causes { (home : Home) (changes : List Noted) → self.old ≡ new_run home changes → CausesReady (self.old, cache.old) self.new result }
+        // Where that shows a trouble on the way of the first walk, or there is none and a number is too great, it ends with that.
+        ensures demands { (home : Home) (changes : List Noted) → self.old ≡ new_run home changes → DemandsReady home changes cache.old result }
     {
+        // Read for the clause `demands`: what the cache keeps is in the spelling of its kind.
+        let _ = cache.len();
         let (hand, turn) = self.draft.begin(alloc, cache);
         self.hand = hand;
         turn

@@ -8,25 +8,26 @@ use Rattle.client_work.specs.declared.shown.Shown.TheVariants.{Nothing}
 use Rattle.client_work.specs.declared.work.Work.{Work}
 use Rattle.client_work.specs.declared.work.Work.TheVariants.{Closed, Idle, Opening, Committing, Reading, Scanning, Paging, Folding, Closing, Renewing, Settling, Broken}
 use Rattle.client_work.specs.BrokenOff.{broken_off, broken_work}
+use Rattle.client_work.specs.Causing.{HasCome}
 use Rattle.client_work.specs.Phase.{kept_in, noted_in, phase_of}
 use Rattle.client_work.specs.Session.{Acting, noted_behind, shown_behind}
 use Rattle.client_work.specs.Showing.{IsKnown}
 use Rattle.client_session.proofs.Phases.{kept_by, noted_by}
 
--- no scan is in hand then
-unscanned : (w : Work) (buffer : List Noted) (c : Cache) → IsKnown buffer (broken_work w) c
-unscanned Closed buffer c = tt
-unscanned (Idle home) buffer c = tt
-unscanned (Opening m) buffer c = tt
-unscanned (Committing m) buffer c = tt
-unscanned (Reading home m) buffer c = tt
-unscanned (Scanning home m) buffer c = tt
-unscanned (Paging home m) buffer c = tt
-unscanned (Folding home m) buffer c = tt
-unscanned (Closing lease) buffer c = tt
-unscanned (Renewing home) buffer c = tt
-unscanned (Settling m) buffer c = tt
-unscanned (Broken lease) buffer c = tt
+-- no scan is in hand then, and nothing that calls led to
+unscanned : (w : Work) (buffer : List Noted) (c : Cache) → IsKnown buffer (broken_work w) c × HasCome (broken_work w) c
+unscanned Closed buffer c = (tt, tt)
+unscanned (Idle home) buffer c = (tt, tt)
+unscanned (Opening m) buffer c = (tt, tt)
+unscanned (Committing m) buffer c = (tt, tt)
+unscanned (Reading home m) buffer c = (tt, tt)
+unscanned (Scanning home m) buffer c = (tt, tt)
+unscanned (Paging home m) buffer c = (tt, tt)
+unscanned (Folding home m) buffer c = (tt, tt)
+unscanned (Closing lease) buffer c = (tt, tt)
+unscanned (Renewing home) buffer c = (tt, tt)
+unscanned (Settling m) buffer c = (tt, tt)
+unscanned (Broken lease) buffer c = (tt, tt)
 
 module _ (work was left : Work) (buffer noted : List Noted) (c kept : Cache) (earlier : Shown) (p q : Phase) (is_was : was ≡ work) (is_left : left ≡ broken_work was)
     (is_p : p ≡ phase_of work) (is_q : q ≡ phase_of left) (is_noted : noted ≡ noted_in p buffer) (is_kept : kept ≡ kept_in q c) where
@@ -42,9 +43,9 @@ module _ (work was left : Work) (buffer noted : List Noted) (c kept : Cache) (ea
   abbrev new_with : List Noted → Work → Cache → Acting
   new_with b w k = record { buffer = b; work = w; cache = k; shown = Nothing }
 
-  -- nothing is known of what is left, since no scan is
-  pub known_broken : IsKnown noted left kept
-  known_broken = subst (λ (w : Work). IsKnown noted w kept) (sym left_so) (unscanned work noted kept)
+  -- nothing has to be known of what is left
+  pub known_broken : IsKnown noted left kept × HasCome left kept
+  known_broken = subst (λ (w : Work). IsKnown noted w kept × HasCome w kept) (sym left_so) (unscanned work noted kept)
 
   pub broken : (old : Acting) → (let s : Acting = record { buffer = buffer; work = work; cache = c; shown = earlier } in s ≡ old) → new_with noted left kept ≡ broken_off old
   broken old is_old =

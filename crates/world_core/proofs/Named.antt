@@ -23,8 +23,8 @@ use Rattle.world_core.specs.declared.asked.Request.TheVariants.{Begin, Note, Abo
 use Rattle.world_core.specs.World.{World}
 use Rattle.world_core.specs.declared.world.WorldFault.{WorldFault}
 use Rattle.world_core.specs.Bounded.{steps_of}
-use Rattle.world_core.specs.EachStep.{EachWent, EachMade, EachRun, EachCrashed, EachDone, EachServed}
-use Rattle.world_core.specs.Handled.{StepsLooked, MakesStep, Went, start, further, Runs, Crashes, Does, Serves, Answers}
+use Rattle.world_core.specs.EachStep.{EachWent, EachCome, EachTold, EachMade, EachRunTold, EachRun, EachCrashed, EachDone, EachServed}
+use Rattle.world_core.specs.Handled.{StepsLooked, StepsTo, MakesStep, Went, start, further, ComesTo, RunsTo, Runs, Crashes, Does, Serves, Answers}
 use Rattle.world_core.specs.Named.{StepNames, NamesAt, NamesSteps}
 use Rattle.world_core.specs.Stands.{WorldStands}
 
@@ -53,21 +53,32 @@ module _ (lines : List Line) (n : ℕ) (before after : Seen) (old new : World) (
     one_names wish world turn p =
         names_of lines who (sym number) (calls_told lines) wish before after old world turn way p (calls_told lines k) (begins_own lines k old way.after all_way)
 
+    told_names : (wish : Wish) (r : Result Reply WorldFault) (h : StepsTo n k wish before after old new r) → EachTold StepNames n k wish before after old new r h
+    told_names wish (Ok reply) made = one_names wish new made.turn made.steps
+    told_names wish (Err why) made = one_names wish made.left made.turn made.steps
+
     made_names : (wish : Wish) (h : MakesStep n k wish before after old new result) → EachMade StepNames n k wish before after old new result h
     made_names wish (inl refused) = tt
-    made_names wish (inr (inl made)) = one_names wish new made.turn made.steps
+    made_names wish (inr (inl made)) = told_names wish result made
     made_names wish (inr (inr memory)) = tt
 
-    run_names : (h : Runs n k before after old new result) → EachRun StepNames n k before after old new result h
-    run_names (inl refused) = tt
-    run_names (inr (inl run)) =
-        let c = run.comes in
+    -- the calls up to an answer
+    come_names : (world : World) (answer : Answer) (c : ComesTo who before after old world answer) → EachCome StepNames who before after old world answer c
+    come_names world answer c =
         let gone = went_on lines who before old c.mid c.world (sym number) way c.went in (
           went_names who before old c.mid c.world c.went,
-          names_of lines who (sym number) (calls_told lines) Plain c.mid after c.world new (Ended run.answer) gone c.steps
+          names_of lines who (sym number) (calls_told lines) Plain c.mid after c.world world (Ended answer) gone c.steps
               (calls_told lines k + steps_of who before old c.mid c.world c.went)
               (went_counts lines who (sym number) (calls_told lines) before old c.mid c.world way all_way c.went gone.after gone.told),
         )
+
+    ran_names : (r : Result Reply WorldFault) (h : RunsTo n k before after old new r) → EachRunTold StepNames n k before after old new r h
+    ran_names (Ok reply) run = come_names new run.answer run.comes
+    ran_names (Err why) run = come_names run.left run.answer run.comes
+
+    run_names : (h : Runs n k before after old new result) → EachRun StepNames n k before after old new result h
+    run_names (inl refused) = tt
+    run_names (inr (inl run)) = ran_names result run
     run_names (inr (inr memory)) = tt
 
     crash_names : (done : Bool) (h : Crashes n k done before after old new result) → EachCrashed StepNames n k done before after old new result h

@@ -26,7 +26,7 @@ use Rattle.world_core.specs.World.{World}
 use Rattle.world_core.specs.declared.world.WorldFault.{WorldFault}
 use Rattle.world_core.specs.Added.{WorldAdds}
 use Rattle.world_core.specs.Bounded.{AnswersSoon}
-use Rattle.world_core.specs.Caused.{StepHasCauses}
+use Rattle.world_core.specs.Caused.{LineHasCauses}
 use Rattle.world_core.specs.Calm.{StepIsCalm, RepliesWell, work_at}
 use Rattle.world_core.specs.EachStep.{EachStep}
 use Rattle.world_core.specs.Explained.{StepExplains}
@@ -131,11 +131,11 @@ ReportsCome lines before after =
 abbrev pub events_of : List Line → List Event
 events_of lines = map (λ line. line.event) lines
 
--- each step of these lines has the cause that the contract of its machine names
+-- each step of these lines has the cause that the contract of its machine names, and so has what was answered at a begin
 abbrev pub AreCaused : (before : Seen) (old : World) (lines : List Line) (after : Seen) (new : World) → WentOn before old lines after new → Type 0
 AreCaused before old lines after new start = Unit {0}
 AreCaused before old _ after new (further lines line mid _ world _ went handled) =
-    AreCaused before old lines mid world went × EachStep StepHasCauses (length lines + 1) line.event mid after world new (Ok line.reply) handled
+    AreCaused before old lines mid world went × LineHasCauses (length lines + 1) line.event mid after world new (Ok line.reply) handled
 
 -- no two of the rows that were added to the trace of a cloud that tells its state open one transaction
 abbrev pub OpensNoneTwice : Seen → Seen → Type 0
@@ -168,7 +168,7 @@ pub record IsUnanswered (lines : List Line) (event : Event) (fault : WorldFault)
   pub short : LeavesShort event answered.last last (Err fault)
   pub kinds : (t : CloudState) (reply : Reply) → before.state ≡ Some t → AddsTo (length lines + 1) (lines ++ record { event = event; reply = reply } ∷ []) t after
   pub once : OpenEachOnce (events_of lines ++ event ∷ []) → OpensNoneTwice before after
-  pub caused : EachStep StepHasCauses (length lines + 1) event mid after answered.last last (Err fault) handled
+  pub caused : LineHasCauses (length lines + 1) event mid after answered.last last (Err fault) handled
 
 -- every report is right for the lines up to its own and the state up to its line
 abbrev pub ReportsAreRight : List Line → CloudState → Type 0

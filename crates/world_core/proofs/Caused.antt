@@ -11,6 +11,7 @@ use Rattle.world_core.specs.World.{World}
 use Rattle.world_core.specs.declared.world.WorldFault.{WorldFault}
 use Rattle.world_core.specs.Caused.{StepHasCauses, CausesSteps}
 use Rattle.world_core.specs.Handled.{StepsLooked}
+use Rattle.world_core.proofs.Begun.{asked_begun}
 use Rattle.world_core.proofs.EachAny.{asked_each}
 
 step_causes : (who : Caller) (wish : Wish) (before after : Seen) (old new : World) (turn : Turn Answer) (p : StepsLooked who wish before after old new turn)
@@ -18,4 +19,5 @@ step_causes : (who : Caller) (wish : Wish) (before after : Seen) (old new : Worl
 step_causes who wish before after old new turn p = p.session.does.causes
 
 pub caused : (n : ℕ) (event : Event) (before after : Seen) (old new : World) (result : Result Reply WorldFault) → CausesSteps n event before after old new result
-caused n event before after old new result handled = asked_each StepHasCauses step_causes n before after old new result handled.asked handled.answers
+caused n event before after old new result handled =
+    (asked_each StepHasCauses step_causes n before after old new result handled.asked handled.answers, asked_begun n before after old new result handled.asked handled.answers)

@@ -32,6 +32,7 @@ pub mod BrokenOff
 pub mod LeftShort
 pub mod OpenedLines
 pub mod EachAny
+pub mod Begun
 pub mod Caused
 pub mod Shown
 pub mod EachUnderWay

@@ -1,9 +1,10 @@
--- Why each step of a line came to what it came to, over any cloud.
+-- Why each step of a line, and its begin, came to what it came to, over any cloud.
 use Rattle.std.specs.Prelude.{ℕ, Result, Ok}
 use Rattle.client_work.specs.Session.{HasCauses}
 use Rattle.cloud_trait.specs.Seen.{Seen}
 use Rattle.event_text.specs.declared.event.Event.{Event}
 use Rattle.reply_text.specs.declared.reply.Reply.{Reply}
+use Rattle.world_core.specs.Begun.{BeginIsShown}
 use Rattle.world_core.specs.World.{World}
 use Rattle.world_core.specs.declared.world.WorldFault.{WorldFault}
 use Rattle.world_core.specs.EachStep.{StepFact, EachStep}
@@ -13,6 +14,11 @@ use Rattle.world_core.specs.Handled.{Handled}
 abbrev pub StepHasCauses : StepFact
 StepHasCauses who wish before after old new turn p = HasCauses who p.under p.to p.session.before p.session.after (Ok turn)
 
--- so has each step of a line, however the line was handled
+-- so has each step of a line, and its begin where it was answered at that
+abbrev pub LineHasCauses : (n : ℕ) (event : Event) (before after : Seen) (old new : World) (result : Result Reply WorldFault) → Handled n event before after old new result → Type 0
+LineHasCauses n event before after old new result handled =
+    EachStep StepHasCauses n event before after old new result handled × BeginIsShown n event before after old new result handled
+
+-- .. however the line was handled
 abbrev pub CausesSteps : ℕ → Event → Seen → Seen → World → World → Result Reply WorldFault → Type 0
-CausesSteps n event before after old new result = (handled : Handled n event before after old new result) → EachStep StepHasCauses n event before after old new result handled
+CausesSteps n event before after old new result = (handled : Handled n event before after old new result) → LineHasCauses n event before after old new result handled

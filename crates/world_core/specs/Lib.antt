@@ -17,6 +17,7 @@ pub mod Settled
 pub mod Added
 pub mod Opened
 pub mod World
+pub mod Begun
 pub mod Caused
 pub mod Shown
 pub mod ShownByLines

@@ -1,0 +1,92 @@
+-- Why an operation that was answered at its begin came to that, over any cloud: it made no call, so what its client has and keeps shows it.
+use Rattle.std.specs.Prelude.{ℕ, ◌≡◌, ◌≢◌, ◌⊎◌, [], List, false, Some, Result, Ok, Err}
+use Rattle.std.proofs.Common.{inl, inr}
+use Rattle.db_base.specs.declared.trouble.CommitAnswer.{CommitAnswer}
+use Rattle.db_base.specs.declared.trouble.CommitAnswer.TheVariants.{Committed}
+use Rattle.db_base.specs.declared.trouble.Trouble.{Trouble}
+use Rattle.db_base.specs.declared.trouble.Trouble.TheVariants as trouble
+use Rattle.db_base.specs.declared.refusal.Refused.{Refused}
+use Rattle.txn_buffer.specs.Noted.{Noted}
+use Rattle.cloud_trait.specs.Seen.{Seen}
+use Rattle.cloud_trait.specs.declared.turn.Turn.TheVariants.{Ended}
+use Rattle.page_cache.specs.Cache.{Cache}
+use Rattle.tree_walk.specs.Causing.{LinkShows}
+use Rattle.tree_walk.specs.Walk.{Walk, new_walk}
+use Rattle.range_scan.specs.Scan.{new_scan}
+use Rattle.recover_run.specs.declared.home.Home.{Home}
+use Rattle.commit_run.specs.Causing.{CausesReady}
+use Rattle.commit_run.specs.Exact.{ExactReady}
+use Rattle.commit_run.specs.Meaning.{MeansReady}
+use Rattle.commit_run.specs.Run.{Run, new_run, home_of}
+use Rattle.client_work.specs.Session.{Acting}
+use Rattle.client_work.specs.declared.answer.Answer.TheVariants as answer
+use Rattle.client_work.specs.declared.answer.Begun.{Begun}
+use Rattle.client_work.specs.declared.answer.Begun.TheVariants.{Working, Answered}
+use Rattle.client_work.specs.declared.op.Op.{Op}
+use Rattle.client_work.specs.declared.op.Op.TheVariants as op
+use Rattle.client_work.specs.declared.work.Work.TheVariants.{Idle}
+use Rattle.event_text.specs.declared.event.Event.{Event}
+use Rattle.reply_text.specs.declared.reply.Reply.{Reply}
+use Rattle.world_core.specs.declared.asked.Asked.{Asked}
+use Rattle.world_core.specs.declared.asked.Asked.TheVariants.{Session, Wait, Report, Settle}
+use Rattle.world_core.specs.declared.asked.Request.{Request}
+use Rattle.world_core.specs.declared.asked.Request.TheVariants.{Begin, Note, Abort, Step, Run as RunsOn, Crash}
+use Rattle.world_core.specs.World.{World}
+use Rattle.world_core.specs.declared.world.WorldFault.{WorldFault}
+use Rattle.world_core.specs.Handled.{BeginsOp, Does, Serves, Answers, Handled}
+
+-- a commit of nothing is committed; any other is refused where no attempt number is left, and only there so, or by a walk through what the cache keeps,
+-- which shows why, or since a record's number would pass the greatest one
+abbrev pub CommitShows : Home → List Noted → Cache → CommitAnswer → Type 0
+CommitShows home changes c a =
+    ((changes ≡ []) × (a ≡ Committed 0))
+    ⊎ ((m : Run) × CausesReady (new_run home changes, c) m (Ended a) × MeansReady home changes c (home_of m) (Ended a) × ExactReady home (Ended a))
+
+-- the trouble of a read or a scan is one that the links of kept objects show
+abbrev pub KeptShows : Walk → Cache → Trouble → Type 0
+KeptShows start c t = t ≢ trouble.Memory → (left : Walk) × LinkShows c start left t
+
+-- what was answered at the begin of an operation, where it was
+abbrev pub BeginShows : Op → Acting → Begun → Type 0
+BeginShows op.Commit old begun = (a : CommitAnswer) → begun ≡ Answered (answer.Commit a) → (home : Home) × (old.work ≡ Idle home) × CommitShows home old.buffer old.cache a
+BeginShows (op.Read tree key) old begun = (t : Trouble) → begun ≡ Answered (answer.Trouble t) → KeptShows (new_walk tree (Some key) false) old.cache t
+BeginShows (op.Scan tree from to) old begun = (t : Trouble) → begun ≡ Answered (answer.Trouble t) → KeptShows (new_scan tree from to).walk old.cache t
+BeginShows (op.Open client) old begun = Unit {0}
+BeginShows op.Close old begun = Unit {0}
+BeginShows op.Renew old begun = Unit {0}
+BeginShows (op.Page tree page) old begun = Unit {0}
+BeginShows (op.Tree tree) old begun = Unit {0}
+
+abbrev pub WasBegun : Op → Acting → Result Begun Refused → Type 0
+WasBegun o old (Ok begun) = BeginShows o old begun
+WasBegun o old (Err why) = Unit {0}
+
+-- so it is of a begin whose reply was told, and of one for whose reply memory ran out
+abbrev pub ShowsBegin : (o : Op) (result : Result Reply WorldFault) (old new : Acting) → BeginsOp o result old new → Type 0
+ShowsBegin o (Ok reply) old new told = WasBegun o old told.begun
+ShowsBegin o (Err why) old new untold = WasBegun o old untold.begun
+
+-- ---- the begin of a line, where it begins something
+
+abbrev pub DoesShow : (n number : ℕ) (request : Request) (before after : Seen) (old new : World) (result : Result Reply WorldFault) → Does n number request before after old new result → Type 0
+DoesShow n number (Begin o) before after old new result does = ShowsBegin o result does.1.before does.1.after does.1.does
+DoesShow n number (Step wish) before after old new result does = Unit {0}
+DoesShow n number RunsOn before after old new result does = Unit {0}
+DoesShow n number (Crash done) before after old new result does = Unit {0}
+DoesShow n number (Note tree change) before after old new result does = Unit {0}
+DoesShow n number Abort before after old new result does = Unit {0}
+
+abbrev pub ServesShow : (n number : ℕ) (request : Result Request Refused) (before after : Seen) (old new : World) (result : Result Reply WorldFault) → Serves n number request before after old new result → Type 0
+ServesShow n number (Ok request) before after old new result does = DoesShow n number request before after old new result does
+ServesShow n number (Err why) before after old new result declines = Unit {0}
+
+abbrev pub AsksShow : (n : ℕ) (asked : Asked) (before after : Seen) (old new : World) (result : Result Reply WorldFault) → Answers n asked before after old new result → Type 0
+AsksShow n (Session number request) before after old new result (inl served) = ServesShow n number request before after old new result served.1
+AsksShow n (Session number request) before after old new result (inr none) = Unit {0}
+AsksShow n (Wait ticks) before after old new result waits = Unit {0}
+AsksShow n (Report tree) before after old new result reports = Unit {0}
+AsksShow n Settle before after old new result settles = Unit {0}
+
+-- it is so of the begin of a line, as it was handled
+abbrev pub BeginIsShown : (n : ℕ) (event : Event) (before after : Seen) (old new : World) (result : Result Reply WorldFault) → Handled n event before after old new result → Type 0
+BeginIsShown n event before after old new result handled = AsksShow n handled.asked before after old new result handled.answers

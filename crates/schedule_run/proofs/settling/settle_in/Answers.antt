@@ -1,8 +1,8 @@
-use Rattle.std.proofs.Common.{Result, refl, sym, subst}
+use Rattle.std.proofs.Common.{Result, refl, sym, subst, ◌∙◌}
 use Rattle.schedule_run.specs.declared.settling.SettleFault.{SettleFault}
 use Rattle.schedule_run.specs.Settling.{out_handling, SettleEnded}
 use Rattle.schedule_run.proofs.SettlingLemmas.{settle_shown, settle_stopped}
-use Rattle.schedule_run.proofs.WriteLemmas.{settle_writes}
+use Rattle.schedule_run.proofs.WriteLemmas.{settle_fails, settle_writes}
 use Rattle.schedule_run.proofs.settling.settle_in.Goals as goal
 
 pub returns-in-Ok-clause-went : goal.returns-in-Ok-clause-went
@@ -16,3 +16,6 @@ returns-clause-went g c = out_handling (settle_stopped _ _ _ _ c.requires c.in-E
 
 pub returns-in-Ok-clause-writes : goal.returns-in-Ok-clause-writes
 returns-in-Ok-clause-writes g c = rw c.end_of-end.ensures (settle_writes _ _ _ _ _ c.write_reply-written.ensures)
+
+pub returns-in-Ok-clause-write_fault : goal.returns-in-Ok-clause-write_fault
+returns-in-Ok-clause-write_fault g c = λ e. settle_fails _ _ _ _ _ c.write_reply-written.ensures (sym c.end_of-end.ensures ∙ e)

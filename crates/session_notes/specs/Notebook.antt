@@ -65,9 +65,9 @@ pub record TakesNote (note : Option Note) (old new : Account) : Type 0 where
   pub stands : (notes : List Note) → StandsFor old notes → StandsFor new (with_note notes note)
 
 abbrev pub LedgerTakes : Option Note → Option Account → Option Account → Type 0
-LedgerTakes note None new = new ≡ None
-LedgerTakes note (Some old) None = ⊥
-LedgerTakes note (Some old) (Some new) = TakesNote note old new
+LedgerTakes taken None new = new ≡ None
+LedgerTakes taken (Some old) None = ⊥
+LedgerTakes taken (Some old) (Some new) = TakesNote taken old new
 
 -- a notebook goes on by a note: its ledger takes it, and the checkpoint in hand stays
 pub record GoesOnBy (note : Option Note) (old new : Notebook) : Type 0 where

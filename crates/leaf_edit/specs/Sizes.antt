@@ -16,9 +16,14 @@ abbrev pub dones_size : List Done → ℕ
 dones_size [] = 0
 dones_size (d ∷ ds) = 18 + dones_size ds
 
--- a record: the byte that says that it is there, key, payload
+-- an attribute with its length before it, where there is one
+abbrev pub attr_size : Option (List ℕ) → ℕ
+attr_size None = 0
+attr_size (Some attr) = 1 + length attr
+
+-- a record: the byte that says that it is there, key, payload, the byte that says whether there is an attribute, and that
 abbrev pub entry_size : Entry → ℕ
-entry_size e = 4 + length e.key + length e.payload
+entry_size e = 5 + length e.key + length e.value.payload + attr_size e.value.attr
 
 abbrev pub entry_size_of : Option Entry → ℕ
 entry_size_of None = 0

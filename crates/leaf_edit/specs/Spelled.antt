@@ -9,9 +9,9 @@ abbrev pub high_bytes : Option (List ℕ) → List ℕ
 high_bytes None = []
 high_bytes (Some key) = to_be_bytes w8 (length key) ++ key
 
--- version, low key, right page and high key, behind the mark and the format
+-- version, low key, right page and high key, behind the mark and the format, which is 2
 abbrev pub fields_bytes : ℕ → List ℕ → ℕ → Option (List ℕ) → List ℕ
-fields_bytes version low right high = 76 ∷ 1 ∷ (to_be_bytes w64 version ++ ((to_be_bytes w8 (length low) ++ low) ++ (to_be_bytes w64 right ++ high_bytes high)))
+fields_bytes version low right high = 76 ∷ 2 ∷ (to_be_bytes w64 version ++ ((to_be_bytes w8 (length low) ++ low) ++ (to_be_bytes w64 right ++ high_bytes high)))
 
 -- all that stands before the two lists of a leaf, under this version
 abbrev pub head_bytes : Leaf → ℕ → List ℕ
@@ -30,9 +30,15 @@ dones_before (d ∷ ds) rest = done_bytes d ++ dones_before ds rest
 abbrev pub is_beside : Bool → ℕ → Done → Bool
 is_beside above queue d = if above then nat_lt queue d.queue else nat_lt d.queue queue
 
+-- an attribute with its length before it, behind the byte that says whether there is one
+abbrev pub attr_bytes : Option (List ℕ) → List ℕ
+attr_bytes None = 0 ∷ []
+attr_bytes (Some attr) = 1 ∷ (to_be_bytes w8 (length attr) ++ attr)
+
 -- a record, with the byte that says that it is there
 abbrev pub entry_bytes : Entry → List ℕ
-entry_bytes e = 1 ∷ ((to_be_bytes w8 (length e.key) ++ e.key) ++ (to_be_bytes w16 (length e.payload) ++ e.payload))
+entry_bytes e = 1 ∷ ((to_be_bytes w8 (length e.key) ++ e.key)
+    ++ ((to_be_bytes w16 (length e.value.payload) ++ e.value.payload) ++ attr_bytes e.value.attr))
 
 -- nothing, where there is no record
 abbrev pub entry_bytes_of : Option Entry → List ℕ

@@ -3,7 +3,7 @@
 -- are of kinds that their sessions' standing allows.
 use Rattle.std.specs.Prelude.{ℕ, ◌≡◌, Bool, List, [], ◌∷◌, Option, Some, None, slice_get, if◌then◌else◌}
 use Rattle.byte_format.specs.Order.{bytes_below, bytes_same}
-use Rattle.db_base.specs.declared.pair.Pair.{Pair}
+use Rattle.db_base.specs.Value.{Value}
 use Rattle.cloud_trait.specs.Growth.{BeginsWith}
 use Rattle.cloud_trait.specs.State.{CloudState}
 use Rattle.history.specs.Fold.{fold, of_tree}
@@ -12,6 +12,7 @@ use Rattle.leaf_view.specs.Fits.{Ascend}
 use Rattle.leaf_view.specs.Leaf.{Leaf}
 use Rattle.report_types.specs.declared.entry.Entry.{Entry}
 use Rattle.report_types.specs.declared.report.Report.{Report}
+use Rattle.report_types.specs.declared.stored.Stored.{Stored}
 use Rattle.reply_text.specs.declared.reply.Reply.{Reply}
 use Rattle.reply_text.specs.declared.reply.Reply.TheVariants as reply
 use Rattle.tree_meaning.specs.Chain.{AreLeaves, records_of}
@@ -20,14 +21,18 @@ use Rattle.replay_meaning.specs.Committed.{committed}
 use Rattle.replay_meaning.specs.Kinds.{KeepsKinds}
 use Rattle.tree_meaning.specs.Index.{Finds}
 
--- the payload that records have at a key, where they have one
-abbrev pub payload_at : List ℕ → List Pair → Option (List ℕ)
-payload_at key [] = None
-payload_at key (pair ∷ pairs) = if bytes_same pair.key key then Some pair.payload else payload_at key pairs
+-- the value of a record that a report shows
+abbrev pub value_stored : Stored → Value
+value_stored stored = record { payload = stored.payload; attr = stored.attr }
+
+-- the value that records have at a key, where they have one
+abbrev pub value_at : List ℕ → List Stored → Option Value
+value_at key [] = None
+value_at key (stored ∷ others) = if bytes_same stored.key key then Some (value_stored stored) else value_at key others
 
 -- a record is below another one by its key
-abbrev pub pair_below : Pair → Pair → Bool
-pair_below a b = bytes_below a.key b.key
+abbrev pub stored_below : Stored → Stored → Bool
+stored_below a b = bytes_below a.key b.key
 
 -- an order holds all committed entries
 abbrev pub HoldsAll : List Entry → List Entry → Type 0
@@ -44,9 +49,9 @@ pub record IsRight (lines : List Line) (t : CloudState) (r : Report) : Type 0 wh
   pub leaves : List Leaf
   pub chain : AreLeaves t r.tree leaves
   pub contents : r.contents ≡ records_of leaves
-  pub ascending : Ascend pair_below None r.contents
-  pub found : (key : List ℕ) → Finds t r.tree key (payload_at key r.contents)
-  pub folded : (key : List ℕ) → payload_at key r.contents ≡ fold r.order r.tree key
+  pub ascending : Ascend stored_below None r.contents
+  pub found : (key : List ℕ) → Finds t r.tree key (value_at key r.contents)
+  pub folded : (key : List ℕ) → value_at key r.contents ≡ fold r.order r.tree key
   pub legal : IsLegal r.order r.committed
   pub complete : r.heads ≡ 0 → r.messages ≡ 0 → HoldsAll r.order r.committed
   pub grown : (k : ℕ) (line : Line) → slice_get lines k ≡ Some line → GoesOnFrom r.tree r.order line.reply

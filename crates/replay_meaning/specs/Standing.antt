@@ -117,7 +117,7 @@ abbrev pub after_own : Event → Reply → Standing → Standing
 after_own (event.Open session client) reply s = begins_opening client reply s
 after_own (event.Close session) reply s = begins Closing reply s
 after_own (event.Renew session) reply s = begins Renewing reply s
-after_own (event.Insert session tree key payload) reply s = notes tree (Insert key payload) reply s
+after_own (event.Insert session tree key payload attr) reply s = notes tree (Insert key payload attr) reply s
 after_own (event.Update session tree key payload) reply s = notes tree (Update key payload) reply s
 after_own (event.Delete session tree key) reply s = notes tree (Delete key) reply s
 after_own (event.Add session tree key amount) reply s = notes tree (Add key amount) reply s
@@ -139,7 +139,7 @@ abbrev pub session_of : Event → ℕ
 session_of (event.Open session client) = session
 session_of (event.Close session) = session
 session_of (event.Renew session) = session
-session_of (event.Insert session tree key payload) = session
+session_of (event.Insert session tree key payload attr) = session
 session_of (event.Update session tree key payload) = session
 session_of (event.Delete session tree key) = session
 session_of (event.Add session tree key amount) = session

@@ -10,14 +10,14 @@ use Rattle.cloud_facts.specs.Landings.Landing.{Landing}
 use Rattle.cloud_facts.specs.Landings.Reporting.{IsReportable}
 use Rattle.cloud_facts.proofs.Landings.LandingLemmas.{landing_grows}
 use Rattle.cloud_facts.proofs.Lefts.StaysLemmas.{all_applied}
-use Rattle.cloud_facts.proofs.Orders.Legality.{order_is_legal, payload_is, order_holds_all}
+use Rattle.cloud_facts.proofs.Orders.Legality.{order_is_legal, value_is, order_holds_all}
 use Rattle.report_types.specs.declared.entry.Entry.{Entry}
 use Rattle.cloud_facts.specs.Book.Tally.{Store}
 
 pub reportable : (st : Store) → Holds st → (tree : ℕ) → IsReportable st tree
 reportable st h tree = record {
   legal = order_is_legal st h.order h.numbers tree;
-  folded = payload_is st h.order tree;
+  folded = value_is st h.order tree;
   complete = λ nothing. order_holds_all st h.order h.numbers tree (λ r logged is. all_applied st tree h.leaves nothing r logged is);
 }
 

@@ -1,21 +1,22 @@
--- The records of the leaves of a chain have at each key the payload in the leaf of the page for the key.
+-- The records of the leaves of a chain have at each key the value in the leaf of the page for the key.
 use Rattle.std.proofs.Common.{◌≡◌, ℕ, zero, suc, Bool, true, false, not, cond, List, [], ◌∷◌, ◌++◌, map, Option, Some, None, refl, sym, ap, ◌∙◌, ◌⊎◌, inl, inr}
 use Rattle.std.specs.Prelude.{slice_get}
 use Rattle.std.specs.List.{AllByRecursion}
 use Rattle.byte_format.specs.Order.{bytes_below, bytes_same, below_bound}
 use Rattle.byte_format.proofs.OrderLemmas.{same_is}
-use Rattle.db_base.specs.declared.pair.Pair.{Pair}
+use Rattle.db_base.specs.Value.{Value}
+use Rattle.report_types.specs.declared.stored.Stored.{Stored}
 use Rattle.leaf_view.specs.Fits.{Ascend, IsEntryIn, entry_below}
 use Rattle.leaf_view.specs.Leaf.{Entry, Leaf}
-use Rattle.leaf_view.specs.Lookup.{payload_of}
+use Rattle.leaf_view.specs.Lookup.{value_of}
 use Rattle.node_codec.proofs.EntryLemmas.{below_chain}
-use Rattle.replay_meaning.specs.Right.{payload_at}
+use Rattle.replay_meaning.specs.Right.{value_at}
 use Rattle.cloud_facts.specs.Book.Book.{Link}
 use Rattle.cloud_facts.specs.Book.Records.{StandsAt, IsIn}
 use Rattle.cloud_facts.specs.Book.Telling.{page_from}
 use Rattle.cloud_facts.specs.Chains.Links.{link_below, low_after}
 use Rattle.cloud_facts.proofs.Chains.Pieces.{in_cases, ascend_all}
-use Rattle.tree_meaning.specs.Chain.{pair_of, records_of}
+use Rattle.tree_meaning.specs.Chain.{stored_of, records_of}
 use Rattle.cloud_facts.specs.Meanings.Contents.{leaves_of}
 
 -- ---- the records of one leaf
@@ -24,15 +25,15 @@ use Rattle.cloud_facts.specs.Meanings.Contents.{leaves_of}
 abbrev HaveOthers : List ℕ → List Entry → Type 0
 HaveOthers key es = AllByRecursion (λ e. bytes_same e.key key ≡ false) es
 
-skip : (key : List ℕ) (es : List Entry) (behind : List Pair) → HaveOthers key es → payload_at key (map pair_of es ++ behind) ≡ payload_at key behind
+skip : (key : List ℕ) (es : List Entry) (behind : List Stored) → HaveOthers key es → value_at key (map stored_of es ++ behind) ≡ value_at key behind
 skip key [] behind others = refl
 skip key (e ∷ es) behind others =
-    ap (λ (b : Bool). cond b (Some e.payload) (payload_at key (map pair_of es ++ behind))) others.0 ∙ skip key es behind others.1
+    ap (λ (b : Bool). cond b (Some e.value) (value_at key (map stored_of es ++ behind))) others.0 ∙ skip key es behind others.1
 
-take_first : (key : List ℕ) (es : List Entry) (behind : List Pair) → payload_at key behind ≡ None
-    → payload_at key (map pair_of es ++ behind) ≡ payload_of key es
+take_first : (key : List ℕ) (es : List Entry) (behind : List Stored) → value_at key behind ≡ None
+    → value_at key (map stored_of es ++ behind) ≡ value_of key es
 take_first key [] behind none = none
-take_first key (e ∷ es) behind none = ap (λ (p : Option (List ℕ)). cond (bytes_same e.key key) (Some e.payload) p) (take_first key es behind none)
+take_first key (e ∷ es) behind none = ap (λ (v : Option Value). cond (bytes_same e.key key) (Some e.value) v) (take_first key es behind none)
 
 -- a key that tells two lists of bytes apart is not of both
 differs : (key other : List ℕ) (test : List ℕ → Bool) → test other ≡ true → test key ≡ false → bytes_same other key ≡ false
@@ -66,7 +67,7 @@ abbrev pub AreRanged : (ℕ → Leaf) → List Link → Type 0
 AreRanged leaf links = (place : ℕ) (link : Link) → StandsAt links place link → IsRanged leaf link (slice_get links (suc place))
 
 none_behind : (key : List ℕ) (leaf : ℕ → Leaf) (links : List Link) → AreRanged leaf links → ((a : Link) → IsIn links a → bytes_below key a.low ≡ true)
-    → payload_at key (records_of (leaves_of leaf links)) ≡ None
+    → value_at key (records_of (leaves_of leaf links)) ≡ None
 none_behind key leaf [] ranged below = refl
 none_behind key leaf (x ∷ links) ranged below =
     let is = ranged zero x refl in
@@ -77,7 +78,7 @@ none_behind key leaf (x ∷ links) ranged below =
 
 -- from a link on that is not above the key
 pub contents_from : (key : List ℕ) (leaf : ℕ → Leaf) (x : Link) (links : List Link) → Ascend link_below (Some x) links → AreRanged leaf (x ∷ links)
-    → payload_at key (records_of (leaves_of leaf (x ∷ links))) ≡ payload_of key (leaf (page_from x.page key links)).records
+    → value_at key (records_of (leaves_of leaf (x ∷ links))) ≡ value_of key (leaf (page_from x.page key links)).records
 contents_from key leaf x [] up ranged = take_first key (leaf x.page).records [] refl
 contents_from key leaf x (y ∷ links) up ranged =
     on (contents_from key leaf y links up.1 (λ place a k. ranged (suc place) a k)) (bytes_below key y.low) refl
@@ -85,11 +86,11 @@ contents_from key leaf x (y ∷ links) up ranged =
     is : IsRanged leaf x (Some y)
     is = ranged zero x refl
 
-    behind : List Pair
+    behind : List Stored
     behind = records_of (leaves_of leaf (y ∷ links))
 
-    on : payload_at key behind ≡ payload_of key (leaf (page_from y.page key links)).records → (b : Bool) → bytes_below key y.low ≡ b
-        → payload_at key (map pair_of (leaf x.page).records ++ behind) ≡ payload_of key (leaf (cond b x.page (page_from y.page key links))).records
+    on : value_at key behind ≡ value_of key (leaf (page_from y.page key links)).records → (b : Bool) → bytes_below key y.low ≡ b
+        → value_at key (map stored_of (leaf x.page).records ++ behind) ≡ value_of key (leaf (cond b x.page (page_from y.page key links))).records
     on again true below = take_first key (leaf x.page).records behind (none_behind key leaf (y ∷ links) (λ place a k. ranged (suc place) a k) (all below))
       where
         all : bytes_below key y.low ≡ true → (a : Link) → IsIn (y ∷ links) a → bytes_below key a.low ≡ true

@@ -3,7 +3,7 @@ use Rattle.std.proofs.Common.{◌≡◌, ℕ, zero, suc, not, List, Option, Some
 use Rattle.std.specs.Prelude.{slice_get}
 use Rattle.cloud_trait.specs.State.{CloudState}
 use Rattle.leaf_view.specs.Leaf.{Leaf}
-use Rattle.leaf_view.specs.Lookup.{payload_of}
+use Rattle.leaf_view.specs.Lookup.{value_of}
 use Rattle.cloud_facts.specs.Book.Book.{Link}
 use Rattle.cloud_facts.specs.Book.Records.{StandsAt, IsIn}
 use Rattle.cloud_facts.specs.Book.Telling.{page_from, newest_leaf, newest_root, nodes_of, roots_of}
@@ -81,7 +81,7 @@ module _ (s : CloudState) (tree : ℕ) (chain : ℕ → List Link) (done : List 
       walks (λ (p : ℕ). Reaches s tree key (suc level) p target) key (chain (suc level)) (right_of_inner level) (at_inner level (reaches level))
       linked.0 link linked.1 from
 
-  pub finds : Finds s tree key (payload_of key (newest_leaf (nodes_of s) tree (page_from 1 key (chain 0))).records)
+  pub finds : Finds s tree key (value_of key (newest_leaf (nodes_of s) tree (page_from 1 key (chain 0))).records)
   finds =
       let meets = newest_root_meets chain (nodes_of s tree) (roots_of s tree) done cursor h key in
       record {
@@ -94,5 +94,5 @@ module _ (s : CloudState) (tree : ℕ) (chain : ℕ → List Link) (done : List 
         level = meets.level_is;
         leaf = target;
         reaches = reaches meets.below (link_of meets.entry) meets.linked meets.from;
-        payload_is = refl;
+        value_is = refl;
       }

@@ -1,11 +1,12 @@
--- What a report reads of a tree: its chain of leaves is whole, its records have the payloads that are told, and the index finds them.
+-- What a report reads of a tree: its chain of leaves is whole, its records have the values that are told, and the index finds them.
 use Rattle.std.proofs.Common.{◌≡◌, ℕ, cond, Bool, List, Option, ◌∷◌, sym, ap, subst, ◌∙◌}
 use Rattle.cloud_trait.specs.State.{CloudState}
 use Rattle.db_base.specs.Ids.{IsTree}
+use Rattle.db_base.specs.Value.{Value}
 use Rattle.leaf_view.specs.Leaf.{Leaf}
-use Rattle.leaf_view.specs.Lookup.{payload_of}
+use Rattle.leaf_view.specs.Lookup.{value_of}
 use Rattle.node_codec.proofs.NodeLemmas.{not_below_empty}
-use Rattle.replay_meaning.specs.Right.{payload_at}
+use Rattle.replay_meaning.specs.Right.{value_at}
 use Rattle.cloud_facts.specs.Book.Book.{Link}
 use Rattle.cloud_facts.specs.Book.Tally.{Tally, Store}
 use Rattle.cloud_facts.specs.Book.Telling.{tally_of, page_from, newest_leaf, nodes_of, roots_of}
@@ -23,17 +24,17 @@ use Rattle.cloud_facts.proofs.Meanings.Pages.{leaf_at, read_ascends, read_range}
 
 -- the links of a leaf chain begin with the first leaf
 contents_all : (key : List ℕ) (leaf : ℕ → Leaf) (links rest : List Link) → links ≡ first_link ∷ rest → Ascends links → AreRanged leaf links
-    → payload_at key (records_of (leaves_of leaf links)) ≡ payload_of key (leaf (page_from 1 key links)).records
+    → value_at key (records_of (leaves_of leaf links)) ≡ value_of key (leaf (page_from 1 key links)).records
 contents_all key leaf links rest e up ranged =
-    subst (λ (ls : List Link). payload_at key (records_of (leaves_of leaf ls)) ≡ payload_of key (leaf (page_from 1 key ls)).records) (sym e)
+    subst (λ (ls : List Link). value_at key (records_of (leaves_of leaf ls)) ≡ value_of key (leaf (page_from 1 key ls)).records) (sym e)
     (contents_from key leaf first_link rest (subst Ascends e up).1 (subst (AreRanged leaf) e ranged) ∙ sym same)
   where
-    same : payload_of key (leaf (page_from 1 key (first_link ∷ rest))).records ≡ payload_of key (leaf (page_from 1 key rest)).records
-    same = ap (λ (b : Bool). payload_of key (leaf (cond b 1 (page_from 1 key rest))).records) (not_below_empty key)
+    same : value_of key (leaf (page_from 1 key (first_link ∷ rest))).records ≡ value_of key (leaf (page_from 1 key rest)).records
+    same = ap (λ (b : Bool). value_of key (leaf (cond b 1 (page_from 1 key rest))).records) (not_below_empty key)
 
 pub chained_reads : (s : CloudState) (tree : ℕ) (chain : ℕ → List Link) (done : List ℕ → ℕ → ℕ → ℕ) (cursor : ℕ → ℕ)
     → IsChained chain (nodes_of s tree) (roots_of s tree) done cursor → Decodes s
-    → IsRead s tree (leaves_of (newest_leaf (nodes_of s) tree) (chain 0)) (λ key. payload_of key (newest_leaf (nodes_of s) tree (page_from 1 key (chain 0))).records)
+    → IsRead s tree (leaves_of (newest_leaf (nodes_of s) tree) (chain 0)) (λ key. value_of key (newest_leaf (nodes_of s) tree (page_from 1 key (chain 0))).records)
 chained_reads s tree chain done cursor h d = record {
   chain = links_are_leaves s tree chain done cursor h d;
   ascending = records_ascend (newest_leaf (nodes_of s) tree) (chain 0) (h.levels.ascends 0) ranged;
@@ -55,20 +56,20 @@ leaves_in st tree = leaves_of (newest_leaf st.tally.nodes tree) (st.book.chain t
 
 -- a cloud that tells a store whose chains hold is read as the store tells
 pub store_reads : (s : CloudState) (st : Store) (tree : ℕ) → tally_of st.book s ≡ st.tally → ChainHolds st → IsTree tree → Decodes s
-    → IsRead s tree (leaves_in st tree) (st.tally.payload tree)
+    → IsRead s tree (leaves_in st tree) (st.tally.value tree)
 store_reads s st tree e h is d =
-    subst (λ (t : Tally). IsRead s tree (leaves_of (newest_leaf t.nodes tree) (st.book.chain tree 0)) (t.payload tree)) e
+    subst (λ (t : Tally). IsRead s tree (leaves_of (newest_leaf t.nodes tree) (st.book.chain tree 0)) (t.value tree)) e
     (chained_reads s tree (st.book.chain tree) ((tally_of st.book s).done tree) ((tally_of st.book s).cursor tree 0)
     (subst (λ (t : Tally). IsChained (st.book.chain tree) (t.nodes tree) (t.roots tree) (t.done tree) (t.cursor tree 0)) (sym e) (h tree is)) d)
 
 -- whatever leaves are all of the tree, they are those
-pub all_leaves : (s : CloudState) (tree : ℕ) (leaves others : List Leaf) (payload : List ℕ → Option (List ℕ)) → IsRead s tree leaves payload
+pub all_leaves : (s : CloudState) (tree : ℕ) (leaves others : List Leaf) (value : List ℕ → Option Value) → IsRead s tree leaves value
     → AreLeaves s tree others
-    → IsRead s tree others payload
-all_leaves s tree leaves others payload read are =
-    subst (λ (ls : List Leaf). IsRead s tree ls payload) (one_way s tree 1 leaves others read.chain are) read
+    → IsRead s tree others value
+all_leaves s tree leaves others value read are =
+    subst (λ (ls : List Leaf). IsRead s tree ls value) (one_way s tree 1 leaves others read.chain are) read
 
 -- the index finds for each key what the records of all leaves have at it
-pub finds_contents : (s : CloudState) (tree : ℕ) (leaves : List Leaf) (payload : List ℕ → Option (List ℕ)) → IsRead s tree leaves payload → (key : List ℕ)
-    → Finds s tree key (payload_at key (records_of leaves))
-finds_contents s tree leaves payload read key = subst (Finds s tree key) (sym (read.contents key)) (read.found key)
+pub finds_contents : (s : CloudState) (tree : ℕ) (leaves : List Leaf) (value : List ℕ → Option Value) → IsRead s tree leaves value → (key : List ℕ)
+    → Finds s tree key (value_at key (records_of leaves))
+finds_contents s tree leaves value read key = subst (Finds s tree key) (sym (read.contents key)) (read.found key)

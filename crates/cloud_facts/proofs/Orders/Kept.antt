@@ -42,7 +42,7 @@ more_left st client head more o left = record {
   first = first;
   of_client = o.of_client;
   of_tree = o.of_tree;
-  payload = o.payload;
+  value = o.value;
 }
   where
     first : (tree : ℕ) (key : List ℕ) (own : ℕ) → IsClient own → FirstApplied (after_head client head more st) tree key own
@@ -83,7 +83,7 @@ after_settle_keeps st client head o = more_left st client head [] o (λ r is. ab
 
 -- the store with another tally, by which the same is applied and the leaves have the same
 abbrev with_tally : Store → Tally → (ℕ → ℕ → List Link) → Store
-with_tally st t chain = record { tally = record t { done = st.tally.done; payload = st.tally.payload }; book = record { log = st.book.log; chain = chain }; order = st.order }
+with_tally st t chain = record { tally = record t { done = st.tally.done; value = st.tally.value }; book = record { log = st.book.log; chain = chain }; order = st.order }
 
 kept : (st : Store) (t : Tally) (chain : ℕ → ℕ → List Link) → Ordered st → Ordered (with_tally st t chain)
 kept st t chain o = record {
@@ -97,7 +97,7 @@ kept st t chain o = record {
   };
   of_client = o.of_client;
   of_tree = o.of_tree;
-  payload = o.payload;
+  value = o.value;
 }
 
 pub after_logged_keeps : (st : Store) (client : ℕ) (post : Posted) → Ordered st → Ordered (after_logged client post st)
@@ -194,10 +194,10 @@ module _ (st : Store) (p : Taking) (o : Ordered st) (n : Numbers st) (u : Unappl
   taken_tree : (e : Entry) → IsIn (taken_entries st.tally p) e → IsTree e.tree
   taken_tree e is = let k = is_taken e is in subst (λ (a : Entry). IsTree a.tree) k.entry_is t.is_tree
 
-  leaf_payload : (tree : ℕ) (key : List ℕ)
-      → fold_onto (st.tally.payload tree) (taken_entries st.tally p) tree key ≡ fold (st.order ++ taken_entries st.tally p) tree key
-  leaf_payload tree key =
-      let same : st.tally.payload tree ≡ fold st.order tree = λ i k. o.payload tree k i in
+  leaf_value : (tree : ℕ) (key : List ℕ)
+      → fold_onto (st.tally.value tree) (taken_entries st.tally p) tree key ≡ fold (st.order ++ taken_entries st.tally p) tree key
+  leaf_value tree key =
+      let same : st.tally.value tree ≡ fold st.order tree = λ i k. o.value tree k i in
       ap (λ (rs : Records). fold_onto rs (taken_entries st.tally p) tree key) same
       ∙ sym (ap (λ (rs : Records). rs key) (fold_onto-append no_records st.order (taken_entries st.tally p) tree))
 
@@ -206,7 +206,7 @@ after_leaf_keeps st p o n u t = record {
   first = leaf_first st p o n u t;
   of_client = λ e is. ⊎_elim (λ old. o.of_client e old) (λ new. taken_client st p o n u t e new) (in_either st.order (taken_entries st.tally p) e is);
   of_tree = λ e is. ⊎_elim (λ old. o.of_tree e old) (λ new. taken_tree st p o n u t e new) (in_either st.order (taken_entries st.tally p) e is);
-  payload = leaf_payload st p o n u t;
+  value = leaf_value st p o n u t;
 }
 
 -- ---- the empty cloud
@@ -233,7 +233,7 @@ nothing_ordered s = record {
   };
   of_client = λ e is. absurd (not_ordered is.0 e is.1);
   of_tree = λ e is. absurd (not_ordered is.0 e is.1);
-  payload = λ tree key. refl;
+  value = λ tree key. refl;
 }
 
 pub empty_order : (s : CloudState) → IsEmptyCloud s → Ordered (record { tally = tally_of empty_book s; book = empty_book; order = [] })

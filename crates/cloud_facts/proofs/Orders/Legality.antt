@@ -304,8 +304,8 @@ order_is_legal st o n tree = legal_of (of_tree tree (entries_of st.book.log)) (o
         )
 
 -- what the leaves have is what the order of the tree's entries comes to
-pub payload_is : (st : Store) → Ordered st → (tree : ℕ) (key : List ℕ) → st.tally.payload tree key ≡ fold (of_tree tree st.order) tree key
-payload_is st o tree key = o.payload tree key ∙ sym (ap (λ records. records key) (fold_onto-of_tree no_records st.order tree))
+pub value_is : (st : Store) → Ordered st → (tree : ℕ) (key : List ℕ) → st.tally.value tree key ≡ fold (of_tree tree st.order) tree key
+value_is st o tree key = o.value tree key ∙ sym (ap (λ records. records key) (fold_onto-of_tree no_records st.order tree))
 
 -- where all records of a tree are applied, the order holds all of the tree's committed entries
 pub order_holds_all : (st : Store) → Ordered st → Numbers st → (tree : ℕ) → ((r : AtomicRec) → IsIn st.book.log r → r.tree ≡ tree → IsApplied st.tally r)

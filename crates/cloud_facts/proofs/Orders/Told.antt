@@ -1,4 +1,4 @@
--- The order holds by another tally that tells the same of what is done, for clients, and of payloads.
+-- The order holds by another tally that tells the same of what is done, for clients, and of values.
 use Rattle.std.proofs.Common.{◌≡◌, ◌<◌, ◌≤◌, ℕ, List, sym, subst, ◌∙◌}
 use Rattle.db_base.specs.Ids.{IsClient}
 use Rattle.log_codec.specs.declared.record.AtomicRec.{AtomicRec}
@@ -9,13 +9,13 @@ use Rattle.cloud_facts.proofs.Orders.Advances.{IsAmong, among, left_among, in_fr
 
 pub order_told : (st : Store) (t : Tally) → Ordered st
     → ((tree : ℕ) (key : List ℕ) (page client : ℕ) → IsClient client → t.done tree key page client ≡ st.tally.done tree key page client)
-    → ((tree : ℕ) (key : List ℕ) → t.payload tree key ≡ st.tally.payload tree key)
+    → ((tree : ℕ) (key : List ℕ) → t.value tree key ≡ st.tally.value tree key)
     → Ordered (record { tally = t; book = st.book; order = st.order })
-order_told st t o dones payloads = record {
+order_told st t o dones values = record {
   first = first;
   of_client = o.of_client;
   of_tree = o.of_tree;
-  payload = λ tree key. payloads tree key ∙ o.payload tree key;
+  value = λ tree key. values tree key ∙ o.value tree key;
 }
   where
     done : (r : AtomicRec) → IsClient r.client → t.done r.tree (key_in r) r.page r.client ≡ st.tally.done r.tree (key_in r) r.page r.client

@@ -2,10 +2,11 @@
 use Rattle.std.proofs.Common.{◌≡◌, ◌+◌, ◌<◌, ℕ, zero, suc, Bool, true, false, cond, List, [], ◌∷◌, ◌++◌, length, Option, Some, None, refl, sym, ap, subst, ◌∙◌, take, drop, arith}
 use Rattle.byte_format.specs.Order.{bytes_below, bytes_same}
 use Rattle.byte_format.proofs.OrderLemmas.{same_is}
-use Rattle.leaf_edit.proofs.Payloads.{payload_of-before}
+use Rattle.db_base.specs.Value.{Value}
+use Rattle.leaf_edit.proofs.Payloads.{value_of-before}
 use Rattle.leaf_view.specs.Fits.{Ascend, entry_below}
 use Rattle.leaf_view.specs.Leaf.{Entry, Leaf}
-use Rattle.leaf_view.specs.Lookup.{payload_of}
+use Rattle.leaf_view.specs.Lookup.{value_of}
 use Rattle.node_codec.proofs.EntryLemmas.{below_chain}
 use Rattle.split_plan.specs.Cut.{first_key_of, back_part, cut_by}
 use Rattle.split_plan.specs.Part.{LeafPart, leaf_of_part, record_key}
@@ -30,13 +31,13 @@ first_above e (suc n) (f ∷ es) up less = below_chain e.key f.key (first_key_of
 -- the front of records in order, where the key is from the first record behind it on
 absent_front : (key : List ℕ) (before : Option Entry) (n : ℕ) (es : List Entry) → Ascend entry_below before es → n < length es
     → bytes_below key (first_key_of record_key (drop n es)) ≡ false
-    → payload_of key es ≡ payload_of key (drop n es)
+    → value_of key es ≡ value_of key (drop n es)
 absent_front key before zero es up less from = refl
 absent_front key before (suc n) [] up less from = refl
 absent_front key before (suc n) (e ∷ es) up less from = on (absent_front key (Some e) n es up.1 (omega arith) from) (bytes_same e.key key) refl
   where
-    on : payload_of key es ≡ payload_of key (drop n es) → (b : Bool) → bytes_same e.key key ≡ b
-        → cond b (Some e.payload) (payload_of key es) ≡ payload_of key (drop n es)
+    on : value_of key es ≡ value_of key (drop n es) → (b : Bool) → bytes_same e.key key ≡ b
+        → cond b (Some e.value) (value_of key es) ≡ value_of key (drop n es)
     on again false h = again
     on again true h =
         let under : bytes_below key (first_key_of record_key (drop n es)) ≡ true =
@@ -47,12 +48,12 @@ absent_front key before (suc n) (e ∷ es) up less from = on (absent_front key (
 -- the records behind the front, where the key is below the first of them
 absent_back : (key : List ℕ) (before : Option Entry) (n : ℕ) (es : List Entry) → Ascend entry_below before es → n < length es
     → bytes_below key (first_key_of record_key (drop n es)) ≡ true
-    → payload_of key es ≡ payload_of key (take n es)
+    → value_of key es ≡ value_of key (take n es)
 absent_back key before zero [] up less below = refl
-absent_back key before zero (e ∷ es) up less below = payload_of-before key before (e ∷ es) up below
+absent_back key before zero (e ∷ es) up less below = value_of-before key before (e ∷ es) up below
 absent_back key before (suc n) [] up less below = refl
 absent_back key before (suc n) (e ∷ es) up less below =
-    ap (λ (p : Option (List ℕ)). cond (bytes_same e.key key) (Some e.payload) p) (absent_back key (Some e) n es up.1 (omega arith) below)
+    ap (λ (v : Option Value). cond (bytes_same e.key key) (Some e.value) v) (absent_back key (Some e) n es up.1 (omega arith) below)
 
 forget : (before : Option Entry) (es : List Entry) → Ascend entry_below before es → Ascend entry_below None es
 forget before [] up = tt
@@ -75,10 +76,10 @@ cut_at : (leaves : ℕ → Leaf) (none : LeafPart) (sizes : List ℕ) (page free
 cut_at leaves none [] page free p at = (at.0, at.1)
 cut_at leaves none (n ∷ sizes) page free p at = (at.0, at.1)
 
--- on the page a key finds the table of the whole, and the payload that it has there
+-- on the page a key finds the table of the whole, and the value that it has there
 pub record Finds (l : Leaf) (p : LeafPart) (key : List ℕ) : Type 0 where
   pub done : l.done ≡ p.common
-  pub payload : payload_of key l.records ≡ payload_of key p.items
+  pub value : value_of key l.records ≡ value_of key p.items
 
 pub cut_finds : (leaves : ℕ → Leaf) (none : LeafPart) (sizes : List ℕ) (last free page : ℕ) (p : LeafPart) → CanCut sizes last (length p.items)
     → Ascend entry_below None p.items
@@ -87,7 +88,7 @@ pub cut_finds : (leaves : ℕ → Leaf) (none : LeafPart) (sizes : List ℕ) (la
     → Finds (leaves (page_from page key (links_on free (right_of (cut_by record_key sizes free p)) ++ rest))) p key
 cut_finds leaves none [] last free page p can up left right key rest before =
     subst (λ (q : ℕ). Finds (leaves q) p key) (sym (stops_here key page rest before))
-    (subst (λ (l : Leaf). Finds l p key) (sym left) (record { done = refl; payload = refl }))
+    (subst (λ (l : Leaf). Finds l p key) (sym left) (record { done = refl; value = refl }))
 cut_finds leaves none (n ∷ sizes) last free page p can up left right key rest before =
     subst (λ (ls : List Link). Finds (leaves (page_from page key (ls ++ rest))) p key)
     (sym (cut_links record_key sizes free (free + 1) (back_part record_key n p)))
@@ -107,5 +108,5 @@ cut_finds leaves none (n ∷ sizes) last free page p can up left right key rest 
 
     on : Finds (leaves (page_from free key behind)) (back_part record_key n p) key → (b : Bool) → bytes_below key (first_key_of record_key (drop n p.items)) ≡ b
         → Finds (leaves (cond b page (page_from free key behind))) p key
-    on again true e = subst (λ (l : Leaf). Finds l p key) (sym left) (record { done = refl; payload = sym (absent_back key None n p.items up less e) })
-    on again false e = record { done = again.done; payload = again.payload ∙ sym (absent_front key None n p.items up less e) }
+    on again true e = subst (λ (l : Leaf). Finds l p key) (sym left) (record { done = refl; value = sym (absent_back key None n p.items up less e) })
+    on again false e = record { done = again.done; value = again.value ∙ sym (absent_front key None n p.items up less e) }

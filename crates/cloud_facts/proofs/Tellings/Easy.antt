@@ -30,7 +30,7 @@ alike t u a = λ i. record {
   posts = λ tree page. a.posts tree page i;
   cursor = λ tree page client. a.cursor tree page client i;
   done = λ tree key page client. a.done tree key page client i;
-  payload = λ tree key. a.payload tree key i;
+  value = λ tree key. a.value tree key i;
   nodes = λ tree page. a.nodes tree page i;
   roots = λ tree. a.roots tree i;
 }
@@ -59,7 +59,7 @@ head_told who client bytes h more book order s is = alike _ _ (record {
   posts = λ tree page. refl;
   cursor = head_cursors who client bytes s;
   done = λ tree key page c. refl;
-  payload = λ tree key. refl;
+  value = λ tree key. refl;
   nodes = λ tree page. refl;
   roots = λ tree. refl;
 })
@@ -81,7 +81,7 @@ logged_changed client ms trace book order s = alike _ _ (record {
   posts = posts;
   cursor = message_cursors s (put_at queue_cmp s.messages (Atomic client) ms) trace;
   done = λ tree key page c. refl;
-  payload = λ tree key. refl;
+  value = λ tree key. refl;
   nodes = λ tree page. refl;
   roots = λ tree. refl;
 })
@@ -99,7 +99,7 @@ posts_changed tree page ms trace book order s = alike _ _ (record {
   posts = λ t p. put_queue s.messages tree page ms t p;
   cursor = message_cursors s (put_at queue_cmp s.messages (queue_of tree page) ms) trace;
   done = λ t key p c. refl;
-  payload = λ t key. refl;
+  value = λ t key. refl;
   nodes = λ t p. refl;
   roots = λ t. refl;
 })

@@ -6,6 +6,7 @@ use Rattle.std.proofs.lemmas.Bool.{eq-eqb, ne_eqb, and_parts}
 use Rattle.byte_format.specs.Order.{bytes_same}
 use Rattle.byte_format.proofs.OrderLemmas.{same_is}
 use Rattle.db_base.specs.Change.{key_of}
+use Rattle.db_base.specs.Value.{Value}
 use Rattle.history.specs.Fold.{Records, changed_by, fold_onto}
 use Rattle.leaf_edit.specs.Acted.{acted_by}
 use Rattle.leaf_edit.specs.Lacked.{is_lacked, lacked}
@@ -14,7 +15,7 @@ use Rattle.leaf_view.specs.Lookup.{holds}
 use Rattle.log_codec.specs.declared.record.PuItem.{PuItem}
 use Rattle.cloud_facts.specs.Book.Effects.{taken_entry}
 
--- in their own tree they act on the payload at the key, one after another
+-- in their own tree they act on the value at the key, one after another
 pub fold_acts : (tree : ℕ) (r : Records) (xs : List PuItem) (key : List ℕ) → fold_onto r (map (taken_entry tree) xs) tree key ≡ acted_by key (r key) xs
 fold_acts tree r [] key = refl
 fold_acts tree r (x ∷ xs) key =
@@ -29,10 +30,10 @@ fold_elsewhere tree other r (x ∷ xs) ne =
     ∙ fold_elsewhere tree other r xs ne
 
 -- items of other keys do nothing at a key
-pub acts_beside : (key : List ℕ) (payload : Option (List ℕ)) (xs : List PuItem) → AllByRecursion (λ x. bytes_same key (key_of x.rec.change) ≡ false) xs
-    → acted_by key payload xs ≡ payload
-acts_beside key payload [] all = refl
-acts_beside key payload (x ∷ xs) all = ap (λ p. acted_by key p xs) (rw all.0 refl) ∙ acts_beside key payload xs all.1
+pub acts_beside : (key : List ℕ) (value : Option Value) (xs : List PuItem) → AllByRecursion (λ x. bytes_same key (key_of x.rec.change) ≡ false) xs
+    → acted_by key value xs ≡ value
+acts_beside key value [] all = refl
+acts_beside key value (x ∷ xs) all = ap (λ p. acted_by key p xs) (rw all.0 refl) ∙ acts_beside key value xs all.1
 
 -- the items that a leaf lacks are of keys that it holds
 pub lacked_beside : (l : Leaf) (queue : ℕ) (xs : List PuItem) (key : List ℕ) → holds l key ≡ false

@@ -15,10 +15,10 @@ use Rattle.leaf_edit.specs.Edited.{edited, edited_by}
 use Rattle.leaf_edit.specs.Lacked.{is_lacked, lacked}
 use Rattle.leaf_edit.specs.Raised.{greatest_of}
 use Rattle.leaf_edit.proofs.Edits.{edited-ascends}
-use Rattle.leaf_edit.proofs.Payloads.{payload_of-edited_by}
+use Rattle.leaf_edit.proofs.Payloads.{value_of-edited_by}
 use Rattle.leaf_view.specs.Fits.{Ascend, entry_below}
 use Rattle.leaf_view.specs.Leaf.{Entry, Leaf, IsLeaf}
-use Rattle.leaf_view.specs.Lookup.{empty_leaf, holds, payload_of, number_of as done_number}
+use Rattle.leaf_view.specs.Lookup.{empty_leaf, holds, value_of, number_of as done_number}
 use Rattle.log_codec.specs.declared.record.PuItem.{PuItem}
 use Rattle.report_types.specs.declared.entry.Entry.{Entry as Change}
 use Rattle.split_plan.specs.Part.{LeafPart, leaf_of_part, part_of_leaf, record_key}
@@ -204,16 +204,16 @@ module _ (who : Caller) (book : Book) (order : List Change) (s : CloudState) (tr
           on true e = ap (λ (l : Leaf). nat_lt (done_number l.done queue x.rec.client) x.rec.number) (found_before (key_of x.rec.change) e)
           on false e = refl
 
-  abbrev payloads : ℕ → Records
-  payloads t key = payload_of key (leaf_for book (nodes_of s) t key).records
+  abbrev values : ℕ → Records
+  values t key = value_of key (leaf_for book (nodes_of s) t key).records
 
-  payload_told : (t : ℕ) (key : List ℕ)
-      → payload_of key (leaf_for after later t key).records ≡ fold_onto (payloads t) (map (taken_entry tree) (lacking (tally_of book s) taking)) t key
-  payload_told t key =
-      on (t == tree) refl (holds old key) refl ∙ ap (λ (xs : List PuItem). fold_onto (payloads t) (map (taken_entry tree) xs) t key) (sym lacks)
+  value_told : (t : ℕ) (key : List ℕ)
+      → value_of key (leaf_for after later t key).records ≡ fold_onto (values t) (map (taken_entry tree) (lacking (tally_of book s) taking)) t key
+  value_told t key =
+      on (t == tree) refl (holds old key) refl ∙ ap (λ (xs : List PuItem). fold_onto (values t) (map (taken_entry tree) xs) t key) (sym lacks)
     where
       Goal : ℕ → Type 0
-      Goal x = payload_of key (leaf_for after later x key).records ≡ fold_onto (payloads x) (map (taken_entry tree) (lacked old queue run)) x key
+      Goal x = value_of key (leaf_for after later x key).records ≡ fold_onto (values x) (map (taken_entry tree) (lacked old queue run)) x key
 
       here : t ≡ tree → Goal tree → Goal t
       here e g = subst Goal (sym e) g
@@ -221,18 +221,18 @@ module _ (who : Caller) (book : Book) (order : List Change) (s : CloudState) (tr
       on : (u : Bool) → (t == tree) ≡ u → (h : Bool) → holds old key ≡ h → Goal t
       on true e true f =
           here (eqb-true t tree e)
-          ((found_after key f).payload
-          ∙ payload_of-edited_by key old.records (lacked old queue run) sound.ascends
-          ∙ ap (λ (l : Leaf). acted_by key (payload_of key l.records) (lacked old queue run)) (sym (found_before key f))
-          ∙ sym (fold_acts tree (payloads tree) (lacked old queue run) key))
+          ((found_after key f).value
+          ∙ value_of-edited_by key old.records (lacked old queue run) sound.ascends
+          ∙ ap (λ (l : Leaf). acted_by key (value_of key l.records) (lacked old queue run)) (sym (found_before key f))
+          ∙ sym (fold_acts tree (values tree) (lacked old queue run) key))
       on true e false f =
           here (eqb-true t tree e)
-          (ap (λ (l : Leaf). payload_of key l.records) (stays_here key f)
-          ∙ sym (acts_beside key (payloads tree key) (lacked old queue run) (lacked_beside old queue run key f))
-          ∙ sym (fold_acts tree (payloads tree) (lacked old queue run) key))
+          (ap (λ (l : Leaf). value_of key l.records) (stays_here key f)
+          ∙ sym (acts_beside key (values tree key) (lacked old queue run) (lacked_beside old queue run key f))
+          ∙ sym (fold_acts tree (values tree) (lacked old queue run) key))
       on false e h f =
-          ap (λ (l : Leaf). payload_of key l.records) (stays_there t key (eqb-false t tree e))
-          ∙ sym (ap (λ (r : Records). r key) (fold_elsewhere tree t (payloads t) (lacked old queue run) (λ x. eqb-false t tree e (sym x))))
+          ap (λ (l : Leaf). value_of key l.records) (stays_there t key (eqb-false t tree e))
+          ∙ sym (ap (λ (r : Records). r key) (fold_elsewhere tree t (values t) (lacked old queue run) (λ x. eqb-false t tree e (sym x))))
 
   cursor_is : (p c : ℕ) → p ≢ 0 → cursor_of s tree p c ≡ done_number (newest_leaf (nodes_of s) tree p).done p c
   cursor_is zero c ne = absurd (ne refl)
@@ -272,7 +272,7 @@ module _ (who : Caller) (book : Book) (order : List Change) (s : CloudState) (tr
     posts = λ t p. refl;
     cursor = cursor_told;
     done = done_told;
-    payload = payload_told;
+    value = value_told;
     nodes = page_nodes who tree page bytes (Leafy left) s is;
     roots = λ t. refl;
   })

@@ -5,7 +5,7 @@ use Rattle.db_base.specs.declared.names.ObjName.TheVariants as object
 use Rattle.cloud_trait.specs.Caller.{Caller}
 use Rattle.cloud_trait.specs.State.{CloudState, landed}
 use Rattle.leaf_view.specs.Leaf.{Leaf}
-use Rattle.leaf_view.specs.Lookup.{empty_leaf, payload_of, number_of as done_number}
+use Rattle.leaf_view.specs.Lookup.{empty_leaf, value_of, number_of as done_number}
 use Rattle.node_codec.specs.Inner.{Inner, IsInner}
 use Rattle.node_codec.specs.Tree.{Tree, IsTree, empty_tree}
 use Rattle.report_types.specs.declared.entry.Entry.{Entry}
@@ -82,7 +82,7 @@ page_told who tree page bytes node book order s is above none = alike _ _ (recor
   posts = λ t p. refl;
   cursor = page_cursors who tree page bytes node s is (λ e. omega (arith, e, above));
   done = λ t key p c. ap (λ (l : Leaf). done_number l.done p c) (leaf t key);
-  payload = λ t key. ap (λ (l : Leaf). payload_of key l.records) (leaf t key);
+  value = λ t key. ap (λ (l : Leaf). value_of key l.records) (leaf t key);
   nodes = page_nodes who tree page bytes node s is;
   roots = λ t. refl;
 })
@@ -101,7 +101,7 @@ inner_told who tree page bytes inner pieces book order s is some above level non
   posts = λ t p. refl;
   cursor = λ t p c. page_cursors who tree page bytes (Branch inner) s is some t p c ∙ sym (cursor t p c);
   done = λ t key p c. ap (λ (l : Leaf). done_number l.done p c) (leaf t key);
-  payload = λ t key. ap (λ (l : Leaf). payload_of key l.records) (leaf t key);
+  value = λ t key. ap (λ (l : Leaf). value_of key l.records) (leaf t key);
   nodes = page_nodes who tree page bytes (Branch inner) s is;
   roots = λ t. refl;
 })
@@ -159,7 +159,7 @@ root_told who tree bytes root book order s is = alike _ _ (record {
   posts = λ t p. refl;
   cursor = tree_cursors who tree bytes root s is;
   done = λ t key p c. refl;
-  payload = λ t key. refl;
+  value = λ t key. refl;
   nodes = λ t p. refl;
   roots = tree_roots who tree bytes root s is;
 })
@@ -174,7 +174,7 @@ raise_told who tree bytes root level links book order s is above = alike _ _ (re
   posts = λ t p. refl;
   cursor = tree_cursors who tree bytes root s is;
   done = λ t key p c. ap (λ (q : ℕ). done_number (newest_leaf (nodes_of s) t q).done p c) (goes t key);
-  payload = λ t key. ap (λ (q : ℕ). payload_of key (newest_leaf (nodes_of s) t q).records) (goes t key);
+  value = λ t key. ap (λ (q : ℕ). value_of key (newest_leaf (nodes_of s) t q).records) (goes t key);
   nodes = λ t p. refl;
   roots = tree_roots who tree bytes root s is;
 })

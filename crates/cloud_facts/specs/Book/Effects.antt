@@ -91,7 +91,7 @@ after_leaf p st = record {
   tally = record st.tally {
     cursor = cursor_after p st.tally.cursor;
     done = done_after p st.tally.done;
-    payload = λ tree key. fold_onto (st.tally.payload tree) (taken_entries st.tally p) tree key;
+    value = λ tree key. fold_onto (st.tally.value tree) (taken_entries st.tally p) tree key;
     nodes = at2 p.tree p.page (st.tally.nodes p.tree p.page ++ Leafy p.leaf ∷ []) st.tally.nodes;
   };
   book = record st.book { chain = at2 p.tree 0 (with_pieces p.page p.pieces (st.book.chain p.tree 0)) st.book.chain };

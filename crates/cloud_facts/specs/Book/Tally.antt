@@ -1,6 +1,7 @@
 -- The tally: what a cloud tells, as functions of names and never by the bytes. Each call that lands changes one function at one name.
 use Rattle.std.specs.Prelude.{ℕ, ◌==◌, ◌&&◌, if◌then◌else◌, List, [], Option}
 use Rattle.cloud_trait.specs.declared.state.Posted.{Posted}
+use Rattle.db_base.specs.Value.{Value}
 use Rattle.head_codec.specs.declared.head.Head.{Head}
 use Rattle.leaf_view.specs.Leaf.{Leaf}
 use Rattle.node_codec.specs.Node.{Entry}
@@ -57,8 +58,8 @@ pub record Tally : Type 0 where
   pub cursor : ℕ → ℕ → ℕ → ℕ
   -- of a tree, key, page and client: the number of the page's queue in the table of the leaf that holds the key
   pub done : ℕ → List ℕ → ℕ → ℕ → ℕ
-  -- of a tree and key, the payload in the leaf that holds the key
-  pub payload : ℕ → List ℕ → Option (List ℕ)
+  -- of a tree and key, the value in the leaf that holds the key
+  pub value : ℕ → List ℕ → Option Value
   -- of a tree and page, all landed versions
   pub nodes : ℕ → ℕ → List Node
   -- of a tree, all landed versions of its root

@@ -13,7 +13,7 @@ use Rattle.head_codec.specs.declared.head.Head.{Head}
 use Rattle.head_codec.specs.Head.{empty_head}
 use Rattle.head_codec.specs.Spelling.{head_of}
 use Rattle.leaf_view.specs.Leaf.{Leaf, leaf}
-use Rattle.leaf_view.specs.Lookup.{empty_leaf, payload_of, number_of as done_number}
+use Rattle.leaf_view.specs.Lookup.{empty_leaf, value_of, number_of as done_number}
 use Rattle.node_codec.specs.Inner.{Inner, inner_of}
 use Rattle.node_codec.specs.Tree.{Tree, empty_tree, tree_of}
 use Rattle.cloud_facts.specs.Book.Book.{Book, Link}
@@ -97,7 +97,7 @@ tally_of book s = record {
   posts = λ tree page. s.messages (queue_of tree page);
   cursor = cursor_of s;
   done = λ tree key page client. done_number (leaf_for book (nodes_of s) tree key).done page client;
-  payload = λ tree key. payload_of key (leaf_for book (nodes_of s) tree key).records;
+  value = λ tree key. value_of key (leaf_for book (nodes_of s) tree key).records;
   nodes = nodes_of s;
   roots = roots_of s;
 }

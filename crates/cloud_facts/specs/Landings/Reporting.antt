@@ -7,8 +7,8 @@ use Rattle.report_types.specs.declared.entry.Entry.{Entry}
 use Rattle.cloud_facts.specs.Book.Records.{StandsAt, entries_of}
 use Rattle.cloud_facts.specs.Book.Tally.{Store}
 
--- the order is legal for the committed entries, the payload of each key is what it comes to, and where nothing is left it holds all
+-- the order is legal for the committed entries, the value of each key is what it comes to, and where nothing is left it holds all
 pub record IsReportable (st : Store) (tree : ℕ) : Type 0 where
   pub legal : IsLegal (of_tree tree st.order) (of_tree tree (entries_of st.book.log))
-  pub folded : (key : List ℕ) → st.tally.payload tree key ≡ fold (of_tree tree st.order) tree key
+  pub folded : (key : List ℕ) → st.tally.value tree key ≡ fold (of_tree tree st.order) tree key
   pub complete : NothingLeft st tree → (place : ℕ) (e : Entry) → StandsAt (of_tree tree (entries_of st.book.log)) place e → (at : ℕ) × StandsAt (of_tree tree st.order) at e

@@ -1,9 +1,10 @@
 -- The leaves of a tree by its links, and what a report reads of them.
 use Rattle.std.specs.Prelude.{ℕ, ◌≡◌, List, ◌++◌, map, slice_get, Option, None}
 use Rattle.cloud_trait.specs.State.{CloudState}
+use Rattle.db_base.specs.Value.{Value}
 use Rattle.leaf_view.specs.Fits.{Ascend}
 use Rattle.leaf_view.specs.Leaf.{Leaf}
-use Rattle.replay_meaning.specs.Right.{pair_below, payload_at}
+use Rattle.replay_meaning.specs.Right.{stored_below, value_at}
 use Rattle.cloud_facts.specs.Book.Book.{Link}
 use Rattle.cloud_facts.specs.Chains.Links.{page_after}
 use Rattle.tree_meaning.specs.Chain.{AreLeaves, records_of}
@@ -21,9 +22,9 @@ pub record IsAlong (leaf : ℕ → Leaf) (links : List Link) (leaves : List Leaf
   pub leaves_are : leaves ≡ leaves_of leaf front
   pub page_is : page ≡ page_after (slice_get rest 0)
 
--- the leaves are all of the tree; their records ascend by their keys and have these payloads, and the index finds them
-pub record IsRead (s : CloudState) (tree : ℕ) (leaves : List Leaf) (payload : List ℕ → Option (List ℕ)) : Type 0 where
+-- the leaves are all of the tree; their records ascend by their keys and have these values, and the index finds them
+pub record IsRead (s : CloudState) (tree : ℕ) (leaves : List Leaf) (value : List ℕ → Option Value) : Type 0 where
   pub chain : AreLeaves s tree leaves
-  pub ascending : Ascend pair_below None (records_of leaves)
-  pub contents : (key : List ℕ) → payload_at key (records_of leaves) ≡ payload key
-  pub found : (key : List ℕ) → Finds s tree key (payload key)
+  pub ascending : Ascend stored_below None (records_of leaves)
+  pub contents : (key : List ℕ) → value_at key (records_of leaves) ≡ value key
+  pub found : (key : List ℕ) → Finds s tree key (value key)

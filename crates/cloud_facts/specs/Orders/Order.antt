@@ -35,7 +35,7 @@ pub record Ordered (st : Store) : Type 0 where
   pub of_client : (e : Entry) → IsIn st.order e → IsClient e.client
   pub of_tree : (e : Entry) → IsIn st.order e → IsTree e.tree
   -- what the leaves have is what the order comes to
-  pub payload : (tree : ℕ) (key : List ℕ) → st.tally.payload tree key ≡ fold st.order tree key
+  pub value : (tree : ℕ) (key : List ℕ) → st.tally.value tree key ≡ fold st.order tree key
 
 -- what pending entries give: what is not applied of a client, tree and key is of one queue
 pub record UnappliedOfOneQueue (st : Store) : Type 0 where

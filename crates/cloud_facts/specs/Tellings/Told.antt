@@ -18,7 +18,7 @@ pub record AreAlike (t u : Tally) : Type 0 where
   pub posts : (tree page : ℕ) → t.posts tree page ≡ u.posts tree page
   pub cursor : (tree page client : ℕ) → t.cursor tree page client ≡ u.cursor tree page client
   pub done : (tree : ℕ) (key : List ℕ) (page client : ℕ) → t.done tree key page client ≡ u.done tree key page client
-  pub payload : (tree : ℕ) (key : List ℕ) → t.payload tree key ≡ u.payload tree key
+  pub value : (tree : ℕ) (key : List ℕ) → t.value tree key ≡ u.value tree key
   pub nodes : (tree page : ℕ) → t.nodes tree page ≡ u.nodes tree page
   pub roots : (tree : ℕ) → t.roots tree ≡ u.roots tree
 

@@ -204,7 +204,7 @@ impl<H: Hand> Session<H> {
         self.work.applying()
     }
 
-    /// The payload that the newest operation read, as the client sees it; none where it was no read, or where there is no record.
+    /// The value that the newest operation read, as the client sees it; none where it was no read, or where there is no record.
     pub fn value(&self) -> Option<Value<'_>>
         ensures { result ≡ value_of self.now }
     {

@@ -4,6 +4,7 @@ use Rattle.std.specs.Prelude.{map, if◌then◌else◌, unwrap_or}
 use Rattle.std.specs.List.{AllByRecursion}
 use Rattle.db_base.specs.declared.names.ObjName.TheVariants as object
 use Rattle.db_base.specs.declared.pair.Pair.{Pair}
+use Rattle.db_base.specs.Value.{Value}
 use Rattle.db_base.specs.declared.trouble.Trouble.{Trouble}
 use Rattle.db_base.specs.declared.trouble.Trouble.TheVariants as trouble
 use Rattle.db_base.specs.declared.trouble.CommitAnswer.{CommitAnswer}
@@ -114,7 +115,7 @@ module _ (who : Caller) (before after : Seen) where
 
 -- ---- a read
 
-abbrev pub ReadShows : Caller → Seen → Seen → Home → List Noted → Walk → Option (List ℕ) → Turn Answer → Type 0
+abbrev pub ReadShows : Caller → Seen → Seen → Home → List Noted → Walk → Option Value → Turn Answer → Type 0
 ReadShows who before after home buffer w value (Ended answer.Value) = ShowsValue who before after home buffer w value
 ReadShows who before after home buffer w value (Ended answer.Scan) = ⊥
 ReadShows who before after home buffer w value turn = Unit {0}

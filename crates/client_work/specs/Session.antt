@@ -5,6 +5,7 @@ use Rattle.db_base.specs.declared.refusal.Refusal.TheVariants as rule
 use Rattle.head_codec.specs.declared.head.Head.{Head}
 use Rattle.db_base.specs.Change.{key_of}
 use Rattle.db_base.specs.declared.pair.Pair.{Pair}
+use Rattle.db_base.specs.Value.{Value}
 use Rattle.db_base.specs.declared.change.Change.{Change}
 use Rattle.txn_buffer.specs.Noted.{Noted, found_in}
 use Rattle.db_base.specs.declared.refusal.Refused.{Refused}
@@ -489,12 +490,12 @@ Shows who before after old new (Ok turn) =
     (c : Cache) × ShowsAt who before after new.buffer old.work old.cache c new.work new.shown turn × (new.cache ≡ shown_behind new.work c)
 Shows who before after old new (Err e) = (new.cache ≡ old.cache) × (new.shown ≡ old.shown)
 
--- the payload that the newest operation read, as the client sees it
-abbrev pub value_in : Work → Shown → Cache → List Noted → Option (List ℕ)
+-- the value that the newest operation read, as the client sees it
+abbrev pub value_in : Work → Shown → Cache → List Noted → Option Value
 value_in (Idle home) (Read m) c buffer = read_value m c home.client home.head buffer
 value_in work shown c buffer = None
 
-abbrev pub value_of : Acting → Option (List ℕ)
+abbrev pub value_of : Acting → Option Value
 value_of s = value_in s.work s.shown s.cache s.buffer
 
 -- the records that the newest operation listed

@@ -2,6 +2,7 @@
 use Rattle.std.specs.Prelude.{ℕ, ◌≡◌, true, List, [], ◌∷◌, map, Option, unwrap_or}
 use Rattle.std.specs.List.{AllByRecursion}
 use Rattle.db_base.specs.declared.pair.Pair.{Pair}
+use Rattle.db_base.specs.Value.{Value}
 use Rattle.leaf_view.specs.Leaf.{Entry, Leaf}
 use Rattle.leaf_view.specs.Lookup.{holds}
 use Rattle.txn_buffer.specs.Noted.{Noted}
@@ -28,7 +29,7 @@ abbrev pub read_deed : Caller → Walk → Answer → Seen → Seen → Deed
 read_deed who w answer before after = record { who = who; ask = walk_ask w; answer = answer; before = before; after = after }
 
 -- the value behind the last step of a read: what its client sees of the key in a leaf whose range holds it, as this step's own call served it
-pub record ShowsValue (who : Caller) (before after : Seen) (home : Home) (buffer : List Noted) (w : Walk) (value : Option (List ℕ)) : Type 0 where
+pub record ShowsValue (who : Caller) (before after : Seen) (home : Home) (buffer : List Noted) (w : Walk) (value : Option Value) : Type 0 where
   pub answer : Answer
   pub made : IsMade (read_deed who w answer before after)
   pub leaf : Leaf
@@ -38,9 +39,9 @@ pub record ShowsValue (who : Caller) (before after : Seen) (home : Home) (buffer
 
 -- ---- a scan
 
--- a record of a leaf, as a scan shows it
+-- a record of a leaf, as a scan shows it: without its attribute
 abbrev pub pair_of : Entry → Pair
-pair_of e = record { key = e.key; payload = e.payload }
+pair_of e = record { key = e.key; payload = e.value.payload }
 
 -- what a client looks at in a leaf for a range
 abbrev pub sight_in : Range → Home → List Noted → Leaf → Sight

@@ -89,7 +89,7 @@ pub trait SessionCalls: Drop {
     fn applying(&self) -> &[PuItem]
         ensures { result.now ≡ applying_of (acting self.now).work };
 
-    /// The payload that the newest operation read, as the client sees it; none where it was no read, or where there is no record.
+    /// The value that the newest operation read, as the client sees it; none where it was no read, or where there is no record.
     fn value(&self) -> Option<Value<'_>>
         ensures { result ≡ value_of (acting self.now) };
 

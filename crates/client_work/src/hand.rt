@@ -59,7 +59,7 @@ pub trait Hand: Drop {
     fn applying(&self) -> &[PuItem]
         ensures { result.now ≡ applying_of (work self.now) };
 
-    /// The payload that a read shows, as the client sees it; none where anything else is shown, or another is in hand than an
+    /// The value that a read shows, as the client sees it; none where anything else is shown, or another is in hand than an
     /// open client.
     fn value<'a>(
         &'a self,

@@ -27,7 +27,7 @@ pub(crate) fn list_items(
     let mut left = items;
     while let Some((key, value)) = left.take_first() {
         let key = Blob::copy_of(alloc, key)?;
-        let payload = Blob::copy_of(alloc, value.bytes())?;
+        let payload = Blob::copy_of(alloc, value.payload())?;
         pairs.push(Pair { key, payload })?;
     }
     Ok(())

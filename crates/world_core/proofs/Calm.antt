@@ -30,6 +30,7 @@ use Rattle.db_base.specs.declared.trouble.Trouble.{Trouble}
 use Rattle.db_base.specs.declared.trouble.Trouble.TheVariants as trouble
 use Rattle.db_base.specs.declared.wish.Wish.{Wish}
 use Rattle.db_base.specs.declared.wish.Wish.TheVariants.{Plain}
+use Rattle.db_base.specs.Value.{Value}
 use Rattle.event_text.specs.declared.event.Event.{Event}
 use Rattle.event_text.specs.declared.event.Event.TheVariants as event
 use Rattle.page_cache.specs.Cache.{Cache}
@@ -232,9 +233,9 @@ trouble_well u (Scanning tree from to) k may none other = walk_never u (spent_by
 trouble_well u (Paging tree page) k may none other = page_spent u tree page k may none other
 trouble_well u (Folding tree) k may none other = tree_spent u tree k may none other
 
-value_well : (u : CloudState) (tree : ℕ) (key : List ℕ) (value : Option (List ℕ)) (r : Reply) → r ≡ value_reply value → DoesWell u (Reading tree key) r
+value_well : (u : CloudState) (tree : ℕ) (key : List ℕ) (value : Option Value) (r : Reply) → r ≡ value_reply value → DoesWell u (Reading tree key) r
 value_well u tree key None r e = subst (DoesWell u (Reading tree key)) (sym e) tt
-value_well u tree key (Some payload) r e = subst (DoesWell u (Reading tree key)) (sym e) tt
+value_well u tree key (Some value) r e = subst (DoesWell u (Reading tree key)) (sym e) tt
 
 troubled : (u : CloudState) (task : Task) (k : Trouble) (left : Acting) (r : Reply) → IsSoundReply (Working task) r → RepliesTo (answer.Trouble k) left (Ok r) → IsOfNoCall (spent_by task) u k → DoesWell u task r
 troubled u task k left r sound e none =
@@ -506,9 +507,9 @@ module _ (lines : List Line) (n k : ℕ) (before after : Seen) (old new : World)
   memory_at_once (op.Page tree page) q e = e
   memory_at_once (op.Tree tree) q e = e
 
-  value_begins : (tree : ℕ) (key : List ℕ) (value : Option (List ℕ)) → r ≡ value_reply value → BeginsWell u (Reading tree key) r
+  value_begins : (tree : ℕ) (key : List ℕ) (value : Option Value) → r ≡ value_reply value → BeginsWell u (Reading tree key) r
   value_begins tree key None e = subst (BeginsWell u (Reading tree key)) (sym e) tt
-  value_begins tree key (Some payload) e = subst (BeginsWell u (Reading tree key)) (sym e) tt
+  value_begins tree key (Some value) e = subst (BeginsWell u (Reading tree key)) (sym e) tt
 
   op_answered : (o : Op) (a : Answer) (left : Acting) → IsAtOnce u o a → RepliesTo a left (Ok r) → OpWell o r
   op_answered o (answer.Trouble q) left is e = absurd ((replies_to (answer.Trouble q) left r e).0.1 (memory_at_once o q is))

@@ -21,6 +21,7 @@ use Rattle.db_base.specs.declared.trouble.Trouble.{Trouble}
 use Rattle.db_base.specs.declared.trouble.Trouble.TheVariants as trouble
 use Rattle.db_base.specs.declared.wish.Wish.{Wish}
 use Rattle.db_base.specs.declared.wish.Wish.TheVariants.{Plain}
+use Rattle.db_base.specs.Value.{Value}
 use Rattle.event_text.specs.declared.event.Event.{Event}
 use Rattle.event_text.specs.declared.event.Event.TheVariants as event
 use Rattle.replay_meaning.specs.Standing.{Line, Posture, Closed, Idle, Broken, Standing, session_of, standing}
@@ -71,9 +72,9 @@ module _ (Holds : Posture → Work → CommitAnswer → Type 0) (posture : Postu
   done_keeps r q keeps (Ok x) e = plainly r q e keeps
   done_keeps r q keeps (Err why) e = refused_keeps r why e
 
-  value_keeps : (value : Option (List ℕ)) (r : Reply) → r ≡ value_reply value → Keeps r
+  value_keeps : (value : Option Value) (r : Reply) → r ≡ value_reply value → Keeps r
   value_keeps None r e = subst Keeps (sym e) tt
-  value_keeps (Some payload) r e = subst Keeps (sym e) tt
+  value_keeps (Some value) r e = subst Keeps (sym e) tt
 
   -- the reply to an answer keeps what the end of a commit does
   answer_keeps : (a : Answer) (left : Acting) (r : Reply) → RepliesTo a left (Ok r) → ((c : CommitAnswer) → a ≡ answer.Commit c → Holds posture hand c) → Keeps r

@@ -26,6 +26,7 @@ use Rattle.db_base.specs.declared.trouble.Trouble.{Trouble}
 use Rattle.db_base.specs.declared.trouble.Trouble.TheVariants as trouble
 use Rattle.db_base.specs.declared.wish.Wish.{Wish}
 use Rattle.db_base.specs.declared.wish.Wish.TheVariants.{Plain}
+use Rattle.db_base.specs.Value.{Value}
 use Rattle.event_text.specs.declared.event.Event.{Event}
 use Rattle.event_text.specs.declared.event.Event.TheVariants as event
 use Rattle.replay_meaning.specs.Standing.{Line, Posture, session_of, standing}
@@ -78,9 +79,9 @@ module _ (posture : Posture) where
   declines_sound : (r : Reply) (why : Refused) (before after : Seen) (old new : World) → Declines why before after old new (Ok r) → Sound r
   declines_sound r why before after old new h = refused_sound r why h.reply
 
-  value_sound : (value : Option (List ℕ)) (r : Reply) → r ≡ value_reply value → Sound r
+  value_sound : (value : Option Value) (r : Reply) → r ≡ value_reply value → Sound r
   value_sound None r e = subst Sound (sym e) tt
-  value_sound (Some payload) r e = subst Sound (sym e) tt
+  value_sound (Some value) r e = subst Sound (sym e) tt
 
   -- the reply to an answer is sound where its trouble, or the end of a commit, is right
   answer_sound : (a : Answer) (left : Acting) (r : Reply) → RepliesTo a left (Ok r) → ((t : Trouble) → a ≡ answer.Trouble t → (t ≡ trouble.Memory → ⊥) → MayTrouble posture t)

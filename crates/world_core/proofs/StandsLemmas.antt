@@ -9,6 +9,7 @@ use Rattle.db_base.specs.declared.trouble.Trouble.{Trouble}
 use Rattle.db_base.specs.declared.trouble.Trouble.TheVariants as trouble
 use Rattle.db_base.specs.declared.wish.Wish.{Wish}
 use Rattle.db_base.specs.declared.wish.Wish.TheVariants.{Plain}
+use Rattle.db_base.specs.Value.{Value}
 use Rattle.event_text.specs.declared.event.Event.{Event}
 use Rattle.event_text.specs.declared.event.Event.TheVariants as event
 use Rattle.reply_text.specs.declared.reply.Reply.{Reply}
@@ -277,9 +278,9 @@ went_rests who before old after new some (further mid _ world _ went step) rests
     changed_rests who.session _ world.sessions new.sessions some step.session (went_rests who before old mid world some went rests)
 
 -- the reply that shows what was read is no report
-value_shown : (value : Option (List ℕ)) (r : Reply) → r ≡ value_reply value → IsReplyTo answer.Value r × IsNoReport r
+value_shown : (value : Option Value) (r : Reply) → r ≡ value_reply value → IsReplyTo answer.Value r × IsNoReport r
 value_shown None r e = (inl e, subst IsNoReport (sym e) tt)
-value_shown (Some payload) r e = (inr (payload, e), subst IsNoReport (sym e) tt)
+value_shown (Some value) r e = (inr (value.payload, e), subst IsNoReport (sym e) tt)
 
 -- the reply to an answer is none
 pub replies_to : (a : Answer) (left : Acting) (r : Reply) → RepliesTo a left (Ok r) → IsReplyTo a r × IsNoReport r

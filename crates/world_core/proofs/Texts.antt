@@ -8,6 +8,7 @@ use Rattle.db_base.specs.declared.trouble.CommitAnswer.TheVariants.{Committed, N
 use Rattle.db_base.specs.declared.trouble.Trouble.{Trouble}
 use Rattle.db_base.specs.declared.trouble.Trouble.TheVariants as trouble
 use Rattle.db_base.specs.declared.wish.Wish.{Wish}
+use Rattle.db_base.specs.Value.{Value}
 use Rattle.cloud_trait.specs.Caller.{Caller}
 use Rattle.cloud_trait.specs.Seen.{Seen}
 use Rattle.cloud_trait.specs.declared.turn.Turn.{Turn}
@@ -82,9 +83,9 @@ done_text r q (Err why) e text = declined_text r why e
 trouble_text : (r : Reply) (t : Trouble) → IsOk r (trouble_reply t) → ReplyHasText r
 trouble_text r t e = let is = told_is (λ k. reply.Trouble k) t r e in is_text r (reply.Trouble t) is.0 is.1
 
-value_text : (value : Option (List ℕ)) (r : Reply) → r ≡ value_reply value → ReplyHasText r
+value_text : (value : Option Value) (r : Reply) → r ≡ value_reply value → ReplyHasText r
 value_text None r e = is_text r reply.NoValue e tt
-value_text (Some payload) r e = is_text r (reply.Value payload) e tt
+value_text (Some value) r e = is_text r (reply.Value value.payload) e tt
 
 answer_text : (a : Answer) (left : Acting) (r : Reply) → RepliesTo a left (Ok r) → ReplyHasText r
 answer_text (answer.Opened epoch) left r e = plain_text r (reply.Opened epoch) e tt

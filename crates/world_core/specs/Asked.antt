@@ -1,7 +1,7 @@
 -- What a line asks, and of which session.
-use Rattle.std.specs.Prelude.{ℕ, ◌≡◌, ◌≤◌, ◌<◌, List, [], ◌∷◌, length, ◌⊎◌, Option, Some, None, Result, Ok, Err}
+use Rattle.std.specs.Prelude.{ℕ, ◌≡◌, ◌≤◌, ◌<◌, List, [], ◌∷◌, length, ◌⊎◌, Option, Some, None, IfSome, Result, Ok, Err}
 use Rattle.db_base.specs.Ids.{IsClient, IsTree, IsPage}
-use Rattle.db_base.specs.Key.{IsKey}
+use Rattle.db_base.specs.Key.{IsAttr, IsKey, IsPayload}
 use Rattle.db_base.specs.Change.{IsChange}
 use Rattle.db_base.specs.declared.change.Change.{Change}
 use Rattle.db_base.specs.declared.change.Change.TheVariants.{Insert, Update, Delete, Add}
@@ -77,9 +77,25 @@ RecordRefused key payload rule.LongKey = 64 < length key
 RecordRefused key payload rule.LongPayload = IsKey key × (1024 < length payload)
 RecordRefused key payload r = ⊥
 
+-- there is an attribute, and its bytes are none
+abbrev pub IsNoAttr : Option (List ℕ) → Type 0
+IsNoAttr (Some attr) = IsAttr attr → ⊥
+IsNoAttr None = ⊥
+
+-- the attribute where there is one, or it is refused
+abbrev pub IsMaybeAttr : Option (List ℕ) → Result (Option (List ℕ)) Refused → Type 0
+IsMaybeAttr attr (Ok made) = (made ≡ attr) × IfSome attr IsAttr
+IsMaybeAttr attr (Err (refused.Rule r)) = (r ≡ rule.BadAttr) × IsNoAttr attr
+IsMaybeAttr attr (Err refused.Memory) = Unit {0}
+
+-- the rule that refuses a key, a payload and an attribute, where it does: the attribute last
+abbrev pub InsertRefused : List ℕ → List ℕ → Option (List ℕ) → Refusal → Type 0
+InsertRefused key payload attr rule.BadAttr = IsKey key × IsPayload payload × IsNoAttr attr
+InsertRefused key payload attr r = RecordRefused key payload r
+
 -- the rule that refuses the parts of a change, where it does
 abbrev pub PartsRefused : Change → Refusal → Type 0
-PartsRefused (Insert key payload) r = RecordRefused key payload r
+PartsRefused (Insert key payload attr) r = InsertRefused key payload attr r
 PartsRefused (Update key payload) r = RecordRefused key payload r
 PartsRefused (Delete key) r = KeyRefused key r
 PartsRefused (Add key amount) r = KeyRefused key r
@@ -92,7 +108,7 @@ IsMade change (Err refused.Memory) = Unit {0}
 
 -- the tree of a line that notes a change
 abbrev pub tree_noted : Event → ℕ
-tree_noted (event.Insert session tree key payload) = tree
+tree_noted (event.Insert session tree key payload attr) = tree
 tree_noted (event.Update session tree key payload) = tree
 tree_noted (event.Delete session tree key) = tree
 tree_noted (event.Add session tree key amount) = tree
@@ -100,7 +116,7 @@ tree_noted e = 0
 
 -- the change that such a line notes
 abbrev pub change_noted : Event → Change
-change_noted (event.Insert session tree key payload) = Insert key payload
+change_noted (event.Insert session tree key payload attr) = Insert key payload attr
 change_noted (event.Update session tree key payload) = Update key payload
 change_noted (event.Delete session tree key) = Delete key
 change_noted (event.Add session tree key amount) = Add key amount

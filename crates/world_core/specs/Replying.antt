@@ -1,6 +1,7 @@
 -- The reply of a line: what it shows, and why there is none.
 use Rattle.std.specs.Prelude.{ℕ, ◌≡◌, List, Option, Some, None, Result, Ok, Err}
 use Rattle.db_base.specs.declared.pair.Pair.{Pair}
+use Rattle.db_base.specs.Value.{Value}
 use Rattle.db_base.specs.declared.refusal.Refused.{Refused}
 use Rattle.db_base.specs.declared.refusal.Refused.TheVariants as refused
 use Rattle.db_base.specs.declared.trouble.CommitAnswer.{CommitAnswer}
@@ -53,13 +54,13 @@ commit_reply a = Ok (reply.Commit a)
 abbrev pub unsettled_reply : Trouble → Result Reply WorldFault
 unsettled_reply t = told_by (λ k. reply.NotSettled k) (told t)
 
--- the reply that shows what was read
-abbrev pub value_reply : Option (List ℕ) → Reply
-value_reply (Some payload) = reply.Value payload
+-- the reply that shows what was read: of a value the payload
+abbrev pub value_reply : Option Value → Reply
+value_reply (Some value) = reply.Value value.payload
 value_reply None = reply.NoValue
 
 -- it is the reply, where there is memory for a copy of the payload
-abbrev pub ShowsValue : Option (List ℕ) → Result Reply WorldFault → Type 0
+abbrev pub ShowsValue : Option Value → Result Reply WorldFault → Type 0
 ShowsValue value (Ok r) = r ≡ value_reply value
 ShowsValue value (Err why) = Unit {0}
 

@@ -1,10 +1,11 @@
 //! What a line asks, and of which session.
 
 ghost use Rattle.std.specs.Prelude.{◌≡◌};
-ghost use Rattle.world_core.specs.Asked.{Asks, IsBound, IsMade, IsOpening, IsReading, IsScanning, IsPaging, IsFolding, IsNoted, IsStep};
+ghost use Rattle.world_core.specs.Asked.{Asks, IsBound, IsMade, IsMaybeAttr, IsOpening, IsReading, IsScanning, IsPaging, IsFolding, IsNoted, IsStep};
 ghost use Rattle.db_base.specs.declared.change.Change.TheVariants.{Insert, Update, Delete, Add};
 
 use client_work::op::Op;
+use db_base::attr::Attr;
 use db_base::blob::Blob;
 use db_base::change::Change;
 use db_base::ids::{ClientId, PageId, TreeId};
@@ -56,7 +57,8 @@ impl Asked {
                 tree,
                 key,
                 payload,
-            } => Asked::Session(*session, insert_noted(alloc, *tree, key, payload)),
+                attr,
+            } => Asked::Session(*session, insert_noted(alloc, *tree, key, payload, attr)),
             Event::Update {
                 session,
                 tree,
@@ -197,15 +199,21 @@ fn step_of(alloc: Global, wish: &Wish) -> Result<Request, Refused>
     }
 }
 
-/// The insert of a key and payload into the tree of this number.
-fn insert_noted(alloc: Global, tree: u64, key: &Blob, payload: &Blob) -> Result<Request, Refused>
-    ensures { IsNoted tree (IsMade (Insert key.now payload.now)) result }
+/// The insert of a key, a payload and maybe an attribute into the tree of this number.
+fn insert_noted(
+    alloc: Global,
+    tree: u64,
+    key: &Blob,
+    payload: &Blob,
+    attr: &Option<Blob>,
+) -> Result<Request, Refused>
+    ensures { IsNoted tree (IsMade (Insert key.now payload.now attr.now)) result }
 {
     let tree = match TreeId::new(tree) {
         Ok(tree) => tree,
         Err(rule) => return Err(Refused::Rule(rule)),
     };
-    match insert_of(alloc, key, payload) {
+    match insert_of(alloc, key, payload, attr) {
         Ok(change) => Ok(Request::Note(tree, change)),
         Err(why) => Err(why),
     }
@@ -253,13 +261,29 @@ fn add_noted(alloc: Global, tree: u64, key: &Blob, amount: u64) -> Result<Reques
     }
 }
 
-/// The insert of a key and payload, where they are ones.
-fn insert_of(alloc: Global, key: &Blob, payload: &Blob) -> Result<Change, Refused>
-    ensures { IsMade (Insert key.now payload.now) result }
+/// The insert of a key, a payload and maybe an attribute, where they are ones.
+fn insert_of(
+    alloc: Global,
+    key: &Blob,
+    payload: &Blob,
+    attr: &Option<Blob>,
+) -> Result<Change, Refused>
+    ensures { IsMade (Insert key.now payload.now attr.now) result }
 {
     let key = Key::new(alloc, key.as_slice())?;
     let payload = Payload::new(alloc, payload.as_slice())?;
-    Ok(Change::Insert { key, payload })
+    let attr = attr_of(alloc, attr)?;
+    Ok(Change::Insert { key, payload, attr })
+}
+
+/// The attribute of these bytes, where there are any.
+fn attr_of(alloc: Global, bytes: &Option<Blob>) -> Result<Option<Attr>, Refused>
+    ensures { IsMaybeAttr bytes.now result }
+{
+    match bytes {
+        Some(bytes) => Ok(Some(Attr::new(alloc, bytes.as_slice())?)),
+        None => Ok(None),
+    }
 }
 
 /// The update of a key by a payload, where they are ones.

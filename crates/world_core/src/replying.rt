@@ -94,7 +94,7 @@ fn value_reply<S: SessionCalls>(alloc: Global, session: &S) -> Result<Reply, Wor
     ensures { ShowsValue (value_of (S.acting session.now)) result }
 {
     match session.value() {
-        Some(value) => match Blob::copy_of(alloc, value.bytes()) {
+        Some(value) => match Blob::copy_of(alloc, value.payload()) {
             Ok(payload) => Ok(Reply::Value(payload)),
             Err(_) => Err(WorldFault::Memory),
         },

@@ -1,6 +1,6 @@
 -- Events that are handled one behind another in a new world.
 use Rattle.std.proofs.Common.{zero, suc, ◌≡◌, ◌+◌, ℕ, List, [], ◌∷◌, ◌++◌, length, Result, Ok, Err, Bool, true, false, if◌then◌else◌, refl, sym, ap, subst, ◌∙◌, append_assoc, inl, inr, arith, length-append}
-use Rattle.std.specs.Prelude.{◌%◌, ◌==◌, nat_le}
+use Rattle.std.specs.Prelude.{◌%◌, ◌==◌, nat_le, None}
 use Rattle.std.specs.Int.{to_be_bytes, w64}
 use Rattle.std.proofs.lemmas.List.{append-nil}
 use Rattle.cloud_trait.specs.Seen.{Seen}
@@ -147,7 +147,7 @@ change_none : (session place kind round : ℕ) → OpenNone (change_event sessio
 change_none session place kind round client h = on (kind % 8 == 7) (nat_le (kind % 8) 3) h
   where
     on : (b c : Bool)
-        → IsOpenedIn ((if b then Delete session 1 (key_of place) else (if c then Insert session 1 (key_of place) (to_be_bytes w64 round) else Update session 1 (key_of place) (to_be_bytes w64 round))) ∷ []) client
+        → IsOpenedIn ((if b then Delete session 1 (key_of place) else (if c then Insert session 1 (key_of place) (to_be_bytes w64 round) None else Update session 1 (key_of place) (to_be_bytes w64 round))) ∷ []) client
         → ⊥
     on true c (inl h) = absurd h
     on true c (inr h) = absurd h

@@ -1,7 +1,6 @@
 -- A report by an audit that saw all, and by looks at a cloud that stands, is right.
 use Rattle.std.proofs.Common.{◌≡◌, ℕ, List, None, length, refl, sym, ap, subst, ◌∙◌, false}
 use Rattle.db_base.specs.Ids.{IsTree}
-use Rattle.db_base.specs.declared.pair.Pair.{Pair}
 use Rattle.cloud_trait.specs.Growth.{BeginsWith}
 use Rattle.cloud_trait.specs.State.{CloudState}
 use Rattle.history.specs.Audited.{Audited}
@@ -10,6 +9,7 @@ use Rattle.history.specs.Fold.{fold, of_tree}
 use Rattle.history.specs.Legal.{IsLegal}
 use Rattle.report_types.specs.declared.entry.Entry.{Entry}
 use Rattle.report_types.specs.declared.report.Report.{Report}
+use Rattle.report_types.specs.declared.stored.Stored.{Stored}
 use Rattle.reply_text.specs.declared.reply.Reply.{Reply}
 use Rattle.reply_text.specs.declared.reply.Reply.TheVariants as reply
 use Rattle.session_facts.proofs.RowKinds.Sent.{order_sent}
@@ -29,7 +29,7 @@ use Rattle.session_facts.proofs.Sessions.Laws.{reports as reports_well, chains, 
 use Rattle.replay_meaning.specs.Standing.{Line}
 use Rattle.replay_meaning.specs.Committed.{committed}
 use Rattle.replay_meaning.specs.Kinds.{KeepsKinds}
-use Rattle.replay_meaning.specs.Right.{IsRight, HoldsAll, GoesOnFrom, pair_below, payload_at}
+use Rattle.replay_meaning.specs.Right.{IsRight, HoldsAll, GoesOnFrom, stored_below, value_at}
 use Rattle.session_facts.specs.Facts.{CloudStands, IsFrontOf, Reported, Stands}
 use Rattle.session_facts.proofs.LeftLemmas.{nothing_left}
 
@@ -50,8 +50,8 @@ shown_right n lines tree book order sessions t r stand cloud reported is shown =
   leaves = w.leaves;
   chain = subst (λ k. AreLeaves t k w.leaves) at w.lead;
   contents = w.are;
-  ascending = subst (λ (ps : List Pair). Ascend pair_below None ps) (sym w.are) read.ascending;
-  found = λ key. subst (λ k. Finds t k key (payload_at key r.contents)) at (found key);
+  ascending = subst (λ (ps : List Stored). Ascend stored_below None ps) (sym w.are) read.ascending;
+  found = λ key. subst (λ k. Finds t k key (value_at key r.contents)) at (found key);
   folded = λ key. folded key ∙ ap (λ es. fold es tree key) (sym shown.order) ∙ ap (λ k. fold r.order k key) at;
   legal = of_lists IsLegal reportable.legal;
   complete = λ heads messages. of_lists HoldsAll
@@ -76,16 +76,16 @@ shown_right n lines tree book order sessions t r stand cloud reported is shown =
     reportable : IsReportable st tree
     reportable = reports_well book order t sessions stand tree
 
-    read : IsRead t tree w.leaves (st.tally.payload tree)
+    read : IsRead t tree w.leaves (st.tally.value tree)
     read =
-        all_leaves t tree (leaves_in st tree) w.leaves (st.tally.payload tree)
+        all_leaves t tree (leaves_in st tree) w.leaves (st.tally.value tree)
         (store_reads t st tree refl (chains book order t sessions stand) is (decodes book order t sessions stand)) w.lead
 
-    found : (key : List ℕ) → Finds t tree key (payload_at key r.contents)
-    found key = subst (λ (ps : List Pair). Finds t tree key (payload_at key ps)) (sym w.are) (finds_contents t tree w.leaves (st.tally.payload tree) read key)
+    found : (key : List ℕ) → Finds t tree key (value_at key r.contents)
+    found key = subst (λ (ps : List Stored). Finds t tree key (value_at key ps)) (sym w.are) (finds_contents t tree w.leaves (st.tally.value tree) read key)
 
-    folded : (key : List ℕ) → payload_at key r.contents ≡ fold (of_tree tree order) tree key
-    folded key = ap (λ (ps : List Pair). payload_at key ps) w.are ∙ read.contents key ∙ reportable.folded key
+    folded : (key : List ℕ) → value_at key r.contents ≡ fold (of_tree tree order) tree key
+    folded key = ap (λ (ps : List Stored). value_at key ps) w.are ∙ read.contents key ∙ reportable.folded key
 
     of_lists : (P : List Entry → List Entry → Type 0) → P (of_tree tree order) (of_tree tree (entries_of book.log)) → P r.order r.committed
     of_lists P h = subst (λ os. P os r.committed) (sym shown.order) (subst (P (of_tree tree order)) (sym shown.committed) h)

@@ -16,7 +16,7 @@ use Rattle.report_types.specs.declared.report.Report.{Report}
 use Rattle.tree_meaning.proofs.SameLemmas.{AreNewest, leads_same, finds_same}
 use Rattle.replay_meaning.specs.Standing.{Line}
 use Rattle.replay_meaning.specs.Kinds.{IsOfKind, OpensOnce, WasSentFor, KeepsKinds}
-use Rattle.replay_meaning.specs.Right.{IsRight, payload_at}
+use Rattle.replay_meaning.specs.Right.{IsRight, value_at}
 use Rattle.session_facts.proofs.CommittedLemmas.{committed_same}
 use Rattle.session_facts.proofs.Once.{once_same}
 use Rattle.session_facts.proofs.LineRows.{kinds_same}
@@ -65,7 +65,7 @@ right_same lines s t r alike h =
       leaves = h.leaves;
       chain = leads_same s t same r.tree 1 h.leaves 0 h.chain;
       contents = h.contents;
-      found = λ key. finds_same s t same r.tree key (payload_at key r.contents) (h.found key);
+      found = λ key. finds_same s t same r.tree key (value_at key r.contents) (h.found key);
       ascending = h.ascending;
       folded = h.folded;
       legal = h.legal;

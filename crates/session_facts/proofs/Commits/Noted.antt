@@ -20,19 +20,19 @@ sized : (payload : Value) (more : ℕ) → IsPayload payload → IsPayload (plus
 sized payload more h = act-payload (Some payload) (Add [] more) h (omega arith)
 
 net_is : (a b : Change) → IsChange a → IsChange b → IsChange (net a b)
-net_is a (Insert key payload) p q = q
-net_is (Insert key old) (Update other payload) p q = record { key = p.key; payload = q.payload; amount = p.amount }
-net_is (Update key old) (Update other payload) p q = record { key = p.key; payload = q.payload; amount = p.amount }
+net_is a (Insert key payload attr) p q = q
+net_is (Insert key old attr) (Update other payload) p q = record { key = p.key; payload = q.payload; attr = p.attr; amount = p.amount }
+net_is (Update key old) (Update other payload) p q = record { key = p.key; payload = q.payload; attr = p.attr; amount = p.amount }
 net_is (Delete key) (Update other payload) p q = p
 net_is (Add key amount) (Update other payload) p q = q
-net_is (Insert key old) (Delete other) p q = q
+net_is (Insert key old attr) (Delete other) p q = q
 net_is (Update key old) (Delete other) p q = q
 net_is (Delete key) (Delete other) p q = q
 net_is (Add key amount) (Delete other) p q = q
-net_is (Insert key payload) (Add other more) p q = record { key = p.key; payload = sized payload more p.payload; amount = p.amount }
-net_is (Update key payload) (Add other more) p q = record { key = p.key; payload = sized payload more p.payload; amount = p.amount }
+net_is (Insert key payload attr) (Add other more) p q = record { key = p.key; payload = sized payload more p.payload; attr = p.attr; amount = p.amount }
+net_is (Update key payload) (Add other more) p q = record { key = p.key; payload = sized payload more p.payload; attr = p.attr; amount = p.amount }
 net_is (Delete key) (Add other more) p q = p
-net_is (Add key amount) (Add other more) p q = record { key = p.key; payload = p.payload; amount = mod-lt (amount + more) (lit< tt) }
+net_is (Add key amount) (Add other more) p q = record { key = p.key; payload = p.payload; attr = p.attr; amount = mod-lt (amount + more) (lit< tt) }
 
 -- a change that is noted is of a tree, and is a change
 each_noted : (buffer : List Noted) (tree : ℕ) (change : Change) → IsTree tree → IsChange change → ((n : Noted) → IsIn buffer n → IsTree n.tree × IsChange n.change)

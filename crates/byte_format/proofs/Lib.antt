@@ -1,6 +1,7 @@
 pub mod Steps
 pub mod Fields
 pub mod Exact
+pub mod Maybes
 pub mod Lists
 pub mod Wholes
 pub mod Loops

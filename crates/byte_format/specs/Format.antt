@@ -1,7 +1,7 @@
 -- Formats of bytes: which values fit, the one spelling of each, and how a spelling is read from the front of bytes.
 -- A codec's specification is a table of these combinators, in the order of its fields.
 use Rattle.std.specs.Prelude.{ℕ, zero, suc, Bool, true, false, ◌&&◌, List, [], ◌∷◌, ◌++◌, length, take, drop, Option, Some, None, Result, Ok, Err, nat_le, ◌==◌, if◌then◌else◌}
-use Rattle.std.specs.Int.{Width, byte_len, to_be_bytes, from_be_bytes}
+use Rattle.std.specs.Int.{Width, w8, byte_len, to_be_bytes, from_be_bytes}
 
 -- what a step read and the bytes behind it, or how many bytes were left where the failing field begins
 abbrev pub Reading : Type 0 → Type 0
@@ -94,6 +94,15 @@ only_where there f = record { fits = option_fits there f; spelling = option_spel
 -- the values of f seen as values of another type
 abbrev pub seen_as : {A B : Type 0} → (A → B) → (B → A) → Format A → Format B
 seen_as view back f = record { fits = λ y. f.fits (back y); spelling = λ y. f.spelling (back y); reading = λ bytes. f.reading bytes >>= λ x. Ok (view x.0, x.1) }
+
+-- ---- a field that may be there: a byte 0 where it is not, a byte 1 and the field where it is
+
+abbrev pub flagged : {A : Type 0} → Option A → ℕ × Option A
+flagged None = (0, None)
+flagged (Some x) = (1, Some x)
+
+abbrev pub maybe : {A : Type 0} → Format A → Format (Option A)
+maybe f = seen_as (λ x. x.1) flagged (number w8 0 1 then λ there. only_where (there == 1) f)
 
 -- ---- lists: a byte 1 before each item, a byte 0 at the end
 

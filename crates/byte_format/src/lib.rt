@@ -4,6 +4,7 @@
 mod high_key;
 mod list;
 mod mark;
+mod maybe;
 mod number;
 mod order;
 mod owned;
@@ -15,6 +16,7 @@ mod writing;
 pub use high_key::high_key_at;
 pub use list::{Rules, skip_list};
 pub use mark::{mark_at, more_at};
+pub use maybe::maybe_text8_at;
 pub use number::{u8_at, u16_at, u64_at};
 pub use order::{is_below, is_below_bound, is_same};
 pub use owned::{OwnedRules, owned_list};

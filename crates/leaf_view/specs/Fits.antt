@@ -1,7 +1,7 @@
 -- What has a spelling as a leaf, as facts that are independent of each other.
-use Rattle.std.specs.Prelude.{ℕ, ◌≤◌, Bool, not, ◌&&◌, ◌||◌, IsTrue, List, [], ◌∷◌, length, Option, Some, None, nat_lt, ◌==◌}
+use Rattle.std.specs.Prelude.{◌≡◌, ℕ, ◌≤◌, Bool, not, ◌&&◌, ◌||◌, IsTrue, List, [], ◌∷◌, length, Option, Some, None, IfSome, nat_lt, ◌==◌, ◌⊎◌}
 use Rattle.std.specs.List.{AllByRecursion}
-use Rattle.db_base.specs.Key.{IsKey, IsPayload}
+use Rattle.db_base.specs.Key.{IsKey, IsPayload, IsAttr}
 use Rattle.db_base.specs.Ids.{IsClient}
 use Rattle.byte_format.specs.Format.{greatest, option_fits, ruled, text}
 use Rattle.byte_format.specs.Order.{bytes_below, below_bound}
@@ -33,7 +33,8 @@ pub record IsDone (d : Done) : Type 0 where
 -- a record whose key is from low on and below the bound
 pub record IsEntryIn (low : List ℕ) (high : Option (List ℕ)) (e : Entry) : Type 0 where
   pub key : IsKey e.key
-  pub payload : IsPayload e.payload
+  pub payload : IsPayload e.value.payload
+  pub attr : IfSome e.value.attr IsAttr
   pub from_low : IsTrue (not (bytes_below e.key low))
   pub to_high : IsTrue (below_bound e.key high)
 
@@ -42,8 +43,17 @@ abbrev pub IsHigh : List ℕ → ℕ → Option (List ℕ) → Type 0
 IsHigh low right None = IsTrue (right == 0)
 IsHigh low right (Some high) = IsTrue (not (right == 0)) × IsKey high × IsTrue (bytes_below low high)
 
+-- no record has an attribute
+abbrev pub AreBare : List Entry → Type 0
+AreBare es = AllByRecursion (λ e. e.value.attr ≡ None) es
+
+-- format 2, or format 1, which has no attributes
+abbrev pub IsFormat : ℕ → List Entry → Type 0
+IsFormat format records = (format ≡ 2) ⊎ ((format ≡ 1) × AreBare records)
+
 -- all of a leaf but its version, which is 0 in the page that was never put
 pub record IsWellFormed (l : Leaf) : Type 0 where
+  pub format : IsFormat l.format l.records
   pub low : length l.low ≤ 64
   pub right : l.right ≤ greatest
   pub high : IsHigh l.low l.right l.high

@@ -1,5 +1,6 @@
 -- What is found in a leaf.
 use Rattle.std.specs.Prelude.{◌≡◌, ℕ, zero, suc, Bool, not, ◌&&◌, List, [], ◌∷◌, Option, Some, None, ◌==◌, if◌then◌else◌}
+use Rattle.db_base.specs.Value.{Value}
 use Rattle.byte_format.specs.Order.{bytes_below, bytes_same, below_bound}
 use Rattle.leaf_view.specs.declared.done.Done.{Done}
 use Rattle.leaf_view.specs.Leaf.{Entry, Leaf}
@@ -8,10 +9,10 @@ use Rattle.leaf_view.specs.Leaf.{Entry, Leaf}
 abbrev pub holds : Leaf → List ℕ → Bool
 holds l key = not (bytes_below key l.low) && below_bound key l.high
 
--- the payload of the record with this key
-abbrev pub payload_of : List ℕ → List Entry → Option (List ℕ)
-payload_of key [] = None
-payload_of key (e ∷ es) = if bytes_same e.key key then Some e.payload else payload_of key es
+-- the value of the record with this key
+abbrev pub value_of : List ℕ → List Entry → Option Value
+value_of key [] = None
+value_of key (e ∷ es) = if bytes_same e.key key then Some e.value else value_of key es
 
 -- the number of the entry of a queue and client, 0 where there is none
 abbrev pub number_of : List Done → ℕ → ℕ → ℕ
@@ -34,4 +35,4 @@ page_at (suc n) = Some (suc n)
 
 -- the page 1 that was never put
 abbrev pub empty_leaf : Leaf
-empty_leaf = record { version = 0; low = []; right = 0; high = None; done = []; records = [] }
+empty_leaf = record { format = 2; version = 0; low = []; right = 0; high = None; done = []; records = [] }

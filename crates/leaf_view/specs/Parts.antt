@@ -11,4 +11,5 @@ pub record PartsLieIn (bytes : List ℕ) (l : Leaf) : Type 0 where
   pub low : LiesIn bytes l.low
   pub high : IfSome l.high (LiesIn bytes)
   pub keys : AllByRecursion (λ e. LiesIn bytes e.key) l.records
-  pub payloads : AllByRecursion (λ e. LiesIn bytes e.payload) l.records
+  pub payloads : AllByRecursion (λ e. LiesIn bytes e.value.payload) l.records
+  pub attrs : AllByRecursion (λ e. IfSome e.value.attr (LiesIn bytes)) l.records

@@ -6,9 +6,10 @@ use Rattle.leaf_view.specs.Fits.{IsWellFormed}
 
 -- the leaf of its fields and of its two lists
 abbrev pub leaf_with : Head → List ℕ → List ℕ → Leaf
-leaf_with h done records = record { version = h.version; low = h.low; right = h.right; high = h.high; done = items_in plain_done done; records = items_in plain_entry records }
+leaf_with h done records =
+    record { format = h.format; version = h.version; low = h.low; right = h.right; high = h.high; done = items_in plain_done done; records = items_in (plain_entry h.format) records }
 
 pub record IsSound (h : Head) (done records : List ℕ) : Type 0 where
   pub done_listed : IsListed plain_done done
-  pub records_listed : IsListed plain_entry records
+  pub records_listed : IsListed (plain_entry h.format) records
   pub formed : IsWellFormed (leaf_with h done records)

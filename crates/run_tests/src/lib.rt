@@ -4,6 +4,8 @@
 #[cfg(test)]
 mod additions;
 #[cfg(test)]
+mod attributes;
+#[cfg(test)]
 mod bench;
 #[cfg(test)]
 mod bytes;

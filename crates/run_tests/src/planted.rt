@@ -195,3 +195,40 @@ const READS: [(&[(Place, &[u8])], &[u8], &[u8]); 5] = [
 fn reads_and_reports_stop_at_foreign_bytes(rt: HostRuntime) {
     assert!(rt; all_reply(rt.alloc(), &READS));
 }
+
+/// Page 1 in format 1: one record, without an attribute.
+const OLD_LEAF: &[u8] =
+    b"\x4c\x01\x00\x00\x00\x00\x00\x00\x00\x01\x00\x00\x00\x00\x00\x00\x00\x00\x00\x01\x00\x00\x00\x00\x00\x00\x00\x00\x01\x00\x00\x00\x00\x00\x00\x00\x01\x00\x01\x01\x6b\x00\x01\x76\x00";
+
+/// The same page in format 2, behind one update of that record.
+const NEW_LEAF: &[u8] =
+    b"\x4c\x02\x00\x00\x00\x00\x00\x00\x00\x02\x00\x00\x00\x00\x00\x00\x00\x00\x00\x01\x00\x00\x00\x00\x00\x00\x00\x00\x01\x00\x00\x00\x00\x00\x00\x00\x01\x01\x00\x00\x00\x00\x00\x00\x00\x01\x01\x00\x00\x00\x00\x00\x00\x00\x01\x00\x01\x01\x6b\x00\x01\x77\x00\x00";
+
+/// The page is read, its record is updated, and a page checkpoint puts it.
+const REWRITING: &[u8] =
+    b"open 1 1\nrun 1\nread 1 1 6b\nrun 1\nupdate 1 1 6b 77\ncommit 1\nrun 1\npage 1 1 1\nrun 1\nreport 1\n";
+
+const REWRITING_OUT: &[u8] =
+    b"1 begun\n2 opened 1\n3 begun\n4 value 76\n5 noted\n6 begun\n7 committed 1\n8 begun\n9 done 1 1 0\n10 report 1\ncommitted 1\n1 1 1 update 6b 77\norder 1\n1 1 1 update 6b 77\ncontents 1\n6b 77\nleft 0 0\n";
+
+/// Whether a version of page 1 of tree 1 has these bytes.
+fn has_version(cloud: &MemoryCloud, version: u64, bytes: &[u8]) -> bool {
+    match TreeId::new(1) {
+        Ok(tree) => cloud.version(ObjName::Page(tree, PageId::first()), version) == Some(bytes),
+        Err(_) => false,
+    }
+}
+
+/// Whether a replay over a leaf of format 1 leaves it as it is, and puts the next version in format 2.
+fn rewrites(alloc: Global) -> bool {
+    let mut cloud = MemoryCloud::new(alloc);
+    plant_all(&mut cloud, &[(Place::Page(1), OLD_LEAF)])
+        && replay_over(alloc, REWRITING, Status::Done, REWRITING_OUT, &mut cloud)
+        && has_version(&cloud, 1, OLD_LEAF)
+        && has_version(&cloud, 2, NEW_LEAF)
+}
+
+#[test]
+fn puts_an_old_leaf_in_the_new_format(rt: HostRuntime) {
+    assert!(rt; rewrites(rt.alloc()));
+}

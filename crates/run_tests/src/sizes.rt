@@ -75,6 +75,25 @@ fn keeps_the_sizes(rt: HostRuntime) {
     assert!(rt; writes_parts(rt.alloc(), &SIZES, Status::Done, SIZES_OUT));
 }
 
+/// A key of 65 bytes, a payload of 1,025 and one of 1,024, each with an attribute of no byte.
+const SIZES_BEFORE: [(&[u8], usize); 7] = [
+    (b"open 1 1\nrun 1\ninsert 1 1 ", 1),
+    (b"61", 65),
+    (b" 76 -\ninsert 1 1 6b ", 1),
+    (b"62", 1_025),
+    (b" -\ninsert 1 1 6b ", 1),
+    (b"62", 1_024),
+    (b" -\n", 1),
+];
+
+const SIZES_BEFORE_OUT: &[u8] =
+    b"1 begun\n2 opened 1\n3 refused 2 long-key\n4 refused 3 long-payload\n5 refused 11 bad-attr\n";
+
+#[test]
+fn refuses_an_attribute_last(rt: HostRuntime) {
+    assert!(rt; writes_parts(rt.alloc(), &SIZES_BEFORE, Status::Done, SIZES_BEFORE_OUT));
+}
+
 /// Adds an insert of the key whose hexadecimal digits are those of a number.
 fn add_insert(alloc: Global, input: &mut Vec<u8>, key: u64) -> bool {
     match format!(in alloc; "insert 1 1 {key} 76\n") {

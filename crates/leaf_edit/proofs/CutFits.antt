@@ -112,7 +112,7 @@ left-formed n right l some less page small h = record {
   done = h.done;
   done_ascends = h.done_ascends;
   records = weaken (IsEntryIn l.low l.high) (λ e. IsTrue (bytes_below e.key (first_key (drop n l.records)))) (IsEntryIn l.low (Some (first_key (drop n l.records)))) (take n l.records)
-      (λ e is below. record { key = is.key; payload = is.payload; from_low = is.from_low; to_high = below })
+      (λ e is below. record { key = is.key; payload = is.payload; attr = is.attr; from_low = is.from_low; to_high = below })
       (all-take (IsEntryIn l.low l.high) n l.records h.records) (take-below None n l.records less h.records_ascend);
   records_ascend = ascend-take None n l.records h.records_ascend;
 }
@@ -129,7 +129,7 @@ right-formed n l less h = record {
   done = h.done;
   done_ascends = h.done_ascends;
   records = weaken (IsEntryIn l.low l.high) (λ e. IsTrue (not (bytes_below e.key (first_key (drop n l.records))))) (IsEntryIn (first_key (drop n l.records)) l.high) (drop n l.records)
-      (λ e is from. record { key = is.key; payload = is.payload; from_low = from; to_high = is.to_high })
+      (λ e is from. record { key = is.key; payload = is.payload; attr = is.attr; from_low = from; to_high = is.to_high })
       (all-drop (IsEntryIn l.low l.high) n l.records h.records) (from-first (drop n l.records) (ascend-drop None n l.records h.records_ascend));
   records_ascend = ascend-drop None n l.records h.records_ascend;
 }

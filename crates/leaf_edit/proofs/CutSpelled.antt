@@ -20,7 +20,7 @@ pub left-spelled : (l : Leaf) (n right : ℕ) (o a b c d : List ℕ) (version : 
     → a ≡ o ++ fields_bytes version low page (Some key) → b ≡ a ++ dones_before ds [] → c ≡ b ++ 0 ∷ [] → d ≡ c ++ entries_bytes (take n rs)
     → IsLeaf d (left_part n right l)
 left-spelled l n right o a b c d version low key page ds rs is h some less one most ho hv hlow hpage hkey hds hrs ha hb hc hd =
-    parts-spell (left_part n right l) o a b c d is (left-formed n right l some less one most h) ho
+    parts-spell (left_part n right l) o a b c d refl is (left-formed n right l some less one most h) ho
     (ha ∙ ap (λ x. o ++ x) (fields-same version l.version low l.low page right (Some key) (Some (first_key (drop n l.records))) hv hlow hpage (ap (λ k. Some k) hkey)))
     (hb ∙ ap (λ ds. a ++ dones_before ds []) hds) hc (hd ∙ ap (λ rs. c ++ entries_bytes (take n rs)) hrs)
 
@@ -30,7 +30,7 @@ pub right-spelled : (l : Leaf) (n : ℕ) (o a b c d : List ℕ) (key : List ℕ)
     → a ≡ o ++ fields_bytes 1 key right high → b ≡ a ++ dones_before ds [] → c ≡ b ++ 0 ∷ [] → d ≡ c ++ entries_bytes rest
     → IsLeaf d (right_part n l)
 right-spelled l n o a b c d key right high ds rest h less ho hkey hright hhigh hds hrest ha hb hc hd =
-    parts-spell (right_part n l) o a b c d (record { some = omega arith; most = omega arith }) (right-formed n l less h) ho
+    parts-spell (right_part n l) o a b c d refl (record { some = omega arith; most = omega arith }) (right-formed n l less h) ho
     (ha ∙ ap (λ x. o ++ x) (fields-same 1 1 key (first_key (drop n l.records)) right l.right high l.high refl hkey hright hhigh))
     (hb ∙ ap (λ ds. a ++ dones_before ds []) hds) hc (hd ∙ ap (λ rs. c ++ entries_bytes rs) hrest)
 

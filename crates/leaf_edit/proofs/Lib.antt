@@ -6,11 +6,11 @@ pub mod Edits
 pub mod Folding
 pub mod HeadBytes
 pub mod InOrder
-pub mod Payloads
 pub mod Sizes
 pub mod Spelled
 pub mod Spellings
 pub mod Stepping
 pub mod TableFits
 pub mod TableNumbers
+pub mod Values
 pub mod Whole

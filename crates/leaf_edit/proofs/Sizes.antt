@@ -13,11 +13,11 @@ use Rattle.leaf_edit.specs.Applied.{applied, applied_length}
 use Rattle.leaf_edit.specs.Edited.{edited_by}
 use Rattle.leaf_edit.specs.Lacked.{lacked}
 use Rattle.leaf_edit.specs.Raised.{AreRaised, own_entries, raised, raised_number, with_done}
-use Rattle.leaf_edit.specs.Sizes.{high_size, fields_size, dones_size, entry_size, entries_size, leaf_size, IsSize}
+use Rattle.leaf_edit.specs.Sizes.{high_size, fields_size, dones_size, attr_size, entry_size, entries_size, leaf_size, IsSize}
 use Rattle.leaf_edit.proofs.DoneBytes.{dones_before-rest, next-own}
 use Rattle.leaf_edit.proofs.Spellings.{leaf-spelled}
 use Rattle.leaf_edit.proofs.Whole.{head-is}
-use Rattle.leaf_edit.specs.Spelled.{high_bytes, fields_bytes, head_bytes, done_bytes, dones_before, entry_bytes, entries_bytes, is_beside}
+use Rattle.leaf_edit.specs.Spelled.{high_bytes, fields_bytes, head_bytes, done_bytes, dones_before, attr_bytes, entry_bytes, entries_bytes, is_beside}
 
 -- ---- what is appended takes so much of the room
 
@@ -49,8 +49,18 @@ pub dones-size-append : (ds es : List Done) → dones_size (ds ++ es) ≡ dones_
 dones-size-append [] es = omega arith
 dones-size-append (d ∷ ds) es = omega (arith, dones-size-append ds es)
 
+pub attr-size : (attr : Option (List ℕ)) → length (attr_bytes attr) ≡ 1 + attr_size attr
+attr-size None = refl
+attr-size (Some attr) = omega arith
+
 pub entry-size : (e : Entry) → length (entry_bytes e) ≡ entry_size e
-entry-size e = omega (arith, length-append e.key (to_be_bytes w16 (length e.payload) ++ e.payload))
+entry-size e =
+    omega (
+      arith,
+      length-append e.key ((to_be_bytes w16 (length e.value.payload) ++ e.value.payload) ++ attr_bytes e.value.attr),
+      length-append e.value.payload (attr_bytes e.value.attr),
+      attr-size e.value.attr,
+    )
 
 pub entries-size : (es : List Entry) → length (entries_bytes es) ≡ entries_size es
 entries-size [] = refl
@@ -124,9 +134,9 @@ table-behind ds l queue run old new same room added =
 
 -- ---- a leaf
 
-pub leaf-size : (l : Leaf) → length (leaf.spelling l) ≡ leaf_size l
-leaf-size l =
-    ap (λ b. length b) (leaf-spelled l
+pub leaf-size : (l : Leaf) → l.format ≡ 2 → length (leaf.spelling l) ≡ leaf_size l
+leaf-size l format =
+    ap (λ b. length b) (leaf-spelled l format
     ∙ (ap (λ h. h ++ dones_before l.done (0 ∷ entries_bytes l.records)) (sym (head-is l l.version))
     ∙ ap (λ d. head_bytes l l.version ++ d) (dones_before-rest l.done (0 ∷ entries_bytes l.records))))
     ∙ omega (
@@ -142,7 +152,7 @@ leaf-size l =
 
 pub room-whole : (l : Leaf) (queue : ℕ) (run : List PuItem) (out : Vec ℕ) → out.items ≡ [] → applied_length l queue run ≤ vec_capacity out
     → vec_len out + (fields_size l.low l.high + (dones_size (raised l.done queue run) + (1 + entries_size (edited_by l.records (lacked l queue run))))) ≤ vec_capacity out
-room-whole l queue run out empty room = omega (arith, leaf-size (applied l queue run), out.ok.0, ap (λ bytes. length bytes) empty)
+room-whole l queue run out empty room = omega (arith, leaf-size (applied l queue run) refl, out.ok.0, ap (λ bytes. length bytes) empty)
 
 -- behind the head
 pub room-table : (l : Leaf) (queue : ℕ) (run : List PuItem) (version : ℕ) (out a : Vec ℕ) → out.items ≡ [] → applied_length l queue run ≤ vec_capacity out

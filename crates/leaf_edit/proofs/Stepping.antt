@@ -3,13 +3,14 @@ use Rattle.std.proofs.Common.{◌≡◌, ℕ, ◌+◌, ◌<◌, true, List, [], 
 use Rattle.std.specs.Option.{IfSome, option_to_list}
 use Rattle.std.specs.declared.cmp.Ordering.TheVariants.{Less, Equal, Greater}
 use Rattle.std.specs.Ordering.{is_lt}
-use Rattle.db_base.specs.Key.{IsKey, IsPayload}
+use Rattle.db_base.specs.Key.{IsKey}
 use Rattle.db_base.specs.Change.{key_of, act}
+use Rattle.db_base.specs.Value.{Value}
 use Rattle.byte_format.specs.Order.{bytes_below, bytes_cmp}
 use Rattle.leaf_view.specs.Leaf.{Entry}
 use Rattle.log_codec.specs.declared.record.PuItem.{PuItem}
-use Rattle.leaf_edit.specs.Edited.{with_payload, edited_by}
-use Rattle.leaf_edit.specs.Merging.{KeyBefore, entry_at, IsSized, AreRecords, AreChanges, AllAbove, Folds, Steps}
+use Rattle.leaf_edit.specs.Edited.{with_value, edited_by}
+use Rattle.leaf_edit.specs.Merging.{KeyBefore, entry_at, IsValue, IsSized, AreRecords, AreChanges, AllAbove, Folds, Steps}
 use Rattle.leaf_edit.proofs.Ascends.{Ascend-first, equal_same, greater_below}
 use Rattle.leaf_edit.proofs.Edits.{acts, passes}
 use Rattle.leaf_edit.proofs.InOrder.{above-from}
@@ -33,13 +34,13 @@ step-record e es xs records changes above = record {
     h = records
 
 -- the record at the key of the first change is folded
-pub step-folded : (old : Option (List ℕ)) (es : List Entry) (x : PuItem) (xs : List PuItem) (new : Option (List ℕ)) (rest : List PuItem)
+pub step-folded : (old : Option Value) (es : List Entry) (x : PuItem) (xs : List PuItem) (new : Option Value) (rest : List PuItem)
     → AreRecords es → KeyBefore (key_of x.rec.change) es → IsKey (key_of x.rec.change)
     → Folds (key_of x.rec.change) (act old x.rec.change) xs new rest
-    → Steps (with_payload (key_of x.rec.change) old es) (x ∷ xs) (entry_at (key_of x.rec.change) new) es rest
+    → Steps (with_value (key_of x.rec.change) old es) (x ∷ xs) (entry_at (key_of x.rec.change) new) es rest
 step-folded old es x xs new rest records before is_key h = record {
   is = ap (λ l. edited_by l xs) (acts key old es x.rec.change refl before) ∙ (h.is es before ∙ front new);
-  sized = sized new h.payload;
+  sized = sized new h.value;
   records = records;
   changes = h.changes;
   shorter = shorter old;
@@ -48,15 +49,15 @@ step-folded old es x xs new rest records before is_key h = record {
     key : List ℕ
     key = key_of x.rec.change
 
-    front : (new : Option (List ℕ)) → edited_by (with_payload key new es) rest ≡ option_to_list (entry_at key new) ++ edited_by es rest
+    front : (new : Option Value) → edited_by (with_value key new es) rest ≡ option_to_list (entry_at key new) ++ edited_by es rest
     front None = refl
-    front (Some p) = passes (record { key = key; payload = p }) es rest h.above
+    front (Some v) = passes (record { key = key; value = v }) es rest h.above
 
-    sized : (new : Option (List ℕ)) → IfSome new IsPayload → IfSome (entry_at key new) IsSized
+    sized : (new : Option Value) → IfSome new IsValue → IfSome (entry_at key new) IsSized
     sized None is = tt
-    sized (Some p) is = record { key = is_key; payload = is }
+    sized (Some v) is = record { key = is_key; value = is }
 
-    shorter : (old : Option (List ℕ)) → length es + length rest < length (with_payload key old es) + length (x ∷ xs)
+    shorter : (old : Option Value) → length es + length rest < length (with_value key old es) + length (x ∷ xs)
     shorter None = omega (arith, h.shorter)
     shorter (Some p) = omega (arith, h.shorter)
 
@@ -94,12 +95,12 @@ steps-less rs e es cs x xs k' split h splits changes same is =
 
 pub steps-equal : (rs : List Entry) (e : Entry) (es : List Entry) (cs cs' : List PuItem) (k k' : List ℕ) (known : Option Entry) (es' : List Entry) (xs' : List PuItem)
     → rs ≡ e ∷ es → cs ≡ cs' → k' ≡ k → Equal ≡ bytes_cmp e.key k'
-    → Steps (with_payload k (Some e.payload) es) cs' known es' xs' → Steps rs cs known es' xs'
+    → Steps (with_value k (Some e.value) es) cs' known es' xs' → Steps rs cs known es' xs'
 steps-equal rs e es cs cs' k k' known es' xs' split splits same is h =
     let same' : e.key ≡ k = equal_same e.key k' (sym is) ∙ same in
     let P : List Entry → Type 0 = λ rs. Steps rs cs known es' xs' in
-    let C : List PuItem → Type 0 = λ cs. Steps (with_payload k (Some e.payload) es) cs known es' xs' in
-    subst P (ap (λ k. record { key = k; payload = e.payload } ∷ es) (sym same') ∙ sym split) (subst C (sym splits) h)
+    let C : List PuItem → Type 0 = λ cs. Steps (with_value k (Some e.value) es) cs known es' xs' in
+    subst P (ap (λ k. record { key = k; value = e.value } ∷ es) (sym same') ∙ sym split) (subst C (sym splits) h)
 
 -- no change is left, and what is handed on is none too
 pub steps-record : (rs : List Entry) (e : Entry) (es : List Entry) (cs left : List PuItem) → rs ≡ e ∷ es → AreRecords rs → cs ≡ [] → left ≡ cs

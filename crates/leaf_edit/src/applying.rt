@@ -12,7 +12,7 @@ use leaf_view::LeafView;
 use log_codec::record::PuItem;
 use std::alloc::Global;
 
-/// The next version of a leaf, with those items of a run applied that it lacks, in the run's order.
+/// The next version of a leaf, in format 2 whatever was read, with those items of a run applied that it lacks, in the run's order.
 ///
 /// What is done of the queue is raised to each client's greatest number in the run; fences and right page stay.
 pub fn apply(

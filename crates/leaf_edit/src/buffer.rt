@@ -2,11 +2,11 @@
 
 use db_base::blob::Blob;
 use db_base::pair::EditFault;
-use leaf_view::{LeafView, NotLeaf};
+use leaf_view::LeafView;
 use std::alloc::Global;
 use std::marker::Model;
 
-/// A leaf that owns the bytes that spell it.
+/// A leaf that owns the bytes that spell it, in format 2: the one in which leaves are written.
 pub struct LeafBuf {
     bytes: Vec<u8>,
 }
@@ -18,37 +18,26 @@ impl Drop for LeafBuf {
 }
 
 impl Model for LeafBuf {
-    ghost use Rattle.leaf_view.specs.Leaf.{Leaf, IsLeaf};
-    ghost use Rattle.leaf_edit.specs.Buffer.{leaf_in};
+    ghost use Rattle.leaf_view.specs.Leaf.{Leaf};
+    ghost use Rattle.leaf_edit.specs.Buffer.{leaf_in, IsWritten};
 
     ghost Value = { Leaf };
 
     ghost view = { λ b. leaf_in b.bytes.items };
 
-    ghost invariant = { λ b. IsLeaf b.bytes.items (leaf_in b.bytes.items) };
+    ghost invariant = { λ b. IsWritten b.bytes.items };
 }
 
 impl LeafBuf {
-    ghost use Rattle.std.specs.Prelude.{◌≡◌, ℕ, length, Ok, IfOk, IfErr};
-    ghost use Rattle.byte_format.specs.Whole.{offset};
-    ghost use Rattle.leaf_view.specs.Leaf.{Leaf, IsLeaf, leaf};
+    ghost use Rattle.std.specs.Prelude.{◌≡◌, length, IfOk, IfErr};
+    ghost use Rattle.leaf_view.specs.Leaf.{IsLeaf};
     ghost use Rattle.leaf_view.specs.Fits.{IsVersion};
-    ghost use Rattle.leaf_edit.specs.Buffer.{leaf_in};
+    ghost use Rattle.leaf_edit.specs.Buffer.{leaf_in, IsWritten};
     ghost use Rattle.db_base.specs.declared.pair.EditFault.TheVariants.{Memory};
 
-    /// The leaf that the bytes spell, all of the bytes. Takes no memory.
-    pub fn read(bytes: Vec<u8>) -> Result<LeafBuf, NotLeaf>
-        ensures found { IfOk result (λ l. IsLeaf bytes.items l) }
-        ensures only { (l : Leaf) → IsLeaf bytes.items l → result ≡ Ok l }
-        ensures offset { IfErr result (λ e. e.offset ≡ offset leaf bytes.items) }
-    {
-        LeafView::read(&bytes)?;
-        Ok(LeafBuf { bytes })
-    }
-
-    /// The leaf of bytes that spell one.
+    /// The leaf of bytes that spell one in format 2.
     pub(crate) fn of(bytes: Vec<u8>) -> LeafBuf
-        requires { IsLeaf bytes.items (leaf_in bytes.items) }
+        requires { IsWritten bytes.items }
         ensures { result ≡ leaf_in bytes.items }
     {
         LeafBuf { bytes }
@@ -57,6 +46,7 @@ impl LeafBuf {
     /// The leaf, borrowed.
     pub fn view(&self) -> LeafView<'_>
         ensures view { result ≡ self.now }
+        ensures format { self.now.format ≡ 2 }
         ensures version { IsVersion self.now.version }
     {
         LeafView::known(&self.bytes)
@@ -79,7 +69,8 @@ impl LeafBuf {
 
     /// Its spelling. Takes no memory.
     pub fn into_blob(self) -> Blob
-        ensures { IsLeaf result self }
+        ensures leaf { IsLeaf result self }
+        ensures format { self.format ≡ 2 }
     {
         let LeafBuf { bytes } = self;
         Blob::of(bytes)

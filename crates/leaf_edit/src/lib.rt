@@ -15,5 +15,5 @@ mod table;
 pub use applying::apply;
 pub use buffer::LeafBuf;
 pub use count::fresh;
-pub use laws::payloads_follow_changes;
+pub use laws::values_follow_changes;
 pub use merging::{VersionSpent, merge, need};

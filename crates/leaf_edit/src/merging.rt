@@ -6,7 +6,7 @@ ghost use Rattle.std.specs.Vec.{vec_capacity};
 ghost use Rattle.byte_format.specs.Adds.{Adds};
 ghost use Rattle.leaf_view.specs.Leaf.{IsLeaf};
 ghost use Rattle.log_codec.specs.Order.{IsOrdered};
-ghost use Rattle.leaf_view.specs.Shown.{valued};
+ghost use Rattle.leaf_view.specs.Shown.{shown};
 ghost use Rattle.leaf_edit.specs.Applied.{applied, applied_length};
 ghost use Rattle.leaf_edit.specs.Edited.{edited_by};
 ghost use Rattle.leaf_edit.specs.Merging.{AreChanges, AreRecords, IsSized};
@@ -36,23 +36,23 @@ fn add_head(out: &mut Vec<u8>, leaf: &LeafView<'_>, version: u64)
 
 /// How many bytes a record has, where there is one.
 fn record_len(next: &Option<(&[u8], Value<'_>)>) -> usize
-    requires { IfSome (option_map valued next.now) IsSized }
-    ensures { result ≡ entry_size_of (option_map valued next.now) }
+    requires { IfSome (option_map shown next.now) IsSized }
+    ensures { result ≡ entry_size_of (option_map shown next.now) }
 {
     match next {
-        Some((key, value)) => entry_len(key, value.bytes()),
+        Some((key, value)) => entry_len(key, value),
         None => 0,
     }
 }
 
 /// Appends a record, where there is one.
 fn add_record(out: &mut Vec<u8>, next: &Option<(&[u8], Value<'_>)>)
-    requires sized { IfSome (option_map valued next.now) IsSized }
-    requires room { vec_len out.old + entry_size_of (option_map valued next.now) ≤ vec_capacity out.old }
-    ensures { Adds out.old out.new (entry_bytes_of (option_map valued next.now)) }
+    requires sized { IfSome (option_map shown next.now) IsSized }
+    requires room { vec_len out.old + entry_size_of (option_map shown next.now) ≤ vec_capacity out.old }
+    ensures { Adds out.old out.new (entry_bytes_of (option_map shown next.now)) }
 {
     match next {
-        Some((key, value)) => add_entry(out, key, value.bytes()),
+        Some((key, value)) => add_entry(out, key, value),
         None => (),
     }
 }
@@ -91,7 +91,7 @@ fn add_records<'a>(out: &mut Vec<u8>, records: Records<'a>, changes: Changes<'a>
     add_u8(out, 0);
 }
 
-/// How many bytes `merge` needs: the length of the leaf behind the run. `None` where it is above the greatest usize.
+/// How many bytes `merge` needs: the length of the leaf behind the run, in format 2. `None` where it is above the greatest usize.
 /// Takes no memory.
 pub fn need(leaf: &LeafView<'_>, queue: u64, run: &[PuItem]) -> Option<usize>
     requires { IsOrdered run.now }
@@ -103,7 +103,7 @@ pub fn need(leaf: &LeafView<'_>, queue: u64, run: &[PuItem]) -> Option<usize>
     records_len(table, leaf.records(), Changes::of(leaf, queue, &done, run))
 }
 
-/// Writes the leaf behind a run, the one that `apply` gives, into room that is there. Takes no memory.
+/// Writes the leaf behind a run, the one that `apply` gives, in format 2, into room that is there. Takes no memory.
 ///
 /// Where the leaf has no next version, nothing changes.
 pub fn merge(

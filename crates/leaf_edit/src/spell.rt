@@ -4,17 +4,22 @@ ghost use Rattle.std.specs.Prelude.{◌++◌, ◌≡◌, ◌+◌, ◌≤◌, IfS
 ghost use Rattle.std.specs.Option.{option_copied};
 ghost use Rattle.std.specs.Vec.{vec_capacity};
 ghost use Rattle.byte_format.specs.Adds.{Adds};
-ghost use Rattle.leaf_view.specs.Leaf.{entry_of};
+ghost use Rattle.db_base.specs.Key.{IsAttr};
+ghost use Rattle.leaf_view.specs.Shown.{shown};
 ghost use Rattle.leaf_edit.specs.Merging.{IsSized};
-ghost use Rattle.leaf_edit.specs.Sizes.{entry_size, fields_size, high_size};
-ghost use Rattle.leaf_edit.specs.Spelled.{done_bytes, entry_bytes, fields_bytes, high_bytes};
+ghost use Rattle.leaf_edit.specs.Sizes.{attr_size, entry_size, fields_size, high_size};
+ghost use Rattle.leaf_edit.specs.Spelled.{attr_bytes, done_bytes, entry_bytes, fields_bytes, high_bytes};
 
 use byte_format::{add_text8, add_text16, add_u8, add_u64};
+use db_base::value::Value;
 use leaf_view::{Done, LeafView};
 use std::alloc::AllocError;
 
 /// How many bytes an entry of the table has, with the byte that says that it is there.
 pub(crate) const DONE_LEN: usize = 18;
+
+/// The format in which leaves are written.
+const FORMAT: u8 = 2;
 
 /// The number of the page to the right, 0 where there is none.
 pub(crate) fn right_of(leaf: &LeafView<'_>) -> u64
@@ -73,7 +78,7 @@ pub(crate) fn add_fields(
     ensures { Adds out.old out.new (fields_bytes version low.now right (option_copied high.entry)) }
 {
     add_u8(out, 76);
-    add_u8(out, 1);
+    add_u8(out, FORMAT);
     add_u64(out, version);
     add_text8(out, low);
     add_u64(out, right);
@@ -91,23 +96,51 @@ pub(crate) fn add_done(out: &mut Vec<u8>, entry: &Done)
     add_u64(out, entry.number);
 }
 
-/// How many bytes a record has, with the byte that says that it is there.
-pub(crate) fn entry_len(key: &[u8], payload: &[u8]) -> usize
-    requires { IsSized (entry_of (key.now, payload.now)) }
-    ensures { result ≡ entry_size (entry_of (key.now, payload.now)) }
+/// How many bytes an attribute has, with its length before it, where there is one.
+fn attr_len(attr: Option<&[u8]>) -> usize
+    requires { IfSome (option_copied attr) IsAttr }
+    ensures size { result ≡ attr_size (option_copied attr.entry) }
+    ensures short { result ≤ 33 }
 {
-    4 + key.len() + payload.len()
+    match attr {
+        Some(attr) => 1 + attr.len(),
+        None => 0,
+    }
+}
+
+/// How many bytes a record has, with the byte that says that it is there.
+pub(crate) fn entry_len(key: &[u8], value: &Value<'_>) -> usize
+    requires { IsSized (shown (key, value.now)) }
+    ensures { result ≡ entry_size (shown (key, value.now)) }
+{
+    5 + key.len() + value.payload().len() + attr_len(value.attr())
+}
+
+/// Appends an attribute, where there is one, behind the byte that says whether it is there.
+fn add_attr(out: &mut Vec<u8>, attr: Option<&[u8]>)
+    requires short { IfSome (option_copied attr) IsAttr }
+    requires room { vec_len out.old + (1 + attr_size (option_copied attr)) ≤ vec_capacity out.old }
+    ensures { Adds out.old out.new (attr_bytes (option_copied attr.entry)) }
+{
+    match attr {
+        Some(attr) => {
+            add_u8(out, 1);
+            add_text8(out, attr);
+        }
+        None => add_u8(out, 0),
+    }
 }
 
 /// Appends a record, with the byte that says that it is there.
-pub(crate) fn add_entry(out: &mut Vec<u8>, key: &[u8], payload: &[u8])
-    requires sized { IsSized (entry_of (key.now, payload.now)) }
-    requires room { vec_len out.old + entry_size (entry_of (key.now, payload.now)) ≤ vec_capacity out.old }
-    ensures { Adds out.old out.new (entry_bytes (entry_of (key.now, payload.now))) }
+pub(crate) fn add_entry(out: &mut Vec<u8>, key: &[u8], value: &Value<'_>)
+    requires sized { IsSized (shown (key, value.now)) }
+    requires room { vec_len out.old + entry_size (shown (key, value.now)) ≤ vec_capacity out.old }
+    ensures { Adds out.old out.new (entry_bytes (shown (key, value.now))) }
 {
     add_u8(out, 1);
     add_text8(out, key);
-    add_text16(out, payload);
+    add_text16(out, value.payload());
+    add_attr(out, value.attr());
 }
 
 /// Appends what stands before the lists of a leaf.
@@ -137,11 +170,11 @@ pub(crate) fn try_add_done(out: &mut Vec<u8>, entry: &Done) -> Result<(), AllocE
 }
 
 /// Appends a record, with the byte that says that it is there.
-pub(crate) fn try_add_entry(out: &mut Vec<u8>, key: &[u8], payload: &[u8]) -> Result<(), AllocError>
-    requires { IsSized (entry_of (key.now, payload.now)) }
-    ensures { OnOk result (out.new.items ≡ out.old.items ++ entry_bytes (entry_of (key.now, payload.now))) }
+pub(crate) fn try_add_entry(out: &mut Vec<u8>, key: &[u8], value: &Value<'_>) -> Result<(), AllocError>
+    requires { IsSized (shown (key, value.now)) }
+    ensures { OnOk result (out.new.items ≡ out.old.items ++ entry_bytes (shown (key, value.now))) }
 {
-    out.reserve(entry_len(key, payload))?;
-    add_entry(out, key, payload);
+    out.reserve(entry_len(key, value))?;
+    add_entry(out, key, value);
     Ok(())
 }

@@ -2,12 +2,12 @@
 
 ghost use Rattle.std.specs.Prelude.{◌≡◌, [], ◌∷◌, IfSome, MatchOption};
 ghost use Rattle.std.specs.Option.{option_map};
-ghost use Rattle.db_base.specs.Key.{IsKey, IsPayload};
-ghost use Rattle.db_base.specs.Change.{key_of, act, payload_set_by};
+ghost use Rattle.db_base.specs.Key.{IsKey};
+ghost use Rattle.db_base.specs.Change.{key_of, act, IsChange};
 ghost use Rattle.byte_format.specs.Order.{bytes_same};
-ghost use Rattle.leaf_view.specs.Shown.{shown, valued};
-ghost use Rattle.leaf_edit.specs.Edited.{edited_by, with_payload};
-ghost use Rattle.leaf_edit.specs.Merging.{AllFrom, AreChanges, AreRecords, entry_at, Folds, KeyBefore, Steps};
+ghost use Rattle.leaf_view.specs.Shown.{shown};
+ghost use Rattle.leaf_edit.specs.Edited.{edited_by, with_value};
+ghost use Rattle.leaf_edit.specs.Merging.{AllFrom, AreChanges, AreRecords, entry_at, Folds, IsValue, KeyBefore, Steps};
 
 use crate::changes::Changes;
 use byte_format::is_same;
@@ -24,7 +24,7 @@ fn is_at(x: &PuItem, key: &[u8]) -> bool
     is_same(key_at(x), key)
 }
 
-/// The payload of the key behind the changes of it that come first, and the changes behind those.
+/// The value at the key behind the changes of it that come first, and the changes behind those.
 fn fold_key<'a>(
     key: &[u8],
     old: Option<Value<'a>>,
@@ -32,19 +32,19 @@ fn fold_key<'a>(
 ) -> (Option<Value<'a>>, Changes<'a>)
     requires changes { AreChanges changes }
     requires from { AllFrom key.now changes }
-    requires payload { IfSome old IsPayload }
+    requires value { IfSome old IsValue }
     ensures { Folds key.now old.entry changes.entry result.0 result.1 }
 {
-    let mut payload = old;
+    let mut value = old;
     let mut left = changes;
     while let Some(x) = left.again().split() {
         if !is_at(x.item, key) {
-            return (payload, x.all);
+            return (value, x.all);
         }
-        payload = act(payload, &x.item.rec.change);
+        value = act(value, &x.item.rec.change);
         left = x.rest;
     }
-    (payload, left)
+    (value, left)
 }
 
 /// What comes next, unless a change removed it, and what is left of the records and of the changes.
@@ -55,7 +55,7 @@ pub(crate) struct Step<'a> {
     pub(crate) changes: Changes<'a>,
 }
 
-/// The step at a key, from its payload, its first change and those behind that, and the records behind the key.
+/// The step at a key, from its value, its first change and those behind that, and the records behind the key.
 fn folded<'a>(
     x: &'a PuItem,
     old: Option<Value<'a>>,
@@ -65,15 +65,15 @@ fn folded<'a>(
     requires records { AreRecords records }
     requires changes { AreChanges (x.now ∷ rest) }
     requires before { KeyBefore (key_of x.now.rec.change) records }
-    requires payload { IfSome old IsPayload }
-    ensures { Steps (with_payload (key_of x.now.rec.change) old.entry records.entry) (x.now ∷ rest.entry)
-        (option_map valued result.record) result.records result.changes }
+    requires value { IfSome old IsValue }
+    ensures { Steps (with_value (key_of x.now.rec.change) old.entry records.entry) (x.now ∷ rest.entry)
+        (option_map shown result.record) result.records result.changes }
 {
     let key = key_at(x);
-    let payload = act_sized(old, &x.rec.change);
-    let (payload, changes) = fold_key(key, payload, rest);
+    let value = act_sized(old, &x.rec.change);
+    let (value, changes) = fold_key(key, value, rest);
     Step {
-        record: entry_at(key, payload),
+        record: entry_at(key, value),
         records,
         changes,
     }
@@ -87,16 +87,9 @@ fn key_at(x: &PuItem) -> &[u8]
     x.rec.change.key().as_slice()
 }
 
-/// A record that stays as it is.
-fn kept<'a>(pair: (&'a [u8], &'a [u8])) -> (&'a [u8], Value<'a>)
-    ensures { valued result ≡ shown pair.entry }
-{
-    (pair.0, Value::of(pair.1))
-}
-
-/// The record of a key, where there is a payload.
+/// The record of a key, where there is a value.
 fn entry_at<'a>(key: &'a [u8], value: Option<Value<'a>>) -> Option<(&'a [u8], Value<'a>)>
-    ensures { option_map valued result ≡ entry_at key.now value.entry }
+    ensures { option_map shown result ≡ entry_at key.now value.entry }
 {
     match value {
         Some(value) => Some((key, value)),
@@ -104,12 +97,12 @@ fn entry_at<'a>(key: &'a [u8], value: Option<Value<'a>>) -> Option<(&'a [u8], Va
     }
 }
 
-/// The payload after a change, which is a payload where the one before is.
+/// The value after a change, which has a spelling where the one before has.
 fn act_sized<'a>(old: Option<Value<'a>>, change: &'a Change) -> Option<Value<'a>>
-    requires old { IfSome old IsPayload }
-    requires payload { IsPayload (payload_set_by change.now) }
+    requires old { IfSome old IsValue }
+    requires change { IsChange change.now }
     ensures act { result ≡ act old.entry change.now }
-    ensures payload { IfSome result IsPayload }
+    ensures value { IfSome result IsValue }
 {
     act(old, change)
 }
@@ -124,17 +117,17 @@ fn at_change<'a>(
     requires records { AreRecords records }
     requires split { changes ≡ x.now ∷ rest }
     requires changes { AreChanges changes }
-    ensures { Steps records.entry changes.entry (option_map valued result.record) result.records result.changes }
+    ensures { Steps records.entry changes.entry (option_map shown result.record) result.records result.changes }
 {
     match records.again().split() {
         None => folded(x, None, rest, records),
         Some((record, behind)) => match record.0.cmp(key_at(x)) {
             Ordering::Less => Step {
-                record: Some(kept(record)),
+                record: Some(record),
                 records: behind,
                 changes,
             },
-            Ordering::Equal => folded(x, Some(Value::of(record.1)), rest, behind),
+            Ordering::Equal => folded(x, Some(record.1), rest, behind),
             Ordering::Greater => folded(x, None, rest, records),
         },
     }
@@ -145,13 +138,13 @@ pub(crate) fn next_step<'a>(records: Records<'a>, changes: Changes<'a>) -> Optio
     requires records { AreRecords records }
     requires changes { AreChanges changes }
     ensures { MatchOption result (edited_by records.entry changes.entry ≡ [])
-        (λ s. Steps records.entry changes.entry (option_map valued s.record) s.records s.changes) }
+        (λ s. Steps records.entry changes.entry (option_map shown s.record) s.records s.changes) }
 {
     match changes.again().split() {
         None => match records.split() {
             None => None,
             Some((record, behind)) => Some(Step {
-                record: Some(kept(record)),
+                record: Some(record),
                 records: behind,
                 changes: changes.ended(),
             }),

@@ -1,12 +1,12 @@
-use Rattle.std.proofs.Common.{sym, subst, ◌∙◌}
+use Rattle.std.proofs.Common.{refl, sym, subst, ◌∙◌}
 use Rattle.leaf_view.specs.Leaf.{Leaf}
 use Rattle.leaf_edit.specs.Raised.{RaisesNumbers}
-use Rattle.leaf_edit.proofs.Spelled.{leaf_in_is, spells_it}
+use Rattle.leaf_edit.proofs.Spelled.{leaf_in_is, written}
 use Rattle.leaf_edit.proofs.TableNumbers.{raises}
 use Rattle.leaf_edit.proofs.applying.apply.Goals as goal
 
 pub of-requires : goal.of-requires
-of-requires c = spells_it _ _ c.in-Ok.ensures.spelled
+of-requires c = written _ _ c.in-Ok.ensures.spelled refl
 
 pub returns-in-Ok-clause-ok : goal.returns-in-Ok-clause-ok
 returns-in-Ok-clause-ok c = c.of.ensures ∙ leaf_in_is _ _ c.in-Ok.ensures.spelled

@@ -1,9 +1,9 @@
-use Rattle.std.proofs.Common.{◌∙◌}
-use Rattle.leaf_edit.proofs.Spelled.{leaf_in_is, spells_it}
+use Rattle.std.proofs.Common.{refl, ◌∙◌}
+use Rattle.leaf_edit.proofs.Spelled.{leaf_in_is, written}
 use Rattle.leaf_edit.proofs.cut.right_leaf.Goals as goal
 
 pub of-requires : goal.of-requires
-of-requires c = spells_it _ _ c.in_ok-spell_right.ensures
+of-requires c = written _ _ c.in_ok-spell_right.ensures refl
 
 pub returns : goal.returns
 returns c = c.of.ensures ∙ leaf_in_is _ _ c.in_ok-spell_right.ensures

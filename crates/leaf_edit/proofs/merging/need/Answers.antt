@@ -1,4 +1,4 @@
-use Rattle.std.proofs.Common.{List, length, sym, subst, arith, ap}
+use Rattle.std.proofs.Common.{refl, List, length, sym, subst, arith, ap}
 use Rattle.leaf_view.specs.Leaf.{Entry}
 use Rattle.log_codec.specs.declared.record.PuItem.{PuItem}
 use Rattle.leaf_edit.specs.Applied.{applied}
@@ -21,7 +21,7 @@ returns-in_err-table c =
     no-size _ _ c.from_residual.ensures (omega (
       arith,
       c.in_err-table.ensures,
-      leaf-size (applied c.args.leaf.now c.args.queue c.args.run.now),
+      leaf-size (applied c.args.leaf.now c.args.queue c.args.run.now) refl,
       ap (λ low. length low) c.low.ensures.low,
       ap high_size c.high.ensures.high,
     ))
@@ -31,7 +31,7 @@ returns c =
     same-size _ _ _ c.records_len.ensures (omega (
       arith,
       c.in_ok-table.ensures,
-      leaf-size (applied c.args.leaf.now c.args.queue c.args.run.now),
+      leaf-size (applied c.args.leaf.now c.args.queue c.args.run.now) refl,
       ap (λ low. length low) c.low.ensures.low,
       ap high_size c.high.ensures.high,
       ap (λ (rs : List Entry). entries_size (edited_by rs c.of.result)) c.records.ensures.records,

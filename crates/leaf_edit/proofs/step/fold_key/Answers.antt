@@ -1,4 +1,5 @@
 use Rattle.std.proofs.Common.{◌≡◌, ◌∷◌, List, Option, ℕ, sym, subst, ◌∙◌}
+use Rattle.db_base.specs.Value.{Value}
 use Rattle.log_codec.specs.declared.record.PuItem.{PuItem}
 use Rattle.leaf_edit.specs.Merging.{Folds}
 use Rattle.leaf_edit.proofs.Folding.{IsFolding, step, end}
@@ -7,13 +8,13 @@ use Rattle.leaf_edit.proofs.step.fold_key.Goals as goal
 pub loop-x-preserved : goal.loop-x-preserved
 loop-x-preserved c =
     let left : c.loop-x.left ≡ c.in-Some.x.item.now ∷ c.in-Some.x.rest = sym c.again.ensures ∙ c.in-Some.ensures.items in
-    let P : List PuItem → Type 0 = λ left. IsFolding c.args.key.now c.args.old c.args.changes c.loop-x.payload left in
-    let Q : Option (List ℕ) → Type 0 = λ payload. IsFolding c.args.key.now c.args.old c.args.changes payload c.in-Some.x.rest in
-    subst Q (sym c.act-payload.ensures) (step _ _ _ _ c.in-Some.x.item.now _ (subst P left c.loop-x.invariant) (sym c.is_at.ensures ∙ c.if-not-is_at.false))
+    let P : List PuItem → Type 0 = λ left. IsFolding c.args.key.now c.args.old c.args.changes c.loop-x.value left in
+    let Q : Option Value → Type 0 = λ value. IsFolding c.args.key.now c.args.old c.args.changes value c.in-Some.x.rest in
+    subst Q (sym c.act-value.ensures) (step _ _ _ _ c.in-Some.x.item.now _ (subst P left c.loop-x.invariant) (sym c.is_at.ensures ∙ c.if-not-is_at.false))
 
 pub returns-then-not-is_at : goal.returns-then-not-is_at
 returns-then-not-is_at c =
     let left : c.loop-x.left ≡ c.in-Some.x.item.now ∷ c.in-Some.x.rest = sym c.again.ensures ∙ c.in-Some.ensures.items in
-    let P : List PuItem → Type 0 = λ left. IsFolding c.args.key.now c.args.old c.args.changes c.loop-x.payload left in
-    let Q : List PuItem → Type 0 = λ left. Folds c.args.key.now c.args.old c.args.changes c.loop-x.payload left in
+    let P : List PuItem → Type 0 = λ left. IsFolding c.args.key.now c.args.old c.args.changes c.loop-x.value left in
+    let Q : List PuItem → Type 0 = λ left. Folds c.args.key.now c.args.old c.args.changes c.loop-x.value left in
     subst Q (sym (c.in-Some.ensures.all ∙ c.again.ensures ∙ left)) (end _ _ _ _ c.in-Some.x.item.now _ (subst P left c.loop-x.invariant) (sym c.is_at.ensures ∙ c.if-not-is_at.true))

@@ -82,7 +82,7 @@ made p = Ok p
 -- ---- the leaf that was read
 
 empty_formed : IsWellFormed empty_leaf
-empty_formed = record { low = omega arith; right = omega arith; high = refl; done = tt; done_ascends = tt; records = tt; records_ascend = tt }
+empty_formed = record { format = inl refl; low = omega arith; right = omega arith; high = refl; done = tt; done_ascends = tt; records = tt; records_ascend = tt }
 
 -- the newest leaf of a page is well formed, and of a version that may be put but where it is absent
 node_formed : (bytes : List ℕ) (node : Node) → IsNode bytes node → (IsWellFormed (leaf_in node)) × ((leaf_in node).version ≤ greatest)

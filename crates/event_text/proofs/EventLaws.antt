@@ -14,8 +14,8 @@ use Rattle.db_base.specs.declared.wish.Wish.TheVariants.{Plain, Fail, Lost, Hide
 use Rattle.words.specs.declared.fault.TextFault.{TextFault}
 use Rattle.words.specs.declared.fault.TextFault.TheVariants.{NotInGrammar, Memory}
 use Rattle.words.specs.Word.{hexadecimal, AreBytes, AreNumbers, Reads, IsReadTo}
-use Rattle.words.specs.Line.{◌>>=◌, parts_of, text_of, word_at, number_at, end_at, numbers_of, one_of, two_of, place_of, record_of, sum_of}
-use Rattle.words.proofs.Shapes.{bind_some, number_at-takes, number_at-again, end_at-takes, end_at-again, numbers_of-takes, numbers_of-again, one_of-takes, one_of-again, two_of-takes, two_of-again, place_of-takes, place_of-again, record_of-takes, record_of-again, sum_of-takes, sum_of-again}
+use Rattle.words.specs.Line.{◌>>=◌, parts_of, text_of, word_at, number_at, bytes_at, end_at, last_words, last_of, numbers_of, one_of, two_of, place_of, record_of, sum_of}
+use Rattle.words.proofs.Shapes.{bind_some, number_at-takes, number_at-again, bytes_at-takes, bytes_at-again, end_at-takes, end_at-again, last_of-takes, last_of-again, numbers_of-takes, numbers_of-again, one_of-takes, one_of-again, two_of-takes, two_of-again, place_of-takes, place_of-again, record_of-takes, record_of-again, sum_of-takes, sum_of-again}
 use Rattle.words.proofs.Splitting.{all_lack, lacks, lacks-decimal, lacks-hexadecimal, parts_of-text_of, text_of-parts_of}
 use Rattle.event_text.specs.declared.event.Event.{Event}
 use Rattle.event_text.specs.declared.event.Event.TheVariants as event
@@ -23,7 +23,7 @@ use Rattle.event_text.specs.declared.keyword.Keyword.{Keyword}
 use Rattle.event_text.specs.declared.keyword.Keyword.TheVariants.{Open, Close, Renew, Insert, Update, Delete, Add, Commit, Abort, Read, Scan, Page, Tree, Step, Run, Crash, Wait, Report, Settle}
 use Rattle.event_text.specs.Keyword.{keyword_of, keyword_text, keywords, is_shell}
 use Rattle.event_text.specs.Event.{wish_words, crash_words, event_words, line_of, spelling, IsWish, IsInRange, IsEvent, IsShellLine}
-use Rattle.event_text.specs.Reading.{alone, positions_of, wish_by, wish_of, done_of, event_by, session_event, event_behind, event_of_words, shell_event_of_words}
+use Rattle.event_text.specs.Reading.{alone, positions_of, wish_by, wish_of, done_of, insert_of, event_by, session_event, event_behind, event_of_words, shell_event_of_words}
 
 -- ---- steps
 
@@ -185,6 +185,25 @@ unfolding done_of
 done_of-again true = alone-again true
 done_of-again false = refl
 
+insert_of-takes : (words : List (List ℕ)) (x : ℕ × List ℕ × List ℕ × Option (List ℕ)) → insert_of words ≡ Some x → (x.0 < 2 ^ 64) × AreBytes x.1 × AreBytes x.2 × IfSome x.3 AreBytes × (words ≡ decimal x.0 ∷ hexadecimal x.1 ∷ hexadecimal x.2 ∷ last_words x.3)
+unfolding insert_of
+insert_of-takes words x e =
+    let t = bind_some (number_at words) _ x e in
+    let k = bind_some (bytes_at t.0.1) _ x t.2 in
+    let p = bind_some (bytes_at k.0.1) _ x k.2 in
+    let a = bind_some (last_of p.0.1) _ x p.2 in
+    let tree = number_at-takes words t.0 t.1 in
+    let key = bytes_at-takes t.0.1 k.0 k.1 in
+    let payload = bytes_at-takes k.0.1 p.0 p.1 in
+    let attr = last_of-takes p.0.1 a.0 a.1 in
+    let same : (t.0.0, k.0.0, p.0.0, a.0) ≡ x = same_Some (t.0.0, k.0.0, p.0.0, a.0) x a.2 in
+    rw (← same) (tree.0, key.0, payload.0, attr.0, tree.1 ∙ behind _ (key.1 ∙ behind _ (payload.1 ∙ behind _ attr.1)))
+
+insert_of-again : (tree : ℕ) (key payload : List ℕ) (attr : Option (List ℕ)) → tree < 2 ^ 64 → AreBytes key → AreBytes payload → IfSome attr AreBytes → insert_of (decimal tree ∷ hexadecimal key ∷ hexadecimal payload ∷ last_words attr) ≡ Some (tree, key, payload, attr)
+unfolding insert_of
+insert_of-again tree key payload attr t k p a =
+    rw (number_at-again tree (hexadecimal key ∷ hexadecimal payload ∷ last_words attr) t, bytes_at-again key (hexadecimal payload ∷ last_words attr) k, bytes_at-again payload (last_words attr) p, last_of-again attr a) refl
+
 -- ---- lines
 
 nothing : {A : Type 0} (x : A) → None ≡ Some x → ⊥
@@ -203,9 +222,9 @@ event_by-takes Renew session words e small h =
     let a = alone-takes (event.Renew session) e words h in
     rw (← a.0) (small, behind _ (behind _ a.1))
 event_by-takes Insert session words e small h =
-    let m = mapped (λ (x : ℕ × List ℕ × List ℕ). event.Insert session x.0 x.1 x.2) (record_of words) e h in
-    let x = record_of-takes words m.0 m.1 in
-    rw (← m.2) ((small, x.0, x.1, x.2), behind _ (behind _ x.3))
+    let m = mapped (λ (x : ℕ × List ℕ × List ℕ × Option (List ℕ)). event.Insert session x.0 x.1 x.2 x.3) (insert_of words) e h in
+    let x = insert_of-takes words m.0 m.1 in
+    rw (← m.2) ((small, x.0, x.1, x.2, x.3), behind _ (behind _ x.4))
 event_by-takes Update session words e small h =
     let m = mapped (λ (x : ℕ × List ℕ × List ℕ). event.Update session x.0 x.1 x.2) (record_of words) e h in
     let x = record_of-takes words m.0 m.1 in
@@ -307,7 +326,7 @@ unfolding event_of_words word_at event_behind session_event event_by
 event_of_words-again (event.Open session client) h = rw (number_at-again session (decimal client ∷ []) h.0, one_of-again client h.1) refl
 event_of_words-again (event.Close session) h = rw (number_at-again session [] h, alone-again (event.Close session)) refl
 event_of_words-again (event.Renew session) h = rw (number_at-again session [] h, alone-again (event.Renew session)) refl
-event_of_words-again (event.Insert session tree key payload) h = rw (number_at-again session (decimal tree ∷ hexadecimal key ∷ hexadecimal payload ∷ []) h.0, record_of-again tree key payload h.1 h.2 h.3) refl
+event_of_words-again (event.Insert session tree key payload attr) h = rw (number_at-again session (decimal tree ∷ hexadecimal key ∷ hexadecimal payload ∷ last_words attr) h.0, insert_of-again tree key payload attr h.1 h.2 h.3 h.4) refl
 event_of_words-again (event.Update session tree key payload) h = rw (number_at-again session (decimal tree ∷ hexadecimal key ∷ hexadecimal payload ∷ []) h.0, record_of-again tree key payload h.1 h.2 h.3) refl
 event_of_words-again (event.Delete session tree key) h = rw (number_at-again session (decimal tree ∷ hexadecimal key ∷ []) h.0, place_of-again tree key h.1 h.2) refl
 event_of_words-again (event.Add session tree key amount) h = rw (number_at-again session (decimal tree ∷ hexadecimal key ∷ decimal amount ∷ []) h.0, sum_of-again tree key amount h.1 h.2 h.3) refl
@@ -348,12 +367,16 @@ crash_lacks : (done : Bool) → all_lack 32 (crash_words done) ≡ true
 crash_lacks true = refl
 crash_lacks false = refl
 
+last_lacks : (last : Option (List ℕ)) → IfSome last AreBytes → all_lack 32 (last_words last) ≡ true
+last_lacks None h = refl
+last_lacks (Some bytes) h = rw (lacks_bytes bytes h) refl
+
 -- no word of an event has a space
 event_lacks : (e : Event) → IsInRange e → all_lack 32 (event_words e) ≡ true
 event_lacks (event.Open session client) h = rw (lacks_number session h.0, lacks_number client h.1) refl
 event_lacks (event.Close session) h = rw (lacks_number session h) refl
 event_lacks (event.Renew session) h = rw (lacks_number session h) refl
-event_lacks (event.Insert session tree key payload) h = rw (lacks_number session h.0, lacks_number tree h.1, lacks_bytes key h.2, lacks_bytes payload h.3) refl
+event_lacks (event.Insert session tree key payload attr) h = rw (lacks_number session h.0, lacks_number tree h.1, lacks_bytes key h.2, lacks_bytes payload h.3, last_lacks attr h.4) refl
 event_lacks (event.Update session tree key payload) h = rw (lacks_number session h.0, lacks_number tree h.1, lacks_bytes key h.2, lacks_bytes payload h.3) refl
 event_lacks (event.Delete session tree key) h = rw (lacks_number session h.0, lacks_number tree h.1, lacks_bytes key h.2) refl
 event_lacks (event.Add session tree key amount) h = rw (lacks_number session h.0, lacks_number tree h.1, lacks_bytes key h.2, lacks_number amount h.3) refl

@@ -1,11 +1,11 @@
 -- The spelling of an event: a line of words parted by one space, ended by a line feed.
-use Rattle.std.specs.Prelude.{ℕ, ◌≡◌, ◌<◌, ◌^◌, Bool, true, false, List, [], ◌∷◌, ◌++◌, map, codes, IsTrue}
+use Rattle.std.specs.Prelude.{ℕ, ◌≡◌, ◌<◌, ◌^◌, Bool, true, false, List, [], ◌∷◌, ◌++◌, map, codes, Option, IfSome, IsTrue}
 use Rattle.std.specs.Fmt.{decimal}
 use Rattle.db_base.specs.Wish.{ArePositions}
 use Rattle.db_base.specs.declared.wish.Wish.{Wish}
 use Rattle.db_base.specs.declared.wish.Wish.TheVariants.{Plain, Fail, Lost, Hide, Old, Give}
 use Rattle.words.specs.Word.{hexadecimal, AreBytes, AreNumbers}
-use Rattle.words.specs.Line.{text_of}
+use Rattle.words.specs.Line.{text_of, last_words}
 use Rattle.event_text.specs.declared.event.Event.{Event}
 use Rattle.event_text.specs.declared.keyword.Keyword.{Keyword}
 use Rattle.event_text.specs.Keyword.{keyword_text, is_shell}
@@ -30,7 +30,7 @@ abbrev pub event_words : Event → List (List ℕ)
 event_words (Open session client) = codes "open" ∷ decimal session ∷ decimal client ∷ []
 event_words (Close session) = codes "close" ∷ decimal session ∷ []
 event_words (Renew session) = codes "renew" ∷ decimal session ∷ []
-event_words (Insert session tree key payload) = codes "insert" ∷ decimal session ∷ decimal tree ∷ hexadecimal key ∷ hexadecimal payload ∷ []
+event_words (Insert session tree key payload attr) = codes "insert" ∷ decimal session ∷ decimal tree ∷ hexadecimal key ∷ hexadecimal payload ∷ last_words attr
 event_words (Update session tree key payload) = codes "update" ∷ decimal session ∷ decimal tree ∷ hexadecimal key ∷ hexadecimal payload ∷ []
 event_words (Delete session tree key) = codes "delete" ∷ decimal session ∷ decimal tree ∷ hexadecimal key ∷ []
 event_words (Add session tree key amount) = codes "add" ∷ decimal session ∷ decimal tree ∷ hexadecimal key ∷ decimal amount ∷ []
@@ -69,7 +69,7 @@ abbrev pub IsInRange : Event → Type 0
 IsInRange (Open session client) = (session < 2 ^ 64) × (client < 2 ^ 64)
 IsInRange (Close session) = session < 2 ^ 64
 IsInRange (Renew session) = session < 2 ^ 64
-IsInRange (Insert session tree key payload) = (session < 2 ^ 64) × (tree < 2 ^ 64) × AreBytes key × AreBytes payload
+IsInRange (Insert session tree key payload attr) = (session < 2 ^ 64) × (tree < 2 ^ 64) × AreBytes key × AreBytes payload × IfSome attr AreBytes
 IsInRange (Update session tree key payload) = (session < 2 ^ 64) × (tree < 2 ^ 64) × AreBytes key × AreBytes payload
 IsInRange (Delete session tree key) = (session < 2 ^ 64) × (tree < 2 ^ 64) × AreBytes key
 IsInRange (Add session tree key amount) = (session < 2 ^ 64) × (tree < 2 ^ 64) × AreBytes key × (amount < 2 ^ 64)

@@ -3,7 +3,7 @@ use Rattle.std.specs.Prelude.{ℕ, ◌≡◌, ◌&&◌, nat_le, Bool, true, fals
 use Rattle.std.specs.Str.{bytes_eq}
 use Rattle.db_base.specs.declared.wish.Wish.{Wish}
 use Rattle.db_base.specs.declared.wish.Wish.TheVariants.{Plain, Fail, Lost, Hide, Old, Give}
-use Rattle.words.specs.Line.{◌>>=◌, parts_of, word_at, number_at, end_at, numbers_of, one_of, two_of, place_of, record_of, sum_of}
+use Rattle.words.specs.Line.{◌>>=◌, parts_of, word_at, number_at, bytes_at, end_at, last_of, numbers_of, one_of, two_of, place_of, record_of, sum_of}
 use Rattle.event_text.specs.declared.event.Event.{Event}
 use Rattle.event_text.specs.declared.event.Event.TheVariants as event
 use Rattle.event_text.specs.declared.keyword.Keyword.{Keyword}
@@ -44,12 +44,21 @@ unfoldable pub done_of : List (List ℕ) → Option Bool
 done_of [] = Some false
 done_of (word ∷ words) = if bytes_eq word (codes "done") then alone true words else None
 
+-- a tree, a key, a payload, an attribute or none, and nothing else
+unfoldable pub insert_of : List (List ℕ) → Option (ℕ × List ℕ × List ℕ × Option (List ℕ))
+insert_of words = do
+  tree ← number_at words
+  key ← bytes_at tree.1
+  payload ← bytes_at key.1
+  attr ← last_of payload.1
+  Some (tree.0, key.0, payload.0, attr)
+
 -- the event of a session that a keyword begins
 unfoldable pub event_by : Keyword → ℕ → List (List ℕ) → Option Event
 event_by Open session words = option_map (event.Open session) (one_of words)
 event_by Close session words = alone (event.Close session) words
 event_by Renew session words = alone (event.Renew session) words
-event_by Insert session words = option_map (λ x. event.Insert session x.0 x.1 x.2) (record_of words)
+event_by Insert session words = option_map (λ x. event.Insert session x.0 x.1 x.2 x.3) (insert_of words)
 event_by Update session words = option_map (λ x. event.Update session x.0 x.1 x.2) (record_of words)
 event_by Delete session words = option_map (λ x. event.Delete session x.0 x.1) (place_of words)
 event_by Add session words = option_map (λ x. event.Add session x.0 x.1 x.2) (sum_of words)

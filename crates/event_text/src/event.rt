@@ -16,12 +16,13 @@ pub enum Event {
     Renew {
         session: u64,
     },
-    /// Notes an insert.
+    /// Notes an insert, with an attribute or without.
     Insert {
         session: u64,
         tree: u64,
         key: Blob,
         payload: Blob,
+        attr: Option<Blob>,
     },
     /// Notes an update.
     Update {
@@ -115,6 +116,7 @@ impl Drop for Event {
                 tree: _,
                 key: _,
                 payload: _,
+                attr: _,
             } => {}
             Event::Update {
                 session: _,

@@ -1,11 +1,12 @@
 ghost use Rattle.std.specs.Prelude.{◌≡◌, ◌≢◌, ℕ, List, [], ◌∷◌, ◌++◌, IfOk, IfSome, IfNone};
 ghost use Rattle.words.specs.Word.{Reads, IsReadTo};
 ghost use Rattle.words.specs.Line.{parts_of};
-ghost use Rattle.event_text.specs.Reading.{alone, positions_of, wish_by, wish_of, done_of, event_by, session_event, event_behind, event_of_words, shell_event_of_words};
+ghost use Rattle.event_text.specs.Reading.{alone, positions_of, wish_by, wish_of, done_of, insert_of, event_by, session_event, event_behind, event_of_words, shell_event_of_words};
 ghost use Rattle.event_text.specs.Event.{IsEvent, IsShellLine};
 
 use crate::event::Event;
 use crate::keyword::Keyword;
+use db_base::blob::Blob;
 use db_base::refusal::Refused;
 use db_base::wish::{Positions, Wish};
 use std::alloc::Global;
@@ -91,6 +92,18 @@ fn done(words: Parts<'_>) -> Result<bool, TextFault>
     }
 }
 
+/// A tree, a key, a payload, an attribute or none, and nothing else.
+#[tactic(auto, unfolding(crate::specs::Reading::insert_of))]
+fn insert(alloc: Global, words: Parts<'_>) -> Result<(u64, Blob, Blob, Option<Blob>), TextFault>
+    ensures { Reads result (insert_of words.entry) }
+{
+    let (tree, words) = words.number()?;
+    let (key, words) = words.bytes(alloc)?;
+    let (payload, words) = words.bytes(alloc)?;
+    let attr = words.last(alloc)?;
+    Ok((tree, key, payload, attr))
+}
+
 /// An event behind which nothing is left.
 #[tactic(auto, unfolding(crate::specs::Reading::alone))]
 fn alone(event: Event, words: Parts<'_>) -> Result<Event, TextFault>
@@ -118,12 +131,13 @@ fn event_by(
         Keyword::Close => alone(Event::Close { session }, words),
         Keyword::Renew => alone(Event::Renew { session }, words),
         Keyword::Insert => {
-            let (tree, key, payload) = words.record(alloc)?;
+            let (tree, key, payload, attr) = insert(alloc, words)?;
             Ok(Event::Insert {
                 session,
                 tree,
                 key,
                 payload,
+                attr,
             })
         }
         Keyword::Update => {

@@ -2,6 +2,7 @@ ghost use Rattle.std.specs.Prelude.{◌≡◌, ℕ, List, [], ◌∷◌, ◌++�
 ghost use Rattle.std.specs.Fmt.{decimal};
 ghost use Rattle.std.specs.String.{string_bytes};
 ghost use Rattle.words.specs.Word.{hexadecimal};
+ghost use Rattle.words.specs.Line.{last_words};
 ghost use Rattle.event_text.specs.Event.{wish_words, line_of, spelling};
 
 use crate::event::Event;
@@ -109,6 +110,29 @@ fn record_line(
     Ok(line)
 }
 
+/// The line of an insert: a session, a tree, a key, a payload, and an attribute where there is one.
+fn insert_line(
+    alloc: Global,
+    session: u64,
+    tree: u64,
+    key: &Blob,
+    payload: &Blob,
+    attr: &Option<Blob>,
+) -> Result<String, AllocError>
+    ensures { IfOk result (λ line. string_bytes line ≡ line_of (codes "insert" ∷ decimal session ∷ decimal tree ∷ hexadecimal key.now ∷ hexadecimal payload.now ∷ last_words attr.now)) }
+{
+    match attr {
+        None => record_line(alloc, "insert", session, tree, key, payload),
+        Some(attr) => {
+            let key = hexadecimal(alloc, key.as_slice())?;
+            let payload = hexadecimal(alloc, payload.as_slice())?;
+            let attr = hexadecimal(alloc, attr.as_slice())?;
+            let line = format!(in alloc; "insert {session} {tree} {key} {payload} {attr}\n")?;
+            Ok(line)
+        }
+    }
+}
+
 /// The line of a step under a wish that names positions.
 fn give_line(alloc: Global, session: u64, positions: &[u64]) -> Result<String, AllocError>
     ensures { IfOk result (λ line. string_bytes line ≡ line_of (codes "step" ∷ decimal session ∷ codes "give" ∷ map decimal positions.now)) }
@@ -152,7 +176,8 @@ impl Event {
                 tree,
                 key,
                 payload,
-            } => record_line(alloc, "insert", *session, *tree, key, payload),
+                attr,
+            } => insert_line(alloc, *session, *tree, key, payload, attr),
             Event::Update {
                 session,
                 tree,

@@ -1,27 +1,29 @@
 -- Lists behind their length, and reports: what is read is spelled so, and each spelling is read.
 use Rattle.std.proofs.Common.{◌≡◌, ℕ, zero, suc, ◌-◌, ◌^◌, ◌<◌, ◌≤◌, Bool, true, false, ◌&&◌, nat_le, List, [], ◌∷◌, ◌++◌, length, map, Option, Some, None, Err, refl, sym, ap, ◌∙◌, inl, inr, arith, append_assoc, append-nil}
-use Rattle.std.specs.Prelude.{codes, option_map}
+use Rattle.std.specs.Prelude.{codes, option_map, IfSome}
 use Rattle.std.specs.Fmt.{decimal}
 use Rattle.std.specs.Str.{bytes_eq}
 use Rattle.std.proofs.lemmas.Bool.{and_parts, leb-true, le-leb}
 use Rattle.std.proofs.lemmas.Option.{same_Some, cond_some}
 use Rattle.std.proofs.lemmas.Slice.Eq.{bytes_eq-Decides}
+use Rattle.db_base.specs.Attr.{IsAttr}
 use Rattle.db_base.specs.Key.{IsKey, IsPayload}
 use Rattle.db_base.specs.declared.change.Change.{Change}
 use Rattle.db_base.specs.declared.change.Change.TheVariants.{Insert, Update, Delete, Add}
 use Rattle.db_base.specs.declared.pair.Pair.{Pair}
 use Rattle.report_types.specs.declared.entry.Entry.{Entry}
 use Rattle.report_types.specs.declared.report.Report.{Report}
+use Rattle.report_types.specs.declared.stored.Stored.{Stored}
 use Rattle.words.specs.declared.fault.TextFault.{TextFault}
 use Rattle.words.specs.declared.fault.TextFault.TheVariants.{NotInGrammar}
 use Rattle.words.specs.Word.{hexadecimal, AreBytes, Reads}
-use Rattle.words.specs.Line.{◌>>=◌, parts_of, text_of, word_at, number_at, bytes_at, end_at, one_of}
-use Rattle.words.proofs.Shapes.{bind_some, number_at-takes, number_at-again, bytes_at-takes, bytes_at-again, end_at-takes, end_at-again, one_of-takes, one_of-again, two_of-takes, two_of-again}
+use Rattle.words.specs.Line.{◌>>=◌, parts_of, text_of, word_at, number_at, bytes_at, end_at, last_words, last_of, one_of}
+use Rattle.words.proofs.Shapes.{bind_some, number_at-takes, number_at-again, bytes_at-takes, bytes_at-again, end_at-takes, end_at-again, last_of-takes, last_of-again, one_of-takes, one_of-again, two_of-takes, two_of-again}
 use Rattle.words.proofs.Splitting.{is_hex_byte, lacks-hexadecimal, parts_of-text_of, text_of-parts_of}
-use Rattle.reply_text.specs.Reply.{pair_word, pair_words, change_words, entry_words, section_lines}
+use Rattle.reply_text.specs.Reply.{pair_word, stored_words, change_words, entry_words, section_lines}
 use Rattle.reply_reading.specs.Naming.{client_of, tree_alone}
-use Rattle.reply_reading.specs.Counted.{counted, pair_of, pair_by, scan_of, key_of, payload_of, key_alone, record_alone, sum_alone, change_by, change_of, entry_of, entry_by, named, count_at, section_at, left_of, report_of}
-use Rattle.reply_text.specs.Grammar.{AreAll, IsRecord, IsBlindChange, IsEntryOf, IsListOf, IsReport}
+use Rattle.reply_reading.specs.Counted.{counted, pair_of, pair_by, stored_of, stored_by, scan_of, key_of, payload_of, attr_of, key_alone, record_alone, insert_alone, sum_alone, change_by, change_of, entry_of, entry_by, named, count_at, section_at, left_of, report_of}
+use Rattle.reply_text.specs.Grammar.{AreAll, IsRecord, IsStored, IsAttribute, IsBlindChange, IsEntryOf, IsListOf, IsReport}
 use Rattle.reply_reading.proofs.Steps.{behind, before, mapped, chosen, nothing, spelled, word_at-takes, word_at-none, refused}
 use Rattle.reply_reading.proofs.Visible.{visible, all_visible, both_true, visible_number, visible_bytes, visible-text_of, lack_spaces}
 use Rattle.reply_reading.proofs.NameLaws.{small_client, client_of-takes, client_of-again, tree_alone-takes, tree_alone-again}
@@ -115,7 +117,11 @@ module _ {A : Type 0} (item : List ℕ → Option A) (front : List A) (left : Li
 
 -- ---- records
 
-pair_of-takes : (parts : List (List ℕ)) (p : Pair) → pair_of parts ≡ Some p → IsRecord p × (parts ≡ pair_words p)
+-- a record as two words
+abbrev pair_words : Pair → List (List ℕ)
+pair_words p = hexadecimal p.key ∷ hexadecimal p.payload ∷ []
+
+pair_of-takes : (parts : List (List ℕ)) (p : Pair) → pair_of parts ≡ Some p → IsRecord p × (parts ≡ hexadecimal p.key ∷ hexadecimal p.payload ∷ [])
 unfolding pair_of
 pair_of-takes parts p e =
     let a = bind_some (bytes_at parts) _ p e in
@@ -128,7 +134,7 @@ pair_of-takes parts p e =
     let same : pair ≡ p = same_Some pair p z.2 in
     rw (← same) ((key.0, payload.0), key.1 ∙ behind _ (payload.1 ∙ behind _ end))
 
-pair_of-again : (p : Pair) → IsRecord p → pair_of (pair_words p) ≡ Some p
+pair_of-again : (p : Pair) → IsRecord p → pair_of (hexadecimal p.key ∷ hexadecimal p.payload ∷ []) ≡ Some p
 unfolding pair_of
 pair_of-again p h = rw (bytes_at-again p.key (hexadecimal p.payload ∷ []) h.0, bytes_at-again p.payload [] h.1, end_at-again) refl
 
@@ -145,6 +151,45 @@ pair-reader separator out = record { takes = takes; again = again }
     again p h =
         let parts = parts_of-text_of separator (hexadecimal p.key) (hexadecimal p.payload ∷ []) (rw (lacks-hexadecimal separator p.key h.0 out, lacks-hexadecimal separator p.payload h.1 out) refl) in
         ap pair_of parts ∙ pair_of-again p h
+
+-- a last word, or none, is visible
+visible_last : (last : Option (List ℕ)) → IfSome last AreBytes → all_visible (last_words last) ≡ true
+visible_last None h = refl
+visible_last (Some bytes) h = rw (visible_bytes bytes h) refl
+
+stored_visible : (s : Stored) → IsStored s → all_visible (stored_words s) ≡ true
+stored_visible s h = rw (visible_bytes s.key h.0, visible_bytes s.payload h.1, visible_last s.attr h.2) refl
+
+stored_of-takes : (words : List (List ℕ)) (s : Stored) → stored_of words ≡ Some s → IsStored s × (words ≡ stored_words s)
+unfolding stored_of
+stored_of-takes words s e =
+    let a = bind_some (bytes_at words) _ s e in
+    let b = bind_some (bytes_at a.0.1) _ s a.2 in
+    let l = bind_some (last_of b.0.1) _ s b.2 in
+    let key = bytes_at-takes words a.0 a.1 in
+    let payload = bytes_at-takes a.0.1 b.0 b.1 in
+    let attr = last_of-takes b.0.1 l.0 l.1 in
+    let stored : Stored = record { key = a.0.0; payload = b.0.0; attr = l.0 } in
+    let same : stored ≡ s = same_Some stored s l.2 in
+    rw (← same) ((key.0, payload.0, attr.0), key.1 ∙ behind _ (payload.1 ∙ behind _ attr.1))
+
+stored_of-again : (s : Stored) → IsStored s → stored_of (stored_words s) ≡ Some s
+unfolding stored_of
+stored_of-again s h = rw (bytes_at-again s.key (hexadecimal s.payload ∷ last_words s.attr) h.0, bytes_at-again s.payload (last_words s.attr) h.1, last_of-again s.attr h.2) refl
+
+-- records of leaves
+stored-reader : IsReader stored_by IsStored (λ s. text_of 32 (stored_words s))
+stored-reader = record { takes = takes; again = again }
+  where
+    takes : (text : List ℕ) (s : Stored) → stored_by text ≡ Some s → IsStored s × (text ≡ text_of 32 (stored_words s))
+    takes text s e =
+        let t = stored_of-takes (parts_of 32 text) s e in
+        (t.0, sym (text_of-parts_of 32 text) ∙ ap (text_of 32) t.1)
+
+    again : (s : Stored) → IsStored s → stored_by (text_of 32 (stored_words s)) ≡ Some s
+    again s h =
+        let parts = parts_of-text_of 32 (hexadecimal s.key) (hexadecimal s.payload ∷ last_words s.attr) (lack_spaces (stored_words s) (stored_visible s h)) in
+        ap stored_of parts ∙ stored_of-again s h
 
 pub scan_of-takes : (words : List (List ℕ)) (pairs : List Pair) → scan_of words ≡ Some pairs → IsListOf IsRecord pairs × (words ≡ decimal (length pairs) ∷ map pair_word pairs)
 unfolding scan_of
@@ -235,6 +280,55 @@ record_alone-again : (key payload : List ℕ) → IsKey key → AreBytes key →
 unfolding record_alone
 record_alone-again key payload k kb p pb = rw (bytes_at-again key (hexadecimal payload ∷ []) kb, bytes_at-again payload [] pb, end_at-again, key_of-again key k, payload_of-again payload p) refl
 
+attr_of-takes : (last x : Option (List ℕ)) → attr_of last ≡ Some x → IfSome last AreBytes → (last ≡ x) × IsAttribute x
+unfolding attr_of
+attr_of-takes None x e h = let same : None ≡ x = same_Some None x e in (same, rw (← same) tt)
+attr_of-takes (Some bytes) x e h =
+    let taken = cond_some (nat_le 1 (length bytes) && nat_le (length bytes) 32) (Some bytes) x e in
+    let parts = and_parts (nat_le 1 (length bytes)) (nat_le (length bytes) 32) taken.0 in
+    let low : 1 ≤ length bytes = leb-true _ _ parts.0 in
+    let is : IsAttr bytes = record { some = omega arith; short = leb-true _ _ parts.1 } in
+    (taken.1, rw (← taken.1) (is, h))
+
+attr_of-again : (attr : Option (List ℕ)) → IsAttribute attr → attr_of attr ≡ Some attr
+unfolding attr_of
+attr_of-again None h = refl
+attr_of-again (Some bytes) h =
+    let some : 1 ≤ length bytes = omega (arith, h.0.some) in
+    let low : nat_le 1 (length bytes) ≡ true = le-leb _ _ some in
+    let high : nat_le (length bytes) 32 ≡ true = le-leb _ _ h.0.short in
+    rw (low, high) refl
+
+-- an attribute is of bytes
+attr_bytes : (attr : Option (List ℕ)) → IsAttribute attr → IfSome attr AreBytes
+attr_bytes None h = tt
+attr_bytes (Some bytes) h = h.1
+
+insert_alone-takes : (words : List (List ℕ)) (x : List ℕ × List ℕ × Option (List ℕ)) → insert_alone words ≡ Some x → (IsKey x.0 × AreBytes x.0) × (IsPayload x.1 × AreBytes x.1) × IsAttribute x.2 × (words ≡ hexadecimal x.0 ∷ hexadecimal x.1 ∷ last_words x.2)
+unfolding insert_alone
+insert_alone-takes words x e =
+    let a = bind_some (bytes_at words) _ x e in
+    let b = bind_some (bytes_at a.0.1) _ x a.2 in
+    let l = bind_some (last_of b.0.1) _ x b.2 in
+    let k = bind_some (key_of a.0.0) _ x l.2 in
+    let p = bind_some (payload_of b.0.0) _ x k.2 in
+    let t = bind_some (attr_of l.0) _ x p.2 in
+    let first = bytes_at-takes words a.0 a.1 in
+    let second = bytes_at-takes a.0.1 b.0 b.1 in
+    let last = last_of-takes b.0.1 l.0 l.1 in
+    let key = key_of-takes a.0.0 k.0 k.1 in
+    let payload = payload_of-takes b.0.0 p.0 p.1 in
+    let attr = attr_of-takes l.0 t.0 t.1 last.0 in
+    let key_bytes : AreBytes a.0.0 = first.0 in
+    let payload_bytes : AreBytes b.0.0 = second.0 in
+    let same : (k.0, p.0, t.0) ≡ x = same_Some (k.0, p.0, t.0) x t.2 in
+    rw (← same) ((key.1, rw key.0 at key_bytes), (payload.1, rw payload.0 at payload_bytes), attr.1, first.1 ∙ before a.0.1 (ap hexadecimal key.0) ∙ behind _ (second.1 ∙ before b.0.1 (ap hexadecimal payload.0) ∙ behind _ (last.1 ∙ ap last_words attr.0)))
+
+insert_alone-again : (key payload : List ℕ) (attr : Option (List ℕ)) → IsKey key → AreBytes key → IsPayload payload → AreBytes payload → IsAttribute attr → insert_alone (hexadecimal key ∷ hexadecimal payload ∷ last_words attr) ≡ Some (key, payload, attr)
+unfolding insert_alone
+insert_alone-again key payload attr k kb p pb a =
+    rw (bytes_at-again key (hexadecimal payload ∷ last_words attr) kb, bytes_at-again payload (last_words attr) pb, last_of-again attr (attr_bytes attr a), key_of-again key k, payload_of-again payload p, attr_of-again attr a) refl
+
 sum_alone-takes : (words : List (List ℕ)) (x : List ℕ × ℕ) → sum_alone words ≡ Some x → (IsKey x.0 × AreBytes x.0) × (x.1 < 2 ^ 64) × (words ≡ hexadecimal x.0 ∷ decimal x.1 ∷ [])
 unfolding sum_alone
 sum_alone-takes words x e =
@@ -271,11 +365,11 @@ change_by-takes kind words c e =
       ]
     ]
   where
-    insert : (kind : List ℕ) (words : List (List ℕ)) (c : Change) → kind ≡ codes "insert" → option_map (λ x. Insert x.0 x.1) (record_alone words) ≡ Some c → IsBlindChange c × (kind ∷ words ≡ change_words c)
+    insert : (kind : List ℕ) (words : List (List ℕ)) (c : Change) → kind ≡ codes "insert" → option_map (λ x. Insert x.0 x.1 x.2) (insert_alone words) ≡ Some c → IsBlindChange c × (kind ∷ words ≡ change_words c)
     insert kind words c k e =
-        let m = mapped (λ (x : List ℕ × List ℕ). Insert x.0 x.1) (record_alone words) c e in
-        let x = record_alone-takes words m.0 m.1 in
-        rw (← m.2) ((x.0, x.1), before words k ∙ behind _ x.2)
+        let m = mapped (λ (x : List ℕ × List ℕ × Option (List ℕ)). Insert x.0 x.1 x.2) (insert_alone words) c e in
+        let x = insert_alone-takes words m.0 m.1 in
+        rw (← m.2) ((x.0, x.1, x.2), before words k ∙ behind _ x.3)
 
     update : (kind : List ℕ) (words : List (List ℕ)) (c : Change) → kind ≡ codes "update" → option_map (λ x. Update x.0 x.1) (record_alone words) ≡ Some c → IsBlindChange c × (kind ∷ words ≡ change_words c)
     update kind words c k e =
@@ -304,13 +398,13 @@ change_of-takes words c e =
 
 change_of-again : (c : Change) → IsBlindChange c → change_of (change_words c) ≡ Some c
 unfolding change_of word_at change_by
-change_of-again (Insert key payload) h = rw (record_alone-again key payload h.0.0 h.0.1 h.1.0 h.1.1) refl
+change_of-again (Insert key payload attr) h = rw (insert_alone-again key payload attr h.0.0 h.0.1 h.1.0 h.1.1 h.2) refl
 change_of-again (Update key payload) h = rw (record_alone-again key payload h.0.0 h.0.1 h.1.0 h.1.1) refl
 change_of-again (Delete key) h = rw (key_alone-again key h.0 h.1) refl
 change_of-again (Add key amount) h = rw (sum_alone-again key amount h.0.0 h.0.1 h.1) refl
 
 visible_change : (c : Change) → IsBlindChange c → all_visible (change_words c) ≡ true
-visible_change (Insert key payload) h = rw (visible_bytes key h.0.1, visible_bytes payload h.1.1) refl
+visible_change (Insert key payload attr) h = rw (visible_bytes key h.0.1, visible_bytes payload h.1.1, visible_last attr (attr_bytes attr h.2)) refl
 visible_change (Update key payload) h = rw (visible_bytes key h.0.1, visible_bytes payload h.1.1) refl
 visible_change (Delete key) h = rw (visible_bytes key h.1) refl
 visible_change (Add key amount) h = rw (visible_bytes key h.0.1, visible_number amount h.1) refl
@@ -445,7 +539,7 @@ abbrev pub left_line : Report → List (List (List ℕ))
 left_line report = (codes "left" ∷ decimal report.heads ∷ decimal report.messages ∷ []) ∷ []
 
 abbrev pub contents_lines : Report → List (List (List ℕ))
-contents_lines report = section_lines (codes "contents") pair_words report.contents ++ left_line report
+contents_lines report = section_lines (codes "contents") stored_words report.contents ++ left_line report
 
 abbrev pub order_lines : Report → List (List (List ℕ))
 order_lines report = section_lines (codes "order") entry_words report.order ++ contents_lines report
@@ -459,16 +553,16 @@ report_of-takes words lines report e =
     let t = bind_some (tree_alone words) _ report e in
     let c = bind_some (section_at (entry_by t.0) (codes "committed") lines) _ report t.2 in
     let o = bind_some (section_at (entry_by t.0) (codes "order") c.0.1) _ report c.2 in
-    let p = bind_some (section_at (pair_by 32) (codes "contents") o.0.1) _ report o.2 in
+    let p = bind_some (section_at stored_by (codes "contents") o.0.1) _ report o.2 in
     let l = bind_some (left_of p.0.1) _ report p.2 in
     let tree = tree_alone-takes words t.0 t.1 in
     let committed = section_at-takes (entry_by t.0) (IsEntryOf t.0) (λ entry. text_of 32 (entry_words entry)) (entry-reader t.0) (codes "committed") lines c.0 c.1 in
     let order = section_at-takes (entry_by t.0) (IsEntryOf t.0) (λ entry. text_of 32 (entry_words entry)) (entry-reader t.0) (codes "order") c.0.1 o.0 o.1 in
-    let contents = section_at-takes (pair_by 32) IsRecord (λ pair. text_of 32 (pair_words pair)) (pair-reader 32 refl) (codes "contents") o.0.1 p.0 p.1 in
+    let contents = section_at-takes stored_by IsStored (λ s. text_of 32 (stored_words s)) stored-reader (codes "contents") o.0.1 p.0 p.1 in
     let left = left_of-takes p.0.1 l.0 l.1 in
     let whole : Report = record { tree = t.0; committed = c.0.0; order = o.0.0; contents = p.0.0; heads = l.0.0; messages = l.0.1 } in
     let same : whole ≡ report = same_Some whole report l.2 in
-    let last : o.0.1 ≡ map (text_of 32) (contents_lines whole) = ◌∙◌ {c = map (text_of 32) (contents_lines whole)} contents.1 (section_texts (codes "contents") pair_words p.0.0 p.0.1 (left_line whole) left.2) in
+    let last : o.0.1 ≡ map (text_of 32) (contents_lines whole) = ◌∙◌ {c = map (text_of 32) (contents_lines whole)} contents.1 (section_texts (codes "contents") stored_words p.0.0 p.0.1 (left_line whole) left.2) in
     let middle : c.0.1 ≡ map (text_of 32) (order_lines whole) = ◌∙◌ {c = map (text_of 32) (order_lines whole)} order.1 (section_texts (codes "order") entry_words o.0.0 o.0.1 (contents_lines whole) last) in
     let first : lines ≡ map (text_of 32) (committed_lines whole) = ◌∙◌ {c = map (text_of 32) (committed_lines whole)} committed.1 (section_texts (codes "committed") entry_words c.0.0 c.0.1 (order_lines whole) middle) in
     let is : IsReport whole = record { tree = tree.0; committed = committed.0; order = order.0; contents = contents.0; heads = left.0; messages = left.1 } in
@@ -480,7 +574,7 @@ report_of-again report h =
     let tree = tree_alone-again report.tree h.tree in
     let committed = section_again (entry_by report.tree) (IsEntryOf report.tree) entry_words (entry-reader report.tree) (codes "committed") report.committed (order_lines report) refl h.committed in
     let order = section_again (entry_by report.tree) (IsEntryOf report.tree) entry_words (entry-reader report.tree) (codes "order") report.order (contents_lines report) refl h.order in
-    let contents = section_again (pair_by 32) IsRecord pair_words (pair-reader 32 refl) (codes "contents") report.contents (left_line report) refl h.contents in
+    let contents = section_again stored_by IsStored stored_words stored-reader (codes "contents") report.contents (left_line report) refl h.contents in
     let left = left_of-again report.heads report.messages h.heads h.messages in
     rw (tree, committed, order, contents, left) refl
 
@@ -511,7 +605,7 @@ pair_visible p h = rw (visible_bytes p.key h.0, visible_bytes p.payload h.1) ref
 pub report_visible : (report : Report) → IsReport report → lines_visible (committed_lines report) ≡ true
 report_visible report h =
     let left : lines_visible (left_line report) ≡ true = rw (visible_number report.heads h.heads, visible_number report.messages h.messages) refl in
-    let contents = lines_visible-append (section_lines (codes "contents") pair_words report.contents) (left_line report) (section_visible IsRecord pair_words pair_visible (codes "contents") report.contents refl h.contents) left in
+    let contents = lines_visible-append (section_lines (codes "contents") stored_words report.contents) (left_line report) (section_visible IsStored stored_words stored_visible (codes "contents") report.contents refl h.contents) left in
     let order = lines_visible-append (section_lines (codes "order") entry_words report.order) (contents_lines report) (section_visible (IsEntryOf report.tree) entry_words (visible_entry report.tree) (codes "order") report.order refl h.order) contents in
     lines_visible-append (section_lines (codes "committed") entry_words report.committed) (order_lines report) (section_visible (IsEntryOf report.tree) entry_words (visible_entry report.tree) (codes "committed") report.committed refl h.committed) order
 

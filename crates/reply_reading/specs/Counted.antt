@@ -6,7 +6,8 @@ use Rattle.db_base.specs.declared.change.Change.TheVariants.{Insert, Update, Del
 use Rattle.db_base.specs.declared.pair.Pair.{Pair}
 use Rattle.report_types.specs.declared.entry.Entry.{Entry}
 use Rattle.report_types.specs.declared.report.Report.{Report}
-use Rattle.words.specs.Line.{◌>>=◌, parts_of, word_at, number_at, bytes_at, end_at, one_of, two_of}
+use Rattle.report_types.specs.declared.stored.Stored.{Stored}
+use Rattle.words.specs.Line.{◌>>=◌, parts_of, word_at, number_at, bytes_at, end_at, last_of, one_of, two_of}
 use Rattle.reply_reading.specs.Naming.{client_of, tree_alone}
 
 -- so many texts, each read as an item, and the texts behind them
@@ -32,6 +33,18 @@ pair_of parts = do
 abbrev pub pair_by : ℕ → List ℕ → Option Pair
 pair_by separator text = pair_of (parts_of separator text)
 
+-- a key, a payload, an attribute or none, and nothing else
+unfoldable pub stored_of : List (List ℕ) → Option Stored
+stored_of words = do
+  key ← bytes_at words
+  payload ← bytes_at key.1
+  attr ← last_of payload.1
+  Some (record { key = key.0; payload = payload.0; attr = attr })
+
+-- a record of a leaf of a line
+abbrev pub stored_by : List ℕ → Option Stored
+stored_by line = stored_of (parts_of 32 line)
+
 -- a number, so many records as words, and nothing else
 unfoldable pub scan_of : List (List ℕ) → Option (List Pair)
 scan_of words = do
@@ -50,6 +63,11 @@ key_of bytes = if nat_le 1 (length bytes) && nat_le (length bytes) 64 then Some 
 unfoldable pub payload_of : List ℕ → Option (List ℕ)
 payload_of bytes = if nat_le (length bytes) 1024 then Some bytes else None
 
+-- 1 to 32 bytes, or none
+unfoldable pub attr_of : Option (List ℕ) → Option (Option (List ℕ))
+attr_of None = Some None
+attr_of (Some bytes) = if nat_le 1 (length bytes) && nat_le (length bytes) 32 then Some (Some bytes) else None
+
 -- a key and nothing else
 unfoldable pub key_alone : List (List ℕ) → Option (List ℕ)
 key_alone words = do
@@ -67,6 +85,17 @@ record_alone words = do
   payload ← payload_of second.0
   Some (key, payload)
 
+-- a key, a payload, an attribute or none, and nothing else
+unfoldable pub insert_alone : List (List ℕ) → Option (List ℕ × List ℕ × Option (List ℕ))
+insert_alone words = do
+  first ← bytes_at words
+  second ← bytes_at first.1
+  last ← last_of second.1
+  key ← key_of first.0
+  payload ← payload_of second.0
+  attr ← attr_of last
+  Some (key, payload, attr)
+
 -- a key, an amount and nothing else
 unfoldable pub sum_alone : List (List ℕ) → Option (List ℕ × ℕ)
 sum_alone words = do
@@ -79,7 +108,7 @@ sum_alone words = do
 -- the change that a word begins
 unfoldable pub change_by : List ℕ → List (List ℕ) → Option Change
 change_by kind words =
-    if bytes_eq kind (codes "insert") then option_map (λ x. Insert x.0 x.1) (record_alone words)
+    if bytes_eq kind (codes "insert") then option_map (λ x. Insert x.0 x.1 x.2) (insert_alone words)
     else if bytes_eq kind (codes "update") then option_map (λ x. Update x.0 x.1) (record_alone words)
     else if bytes_eq kind (codes "delete") then option_map Delete (key_alone words)
     else if bytes_eq kind (codes "add") then option_map (λ x. Add x.0 x.1) (sum_alone words)
@@ -140,6 +169,6 @@ report_of words lines = do
   tree ← tree_alone words
   committed ← section_at (entry_by tree) (codes "committed") lines
   order ← section_at (entry_by tree) (codes "order") committed.1
-  contents ← section_at (pair_by 32) (codes "contents") order.1
+  contents ← section_at stored_by (codes "contents") order.1
   left ← left_of contents.1
   Some (record { tree = tree; committed = committed.0; order = order.0; contents = contents.0; heads = left.0; messages = left.1 })

@@ -18,7 +18,7 @@ use words::fault::TextFault;
 use words::parts::Parts;
 
 /// All rules.
-const REFUSALS: [Refusal; 10] = [
+const REFUSALS: [Refusal; 11] = [
     Refusal::EmptyKey,
     Refusal::LongKey,
     Refusal::LongPayload,
@@ -29,6 +29,7 @@ const REFUSALS: [Refusal; 10] = [
     Refusal::Broken,
     Refusal::AlreadyOpen,
     Refusal::NotWorking,
+    Refusal::BadAttr,
 ];
 
 /// The rule that a word names, where it names one. Takes no memory.

@@ -1,8 +1,9 @@
 ghost use Rattle.std.specs.Prelude.{◌≡◌};
 ghost use Rattle.words.specs.Word.{Reads};
-ghost use Rattle.reply_reading.specs.Counted.{counted, pair_of, pair_by, scan_of, key_of, payload_of, key_alone, record_alone, sum_alone, change_by, change_of, entry_of, entry_by, named, count_at, section_at, left_of, report_of};
+ghost use Rattle.reply_reading.specs.Counted.{counted, pair_of, pair_by, stored_of, stored_by, scan_of, key_of, payload_of, attr_of, key_alone, record_alone, insert_alone, sum_alone, change_by, change_of, entry_of, entry_by, named, count_at, section_at, left_of, report_of};
 
 use crate::read_name::{client_of, tree_alone};
+use db_base::attr::Attr;
 use db_base::blob::Blob;
 use db_base::change::Change;
 use db_base::ids::TreeId;
@@ -13,6 +14,8 @@ use report_types::entry::Entry;
 use report_types::entry_log::EntryLog;
 use report_types::pair_list::PairList;
 use report_types::report::Report;
+use report_types::stored::Stored;
+use report_types::stored_list::StoredList;
 use std::alloc::Global;
 use words::fault::TextFault;
 use words::parts::Parts;
@@ -50,6 +53,38 @@ fn pairs_at<'a>(
     Ok((pairs, left))
 }
 
+/// A record of a key, a payload, an attribute or none, and nothing else.
+#[tactic(auto, unfolding(crate::specs::Counted::stored_of))]
+fn stored_of(alloc: Global, words: Parts<'_>) -> Result<Stored, TextFault>
+    ensures { Reads result (stored_of words.entry) }
+{
+    let (key, words) = words.bytes(alloc)?;
+    let (payload, words) = words.bytes(alloc)?;
+    let attr = words.last(alloc)?;
+    Ok(Stored { key, payload, attr })
+}
+
+/// So many lines, each as a record of a leaf, and the lines behind them.
+fn records_at<'a>(
+    alloc: Global,
+    count: u64,
+    lines: Parts<'a>,
+) -> Result<(StoredList, Parts<'a>), TextFault>
+    ensures { Reads result (counted stored_by count lines.entry) }
+{
+    let mut records = StoredList::new(alloc);
+    let mut left = lines;
+    let mut missing = count;
+    while missing > 0 {
+        let (line, rest) = left.word()?;
+        let stored = stored_of(alloc, Parts::of(b' ', line))?;
+        records.push(stored)?;
+        left = rest;
+        missing -= 1;
+    }
+    Ok((records, left))
+}
+
 /// The records of a scan: a number, so many records as words, and nothing else.
 #[tactic(auto, unfolding(crate::specs::Counted::scan_of))]
 pub fn scan_of(alloc: Global, words: Parts<'_>) -> Result<PairList, TextFault>
@@ -85,6 +120,21 @@ fn payload_of(alloc: Global, bytes: &Blob) -> Result<Payload, TextFault>
     }
 }
 
+/// Bytes as an attribute, of which there are 1 to 32, or none.
+#[tactic(auto, unfolding(crate::specs::Counted::attr_of))]
+fn attr_of(alloc: Global, bytes: &Option<Blob>) -> Result<Option<Attr>, TextFault>
+    ensures { Reads result (attr_of bytes.now) }
+{
+    match bytes {
+        None => Ok(None),
+        Some(bytes) => match Attr::new(alloc, bytes.as_slice()) {
+            Ok(attr) => Ok(Some(attr)),
+            Err(Refused::Rule(_)) => Err(TextFault::NotInGrammar),
+            Err(Refused::Memory) => Err(TextFault::Memory),
+        },
+    }
+}
+
 /// A key and nothing else.
 #[tactic(auto, unfolding(crate::specs::Counted::key_alone))]
 fn key_alone(alloc: Global, words: Parts<'_>) -> Result<Key, TextFault>
@@ -108,6 +158,23 @@ fn record_alone(alloc: Global, words: Parts<'_>) -> Result<(Key, Payload), TextF
     Ok((key, payload))
 }
 
+/// A key, a payload, an attribute or none, and nothing else.
+#[tactic(auto, unfolding(crate::specs::Counted::insert_alone))]
+fn insert_alone(
+    alloc: Global,
+    words: Parts<'_>,
+) -> Result<(Key, Payload, Option<Attr>), TextFault>
+    ensures { Reads result (insert_alone words.entry) }
+{
+    let (key, words) = words.bytes(alloc)?;
+    let (payload, words) = words.bytes(alloc)?;
+    let attr = words.last(alloc)?;
+    let key = key_of(alloc, &key)?;
+    let payload = payload_of(alloc, &payload)?;
+    let attr = attr_of(alloc, &attr)?;
+    Ok((key, payload, attr))
+}
+
 /// A key, an amount and nothing else.
 #[tactic(auto, unfolding(crate::specs::Counted::sum_alone))]
 fn sum_alone(alloc: Global, words: Parts<'_>) -> Result<(Key, u64), TextFault>
@@ -126,8 +193,8 @@ fn change_by(alloc: Global, kind: &[u8], words: Parts<'_>) -> Result<Change, Tex
     ensures { Reads result (change_by kind.now words.entry) }
 {
     if kind == b"insert".as_slice() {
-        let (key, payload) = record_alone(alloc, words)?;
-        Ok(Change::Insert { key, payload })
+        let (key, payload, attr) = insert_alone(alloc, words)?;
+        Ok(Change::Insert { key, payload, attr })
     } else if kind == b"update".as_slice() {
         let (key, payload) = record_alone(alloc, words)?;
         Ok(Change::Update { key, payload })
@@ -231,15 +298,15 @@ fn entries_of<'a>(
 
 /// A list of records behind the line of its name and length, and the lines behind it.
 #[tactic(auto, unfolding(crate::specs::Counted::section_at))]
-fn pairs_of<'a>(
+fn records_of<'a>(
     alloc: Global,
     name: &[u8],
     lines: Parts<'a>,
-) -> Result<(PairList, Parts<'a>), TextFault>
-    ensures { Reads result (section_at (pair_by 32) name.now lines.entry) }
+) -> Result<(StoredList, Parts<'a>), TextFault>
+    ensures { Reads result (section_at stored_by name.now lines.entry) }
 {
     let (count, lines) = count_at(name, lines)?;
-    pairs_at(alloc, b' ', count, lines)
+    records_at(alloc, count, lines)
 }
 
 /// The last line of a report: how many heads and messages are left.
@@ -261,7 +328,7 @@ pub fn report_of(alloc: Global, words: Parts<'_>, lines: Parts<'_>) -> Result<Re
     let tree = tree_alone(words)?;
     let (committed, lines) = entries_of(alloc, tree, b"committed", lines)?;
     let (order, lines) = entries_of(alloc, tree, b"order", lines)?;
-    let (contents, lines) = pairs_of(alloc, b"contents", lines)?;
+    let (contents, lines) = records_of(alloc, b"contents", lines)?;
     let (heads, messages) = left_of(lines)?;
     Ok(Report {
         tree,

@@ -9,7 +9,7 @@ use Rattle.db_base.specs.declared.trouble.Trouble.TheVariants.{Failed, Late, Bus
 use Rattle.report_types.specs.declared.entry.Entry.{Entry}
 use Rattle.std.specs.Prelude.{codes}
 use Rattle.report_types.specs.declared.report.Report.{Report}
-use Rattle.reply_text.specs.Reply.{trouble_words, HasText, behind_each, change_words, entry_words, pair_words, report_lines, section_lines}
+use Rattle.reply_text.specs.Reply.{trouble_words, HasText, behind_each, change_words, entry_words, stored_words, report_lines, section_lines}
 
 -- a kind with a trouble behind it
 pub text_of_trouble : (kind : List ℕ) (trouble : Trouble) → HasText trouble → text_of 32 (kind ∷ trouble_words trouble) ≡ kind ++ (32 ∷ text_of 32 (trouble_words trouble))
@@ -28,7 +28,7 @@ text_of_trouble kind Memory h = absurd h
 
 -- a word with a change behind it
 text_of_change : (word : List ℕ) (change : Change) → text_of 32 (word ∷ change_words change) ≡ word ++ (32 ∷ text_of 32 (change_words change))
-text_of_change word (Insert key payload) = refl
+text_of_change word (Insert key payload attr) = refl
 text_of_change word (Update key payload) = refl
 text_of_change word (Delete key) = refl
 text_of_change word (Add key amount) = refl
@@ -75,16 +75,16 @@ pub report_whole : (report : Report) (t0 t1 t2 t3 t4 t5 t6 t7 : List ℕ)
     → t3 ≡ t2 ++ (10 ∷ text_of 32 (codes "order" ∷ decimal (length report.order) ∷ []))
     → t4 ≡ t3 ++ behind_each 10 (map (λ e. text_of 32 (entry_words e)) report.order)
     → t5 ≡ t4 ++ (10 ∷ text_of 32 (codes "contents" ∷ decimal (length report.contents) ∷ []))
-    → t6 ≡ t5 ++ behind_each 10 (map (λ p. text_of 32 (pair_words p)) report.contents)
+    → t6 ≡ t5 ++ behind_each 10 (map (λ s. text_of 32 (stored_words s)) report.contents)
     → t7 ≡ t6 ++ (10 ∷ text_of 32 (codes "left" ∷ decimal report.heads ∷ decimal report.messages ∷ []))
     → t7 ≡ text_of 10 (map (text_of 32) (report_lines report))
 report_whole report t0 t1 t2 t3 t4 t5 t6 t7 h0 h1 h2 h3 h4 h5 h6 h7 =
     let left : List (List (List ℕ)) = (codes "left" ∷ decimal report.heads ∷ decimal report.messages ∷ []) ∷ [] in
     let last = text_of 32 (codes "left" ∷ decimal report.heads ∷ decimal report.messages ∷ []) in
-    let contents = section_text (codes "contents") pair_words report.contents left (10 ∷ last) (ap (λ (t : List ℕ). 10 ∷ t) (append-nil last)) in
+    let contents = section_text (codes "contents") stored_words report.contents left (10 ∷ last) (ap (λ (t : List ℕ). 10 ∷ t) (append-nil last)) in
     let order = section_text (codes "order") entry_words report.order (section_lines (codes "contents") pair_words report.contents ++ left) _ contents in
     let committed = section_text (codes "committed") entry_words report.committed (section_lines (codes "order") entry_words report.order ++ (section_lines (codes "contents") pair_words report.contents ++ left)) _ order in
     let rest = section_lines (codes "committed") entry_words report.committed ++ (section_lines (codes "order") entry_words report.order ++ (section_lines (codes "contents") pair_words report.contents ++ left)) in
     let first = text_of 32 (codes "report" ∷ decimal report.tree ∷ []) in
     let whole = text_of_behind 10 first (map (text_of 32) rest) ∙ ap (λ (t : List ℕ). first ++ t) committed in
-    rw (h7, h6, h5, h4, h3, h2, h1, h0) (regroup first (10 ∷ text_of 32 (codes "committed" ∷ decimal (length report.committed) ∷ [])) (behind_each 10 (map (λ e. text_of 32 (entry_words e)) report.committed)) (10 ∷ text_of 32 (codes "order" ∷ decimal (length report.order) ∷ [])) (behind_each 10 (map (λ e. text_of 32 (entry_words e)) report.order)) (10 ∷ text_of 32 (codes "contents" ∷ decimal (length report.contents) ∷ [])) (behind_each 10 (map (λ p. text_of 32 (pair_words p)) report.contents)) (10 ∷ last) ∙ sym whole)
+    rw (h7, h6, h5, h4, h3, h2, h1, h0) (regroup first (10 ∷ text_of 32 (codes "committed" ∷ decimal (length report.committed) ∷ [])) (behind_each 10 (map (λ e. text_of 32 (entry_words e)) report.committed)) (10 ∷ text_of 32 (codes "order" ∷ decimal (length report.order) ∷ [])) (behind_each 10 (map (λ e. text_of 32 (entry_words e)) report.order)) (10 ∷ text_of 32 (codes "contents" ∷ decimal (length report.contents) ∷ [])) (behind_each 10 (map (λ s. text_of 32 (stored_words s)) report.contents)) (10 ∷ last) ∙ sym whole)

@@ -1,6 +1,7 @@
 -- The grammar of replies: which values have a text, and that a text spells a value.
-use Rattle.std.specs.Prelude.{ℕ, ◌≡◌, ◌<◌, ◌^◌, List, [], ◌∷◌, length}
+use Rattle.std.specs.Prelude.{ℕ, ◌≡◌, ◌<◌, ◌^◌, List, [], ◌∷◌, length, Option, IfSome}
 use Rattle.db_base.specs.Ids.{IsClient, IsTree, IsPage}
+use Rattle.db_base.specs.Attr.{IsAttr}
 use Rattle.db_base.specs.Key.{IsKey, IsPayload}
 use Rattle.db_base.specs.declared.change.Change.{Change}
 use Rattle.db_base.specs.declared.change.Change.TheVariants.{Insert, Update, Delete, Add}
@@ -19,6 +20,7 @@ use Rattle.db_base.specs.declared.trouble.Trouble.{Trouble}
 use Rattle.db_base.specs.declared.trouble.Trouble.TheVariants.{Failed, Late, Busy, Waiting, Stale, Absent, NotALeaf, Damaged, BadFence, Loop, Exhausted, Memory}
 use Rattle.report_types.specs.declared.entry.Entry.{Entry}
 use Rattle.report_types.specs.declared.report.Report.{Report}
+use Rattle.report_types.specs.declared.stored.Stored.{Stored}
 use Rattle.words.specs.Word.{AreBytes}
 use Rattle.reply_text.specs.declared.reply.Reply.{Reply}
 use Rattle.reply_text.specs.declared.reply.Reply.TheVariants as reply
@@ -77,9 +79,17 @@ IsCommit (CommittedOpen trouble) = IsTrouble trouble
 abbrev pub IsRecord : Pair → Type 0
 IsRecord pair = AreBytes pair.key × AreBytes pair.payload
 
--- a change of a key of 1 to 64 bytes, with a payload of at most 1,024, or an amount of 64 bits
+abbrev pub IsStored : Stored → Type 0
+IsStored stored = AreBytes stored.key × AreBytes stored.payload × IfSome stored.attr AreBytes
+
+-- an attribute, where there is one
+abbrev pub IsAttribute : Option (List ℕ) → Type 0
+IsAttribute attr = IfSome attr (λ bytes. IsAttr bytes × AreBytes bytes)
+
+-- a change of a key of 1 to 64 bytes, with a payload of at most 1,024 and an attribute of 1 to 32 where it is an
+-- insert with one, or an amount of 64 bits
 abbrev pub IsBlindChange : Change → Type 0
-IsBlindChange (Insert key payload) = (IsKey key × AreBytes key) × (IsPayload payload × AreBytes payload)
+IsBlindChange (Insert key payload attr) = (IsKey key × AreBytes key) × (IsPayload payload × AreBytes payload) × IsAttribute attr
 IsBlindChange (Update key payload) = (IsKey key × AreBytes key) × (IsPayload payload × AreBytes payload)
 IsBlindChange (Delete key) = IsKey key × AreBytes key
 IsBlindChange (Add key amount) = (IsKey key × AreBytes key) × (amount < 2 ^ 64)
@@ -96,7 +106,7 @@ pub record IsReport (report : Report) : Type 0 where
   pub tree : IsTree report.tree
   pub committed : IsListOf (IsEntryOf report.tree) report.committed
   pub order : IsListOf (IsEntryOf report.tree) report.order
-  pub contents : IsListOf IsRecord report.contents
+  pub contents : IsListOf IsStored report.contents
   pub heads : report.heads < 2 ^ 64
   pub messages : report.messages < 2 ^ 64
 

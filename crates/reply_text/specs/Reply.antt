@@ -2,10 +2,10 @@
 use Rattle.std.specs.Prelude.{ℕ, List, [], ◌∷◌, ◌++◌, map, length, codes}
 use Rattle.std.specs.Fmt.{decimal}
 use Rattle.words.specs.Word.{hexadecimal}
-use Rattle.words.specs.Line.{text_of}
+use Rattle.words.specs.Line.{text_of, last_words}
 use Rattle.db_base.specs.Refusal.{number_of_refusal}
 use Rattle.db_base.specs.declared.refusal.Refusal.{Refusal}
-use Rattle.db_base.specs.declared.refusal.Refusal.TheVariants.{EmptyKey, LongKey, LongPayload, TooManyChanges, BadNumber, NotOpen, AtWork, Broken, AlreadyOpen, NotWorking}
+use Rattle.db_base.specs.declared.refusal.Refusal.TheVariants.{EmptyKey, LongKey, LongPayload, TooManyChanges, BadNumber, NotOpen, AtWork, Broken, AlreadyOpen, NotWorking, BadAttr}
 use Rattle.db_base.specs.declared.change.Change.{Change}
 use Rattle.db_base.specs.declared.change.Change.TheVariants.{Insert, Update, Delete, Add}
 use Rattle.db_base.specs.declared.pair.Pair.{Pair}
@@ -17,6 +17,7 @@ use Rattle.db_base.specs.declared.trouble.Trouble.{Trouble}
 use Rattle.db_base.specs.declared.trouble.Trouble.TheVariants.{Failed, Late, Busy, Waiting, Stale, Absent, NotALeaf, Damaged, BadFence, Loop, Exhausted, Memory}
 use Rattle.report_types.specs.declared.entry.Entry.{Entry}
 use Rattle.report_types.specs.declared.report.Report.{Report}
+use Rattle.report_types.specs.declared.stored.Stored.{Stored}
 use Rattle.reply_text.specs.declared.reply.Reply.{Reply}
 use Rattle.reply_text.specs.declared.reply.Reply.TheVariants as reply
 use Rattle.reply_text.specs.Name.{lock_word, place_word}
@@ -33,6 +34,7 @@ refusal_word AtWork = codes "at-work"
 refusal_word Broken = codes "broken"
 refusal_word AlreadyOpen = codes "already-open"
 refusal_word NotWorking = codes "not-working"
+refusal_word BadAttr = codes "bad-attr"
 
 -- the word of a counter
 abbrev pub counter_word : Counter → List ℕ
@@ -90,13 +92,13 @@ CommitHasText (CommittedOpen trouble) = HasText trouble
 abbrev pub pair_word : Pair → List ℕ
 pair_word pair = text_of 61 (hexadecimal pair.key ∷ hexadecimal pair.payload ∷ [])
 
--- a record as two words
-abbrev pub pair_words : Pair → List (List ℕ)
-pair_words pair = hexadecimal pair.key ∷ hexadecimal pair.payload ∷ []
+-- a record of a leaf as words: its key, its payload, and its attribute where it has one
+abbrev pub stored_words : Stored → List (List ℕ)
+stored_words stored = hexadecimal stored.key ∷ hexadecimal stored.payload ∷ last_words stored.attr
 
 -- the words of a change
 abbrev pub change_words : Change → List (List ℕ)
-change_words (Insert key payload) = codes "insert" ∷ hexadecimal key ∷ hexadecimal payload ∷ []
+change_words (Insert key payload attr) = codes "insert" ∷ hexadecimal key ∷ hexadecimal payload ∷ last_words attr
 change_words (Update key payload) = codes "update" ∷ hexadecimal key ∷ hexadecimal payload ∷ []
 change_words (Delete key) = codes "delete" ∷ hexadecimal key ∷ []
 change_words (Add key amount) = codes "add" ∷ hexadecimal key ∷ decimal amount ∷ []
@@ -115,7 +117,7 @@ report_lines report =
     (codes "report" ∷ decimal report.tree ∷ [])
     ∷ (section_lines (codes "committed") entry_words report.committed
     ++ (section_lines (codes "order") entry_words report.order
-    ++ (section_lines (codes "contents") pair_words report.contents
+    ++ (section_lines (codes "contents") stored_words report.contents
     ++ (codes "left" ∷ decimal report.heads ∷ decimal report.messages ∷ []) ∷ [])))
 
 -- the lines of a reply

@@ -2,19 +2,22 @@ ghost use Rattle.std.specs.Prelude.{◌≡◌, ℕ, List, [], ◌∷◌, ◌++�
 ghost use Rattle.std.specs.Fmt.{decimal};
 ghost use Rattle.std.specs.String.{string_bytes};
 ghost use Rattle.words.specs.Word.{hexadecimal};
-ghost use Rattle.words.specs.Line.{text_of};
+ghost use Rattle.words.specs.Line.{text_of, last_words};
 ghost use Rattle.db_base.specs.Refusal.{number_of_refusal};
-ghost use Rattle.reply_text.specs.Reply.{refusal_word, counter_word, trouble_words, HasText, behind_each, pair_word, pair_words, entry_words, change_words, commit_words, CommitHasText, report_lines, reply_text, ReplyHasText};
+ghost use Rattle.reply_text.specs.Reply.{refusal_word, counter_word, trouble_words, HasText, behind_each, pair_word, stored_words, entry_words, change_words, commit_words, CommitHasText, report_lines, reply_text, ReplyHasText};
 
 use crate::name::{lock_word, place_word};
 use crate::reply::Reply;
 use db_base::blob::Blob;
+use db_base::attr::Attr;
 use db_base::change::Change;
+use db_base::key::{Key, Payload};
 use db_base::pair::Pair;
 use db_base::refusal::Refusal;
 use db_base::trouble::{CommitAnswer, Counter, Trouble};
 use report_types::entry::Entry;
 use report_types::report::Report;
+use report_types::stored::Stored;
 use std::alloc::{AllocError, Global};
 use words::bytes::hexadecimal;
 use words::fault::TextFault;
@@ -95,6 +98,26 @@ fn record_text(alloc: Global, kind: &str, key: &[u8], payload: &[u8]) -> Result<
     format!(in alloc; "{kind} {key} {payload}")
 }
 
+/// An insert: a key, a payload, and an attribute where there is one.
+fn insert_text(
+    alloc: Global,
+    key: &Key,
+    payload: &Payload,
+    attr: &Option<Attr>,
+) -> Result<String, AllocError>
+    ensures { IfOk result (λ text. string_bytes text ≡ text_of 32 (codes "insert" ∷ hexadecimal key.now ∷ hexadecimal payload.now ∷ last_words attr.now)) }
+{
+    match attr {
+        None => record_text(alloc, "insert", key.as_slice(), payload.as_slice()),
+        Some(attr) => {
+            let key = hexadecimal(alloc, key.as_slice())?;
+            let payload = hexadecimal(alloc, payload.as_slice())?;
+            let attr = hexadecimal(alloc, attr.as_slice())?;
+            format!(in alloc; "insert {key} {payload} {attr}")
+        }
+    }
+}
+
 /// An addition: a key and an amount.
 fn sum_text(alloc: Global, key: &[u8], amount: u64) -> Result<String, AllocError>
     ensures { IfOk result (λ text. string_bytes text ≡ text_of 32 (codes "add" ∷ hexadecimal key.now ∷ decimal amount ∷ [])) }
@@ -129,6 +152,7 @@ pub fn refusal_word(refusal: Refusal) -> &'static str
         Refusal::Broken => "broken",
         Refusal::AlreadyOpen => "already-open",
         Refusal::NotWorking => "not-working",
+        Refusal::BadAttr => "bad-attr",
     }
 }
 
@@ -229,13 +253,19 @@ fn pair_word(alloc: Global, pair: &Pair) -> Result<String, AllocError>
     format!(in alloc; "{key}={payload}")
 }
 
-/// A record as a line.
-fn pair_text(alloc: Global, pair: &Pair) -> Result<String, AllocError>
-    ensures { IfOk result (λ text. string_bytes text ≡ text_of 32 (pair_words pair.now)) }
+/// A record of a leaf as a line.
+fn stored_text(alloc: Global, stored: &Stored) -> Result<String, AllocError>
+    ensures { IfOk result (λ text. string_bytes text ≡ text_of 32 (stored_words stored.now)) }
 {
-    let key = hexadecimal(alloc, pair.key.as_slice())?;
-    let payload = hexadecimal(alloc, pair.payload.as_slice())?;
-    format!(in alloc; "{key} {payload}")
+    let key = hexadecimal(alloc, stored.key.as_slice())?;
+    let payload = hexadecimal(alloc, stored.payload.as_slice())?;
+    match &stored.attr {
+        None => format!(in alloc; "{key} {payload}"),
+        Some(attr) => {
+            let attr = hexadecimal(alloc, attr.as_slice())?;
+            format!(in alloc; "{key} {payload} {attr}")
+        }
+    }
 }
 
 /// A change.
@@ -243,12 +273,7 @@ fn change_text(alloc: Global, change: &Change) -> Result<String, AllocError>
     ensures { IfOk result (λ text. string_bytes text ≡ text_of 32 (change_words change.now)) }
 {
     match change {
-        Change::Insert { key, payload } => record_text(
-            alloc,
-            "insert",
-            key.as_slice(),
-            payload.as_slice(),
-        ),
+        Change::Insert { key, payload, attr } => insert_text(alloc, key, payload, attr),
         Change::Update { key, payload } => record_text(
             alloc,
             "update",
@@ -295,12 +320,12 @@ fn add_pair_words(alloc: Global, text: &mut String, pairs: &[Pair]) -> Result<()
 }
 
 /// Adds each record as a line behind a line feed.
-fn add_pairs(alloc: Global, text: &mut String, pairs: &[Pair]) -> Result<(), AllocError>
-    ensures { OnOk result (string_bytes text.new ≡ string_bytes text.old ++ behind_each 10 (map (λ pair. text_of 32 (pair_words pair)) pairs.now)) }
+fn add_contents(alloc: Global, text: &mut String, records: &[Stored]) -> Result<(), AllocError>
+    ensures { OnOk result (string_bytes text.new ≡ string_bytes text.old ++ behind_each 10 (map (λ stored. text_of 32 (stored_words stored)) records.now)) }
 {
-    let mut left = pairs;
-    while let Some((pair, rest)) = left.split_first() {
-        let line = pair_text(alloc, pair)?;
+    let mut left = records;
+    while let Some((stored, rest)) = left.split_first() {
+        let line = stored_text(alloc, stored)?;
         add_text(text, "\n", line.as_str())?;
         left = rest;
     }
@@ -342,7 +367,7 @@ fn report_text(alloc: Global, report: &Report) -> Result<String, TextFault>
     add_count(alloc, &mut text, "order", report.order.len())?;
     add_entries(alloc, &mut text, report.order.as_slice())?;
     add_count(alloc, &mut text, "contents", report.contents.len())?;
-    add_pairs(alloc, &mut text, report.contents.as_slice())?;
+    add_contents(alloc, &mut text, report.contents.as_slice())?;
     let left = two_numbers_text(alloc, "left", report.heads, report.messages)?;
     add_text(&mut text, "\n", left.as_str())?;
     Ok(text)

@@ -1,5 +1,5 @@
 use crate::entry_log::EntryLog;
-use crate::pair_list::PairList;
+use crate::stored_list::StoredList;
 use db_base::ids::TreeId;
 
 /// What is committed, applied and left in a tree.
@@ -11,7 +11,7 @@ pub struct Report {
     /// What is applied to pages, in the order of application.
     pub order: EntryLog,
     /// The records of its leaves, in the order of their keys.
-    pub contents: PairList,
+    pub contents: StoredList,
     /// How many heads are open with a committed entry of this tree.
     pub heads: u64,
     /// How many messages of its queues are not deleted.

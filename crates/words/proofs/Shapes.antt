@@ -1,9 +1,10 @@
 -- Readers of words: what is read is spelled so, and each spelling is read.
 use Rattle.std.proofs.Common.{◌≡◌, ℕ, ◌^◌, ◌<◌, List, [], ◌∷◌, ◌++◌, Option, Some, None, refl, ap, ◌∙◌, append_assoc, append-nil, map}
 use Rattle.std.specs.Fmt.{decimal}
+use Rattle.std.specs.Prelude.{IfSome}
 use Rattle.std.proofs.lemmas.Option.{same_Some}
 use Rattle.words.specs.Word.{AreBytes, AreNumbers, hexadecimal, number_of, bytes_of}
-use Rattle.words.specs.Line.{◌>>=◌, with_left, number_at, bytes_at, end_at, numbers_of, one_of, two_of, three_of, place_of, record_of, sum_of}
+use Rattle.words.specs.Line.{◌>>=◌, with_left, number_at, bytes_at, end_at, last_words, last_of, numbers_of, one_of, two_of, three_of, place_of, record_of, sum_of}
 use Rattle.words.proofs.Numerals.{number_of-takes, number_of-decimal}
 use Rattle.words.proofs.Hexadecimal.{bytes_of-takes, bytes_of-hexadecimal}
 
@@ -188,6 +189,23 @@ record_of-takes words x e =
 pub record_of-again : (n : ℕ) (first second : List ℕ) → n < 2 ^ 64 → AreBytes first → AreBytes second → record_of (decimal n ∷ hexadecimal first ∷ hexadecimal second ∷ []) ≡ Some (n, first, second)
 unfolding record_of
 record_of-again n first second o p q = rw (number_at-again n (hexadecimal first ∷ hexadecimal second ∷ []) o, bytes_at-again first (hexadecimal second ∷ []) p, bytes_at-again second [] q, end_at-again) refl
+
+-- a last word, or none
+pub last_of-takes : (words : List (List ℕ)) (last : Option (List ℕ)) → last_of words ≡ Some last → IfSome last AreBytes × (words ≡ last_words last)
+unfolding last_of
+last_of-takes [] last e = let same : None ≡ last = same_Some None last e in rw (← same) (tt, refl)
+last_of-takes (word ∷ words) last e =
+    let a = bind_some (bytes_of word) _ last e in
+    let z = bind_some (end_at words) _ last a.2 in
+    let bytes = bytes_of-takes word a.0 a.1 in
+    let nothing = end_at-takes words z.0 z.1 in
+    let same : Some a.0 ≡ last = same_Some (Some a.0) last z.2 in
+    rw (← same) (bytes.0, ap (λ (w : List ℕ). w ∷ words) bytes.1 ∙ behind _ nothing)
+
+pub last_of-again : (last : Option (List ℕ)) → IfSome last AreBytes → last_of (last_words last) ≡ Some last
+unfolding last_of
+last_of-again None h = refl
+last_of-again (Some bytes) h = rw (bytes_of-hexadecimal bytes h, end_at-again) refl
 
 -- the words of numbers
 pub numbers_of-takes : (words : List (List ℕ)) (numbers : List ℕ) → numbers_of words ≡ Some numbers → AreNumbers numbers × (words ≡ map decimal numbers)

@@ -1,7 +1,7 @@
 -- Texts as parts between separators, and readers that take one part after another.
 use Rattle.std.specs.Prelude.{ℕ, ◌==◌, List, [], ◌∷◌, Option, Some, None, option_and_then}
 use Rattle.std.specs.List.{slice_split, join_with_byte}
-use Rattle.words.specs.Word.{number_of, bytes_of}
+use Rattle.words.specs.Word.{hexadecimal, number_of, bytes_of}
 
 -- the parts of a text between separators
 abbrev pub parts_of : ℕ → List ℕ → List (List ℕ)
@@ -40,6 +40,19 @@ bytes_at (word ∷ left) = with_left left (bytes_of word)
 unfoldable pub end_at : List (List ℕ) → Option (Unit {0})
 end_at [] = Some tt
 end_at (word ∷ left) = None
+
+-- bytes as a last word, or no word
+abbrev pub last_words : Option (List ℕ) → List (List ℕ)
+last_words None = []
+last_words (Some bytes) = hexadecimal bytes ∷ []
+
+-- the last word as bytes, or none where nothing is left
+unfoldable pub last_of : List (List ℕ) → Option (Option (List ℕ))
+last_of [] = Some None
+last_of (word ∷ words) = do
+  bytes ← bytes_of word
+  end ← end_at words
+  Some (Some bytes)
 
 -- the parts that are left of a text, or none
 abbrev pub parts_left : ℕ → Option (List ℕ) → List (List ℕ)

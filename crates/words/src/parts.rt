@@ -1,7 +1,7 @@
 ghost use Rattle.std.specs.Prelude.{◌≡◌, ◌↔◌, ◌∷◌, [], IfSome, IfNone};
 ghost use Rattle.std.specs.Option.{option_copied, option_map};
 ghost use Rattle.words.specs.Word.{Reads, ReadsBy};
-ghost use Rattle.words.specs.Line.{parts_of, parts_left, word_at, number_at, bytes_at, end_at, numbers_of, one_of, two_of, three_of, place_of, record_of, sum_of};
+ghost use Rattle.words.specs.Line.{parts_of, parts_left, word_at, number_at, bytes_at, end_at, last_of, numbers_of, one_of, two_of, three_of, place_of, record_of, sum_of};
 
 use crate::bytes::bytes_of;
 use crate::fault::TextFault;
@@ -111,6 +111,22 @@ impl<'a> Parts<'a> {
         match left {
             None => Ok(()),
             Some(_) => Err(TextFault::NotInGrammar),
+        }
+    }
+
+    /// The last part as bytes in hexadecimal, or none where no part is left; NotInGrammar where another part is behind it.
+    #[tactic(auto, unfolding(crate::specs::Line::last_of))]
+    pub fn last(self, alloc: Global) -> Result<Option<Blob>, TextFault>
+        ensures { Reads result (last_of self.entry) }
+    {
+        let mut left = self;
+        match left.next() {
+            None => Ok(None),
+            Some(word) => {
+                let bytes = bytes_of(alloc, word)?;
+                left.end()?;
+                Ok(Some(bytes))
+            }
         }
     }
 

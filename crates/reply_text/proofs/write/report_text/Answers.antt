@@ -10,5 +10,5 @@ returns-clause-ok c =
     (rw c.len-2.ensures at c.in_ok-add_count-2.ensures.ok)
     (rw c.as_slice-2.ensures at c.in_ok-add_entries-2.ensures)
     (rw c.len-3.ensures at c.in_ok-add_count-3.ensures.ok)
-    (rw c.as_slice-3.ensures at c.in_ok-add_pairs.ensures)
+    (rw c.as_slice-3.ensures at c.in_ok-add_contents.ensures)
     (rw (c.as_str.ensures.value, c.in_ok-left.ensures.ok) at c.in_ok-add_text.ensures)

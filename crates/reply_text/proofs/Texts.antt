@@ -82,9 +82,9 @@ report_whole report t0 t1 t2 t3 t4 t5 t6 t7 h0 h1 h2 h3 h4 h5 h6 h7 =
     let left : List (List (List ℕ)) = (codes "left" ∷ decimal report.heads ∷ decimal report.messages ∷ []) ∷ [] in
     let last = text_of 32 (codes "left" ∷ decimal report.heads ∷ decimal report.messages ∷ []) in
     let contents = section_text (codes "contents") stored_words report.contents left (10 ∷ last) (ap (λ (t : List ℕ). 10 ∷ t) (append-nil last)) in
-    let order = section_text (codes "order") entry_words report.order (section_lines (codes "contents") pair_words report.contents ++ left) _ contents in
-    let committed = section_text (codes "committed") entry_words report.committed (section_lines (codes "order") entry_words report.order ++ (section_lines (codes "contents") pair_words report.contents ++ left)) _ order in
-    let rest = section_lines (codes "committed") entry_words report.committed ++ (section_lines (codes "order") entry_words report.order ++ (section_lines (codes "contents") pair_words report.contents ++ left)) in
+    let order = section_text (codes "order") entry_words report.order (section_lines (codes "contents") stored_words report.contents ++ left) _ contents in
+    let committed = section_text (codes "committed") entry_words report.committed (section_lines (codes "order") entry_words report.order ++ (section_lines (codes "contents") stored_words report.contents ++ left)) _ order in
+    let rest = section_lines (codes "committed") entry_words report.committed ++ (section_lines (codes "order") entry_words report.order ++ (section_lines (codes "contents") stored_words report.contents ++ left)) in
     let first = text_of 32 (codes "report" ∷ decimal report.tree ∷ []) in
     let whole = text_of_behind 10 first (map (text_of 32) rest) ∙ ap (λ (t : List ℕ). first ++ t) committed in
     rw (h7, h6, h5, h4, h3, h2, h1, h0) (regroup first (10 ∷ text_of 32 (codes "committed" ∷ decimal (length report.committed) ∷ [])) (behind_each 10 (map (λ e. text_of 32 (entry_words e)) report.committed)) (10 ∷ text_of 32 (codes "order" ∷ decimal (length report.order) ∷ [])) (behind_each 10 (map (λ e. text_of 32 (entry_words e)) report.order)) (10 ∷ text_of 32 (codes "contents" ∷ decimal (length report.contents) ∷ [])) (behind_each 10 (map (λ s. text_of 32 (stored_words s)) report.contents)) (10 ∷ last) ∙ sym whole)

@@ -1,7 +1,8 @@
 -- Changes that may be committed.
 use Rattle.std.proofs.Common.{◌≡◌, ◌+◌, ◌≤◌, ℕ, lit<, Bool, true, false, cond, List, [], ◌∷◌, length, zero, suc, Some, refl, subst, arith}
-use Rattle.db_base.specs.Change.{Value, key_of, net, plus, IsChange}
+use Rattle.db_base.specs.Change.{key_of, net, plus, IsChange}
 use Rattle.db_base.specs.Key.{IsPayload}
+use Rattle.db_base.specs.Value.{plain}
 use Rattle.std.proofs.Math.Nat.{mod-lt}
 use Rattle.db_base.proofs.ChangeLaws.{act-payload}
 use Rattle.db_base.specs.Ids.{IsTree}
@@ -16,8 +17,8 @@ use Rattle.session_facts.specs.Commits.Committing.{MayCommit}
 pub may_none : MayCommit []
 may_none = record { noted = record { most = omega arith; distinct = tt }; each = λ n is. absurd (in_none [] n refl is) }
 
-sized : (payload : Value) (more : ℕ) → IsPayload payload → IsPayload (plus payload more)
-sized payload more h = act-payload (Some payload) (Add [] more) h (omega arith)
+sized : (payload : List ℕ) (more : ℕ) → IsPayload payload → IsPayload (plus payload more)
+sized payload more h = act-payload (Some (plain payload)) (Add [] more) h (omega arith)
 
 net_is : (a b : Change) → IsChange a → IsChange b → IsChange (net a b)
 net_is a (Insert key payload attr) p q = q

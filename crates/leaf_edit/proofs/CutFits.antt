@@ -1,5 +1,5 @@
 -- The parts of a cut leaf are well formed.
-use Rattle.std.proofs.Common.{◌≡◌, ℕ, zero, suc, ◌-◌, ◌<◌, ◌≤◌, true, false, List, [], ◌∷◌, ◌++◌, length, Option, Some, None, refl, sym, ap, subst, ◌∙◌, arith, take, drop, append_assoc}
+use Rattle.std.proofs.Common.{◌≡◌, ℕ, zero, suc, ◌-◌, ◌<◌, ◌≤◌, true, false, List, [], ◌∷◌, ◌++◌, length, Option, Some, None, refl, sym, ap, subst, ◌∙◌, arith, take, drop, append_assoc, inl}
 use Rattle.std.specs.Prelude.{IsTrue, not}
 use Rattle.std.specs.List.{AllByRecursion}
 use Rattle.std.specs.declared.cmp.Ordering.{Ordering}
@@ -106,6 +106,7 @@ low-below low high (suc n) (e ∷ es) some less h all = upto_below low e.key (fi
 
 pub left-formed : (n right : ℕ) (l : Leaf) → 0 < n → n < length l.records → 1 ≤ right → right ≤ greatest → IsWellFormed l → IsWellFormed (left_part n right l)
 left-formed n right l some less page small h = record {
+  format = inl refl;
   low = h.low;
   right = small;
   high = (ap not (ne_eqb right 0 (λ e. absurd (omega (arith, e)))), first-drop IsKey n l.records less (all-keys l.records h.records), low-below l.low l.high n l.records some less h.records_ascend h.records);
@@ -123,6 +124,7 @@ left-formed n right l some less page small h = record {
 
 pub right-formed : (n : ℕ) (l : Leaf) → n < length l.records → IsWellFormed l → IsWellFormed (right_part n l)
 right-formed n l less h = record {
+  format = inl refl;
   low = first-drop (λ k. length k ≤ 64) n l.records less (short l.records h.records);
   right = h.right;
   high = high l.high h.high (first-drop (λ k. IsTrue (below_bound k l.high)) n l.records less (bounded l.records h.records));

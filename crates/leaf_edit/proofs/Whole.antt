@@ -1,5 +1,5 @@
 -- The bytes of an applied leaf are its spelling.
-use Rattle.std.proofs.Common.{◌≡◌, ℕ, ◌+◌, ◌<◌, ◌≤◌, ◌^◌, Bool, true, false, cond, List, [], ◌∷◌, ◌++◌, refl, sym, ap, ◌∙◌, arith, append_assoc}
+use Rattle.std.proofs.Common.{◌≡◌, ℕ, ◌+◌, ◌<◌, ◌≤◌, ◌^◌, Bool, true, false, cond, List, [], ◌∷◌, ◌++◌, refl, sym, ap, ◌∙◌, arith, append_assoc, inl}
 use Rattle.std.specs.Prelude.{nat_lt}
 use Rattle.std.specs.List.{AllByRecursion}
 use Rattle.std.proofs.lemmas.Bool.{and_parts}
@@ -60,6 +60,7 @@ pub applied-formed : (l : Leaf) (queue : ℕ) (run : List PuItem) → queue ≤ 
 applied-formed l queue run small h ordered =
     let items : AllByRecursion IsItem run = recursion_from_All IsItem run ordered.items in
     record {
+      format = inl refl;
       low = h.low;
       right = h.right;
       high = h.high;

@@ -14,12 +14,11 @@ use crate::spell::{right_of, try_add_done, try_add_entry, try_add_fields};
 use byte_format::try_add_u8;
 use db_base::ids::PageId;
 use db_base::pair::EditFault;
-use db_base::value::Value;
 use leaf_view::{DoneList, LeafView, Records};
 use std::alloc::{AllocError, Global};
 
 /// The first record, where `more` of the first ones are left, and those behind it.
-fn next_of<'a>(records: Records<'a>, more: usize) -> Option<((&'a [u8], Value<'a>), Records<'a>)>
+fn next_of<'a>(records: Records<'a>, more: usize) -> Option<((&'a [u8], &'a [u8], Option<&'a [u8]>), Records<'a>)>
     ensures { MatchOption result (TakesNone more records.entry) (λ x. TakesOne more records.entry (shown x.0) x.1) }
 {
     if more == 0 {
@@ -51,8 +50,8 @@ fn add_front<'a>(out: &mut Vec<u8>, records: Records<'a>, n: usize) -> Result<()
 {
     let mut left = records;
     let mut more = n;
-    while let Some(((key, value), rest)) = next_of(left.again(), more) {
-        try_add_entry(out, key, &value)?;
+    while let Some(((key, payload, attr), rest)) = next_of(left.again(), more) {
+        try_add_entry(out, key, payload, attr)?;
         left = rest;
         more -= 1;
     }
@@ -76,7 +75,7 @@ fn first_key<'a>(records: &Records<'a>) -> &'a [u8]
     ensures { result.now ≡ first_key records.now }
 {
     match records.again().split() {
-        Some(((key, _), _)) => key,
+        Some(((key, _, _), _)) => key,
         None => &[],
     }
 }
@@ -149,8 +148,8 @@ fn add_rest<'a>(out: &mut Vec<u8>, records: Records<'a>) -> Result<(), AllocErro
     ensures { OnOk result (out.new.items ≡ out.old.items ++ entries_bytes records.entry) }
 {
     let mut left = records;
-    while let Some(((key, value), rest)) = left.again().split() {
-        try_add_entry(out, key, &value)?;
+    while let Some(((key, payload, attr), rest)) = left.again().split() {
+        try_add_entry(out, key, payload, attr)?;
         left = rest;
     }
     try_add_u8(out, 0)

@@ -6,7 +6,7 @@ ghost use Rattle.std.specs.Vec.{vec_capacity};
 ghost use Rattle.byte_format.specs.Adds.{Adds};
 ghost use Rattle.leaf_view.specs.Leaf.{IsLeaf};
 ghost use Rattle.log_codec.specs.Order.{IsOrdered};
-ghost use Rattle.leaf_view.specs.Shown.{shown};
+ghost use Rattle.leaf_view.specs.Shown.{valued};
 ghost use Rattle.leaf_edit.specs.Applied.{applied, applied_length};
 ghost use Rattle.leaf_edit.specs.Edited.{edited_by};
 ghost use Rattle.leaf_edit.specs.Merging.{AreChanges, AreRecords, IsSized};
@@ -36,23 +36,23 @@ fn add_head(out: &mut Vec<u8>, leaf: &LeafView<'_>, version: u64)
 
 /// How many bytes a record has, where there is one.
 fn record_len(next: &Option<(&[u8], Value<'_>)>) -> usize
-    requires { IfSome (option_map shown next.now) IsSized }
-    ensures { result ≡ entry_size_of (option_map shown next.now) }
+    requires { IfSome (option_map valued next.now) IsSized }
+    ensures { result ≡ entry_size_of (option_map valued next.now) }
 {
     match next {
-        Some((key, value)) => entry_len(key, value),
+        Some((key, value)) => entry_len(key, value.payload(), value.attr()),
         None => 0,
     }
 }
 
 /// Appends a record, where there is one.
 fn add_record(out: &mut Vec<u8>, next: &Option<(&[u8], Value<'_>)>)
-    requires sized { IfSome (option_map shown next.now) IsSized }
-    requires room { vec_len out.old + entry_size_of (option_map shown next.now) ≤ vec_capacity out.old }
-    ensures { Adds out.old out.new (entry_bytes_of (option_map shown next.now)) }
+    requires sized { IfSome (option_map valued next.now) IsSized }
+    requires room { vec_len out.old + entry_size_of (option_map valued next.now) ≤ vec_capacity out.old }
+    ensures { Adds out.old out.new (entry_bytes_of (option_map valued next.now)) }
 {
     match next {
-        Some((key, value)) => add_entry(out, key, value),
+        Some((key, value)) => add_entry(out, key, value.payload(), value.attr()),
         None => (),
     }
 }

@@ -11,7 +11,6 @@ ghost use Rattle.leaf_edit.specs.Sizes.{attr_size, entry_size, fields_size, high
 ghost use Rattle.leaf_edit.specs.Spelled.{attr_bytes, done_bytes, entry_bytes, fields_bytes, high_bytes};
 
 use byte_format::{add_text8, add_text16, add_u8, add_u64};
-use db_base::value::Value;
 use leaf_view::{Done, LeafView};
 use std::alloc::AllocError;
 
@@ -109,11 +108,11 @@ fn attr_len(attr: Option<&[u8]>) -> usize
 }
 
 /// How many bytes a record has, with the byte that says that it is there.
-pub(crate) fn entry_len(key: &[u8], value: &Value<'_>) -> usize
-    requires { IsSized (shown (key, value.now)) }
-    ensures { result ≡ entry_size (shown (key, value.now)) }
+pub(crate) fn entry_len(key: &[u8], payload: &[u8], attr: Option<&[u8]>) -> usize
+    requires { IsSized (shown (key, payload, attr)) }
+    ensures { result ≡ entry_size (shown (key, payload, attr.entry)) }
 {
-    5 + key.len() + value.payload().len() + attr_len(value.attr())
+    5 + key.len() + payload.len() + attr_len(attr)
 }
 
 /// Appends an attribute, where there is one, behind the byte that says whether it is there.
@@ -132,15 +131,15 @@ fn add_attr(out: &mut Vec<u8>, attr: Option<&[u8]>)
 }
 
 /// Appends a record, with the byte that says that it is there.
-pub(crate) fn add_entry(out: &mut Vec<u8>, key: &[u8], value: &Value<'_>)
-    requires sized { IsSized (shown (key, value.now)) }
-    requires room { vec_len out.old + entry_size (shown (key, value.now)) ≤ vec_capacity out.old }
-    ensures { Adds out.old out.new (entry_bytes (shown (key, value.now))) }
+pub(crate) fn add_entry(out: &mut Vec<u8>, key: &[u8], payload: &[u8], attr: Option<&[u8]>)
+    requires sized { IsSized (shown (key, payload, attr)) }
+    requires room { vec_len out.old + entry_size (shown (key, payload, attr)) ≤ vec_capacity out.old }
+    ensures { Adds out.old out.new (entry_bytes (shown (key, payload, attr.entry))) }
 {
     add_u8(out, 1);
     add_text8(out, key);
-    add_text16(out, value.payload());
-    add_attr(out, value.attr());
+    add_text16(out, payload);
+    add_attr(out, attr);
 }
 
 /// Appends what stands before the lists of a leaf.
@@ -170,11 +169,11 @@ pub(crate) fn try_add_done(out: &mut Vec<u8>, entry: &Done) -> Result<(), AllocE
 }
 
 /// Appends a record, with the byte that says that it is there.
-pub(crate) fn try_add_entry(out: &mut Vec<u8>, key: &[u8], value: &Value<'_>) -> Result<(), AllocError>
-    requires { IsSized (shown (key, value.now)) }
-    ensures { OnOk result (out.new.items ≡ out.old.items ++ entry_bytes (shown (key, value.now))) }
+pub(crate) fn try_add_entry(out: &mut Vec<u8>, key: &[u8], payload: &[u8], attr: Option<&[u8]>) -> Result<(), AllocError>
+    requires { IsSized (shown (key, payload, attr)) }
+    ensures { OnOk result (out.new.items ≡ out.old.items ++ entry_bytes (shown (key, payload, attr.entry))) }
 {
-    out.reserve(entry_len(key, value))?;
-    add_entry(out, key, value);
+    out.reserve(entry_len(key, payload, attr))?;
+    add_entry(out, key, payload, attr);
     Ok(())
 }

@@ -5,7 +5,7 @@ ghost use Rattle.std.specs.Option.{option_map};
 ghost use Rattle.db_base.specs.Key.{IsKey};
 ghost use Rattle.db_base.specs.Change.{key_of, act, IsChange};
 ghost use Rattle.byte_format.specs.Order.{bytes_same};
-ghost use Rattle.leaf_view.specs.Shown.{shown};
+ghost use Rattle.leaf_view.specs.Shown.{shown, valued};
 ghost use Rattle.leaf_edit.specs.Edited.{edited_by, with_value};
 ghost use Rattle.leaf_edit.specs.Merging.{AllFrom, AreChanges, AreRecords, entry_at, Folds, IsValue, KeyBefore, Steps};
 
@@ -67,7 +67,7 @@ fn folded<'a>(
     requires before { KeyBefore (key_of x.now.rec.change) records }
     requires value { IfSome old IsValue }
     ensures { Steps (with_value (key_of x.now.rec.change) old.entry records.entry) (x.now ∷ rest.entry)
-        (option_map shown result.record) result.records result.changes }
+        (option_map valued result.record) result.records result.changes }
 {
     let key = key_at(x);
     let value = act_sized(old, &x.rec.change);
@@ -87,9 +87,16 @@ fn key_at(x: &PuItem) -> &[u8]
     x.rec.change.key().as_slice()
 }
 
+/// A record that stays as it is.
+fn kept<'a>(record: (&'a [u8], &'a [u8], Option<&'a [u8]>)) -> (&'a [u8], Value<'a>)
+    ensures { valued result ≡ shown record.entry }
+{
+    (record.0, Value::with(record.1, record.2))
+}
+
 /// The record of a key, where there is a value.
 fn entry_at<'a>(key: &'a [u8], value: Option<Value<'a>>) -> Option<(&'a [u8], Value<'a>)>
-    ensures { option_map shown result ≡ entry_at key.now value.entry }
+    ensures { option_map valued result ≡ entry_at key.now value.entry }
 {
     match value {
         Some(value) => Some((key, value)),
@@ -117,17 +124,17 @@ fn at_change<'a>(
     requires records { AreRecords records }
     requires split { changes ≡ x.now ∷ rest }
     requires changes { AreChanges changes }
-    ensures { Steps records.entry changes.entry (option_map shown result.record) result.records result.changes }
+    ensures { Steps records.entry changes.entry (option_map valued result.record) result.records result.changes }
 {
     match records.again().split() {
         None => folded(x, None, rest, records),
         Some((record, behind)) => match record.0.cmp(key_at(x)) {
             Ordering::Less => Step {
-                record: Some(record),
+                record: Some(kept(record)),
                 records: behind,
                 changes,
             },
-            Ordering::Equal => folded(x, Some(record.1), rest, behind),
+            Ordering::Equal => folded(x, Some(Value::with(record.1, record.2)), rest, behind),
             Ordering::Greater => folded(x, None, rest, records),
         },
     }
@@ -138,13 +145,13 @@ pub(crate) fn next_step<'a>(records: Records<'a>, changes: Changes<'a>) -> Optio
     requires records { AreRecords records }
     requires changes { AreChanges changes }
     ensures { MatchOption result (edited_by records.entry changes.entry ≡ [])
-        (λ s. Steps records.entry changes.entry (option_map shown s.record) s.records s.changes) }
+        (λ s. Steps records.entry changes.entry (option_map valued s.record) s.records s.changes) }
 {
     match changes.again().split() {
         None => match records.split() {
             None => None,
             Some((record, behind)) => Some(Step {
-                record: Some(record),
+                record: Some(kept(record)),
                 records: behind,
                 changes: changes.ended(),
             }),

@@ -4,5 +4,5 @@ use Rattle.leaf_edit.proofs.cut.add_front.Goals as goal
 
 pub loop-key-preserved : goal.loop-key-preserved
 loop-key-preserved c =
-    front-step _ _ _ c.loop-key.more _ _ (shown (c.in-Some.key, c.in-Some.value)) _ c.again.ensures c.in-Some.ensures c.loop-key.invariant.0
+    front-step _ _ _ c.loop-key.more _ _ (shown (c.in-Some.key, c.in-Some.payload, c.in-Some.attr)) _ c.again.ensures c.in-Some.ensures c.loop-key.invariant.0
     c.loop-key.invariant.1 c.in_ok-try_add_entry.ensures

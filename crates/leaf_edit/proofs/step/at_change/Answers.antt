@@ -1,5 +1,10 @@
-use Rattle.std.proofs.Common.{sym, ◌∙◌}
-use Rattle.leaf_view.specs.Shown.{shown}
+use Rattle.std.proofs.Common.{Some, ◌∷◌, sym, subst, ◌∙◌}
+use Rattle.std.specs.Option.{option_map}
+use Rattle.db_base.specs.Change.{key_of}
+use Rattle.db_base.specs.Value.{Value}
+use Rattle.leaf_view.specs.Leaf.{Entry}
+use Rattle.leaf_view.specs.Shown.{shown, valued}
+use Rattle.leaf_edit.specs.Merging.{Steps}
 use Rattle.leaf_edit.proofs.Stepping.{tail-of, before-equal, before-greater, steps-less, steps-equal}
 use Rattle.leaf_edit.proofs.step.at_change.Goals as goal
 
@@ -16,10 +21,15 @@ folded-requires-in-Greater-clause-before c =
 
 pub returns-in-Less : goal.returns-in-Less
 returns-in-Less c =
-    steps-less _ (shown c.in-Some.record) _ _ c.args.x.now _ _ (sym c.again.ensures ∙ c.in-Some.ensures) c.requires.records c.requires.split
-    c.requires.changes c.key_at.ensures.key c.in-Less.ensures
+    let P : Entry → Type 0 = λ e. Steps c.args.records c.args.changes (Some e) c.in-Some.behind c.args.changes in
+    subst P (sym c.kept.ensures)
+    (steps-less _ (shown c.in-Some.record) _ _ c.args.x.now _ _ (sym c.again.ensures ∙ c.in-Some.ensures) c.requires.records c.requires.split
+    c.requires.changes c.key_at.ensures.key c.in-Less.ensures)
 
 pub returns-in-Equal : goal.returns-in-Equal
 returns-in-Equal c =
+    let Q : Value → Type 0 = λ value.
+    Steps (record { key = key_of c.args.x.now.rec.change; value = value } ∷ c.in-Some.behind) (c.args.x.now ∷ c.args.rest)
+    (option_map valued c.folded-in-Equal.result.record) c.folded-in-Equal.result.records c.folded-in-Equal.result.changes in
     steps-equal _ (shown c.in-Some.record) _ _ _ _ _ _ _ _ (sym c.again.ensures ∙ c.in-Some.ensures) c.requires.split c.key_at.ensures.key
-    c.in-Equal.ensures c.folded-in-Equal.ensures
+    c.in-Equal.ensures (subst Q c.of.ensures c.folded-in-Equal.ensures)

@@ -1,16 +1,16 @@
 -- That a leaf fits is a list of independent facts.
 use Rattle.std.proofs.Common.{◌≡◌, ℕ, zero, suc, ◌+◌, ◌<◌, ◌≤◌, Bool, true, false, cond, eqb, List, [], ◌∷◌, length, Option, Some, None, refl, sym, ap, subst, ◌∙◌, arith, inl, inr}
-use Rattle.std.specs.Prelude.{◌&&◌, ◌||◌, not, nat_lt, nat_le, IsTrue}
+use Rattle.std.specs.Prelude.{◌&&◌, ◌||◌, not, nat_lt, nat_le, IsTrue, IfSome}
 use Rattle.std.specs.List.{AllByRecursion}
 use Rattle.std.proofs.lemmas.Bool.{and_parts, and_from, or_cases, or_left, or_right, leb-true, le-leb, eqb-true, eqb-false, eq-eqb, ltb-true, lt-ltb, cases_lt, cases_order, ne_eqb}
-use Rattle.db_base.specs.Key.{IsKey}
+use Rattle.db_base.specs.Key.{IsKey, IsAttr}
 use Rattle.db_base.specs.Ids.{IsClient}
-use Rattle.byte_format.specs.Format.{Format, greatest, in_range, list_fits, option_fits}
+use Rattle.byte_format.specs.Format.{Format, greatest, in_range, only_where, maybe, list_fits, option_fits}
 use Rattle.byte_format.specs.Order.{bytes_below, below_bound}
 use Rattle.byte_format.specs.HighKey.{key_above, high_key}
 use Rattle.leaf_view.specs.declared.done.Done.{Done}
-use Rattle.leaf_view.specs.Leaf.{Entry, Leaf, leaf_head, done_item, least_queue, least_client, record_item, key_stands, above_entry, leaf}
-use Rattle.leaf_view.specs.Fits.{Behind, Ascend, done_below, entry_below, IsDone, IsEntryIn, IsHigh, IsWellFormed, IsVersion}
+use Rattle.leaf_view.specs.Leaf.{Entry, Leaf, leaf_head, attr_text, attribute, done_item, least_queue, least_client, record_item, key_stands, above_entry, leaf}
+use Rattle.leaf_view.specs.Fits.{Behind, Ascend, done_below, entry_below, IsDone, IsEntryIn, AreBare, IsFormat, IsHigh, IsWellFormed, IsVersion}
 
 pub range_is : (least most n : ℕ) → in_range least most n ≡ true → (least ≤ n) × (n ≤ most)
 range_is least most n h = let p = and_parts (nat_le least n) (nat_le n most) h in (leb-true least n p.0, leb-true n most p.1)
@@ -38,38 +38,110 @@ list_together item Is below s before (x ∷ xs) all order = and_from _ _ (s.toge
 
 -- ---- records
 
-entry_apart : (low : List ℕ) (high : Option (List ℕ)) (b : Option Entry) (e : Entry) → (record_item low high b).fits e ≡ true → IsEntryIn low high e × Behind entry_below b e
+-- format 1 has no attributes
+abbrev pub IsPlain : ℕ → Entry → Type 0
+IsPlain format e = eqb format 2 ≡ false → e.value.attr ≡ None
+
+-- a record and its attribute
+abbrev pub IsEntryOf : ℕ → List ℕ → Option (List ℕ) → Entry → Type 0
+IsEntryOf format low high e = IsEntryIn low high e × IsPlain format e
+
+maybe_apart : (attr : Option (List ℕ)) → (maybe attr_text).fits attr ≡ true → IfSome attr IsAttr
+maybe_apart None h = tt
+maybe_apart (Some a) h = let r = range_is 1 32 (length a) h in record { some = omega (arith, r.0); short = r.1 }
+
+maybe_together : (attr : Option (List ℕ)) → IfSome attr IsAttr → (maybe attr_text).fits attr ≡ true
+maybe_together None h = refl
+maybe_together (Some a) h = range_from 1 32 (length a) (omega (arith, h.some)) h.short
+
+attr_apart : (format : ℕ) (attr : Option (List ℕ)) → (attribute format).fits attr ≡ true → IfSome attr IsAttr × (eqb format 2 ≡ false → attr ≡ None)
+attr_apart format attr h = of (eqb format 2) attr h
+  where
+    of : (b : Bool) (attr : Option (List ℕ)) → (cond b (maybe attr_text) (only_where false attr_text)).fits attr ≡ true → IfSome attr IsAttr × (b ≡ false → attr ≡ None)
+    of true attr h = (maybe_apart attr h, λ never. absurd cc)
+    of false None h = (tt, λ _. refl)
+    of false (Some a) h = absurd cc
+
+attr_together : (format : ℕ) (attr : Option (List ℕ)) → IfSome attr IsAttr → (eqb format 2 ≡ false → attr ≡ None) → (attribute format).fits attr ≡ true
+attr_together format attr is plain = of (eqb format 2) attr is plain
+  where
+    of : (b : Bool) (attr : Option (List ℕ)) → IfSome attr IsAttr → (b ≡ false → attr ≡ None) → (cond b (maybe attr_text) (only_where false attr_text)).fits attr ≡ true
+    of true attr is plain = maybe_together attr is
+    of false attr is plain = rw (plain refl) refl
+
+entry_apart : (format : ℕ) (low : List ℕ) (high : Option (List ℕ)) (b : Option Entry) (e : Entry) → (record_item format low high b).fits e ≡ true → IsEntryOf format low high e × Behind entry_below b e
 unfolding record_item
-entry_apart low high b e h =
-    let p = and_parts (in_range 1 64 (length e.key) && key_stands low high b e.key) (in_range 0 1024 (length e.payload)) h in
+entry_apart format low high b e h =
+    let p = and_parts (in_range 1 64 (length e.key) && key_stands low high b e.key) (in_range 0 1024 (length e.value.payload) && (attribute format).fits e.value.attr) h in
     let q = and_parts (in_range 1 64 (length e.key)) (key_stands low high b e.key) p.0 in
     let r = and_parts (not (bytes_below e.key low) && below_bound e.key high) (above_entry b e.key) q.1 in
     let s = and_parts (not (bytes_below e.key low)) (below_bound e.key high) r.0 in
     let k = range_is 1 64 (length e.key) q.0 in
-    let v = range_is 0 1024 (length e.payload) p.1 in
-    (record { key = record { some = omega (arith, k.0); short = k.1 }; payload = v.1; from_low = s.0; to_high = s.1 }, order b r.1)
+    let v = and_parts (in_range 0 1024 (length e.value.payload)) ((attribute format).fits e.value.attr) p.1 in
+    let a = attr_apart format e.value.attr v.1 in
+    ((record { key = record { some = omega (arith, k.0); short = k.1 }; payload = (range_is 0 1024 (length e.value.payload) v.0).1; attr = a.0; from_low = s.0; to_high = s.1 }, a.1), order b r.1)
   where
     order : (b : Option Entry) → above_entry b e.key ≡ true → Behind entry_below b e
     order None h = tt
     order (Some c) h = h
 
-entry_together : (low : List ℕ) (high : Option (List ℕ)) (b : Option Entry) (e : Entry) → IsEntryIn low high e → Behind entry_below b e → (record_item low high b).fits e ≡ true
+entry_together : (format : ℕ) (low : List ℕ) (high : Option (List ℕ)) (b : Option Entry) (e : Entry) → IsEntryOf format low high e → Behind entry_below b e → (record_item format low high b).fits e ≡ true
 unfolding record_item
-entry_together low high b e is behind =
-    and_from _ _ (and_from _ _ (range_from 1 64 (length e.key) (omega (arith, is.key.some)) is.key.short) (and_from _ _ (and_from _ _ is.from_low is.to_high) (order b behind))) (range_from 0 1024 (length e.payload) (omega arith) is.payload)
+entry_together format low high b e is behind =
+    and_from _ _ (and_from _ _ (range_from 1 64 (length e.key) (omega (arith, is.0.key.some)) is.0.key.short) (and_from _ _ (and_from _ _ is.0.from_low is.0.to_high) (order b behind)))
+    (and_from _ _ (range_from 0 1024 (length e.value.payload) (omega arith) is.0.payload) (attr_together format e.value.attr is.0.attr is.1))
   where
     order : (b : Option Entry) → Behind entry_below b e → above_entry b e.key ≡ true
     order None h = refl
     order (Some c) h = h
 
-pub entries_split : (low : List ℕ) (high : Option (List ℕ)) → IsSplit (record_item low high) (IsEntryIn low high) entry_below
-entries_split low high = record { apart = entry_apart low high; together = entry_together low high }
+entries_split : (format : ℕ) (low : List ℕ) (high : Option (List ℕ)) → IsSplit (record_item format low high) (IsEntryOf format low high) entry_below
+entries_split format low high = record { apart = entry_apart format low high; together = entry_together format low high }
 
-pub records_fit : (low : List ℕ) (high : Option (List ℕ)) (before : Option Entry) (es : List Entry) → list_fits true (record_item low high) before es ≡ true → AllByRecursion (IsEntryIn low high) es × Ascend entry_below before es
-records_fit low high before es h = list_apart (record_item low high) (IsEntryIn low high) entry_below (entries_split low high) before es h
+-- each record, and the format of all
+entries_apart : (format : ℕ) (low : List ℕ) (high : Option (List ℕ)) (es : List Entry) → AllByRecursion (IsEntryOf format low high) es → AllByRecursion (IsEntryIn low high) es × AllByRecursion (IsPlain format) es
+entries_apart format low high [] all = (tt, tt)
+entries_apart format low high (e ∷ es) all = let rest = entries_apart format low high es all.1 in ((all.0.0, rest.0), (all.0.1, rest.1))
 
-pub fit_records : (low : List ℕ) (high : Option (List ℕ)) (before : Option Entry) (es : List Entry) → AllByRecursion (IsEntryIn low high) es → Ascend entry_below before es → list_fits true (record_item low high) before es ≡ true
-fit_records low high before es all order = list_together (record_item low high) (IsEntryIn low high) entry_below (entries_split low high) before es all order
+entries_together : (format : ℕ) (low : List ℕ) (high : Option (List ℕ)) (es : List Entry) → AllByRecursion (IsEntryIn low high) es → AllByRecursion (IsPlain format) es → AllByRecursion (IsEntryOf format low high) es
+entries_together format low high [] all plain = tt
+entries_together format low high (e ∷ es) all plain = ((all.0, plain.0), entries_together format low high es all.1 plain.1)
+
+bare_of : (es : List Entry) → AllByRecursion (IsPlain 1) es → AreBare es
+bare_of [] plain = tt
+bare_of (e ∷ es) plain = (plain.0 refl, bare_of es plain.1)
+
+format_apart : (format : ℕ) (es : List Entry) → in_range 1 2 format ≡ true → AllByRecursion (IsPlain format) es → IsFormat format es
+format_apart zero es h plain = absurd cc
+format_apart (suc zero) es h plain = inr (refl, bare_of es plain)
+format_apart (suc (suc zero)) es h plain = inl refl
+format_apart (suc (suc (suc n))) es h plain = absurd cc
+
+plain_of : (es : List Entry) → AreBare es → AllByRecursion (IsPlain 1) es
+plain_of [] bare = tt
+plain_of (e ∷ es) bare = (λ _. bare.0, plain_of es bare.1)
+
+all_plain : (es : List Entry) → AllByRecursion (IsPlain 2) es
+all_plain [] = tt
+all_plain (e ∷ es) = (λ never. absurd cc, all_plain es)
+
+format_together : (format : ℕ) (es : List Entry) → IsFormat format es → (in_range 1 2 format ≡ true) × AllByRecursion (IsPlain format) es
+format_together format es is =
+    elim is [
+      | inl two ↦ subst (λ (n : ℕ). (in_range 1 2 n ≡ true) × AllByRecursion (IsPlain n) es) (sym two) (refl, all_plain es)
+      | inr one ↦ subst (λ (n : ℕ). (in_range 1 2 n ≡ true) × AllByRecursion (IsPlain n) es) (sym one.0) (refl, plain_of es one.1)
+    ]
+
+pub records_fit : (format : ℕ) (low : List ℕ) (high : Option (List ℕ)) (before : Option Entry) (es : List Entry) → list_fits true (record_item format low high) before es ≡ true
+    → (AllByRecursion (IsEntryIn low high) es × AllByRecursion (IsPlain format) es) × Ascend entry_below before es
+records_fit format low high before es h =
+    let p = list_apart (record_item format low high) (IsEntryOf format low high) entry_below (entries_split format low high) before es h in
+    (entries_apart format low high es p.0, p.1)
+
+pub fit_records : (format : ℕ) (low : List ℕ) (high : Option (List ℕ)) (before : Option Entry) (es : List Entry) → AllByRecursion (IsEntryIn low high) es → AllByRecursion (IsPlain format) es → Ascend entry_below before es
+    → list_fits true (record_item format low high) before es ≡ true
+fit_records format low high before es all plain order =
+    list_together (record_item format low high) (IsEntryOf format low high) entry_below (entries_split format low high) before es (entries_together format low high es all plain) order
 
 -- ---- the table of what is done
 
@@ -144,22 +216,25 @@ high_together low right (Some k) h = rw h.0 (and_from _ _ (range_from 1 64 (leng
 pub leaf_fits : (l : Leaf) → leaf.fits l ≡ true → IsVersion l.version × IsWellFormed l
 unfolding leaf leaf_head
 leaf_fits l h =
-    let p = and_parts (in_range 1 greatest l.version && (in_range 0 64 (length l.low) && (in_range 0 greatest l.right && (high_key l.low l.right).fits l.high))) (list_fits true done_item None l.done && list_fits true (record_item l.low l.high) None l.records) h in
-    let v = and_parts (in_range 1 greatest l.version) (in_range 0 64 (length l.low) && (in_range 0 greatest l.right && (high_key l.low l.right).fits l.high)) p.0 in
+    let p = and_parts (in_range 1 2 l.format && (in_range 1 greatest l.version && (in_range 0 64 (length l.low) && (in_range 0 greatest l.right && (high_key l.low l.right).fits l.high))))
+        (list_fits true done_item None l.done && list_fits true (record_item l.format l.low l.high) None l.records) h in
+    let f = and_parts (in_range 1 2 l.format) (in_range 1 greatest l.version && (in_range 0 64 (length l.low) && (in_range 0 greatest l.right && (high_key l.low l.right).fits l.high))) p.0 in
+    let v = and_parts (in_range 1 greatest l.version) (in_range 0 64 (length l.low) && (in_range 0 greatest l.right && (high_key l.low l.right).fits l.high)) f.1 in
     let w = and_parts (in_range 0 64 (length l.low)) (in_range 0 greatest l.right && (high_key l.low l.right).fits l.high) v.1 in
     let r = and_parts (in_range 0 greatest l.right) ((high_key l.low l.right).fits l.high) w.1 in
-    let q = and_parts (list_fits true done_item None l.done) (list_fits true (record_item l.low l.high) None l.records) p.1 in
+    let q = and_parts (list_fits true done_item None l.done) (list_fits true (record_item l.format l.low l.high) None l.records) p.1 in
     let version = range_is 1 greatest l.version v.0 in
     let d = dones_fit None l.done q.0 in
-    let e = records_fit l.low l.high None l.records q.1 in (
+    let e = records_fit l.format l.low l.high None l.records q.1 in (
       record { some = version.0; most = version.1 },
       record {
+        format = format_apart l.format l.records f.0 e.0.1;
         low = (range_is 0 64 (length l.low) w.0).1;
         right = (range_is 0 greatest l.right r.0).1;
         high = high_apart l.low l.right l.high r.1;
         done = d.0;
         done_ascends = d.1;
-        records = e.0;
+        records = e.0.0;
         records_ascend = e.1;
       },
     )
@@ -167,5 +242,6 @@ leaf_fits l h =
 pub fits_leaf : (l : Leaf) → IsVersion l.version → IsWellFormed l → leaf.fits l ≡ true
 unfolding leaf leaf_head
 fits_leaf l v w =
-    and_from _ _ (and_from _ _ (range_from 1 greatest l.version v.some v.most) (and_from _ _ (range_from 0 64 (length l.low) (omega arith) w.low) (and_from _ _ (range_from 0 greatest l.right (omega arith) w.right) (high_together l.low l.right l.high w.high))))
-    (and_from _ _ (fit_dones None l.done w.done w.done_ascends) (fit_records l.low l.high None l.records w.records w.records_ascend))
+    let f = format_together l.format l.records w.format in
+    and_from _ _ (and_from _ _ f.0 (and_from _ _ (range_from 1 greatest l.version v.some v.most) (and_from _ _ (range_from 0 64 (length l.low) (omega arith) w.low) (and_from _ _ (range_from 0 greatest l.right (omega arith) w.right) (high_together l.low l.right l.high w.high)))))
+    (and_from _ _ (fit_dones None l.done w.done w.done_ascends) (fit_records l.format l.low l.high None l.records w.records f.1 w.records_ascend))

@@ -4,12 +4,13 @@ ghost use Rattle.std.specs.Prelude.{◌≡◌, ℕ, Option};
 ghost use Rattle.std.specs.Option.{option_copied};
 ghost use Rattle.leaf_view.specs.Leaf.{above_entry, record_item};
 
-use crate::entry::EntryView;
+use crate::entry::{EntryView, attr_at};
 use byte_format::{Rules, Stop, is_below, is_below_bound, text8_at, text16_at};
 
-/// Keys ascend from `low` on, below `high`.
+/// Keys ascend from `low` on, below `high`; format 2 alone has attributes.
 #[derive(Clone, Copy)]
 pub(crate) struct RecordRules<'a> {
+    pub(crate) format: u8,
     pub(crate) low: &'a [u8],
     pub(crate) high: Option<&'a [u8]>,
 }
@@ -17,7 +18,7 @@ pub(crate) struct RecordRules<'a> {
 impl<'a> Rules<'a> for RecordRules<'a> {
     type Item = EntryView<'a>;
 
-    ghost item_format = { λ rules before. record_item rules.low.now (option_copied rules.high) before };
+    ghost item_format = { λ rules before. record_item rules.format rules.low.now (option_copied rules.high) before };
 
     #[tactic(auto, unfolding(crate::specs::Leaf::record_item))]
     fn item(
@@ -30,7 +31,8 @@ impl<'a> Rules<'a> for RecordRules<'a> {
             return Err(Stop::at(bytes));
         }
         let (payload, rest) = text16_at(rest, 0, 1024)?;
-        Ok((EntryView::new(key, payload), rest))
+        let (attr, rest) = attr_at(rest, self.format)?;
+        Ok((EntryView::new(key, payload, attr), rest))
     }
 }
 

@@ -3,9 +3,10 @@
 use crate::entry::{count_entries, split_entry};
 use std::marker::Model;
 
-/// Records where they lie, in key order: pairs of key and payload.
+/// Records where they lie, in key order: key, payload and attribute.
 #[derive(Drop)]
 pub struct Records<'a> {
+    format: u8,
     rest: &'a [u8],
 }
 
@@ -16,9 +17,9 @@ impl<'a> Model for Records<'a> {
 
     ghost Value = { List Entry };
 
-    ghost view = { λ r. items_in plain_entry r.rest.now };
+    ghost view = { λ r. items_in (plain_entry r.format) r.rest.now };
 
-    ghost invariant = { λ r. IsListed plain_entry r.rest.now };
+    ghost invariant = { λ r. IsListed (plain_entry r.format) r.rest.now };
 }
 
 impl<'a> Records<'a> {
@@ -27,40 +28,49 @@ impl<'a> Records<'a> {
     ghost use Rattle.leaf_view.specs.Leaf.{plain_entry};
     ghost use Rattle.leaf_view.specs.Shown.{shown};
 
-    pub(crate) fn of(rest: &'a [u8]) -> Records<'a>
-        requires { IsListed plain_entry rest.now }
-        ensures { result ≡ items_in plain_entry rest.now }
+    pub(crate) fn of(format: u8, rest: &'a [u8]) -> Records<'a>
+        requires { IsListed (plain_entry format) rest.now }
+        ensures { result ≡ items_in (plain_entry format) rest.now }
     {
-        Records { rest }
+        Records { format, rest }
     }
 
     /// The same records from here on.
     pub fn again(&self) -> Records<'a>
         ensures { result ≡ self.now }
     {
-        Records { rest: self.rest }
+        Records {
+            format: self.format,
+            rest: self.rest,
+        }
     }
 
     /// How many records.
     pub fn len(&self) -> usize
         ensures { result ≡ length self.now }
     {
-        count_entries(self.rest)
+        count_entries(self.rest, self.format)
     }
 
     /// Whether there is no record.
     pub fn is_empty(&self) -> bool
         ensures { result ≡ (length self.now == 0) }
     {
-        split_entry(self.rest).is_none()
+        split_entry(self.rest, self.format).is_none()
     }
 
     /// The first record, and those behind it.
-    pub fn split(self) -> Option<((&'a [u8], &'a [u8]), Records<'a>)>
+    pub fn split(self) -> Option<((&'a [u8], &'a [u8], Option<&'a [u8]>), Records<'a>)>
         ensures { MatchOption result (self.entry ≡ []) (λ x. self.entry ≡ shown x.0 ∷ x.1) }
     {
-        match split_entry(self.rest) {
-            Some((key, payload, rest)) => Some(((key, payload), Records { rest })),
+        match split_entry(self.rest, self.format) {
+            Some((entry, rest)) => Some((
+                entry.parts(),
+                Records {
+                    format: self.format,
+                    rest,
+                },
+            )),
             None => None,
         }
     }
@@ -70,17 +80,17 @@ impl<'a> Iterator for Records<'a> {
     ghost use Rattle.std.specs.Iterator.{YieldsFirstBy, item_count};
     ghost use Rattle.leaf_view.specs.Shown.{shown};
 
-    type Item = (&'a [u8], &'a [u8]);
+    type Item = (&'a [u8], &'a [u8], Option<&'a [u8]>);
 
     ghost next_gives = { YieldsFirstBy shown (λ s. s) };
 
     ghost remaining = { item_count (λ s. s) };
 
-    fn next(&mut self) -> Option<(&'a [u8], &'a [u8])> {
-        match split_entry(self.rest) {
-            Some((key, payload, rest)) => {
+    fn next(&mut self) -> Option<(&'a [u8], &'a [u8], Option<&'a [u8]>)> {
+        match split_entry(self.rest, self.format) {
+            Some((entry, rest)) => {
                 self.rest = rest;
-                Some((key, payload))
+                Some(entry.parts())
             }
             None => None,
         }

@@ -10,6 +10,7 @@ use byte_format::{Stop, is_below, is_below_bound, is_same, skip_list};
 use db_base::cursor::Cursor;
 use db_base::ids::{ClientId, PageId};
 use db_base::refusal::Refused;
+use db_base::value::Value;
 use std::alloc::Global;
 use std::marker::Model;
 
@@ -23,6 +24,7 @@ pub struct NotLeaf {
 /// A leaf of a B-link tree (Lehman and Yao, 1981), borrowed from the bytes that spell it.
 #[derive(Drop)]
 pub struct LeafView<'a> {
+    format: u8,
     version: u64,
     low: &'a [u8],
     right: u64,
@@ -39,9 +41,9 @@ impl<'a> Model for LeafView<'a> {
 
     ghost Value = { Leaf };
 
-    ghost view = { λ v. leaf_with (head_of (v.version, (v.low.now, (v.right, option_copied v.high)))) v.done.now v.records.now };
+    ghost view = { λ v. leaf_with (head_of (v.format, (v.version, (v.low.now, (v.right, option_copied v.high))))) v.done.now v.records.now };
 
-    ghost invariant = { λ v. IsSound (head_of (v.version, (v.low.now, (v.right, option_copied v.high)))) v.done.now v.records.now };
+    ghost invariant = { λ v. IsSound (head_of (v.format, (v.version, (v.low.now, (v.right, option_copied v.high))))) v.done.now v.records.now };
 }
 
 impl<'a> LeafView<'a> {
@@ -52,7 +54,7 @@ impl<'a> LeafView<'a> {
     ghost use Rattle.leaf_view.specs.Leaf.{Leaf, IsLeaf, leaf};
     ghost use Rattle.leaf_view.specs.Fits.{IsWellFormed};
     ghost use Rattle.db_base.specs.Cursor.{number_of as cursor_number};
-    ghost use Rattle.leaf_view.specs.Lookup.{holds, payload_of, number_of, AreNumbers, page_at, empty_leaf};
+    ghost use Rattle.leaf_view.specs.Lookup.{holds, value_of, number_of, AreNumbers, page_at, empty_leaf};
 
     /// The leaf that the bytes spell, all of the bytes.
     pub fn read(bytes: &'a [u8]) -> Result<LeafView<'a>, NotLeaf>
@@ -77,6 +79,7 @@ impl<'a> LeafView<'a> {
         let (head, done) = head_at(bytes)?;
         let records = skip_list(&DoneRules, true, done)?;
         let rules = RecordRules {
+            format: head.format,
             low: head.low,
             high: head.high,
         };
@@ -85,6 +88,7 @@ impl<'a> LeafView<'a> {
             return Err(Stop::at(rest));
         }
         Ok(LeafView {
+            format: head.format,
             version: head.version,
             low: head.low,
             right: head.right,
@@ -113,6 +117,7 @@ impl<'a> LeafView<'a> {
         let (head, done) = head_at(bytes)?;
         let records = skip_list(&DoneRules, true, done)?;
         Ok(LeafView {
+            format: head.format,
             version: head.version,
             low: head.low,
             right: head.right,
@@ -127,6 +132,7 @@ impl<'a> LeafView<'a> {
         ensures { result ≡ empty_leaf }
     {
         LeafView {
+            format: 2,
             version: 0,
             low: &[],
             right: 0,
@@ -134,6 +140,15 @@ impl<'a> LeafView<'a> {
             done: &[0],
             records: &[0],
         }
+    }
+
+    /// The format: 1, whose records have no attribute, or 2.
+    pub fn format(&self) -> u8
+        ensures format { result ≡ self.now.format }
+        ensures formed { IsWellFormed self.now }
+    {
+        let _ = &self.low;
+        self.format
     }
 
     /// The version: 0 for the page that was never put.
@@ -181,7 +196,7 @@ impl<'a> LeafView<'a> {
         ensures records { result ≡ self.now.records }
         ensures formed { IsWellFormed self.now }
     {
-        Records::of(self.records)
+        Records::of(self.format, self.records)
     }
 
     /// The table of what is done, in order of queue and client.
@@ -192,14 +207,14 @@ impl<'a> LeafView<'a> {
         DoneList::of(self.done)
     }
 
-    /// The payload of the record with this key.
-    pub fn find(&self, key: &[u8]) -> Option<&'a [u8]>
-        ensures { option_copied result ≡ payload_of key.now self.now.records }
+    /// The value of the record with this key.
+    pub fn value(&self, key: &[u8]) -> Option<Value<'a>>
+        ensures { result ≡ value_of key.now self.now.records }
     {
         let mut left = self.records();
-        while let Some(((found, payload), rest)) = left.split() {
+        while let Some(((found, payload, attr), rest)) = left.split() {
             if is_same(found, key) {
-                return Some(payload);
+                return Some(Value::with(payload, attr));
             }
             left = rest;
         }

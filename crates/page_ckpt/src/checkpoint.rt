@@ -7,6 +7,7 @@ ghost use Rattle.cloud_trait.specs.Call.{ask_of, Lends};
 ghost use Rattle.cloud_trait.specs.Machine.{Took, Deed};
 ghost use Rattle.cloud_trait.specs.Weather.{Makes};
 
+use crate::home::Home;
 use crate::leaf::{Made, held_bytes, made_leaf, named_leaf};
 use crate::link::{Link, link_of};
 use crate::stage::Stage;
@@ -26,7 +27,6 @@ use db_base::blob::Blob;
 use db_base::ids::{MsgId, PageId, TreeId};
 use db_base::names::{Lock, ObjName, QueueName};
 use db_base::trouble::{Counter, Trouble};
-use leaf_edit::LeafBuf;
 use leaf_view::LeafView;
 use log_codec::record::PuItem;
 use run_cursor::run::Run;
@@ -42,7 +42,7 @@ pub struct PageCkpt {
     held: Leases,
     received: Vec<MsgId>,
     // None where the page is absent: the empty leaf.
-    home: Option<LeafBuf>,
+    home: Option<Home>,
     run: Option<Run>,
     deletions: Deletions,
     at: Link,

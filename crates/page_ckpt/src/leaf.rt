@@ -6,12 +6,13 @@ ghost use Rattle.log_codec.specs.Order.{IsOrdered};
 ghost use Rattle.ckpt_parts.specs.Leaves.{ReadsLeaf};
 ghost use Rattle.page_ckpt.specs.Paging.{ReadsNamed, HoldsNamed, MakesLeaf, found_home};
 
+use crate::home::Home;
 use ckpt_parts::page_damage;
 use db_base::blob::Blob;
 use db_base::ids::{PageId, TreeId};
 use db_base::pair::EditFault;
 use db_base::trouble::Trouble;
-use leaf_edit::{LeafBuf, apply};
+use leaf_edit::apply;
 use leaf_view::LeafView;
 use log_codec::record::PuItem;
 use node_codec::InnerView;
@@ -51,7 +52,7 @@ pub(crate) fn held_bytes(got: &Option<Blob>) -> Option<&[u8]>
 }
 
 /// The leaf of bytes of the named page.
-fn read_named(tree: TreeId, page: PageId, bytes: Blob) -> Result<LeafBuf, Trouble>
+fn read_named(tree: TreeId, page: PageId, bytes: Blob) -> Result<Home, Trouble>
     ensures { ReadsNamed tree page bytes result }
 {
     match InnerView::read(bytes.as_slice()) {
@@ -61,10 +62,10 @@ fn read_named(tree: TreeId, page: PageId, bytes: Blob) -> Result<LeafBuf, Troubl
 }
 
 /// The leaf of bytes that spell no inner node.
-fn read_leaf(tree: TreeId, page: PageId, bytes: Blob) -> Result<LeafBuf, Trouble>
+fn read_leaf(tree: TreeId, page: PageId, bytes: Blob) -> Result<Home, Trouble>
     ensures { ReadsLeaf tree page bytes result }
 {
-    match LeafBuf::read(bytes.into_vec()) {
+    match Home::read(bytes) {
         Ok(leaf) => Ok(leaf),
         Err(fault) => Err(page_damage(tree, page, fault.offset)),
     }
@@ -76,7 +77,7 @@ pub(crate) fn named_leaf(
     tree: TreeId,
     page: PageId,
     got: Option<Blob>,
-) -> Result<Option<LeafBuf>, Trouble>
+) -> Result<Option<Home>, Trouble>
     ensures { HoldsNamed tree page got (found_home result) }
 {
     match got {

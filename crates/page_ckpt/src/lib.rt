@@ -3,6 +3,7 @@
 #![tactic(auto)]
 
 mod checkpoint;
+mod home;
 mod leaf;
 mod link;
 mod stage;

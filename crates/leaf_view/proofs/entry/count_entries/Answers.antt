@@ -9,5 +9,5 @@ loop-rest-init c =
     record {
       listed = c.requires;
       counted = omega arith;
-      small = length-items_in plain_entry plain_entry_exact c.args.bytes.now (λ i. omega (arith, c.type_inv.bytes i)) c.requires;
+      small = length-items_in (plain_entry c.args.format) (plain_entry_exact c.args.format) c.args.bytes.now (λ i. omega (arith, c.type_inv.bytes i)) c.requires;
     }

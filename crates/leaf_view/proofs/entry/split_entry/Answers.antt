@@ -1,24 +1,24 @@
 use Rattle.std.proofs.Common.{◌≡◌, true, false, Ok, arith}
 use Rattle.byte_format.specs.Format.{more_at}
 use Rattle.byte_format.proofs.Plain.{more_of, ended_of, split_is, item_of}
-use Rattle.leaf_view.specs.Leaf.{plain_entry, entry_of}
+use Rattle.leaf_view.specs.Leaf.{plain_entry}
 use Rattle.leaf_view.proofs.Exactness.{plain_entry_exact}
 use Rattle.leaf_view.proofs.entry.split_entry.Goals as goal
 
 pub returns-in_default : goal.returns-in_default
-returns-in_default c = absurd (more_of plain_entry c.args.bytes.now c.in_default.field-0.left c.requires c.in_default.ensures)
+returns-in_default c = absurd (more_of (plain_entry c.args.format) c.args.bytes.now c.in_default.field-0.left c.requires c.in_default.ensures)
 
 pub returns-then-not-more : goal.returns-then-not-more
 returns-then-not-more c =
     let more : more_at true c.args.bytes.now ≡ Ok (false, c.in-Ok.rest.now) = cc (c.in-Ok.ensures) in
-    ended_of plain_entry c.args.bytes.now c.in-Ok.rest.now more
+    ended_of (plain_entry c.args.format) c.args.bytes.now c.in-Ok.rest.now more
 
 pub returns-in_default-entry_at : goal.returns-in_default-entry_at
 returns-in_default-entry_at c =
     let more : more_at true c.args.bytes.now ≡ Ok (true, c.in-Ok.rest.now) = cc (c.in-Ok.ensures) in
-    absurd (item_of plain_entry plain_entry_exact c.args.bytes.now c.in-Ok.rest.now c.in_default-entry_at.field-0.left (λ i. omega (arith, c.type_inv.bytes i)) c.requires more c.in_default-entry_at.ensures)
+    absurd (item_of (plain_entry c.args.format) (plain_entry_exact c.args.format) c.args.bytes.now c.in-Ok.rest.now c.in_default-entry_at.field-0.left (λ i. omega (arith, c.type_inv.bytes i)) c.requires more c.in_default-entry_at.ensures)
 
 pub returns : goal.returns
 returns c =
     let more : more_at true c.args.bytes.now ≡ Ok (true, c.in-Ok.rest.now) = cc (c.in-Ok.ensures) in
-    split_is plain_entry plain_entry_exact c.args.bytes.now c.in-Ok.rest.now (entry_of (c.in-Ok-entry_at.key.now, c.in-Ok-entry_at.payload.now), c.in-Ok-entry_at.rest.now) (λ i. omega (arith, c.type_inv.bytes i)) c.requires more c.in-Ok-entry_at.ensures
+    split_is (plain_entry c.args.format) (plain_entry_exact c.args.format) c.args.bytes.now c.in-Ok.rest.now (c.in-Ok-entry_at.entry, c.in-Ok-entry_at.rest.now) (λ i. omega (arith, c.type_inv.bytes i)) c.requires more c.in-Ok-entry_at.ensures

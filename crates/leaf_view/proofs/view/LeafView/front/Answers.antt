@@ -21,10 +21,10 @@ returns-in_err-records c =
 
 pub invariant_of-result : goal.invariant_of-result
 invariant_of-result c =
-    let head : Head = head_of (c.in_ok-head.head.version, (c.in_ok-head.head.low.now, (c.in_ok-head.head.right, option_copied c.in_ok-head.head.high))) in
+    let head : Head = head_of (c.in_ok-head.head.format, (c.in_ok-head.head.version, (c.in_ok-head.head.low.now, (c.in_ok-head.head.right, option_copied c.in_ok-head.head.high)))) in
     (is_known c.args.bytes.now head c.in_ok-head.done.now c.in_ok-records.records.now (λ i. omega (arith, c.type_inv.bytes i)) c.requires c.in_ok-head.ensures c.in_ok-records.ensures).sound
 
 pub returns : goal.returns
 returns c =
-    let head : Head = head_of (c.in_ok-head.head.version, (c.in_ok-head.head.low.now, (c.in_ok-head.head.right, option_copied c.in_ok-head.head.high))) in
+    let head : Head = head_of (c.in_ok-head.head.format, (c.in_ok-head.head.version, (c.in_ok-head.head.low.now, (c.in_ok-head.head.right, option_copied c.in_ok-head.head.high)))) in
     (is_known c.args.bytes.now head c.in_ok-head.done.now c.in_ok-records.records.now (λ i. omega (arith, c.type_inv.bytes i)) c.requires c.in_ok-head.ensures c.in_ok-records.ensures).is

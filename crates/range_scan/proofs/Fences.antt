@@ -84,15 +84,15 @@ high_fenced low right bytes =
 head_fenced : Always leaf_head (λ h. below_bound h.low h.high ≡ true)
 unfolding leaf_head
 head_fenced =
-    let Fine : Heads → Type 0 = λ x. below_bound x.1.0 x.1.1.1 ≡ true in
+    let Fine : Heads → Type 0 = λ x. below_bound x.1.1.0 x.1.1.1.1 ≡ true in
     seen_always (λ (h : Head). below_bound h.low h.high ≡ true) head_of head_parts _
-    (behind_always Fine 76 _ (behind_always Fine 1 _
-    (then_always Fine (number w64 1 greatest) _ (λ version. then_always (λ x. below_bound x.0 x.1.1 ≡ true) (text w8 0 64) _ (λ low. then_always (λ x. below_bound low x.1 ≡ true) (number w64 0 greatest) _ (λ right. high_fenced low right))))))
+    (behind_always Fine 76 _
+    (then_always Fine (number w8 1 2) _ (λ format. then_always (λ x. below_bound x.1.0 x.1.1.1 ≡ true) (number w64 1 greatest) _ (λ version. then_always (λ x. below_bound x.0 x.1.1 ≡ true) (text w8 0 64) _ (λ low. then_always (λ x. below_bound low x.1 ≡ true) (number w64 0 greatest) _ (λ right. high_fenced low right))))))
 
 leaf_fenced : Always leaf IsFenced
 unfolding leaf
 leaf_fenced =
-    seen_always IsFenced leaf_of leaf_parts _ (first_always (λ (h : Head). below_bound h.low h.high ≡ true) leaf_head (λ head. list_of true done_item None then λ done. list_of true (record_item head.low head.high) None) head_fenced)
+    seen_always IsFenced leaf_of leaf_parts _ (first_always (λ (h : Head). below_bound h.low h.high ≡ true) leaf_head (λ head. list_of true done_item None then λ done. list_of true (record_item head.format head.low head.high) None) head_fenced)
 
 whole_fenced : (bytes : List ℕ) (l : Leaf) → leaf_in bytes ≡ Some l → IsFenced l
 unfolding leaf_in Always Gives

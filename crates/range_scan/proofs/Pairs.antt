@@ -19,14 +19,15 @@ use Rattle.byte_format.specs.Order.{bytes_cmp, bytes_same}
 use Rattle.byte_format.proofs.OrderLemmas.{same_is, same_itself}
 use Rattle.leaf_view.specs.Fits.{Ascend, entry_below}
 use Rattle.leaf_view.specs.Leaf.{Entry}
-use Rattle.leaf_view.specs.Lookup.{payload_of, number_of}
+use Rattle.leaf_view.specs.Lookup.{value_of, number_of}
 use Rattle.leaf_view.specs.Shown.{valued}
-use Rattle.db_base.specs.Change.{Value, act, key_of}
+use Rattle.db_base.specs.Value.{Value}
+use Rattle.db_base.specs.Change.{act, key_of}
 use Rattle.db_base.specs.declared.change.Change.{Change}
 use Rattle.head_codec.specs.declared.lists.Pending.{Pending}
 use Rattle.txn_buffer.specs.Noted.{Noted, AreDistinct, found_in, is_of}
 use Rattle.route_plan.specs.Seen.{is_lacked_by, after_pending, after_buffered}
-use Rattle.range_scan.specs.Pairs.{Sight, BelowFirst, IsAscending, AreItems, is_listed, put_pair, without_pair, with_payload, acted, with_record, is_listed_pending, with_pending, with_noted, items_of}
+use Rattle.range_scan.specs.Pairs.{Sight, BelowFirst, IsAscending, AreItems, is_listed, put_pair, without_pair, with_value, acted, with_record, is_listed_pending, with_pending, with_noted, items_of}
 
 -- ---- a pair in its place
 
@@ -37,43 +38,43 @@ valued_inserted [] k v = refl
 valued_inserted (e ∷ es) k v = on (bytes_cmp k.now e.0.now) (valued_inserted es k v) where
   on : (o : Ordering) → map valued (insert_entry (λ (a b : Bor (List ℕ)). slice_cmp nat_cmp a.now b.now) es k v) ≡ put_pair (map valued es) k.now v
       → map valued (match_ordering o ((k, v) ∷ e ∷ es) ((e.0, v) ∷ es) (e ∷ insert_entry (λ (a b : Bor (List ℕ)). slice_cmp nat_cmp a.now b.now) es k v))
-      ≡ match_ordering o (record { key = k.now; payload = v } ∷ valued e ∷ map valued es) (record { key = e.0.now; payload = v } ∷ map valued es) (valued e ∷ put_pair (map valued es) k.now v)
+      ≡ match_ordering o (record { key = k.now; value = v } ∷ valued e ∷ map valued es) (record { key = e.0.now; value = v } ∷ map valued es) (valued e ∷ put_pair (map valued es) k.now v)
   on Less h = refl
   on Equal h = refl
   on Greater h = ap (λ (xs : List Entry). valued e ∷ xs) h
 
-put_below : (low key payload : List ℕ) (es : List Entry) → bytes_cmp low key ≡ Less → BelowFirst low es → BelowFirst low (put_pair es key payload)
-put_below low key payload [] below h = below
-put_below low key payload (e ∷ es) below h = on (bytes_cmp key e.key) where
+put_below : (low key : List ℕ) (value : Value) (es : List Entry) → bytes_cmp low key ≡ Less → BelowFirst low es → BelowFirst low (put_pair es key value)
+put_below low key value [] below h = below
+put_below low key value (e ∷ es) below h = on (bytes_cmp key e.key) where
   on : (o : Ordering)
-      → BelowFirst low (match_ordering o (record { key = key; payload = payload } ∷ e ∷ es) (record { key = e.key; payload = payload } ∷ es) (e ∷ put_pair es key payload))
+      → BelowFirst low (match_ordering o (record { key = key; value = value } ∷ e ∷ es) (record { key = e.key; value = value } ∷ es) (e ∷ put_pair es key value))
   on Less = below
   on Equal = h
   on Greater = h
 
-put_ascends : (es : List Entry) (key payload : List ℕ) → IsAscending es → IsAscending (put_pair es key payload)
-put_ascends [] key payload h = (tt, tt)
-put_ascends (e ∷ es) key payload h = on (bytes_cmp key e.key) refl (put_ascends es key payload h.1) where
-  on : (o : Ordering) → bytes_cmp key e.key ≡ o → IsAscending (put_pair es key payload)
-      → IsAscending (match_ordering o (record { key = key; payload = payload } ∷ e ∷ es) (record { key = e.key; payload = payload } ∷ es) (e ∷ put_pair es key payload))
+put_ascends : (es : List Entry) (key : List ℕ) (value : Value) → IsAscending es → IsAscending (put_pair es key value)
+put_ascends [] key value h = (tt, tt)
+put_ascends (e ∷ es) key value h = on (bytes_cmp key e.key) refl (put_ascends es key value h.1) where
+  on : (o : Ordering) → bytes_cmp key e.key ≡ o → IsAscending (put_pair es key value)
+      → IsAscending (match_ordering o (record { key = key; value = value } ∷ e ∷ es) (record { key = e.key; value = value } ∷ es) (e ∷ put_pair es key value))
   on Less is rest = (is, h)
   on Equal is rest = (h.0, h.1)
-  on Greater is rest = (put_below e.key key payload es (nat_list_cmp_total.antisymm e.key key ∙ ap ordering_reverse is) h.0, rest)
+  on Greater is rest = (put_below e.key key value es (nat_list_cmp_total.antisymm e.key key ∙ ap ordering_reverse is) h.0, rest)
 
 same_of : (a b : List ℕ) → bytes_cmp a b ≡ Equal → a ≡ b
 same_of a b e = same_is a b (ap is_eq e)
 
-put_finds : (q key payload : List ℕ) (es : List Entry) → payload_of q (put_pair es key payload) ≡ (if bytes_same key q then Some payload else payload_of q es)
-put_finds q key payload [] = refl
-put_finds q key payload (e ∷ es) = on (bytes_cmp key e.key) refl (put_finds q key payload es) where
-  twice : (a b : Bool) → (a ≡ true → b ≡ true → ⊥) → (x : Option (List ℕ)) → x ≡ (if a then Some payload else payload_of q es)
-      → (if b then Some e.payload else x) ≡ (if a then Some payload else if b then Some e.payload else payload_of q es)
+put_finds : (q key : List ℕ) (value : Value) (es : List Entry) → value_of q (put_pair es key value) ≡ (if bytes_same key q then Some value else value_of q es)
+put_finds q key value [] = refl
+put_finds q key value (e ∷ es) = on (bytes_cmp key e.key) refl (put_finds q key value es) where
+  twice : (a b : Bool) → (a ≡ true → b ≡ true → ⊥) → (x : Option Value) → x ≡ (if a then Some value else value_of q es)
+      → (if b then Some e.value else x) ≡ (if a then Some value else if b then Some e.value else value_of q es)
   twice true true never x h = absurd (never refl refl)
   twice true false never x h = h
   twice false true never x h = refl
   twice false false never x h = h
 
-  once : (b : Bool) → (if b then Some payload else payload_of q es) ≡ (if b then Some payload else if b then Some e.payload else payload_of q es)
+  once : (b : Bool) → (if b then Some value else value_of q es) ≡ (if b then Some value else if b then Some e.value else value_of q es)
   once true = refl
   once false = refl
 
@@ -83,14 +84,14 @@ put_finds q key payload (e ∷ es) = on (bytes_cmp key e.key) refl (put_finds q 
       let equal : bytes_cmp key e.key ≡ Equal = subst (λ (k : List ℕ). bytes_cmp key k ≡ Equal) same (tied_itself nat_list_cmp_total key) in
       absurd (cc (is, equal))
 
-  on : (o : Ordering) → bytes_cmp key e.key ≡ o → payload_of q (put_pair es key payload) ≡ (if bytes_same key q then Some payload else payload_of q es)
-      → payload_of q (match_ordering o (record { key = key; payload = payload } ∷ e ∷ es) (record { key = e.key; payload = payload } ∷ es) (e ∷ put_pair es key payload))
-      ≡ (if bytes_same key q then Some payload else payload_of q (e ∷ es))
+  on : (o : Ordering) → bytes_cmp key e.key ≡ o → value_of q (put_pair es key value) ≡ (if bytes_same key q then Some value else value_of q es)
+      → value_of q (match_ordering o (record { key = key; value = value } ∷ e ∷ es) (record { key = e.key; value = value } ∷ es) (e ∷ put_pair es key value))
+      ≡ (if bytes_same key q then Some value else value_of q (e ∷ es))
   on Less is h = refl
   on Equal is h =
-      subst (λ (k : List ℕ). (if bytes_same e.key q then Some payload else payload_of q es) ≡ (if bytes_same k q then Some payload else payload_of q (e ∷ es)))
+      subst (λ (k : List ℕ). (if bytes_same e.key q then Some value else value_of q es) ≡ (if bytes_same k q then Some value else value_of q (e ∷ es)))
       (sym (same_of key e.key is)) (once (bytes_same e.key q))
-  on Greater is h = twice (bytes_same key q) (bytes_same e.key q) (apart is) (payload_of q (put_pair es key payload)) h
+  on Greater is h = twice (bytes_same key q) (bytes_same e.key q) (apart is) (value_of q (put_pair es key value)) h
 
 -- ---- a pair taken out
 
@@ -112,21 +113,21 @@ valued_removed (e ∷ es) k = on (bytes_same k.now e.0.now) (valued_removed es k
   on false h = ap (λ (xs : List Entry). valued e ∷ xs) h
 
 pub valued_found : (es : List (Bor (List ℕ) × Value)) (k : Bor (List ℕ))
-    → lookup (λ (a : Bor (List ℕ)). bytes_same k.now a.now) es ≡ payload_of k.now (map valued es)
+    → lookup (λ (a : Bor (List ℕ)). bytes_same k.now a.now) es ≡ value_of k.now (map valued es)
 valued_found [] k = refl
 valued_found (e ∷ es) k =
     ap (λ (o : Option Value). cond (bytes_same k.now e.0.now) (Some e.1) o) (valued_found es k)
-    ∙ ap (λ (b : Bool). cond b (Some e.1) (payload_of k.now (map valued es))) (same_flip k.now e.0.now)
+    ∙ ap (λ (b : Bool). cond b (Some e.1) (value_of k.now (map valued es))) (same_flip k.now e.0.now)
 
 below_more : (key low : List ℕ) (es : List Entry) → bytes_cmp key low ≡ Less → BelowFirst low es → BelowFirst key es
 below_more key low [] below h = tt
 below_more key low (e ∷ es) below h = nat_list_cmp_total.trans key low e.key below h
 
 -- a list that begins above a key has none there
-none_below : (key : List ℕ) (es : List Entry) → IsAscending es → BelowFirst key es → payload_of key es ≡ None
+none_below : (key : List ℕ) (es : List Entry) → IsAscending es → BelowFirst key es → value_of key es ≡ None
 none_below key [] h below = refl
 none_below key (e ∷ es) h below =
-    ap (λ (b : Bool). if b then Some e.payload else payload_of key es) (same_flip e.key key ∙ ap is_eq below)
+    ap (λ (b : Bool). if b then Some e.value else value_of key es) (same_flip e.key key ∙ ap is_eq below)
     ∙ none_below key es h.1 (below_more key e.key es below h.0)
 
 without_below : (low key : List ℕ) (es : List Entry) → IsAscending es → BelowFirst low es → BelowFirst low (without_pair es key)
@@ -143,18 +144,18 @@ without_ascends key (e ∷ es) h = on (bytes_same key e.key) (without_ascends ke
   on true g = h.1
   on false g = (without_below e.key key es h.1 h.0, g)
 
-without_finds : (q key : List ℕ) (es : List Entry) → IsAscending es → payload_of q (without_pair es key) ≡ (if bytes_same key q then None else payload_of q es)
+without_finds : (q key : List ℕ) (es : List Entry) → IsAscending es → value_of q (without_pair es key) ≡ (if bytes_same key q then None else value_of q es)
 without_finds q key [] h = on (bytes_same key q) where
-  on : (b : Bool) → ◌≡◌ {A = Option (List ℕ)} None (if b then None else None)
+  on : (b : Bool) → ◌≡◌ {A = Option Value} None (if b then None else None)
   on true = refl
   on false = refl
 without_finds q key (e ∷ es) h = on (bytes_same key e.key) refl (without_finds q key es h.1) where
-  first : (b : Bool) → bytes_same e.key q ≡ b → payload_of q es ≡ (if b then None else if b then Some e.payload else payload_of q es)
-  first true is = subst (λ (k : List ℕ). payload_of k es ≡ None) (same_is e.key q is) (none_below e.key es h.1 h.0)
+  first : (b : Bool) → bytes_same e.key q ≡ b → value_of q es ≡ (if b then None else if b then Some e.value else value_of q es)
+  first true is = subst (λ (k : List ℕ). value_of k es ≡ None) (same_is e.key q is) (none_below e.key es h.1 h.0)
   first false is = refl
 
-  other : (a b : Bool) → (a ≡ true → b ≡ true → ⊥) → (x : Option (List ℕ)) → x ≡ (if a then None else payload_of q es)
-      → (if b then Some e.payload else x) ≡ (if a then None else if b then Some e.payload else payload_of q es)
+  other : (a b : Bool) → (a ≡ true → b ≡ true → ⊥) → (x : Option Value) → x ≡ (if a then None else value_of q es)
+      → (if b then Some e.value else x) ≡ (if a then None else if b then Some e.value else value_of q es)
   other true true never x g = absurd (never refl refl)
   other true false never x g = g
   other false true never x g = refl
@@ -165,35 +166,35 @@ without_finds q key (e ∷ es) h = on (bytes_same key e.key) refl (without_finds
       let same : key ≡ e.key = same_is key q one ∙ sym (same_is e.key q two) in
       absurd (cc (is, subst (λ (k : List ℕ). bytes_same key k ≡ true) same (same_itself key)))
 
-  on : (b : Bool) → bytes_same key e.key ≡ b → payload_of q (without_pair es key) ≡ (if bytes_same key q then None else payload_of q es)
-      → payload_of q (if b then es else e ∷ without_pair es key) ≡ (if bytes_same key q then None else payload_of q (e ∷ es))
+  on : (b : Bool) → bytes_same key e.key ≡ b → value_of q (without_pair es key) ≡ (if bytes_same key q then None else value_of q es)
+      → value_of q (if b then es else e ∷ without_pair es key) ≡ (if bytes_same key q then None else value_of q (e ∷ es))
   on true is g =
-      subst (λ (k : List ℕ). payload_of q es ≡ (if bytes_same k q then None else if bytes_same e.key q then Some e.payload else payload_of q es))
+      subst (λ (k : List ℕ). value_of q es ≡ (if bytes_same k q then None else if bytes_same e.key q then Some e.value else value_of q es))
       (sym (same_is key e.key is)) (first (bytes_same e.key q) refl)
-  on false is g = other (bytes_same key q) (bytes_same e.key q) (apart is) (payload_of q (without_pair es key)) g
+  on false is g = other (bytes_same key q) (bytes_same e.key q) (apart is) (value_of q (without_pair es key)) g
 
 -- ---- a change of one key
 
-with_finds : (q key : List ℕ) (o : Option (List ℕ)) (es : List Entry) → IsAscending es
-    → payload_of q (with_payload (without_pair es key) key o) ≡ (if bytes_same key q then o else payload_of q es)
+with_finds : (q key : List ℕ) (o : Option Value) (es : List Entry) → IsAscending es
+    → value_of q (with_value (without_pair es key) key o) ≡ (if bytes_same key q then o else value_of q es)
 with_finds q key None es h = without_finds q key es h
-with_finds q key (Some payload) es h = put_finds q key payload (without_pair es key) ∙ on (bytes_same key q) (without_finds q key es h) where
-  on : (b : Bool) → payload_of q (without_pair es key) ≡ (if b then None else payload_of q es)
-      → (if b then Some payload else payload_of q (without_pair es key)) ≡ (if b then Some payload else payload_of q es)
+with_finds q key (Some value) es h = put_finds q key value (without_pair es key) ∙ on (bytes_same key q) (without_finds q key es h) where
+  on : (b : Bool) → value_of q (without_pair es key) ≡ (if b then None else value_of q es)
+      → (if b then Some value else value_of q (without_pair es key)) ≡ (if b then Some value else value_of q es)
   on true g = refl
   on false g = g
 
-acted_finds : (q : List ℕ) (es : List Entry) (c : Change) → IsAscending es → payload_of q (acted es c) ≡ (if bytes_same (key_of c) q then act (payload_of q es) c else payload_of q es)
-acted_finds q es c h = with_finds q (key_of c) (act (payload_of (key_of c) es) c) es h ∙ on (bytes_same (key_of c) q) refl where
-  on : (b : Bool) → bytes_same (key_of c) q ≡ b → (if b then act (payload_of (key_of c) es) c else payload_of q es) ≡ (if b then act (payload_of q es) c else payload_of q es)
-  on true is = ap (λ (k : List ℕ). act (payload_of k es) c) (same_is (key_of c) q is)
+acted_finds : (q : List ℕ) (es : List Entry) (c : Change) → IsAscending es → value_of q (acted es c) ≡ (if bytes_same (key_of c) q then act (value_of q es) c else value_of q es)
+acted_finds q es c h = with_finds q (key_of c) (act (value_of (key_of c) es) c) es h ∙ on (bytes_same (key_of c) q) refl where
+  on : (b : Bool) → bytes_same (key_of c) q ≡ b → (if b then act (value_of (key_of c) es) c else value_of q es) ≡ (if b then act (value_of q es) c else value_of q es)
+  on true is = ap (λ (k : List ℕ). act (value_of k es) c) (same_is (key_of c) q is)
   on false is = refl
 
 acted_ascends : (es : List Entry) (c : Change) → IsAscending es → IsAscending (acted es c)
-acted_ascends es c h = on (act (payload_of (key_of c) es) c) where
-  on : (o : Option (List ℕ)) → IsAscending (with_payload (without_pair es (key_of c)) (key_of c) o)
+acted_ascends es c h = on (act (value_of (key_of c) es) c) where
+  on : (o : Option Value) → IsAscending (with_value (without_pair es (key_of c)) (key_of c) o)
   on None = without_ascends (key_of c) es h
-  on (Some payload) = put_ascends (without_pair es (key_of c)) (key_of c) payload (without_ascends (key_of c) es h)
+  on (Some value) = put_ascends (without_pair es (key_of c)) (key_of c) value (without_ascends (key_of c) es h)
 
 -- ---- in order
 
@@ -207,7 +208,7 @@ all_ascend f keeps [] pairs h = h
 all_ascend f keeps (x ∷ xs) pairs h = all_ascend f keeps xs (f pairs x) (keeps pairs x h)
 
 record_ascends : (s : Sight) (pairs : List Entry) (e : Entry) → IsAscending pairs → IsAscending (with_record s pairs e)
-record_ascends s pairs e h = if_ascends (is_listed s e.key) _ _ (put_ascends pairs e.key e.payload h) h
+record_ascends s pairs e h = if_ascends (is_listed s e.key) _ _ (put_ascends pairs e.key e.value h) h
 
 pending_ascends : (s : Sight) (pairs : List Entry) (p : Pending) → IsAscending pairs → IsAscending (with_pending s pairs p)
 pending_ascends s pairs p h = if_ascends (is_listed_pending s p) _ _ (acted_ascends pairs p.change h) h
@@ -215,10 +216,10 @@ pending_ascends s pairs p h = if_ascends (is_listed_pending s p) _ _ (acted_asce
 noted_ascends : (s : Sight) (pairs : List Entry) (n : Noted) → IsAscending pairs → IsAscending (with_noted s pairs n)
 noted_ascends s pairs n h = if_ascends ((n.tree == s.tree) && is_listed s (key_of n.change)) _ _ (acted_ascends pairs n.change h) h
 
--- ---- what a list has at a key: a payload where the key is asked for, and nothing else
+-- ---- what a list has at a key: a value where the key is asked for, and nothing else
 
 abbrev Shows : Sight → List ℕ → Option Value → List Entry → Type 0
-Shows s q v pairs = payload_of q pairs ≡ (if is_listed s q then v else None)
+Shows s q v pairs = value_of q pairs ≡ (if is_listed s q then v else None)
 
 -- ---- the records
 
@@ -232,52 +233,52 @@ ascending_behind before [] h = (tt, tt)
 ascending_behind before (e ∷ es) h = (is_less (bytes_cmp before.key e.key) h.0, ascending_behind e es h.1)
 
 record_finds : (s : Sight) (q : List ℕ) (e : Entry) (pairs : List Entry)
-    → payload_of q (with_record s pairs e) ≡ (if bytes_same e.key q then (if is_listed s q then Some e.payload else payload_of q pairs) else payload_of q pairs)
+    → value_of q (with_record s pairs e) ≡ (if bytes_same e.key q then (if is_listed s q then Some e.value else value_of q pairs) else value_of q pairs)
 record_finds s q e pairs = on (bytes_same e.key q) refl where
-  put : (l : Bool) → payload_of q (if l then put_pair pairs e.key e.payload else pairs)
-      ≡ (if l then (if bytes_same e.key q then Some e.payload else payload_of q pairs) else payload_of q pairs)
-  put true = put_finds q e.key e.payload pairs
+  put : (l : Bool) → value_of q (if l then put_pair pairs e.key e.value else pairs)
+      ≡ (if l then (if bytes_same e.key q then Some e.value else value_of q pairs) else value_of q pairs)
+  put true = put_finds q e.key e.value pairs
   put false = refl
 
-  both : (l : Bool) → (if l then payload_of q pairs else payload_of q pairs) ≡ payload_of q pairs
+  both : (l : Bool) → (if l then value_of q pairs else value_of q pairs) ≡ value_of q pairs
   both true = refl
   both false = refl
 
   on : (b : Bool) → bytes_same e.key q ≡ b
-      → payload_of q (with_record s pairs e) ≡ (if b then (if is_listed s q then Some e.payload else payload_of q pairs) else payload_of q pairs)
+      → value_of q (with_record s pairs e) ≡ (if b then (if is_listed s q then Some e.value else value_of q pairs) else value_of q pairs)
   on true is =
       put (is_listed s e.key)
-      ∙ ap (λ (b : Bool). if is_listed s e.key then (if b then Some e.payload else payload_of q pairs) else payload_of q pairs) is
-      ∙ ap (λ (k : List ℕ). if is_listed s k then Some e.payload else payload_of q pairs) (same_is e.key q is)
+      ∙ ap (λ (b : Bool). if is_listed s e.key then (if b then Some e.value else value_of q pairs) else value_of q pairs) is
+      ∙ ap (λ (k : List ℕ). if is_listed s k then Some e.value else value_of q pairs) (same_is e.key q is)
   on false is =
       put (is_listed s e.key)
-      ∙ ap (λ (b : Bool). if is_listed s e.key then (if b then Some e.payload else payload_of q pairs) else payload_of q pairs) is
+      ∙ ap (λ (b : Bool). if is_listed s e.key then (if b then Some e.value else value_of q pairs) else value_of q pairs) is
       ∙ both (is_listed s e.key)
 
 -- records of other keys leave a key as it is
-others_stay : (s : Sight) (q : List ℕ) (es pairs : List Entry) → payload_of q es ≡ None → payload_of q (fold (with_record s) pairs es) ≡ payload_of q pairs
+others_stay : (s : Sight) (q : List ℕ) (es pairs : List Entry) → value_of q es ≡ None → value_of q (fold (with_record s) pairs es) ≡ value_of q pairs
 others_stay s q [] pairs h = refl
 others_stay s q (e ∷ es) pairs h = on (bytes_same e.key q) h (record_finds s q e pairs) (others_stay s q es (with_record s pairs e)) where
-  on : (b : Bool) → (if b then Some e.payload else payload_of q es) ≡ None
-      → payload_of q (with_record s pairs e) ≡ (if b then (if is_listed s q then Some e.payload else payload_of q pairs) else payload_of q pairs)
-      → (payload_of q es ≡ None → payload_of q (fold (with_record s) (with_record s pairs e) es) ≡ payload_of q (with_record s pairs e))
-      → payload_of q (fold (with_record s) (with_record s pairs e) es) ≡ payload_of q pairs
+  on : (b : Bool) → (if b then Some e.value else value_of q es) ≡ None
+      → value_of q (with_record s pairs e) ≡ (if b then (if is_listed s q then Some e.value else value_of q pairs) else value_of q pairs)
+      → (value_of q es ≡ None → value_of q (fold (with_record s) (with_record s pairs e) es) ≡ value_of q (with_record s pairs e))
+      → value_of q (fold (with_record s) (with_record s pairs e) es) ≡ value_of q pairs
   on true none g rest = absurd (cc (none))
   on false none g rest = rest none ∙ g
 
-all_records : (s : Sight) (q : List ℕ) (es pairs : List Entry) → IsAscending es → payload_of q pairs ≡ None → Shows s q (payload_of q es) (fold (with_record s) pairs es)
+all_records : (s : Sight) (q : List ℕ) (es pairs : List Entry) → IsAscending es → value_of q pairs ≡ None → Shows s q (value_of q es) (fold (with_record s) pairs es)
 all_records s q [] pairs h none = none ∙ on (is_listed s q) where
-  on : (l : Bool) → ◌≡◌ {A = Option (List ℕ)} None (if l then None else None)
+  on : (l : Bool) → ◌≡◌ {A = Option Value} None (if l then None else None)
   on true = refl
   on false = refl
 all_records s q (e ∷ es) pairs h none = on (bytes_same e.key q) refl (record_finds s q e pairs) (all_records s q es (with_record s pairs e) h.1) where
   on : (b : Bool) → bytes_same e.key q ≡ b
-      → payload_of q (with_record s pairs e) ≡ (if b then (if is_listed s q then Some e.payload else payload_of q pairs) else payload_of q pairs)
-      → (payload_of q (with_record s pairs e) ≡ None → Shows s q (payload_of q es) (fold (with_record s) (with_record s pairs e) es))
-      → payload_of q (fold (with_record s) (with_record s pairs e) es) ≡ (if is_listed s q then (if b then Some e.payload else payload_of q es) else None)
+      → value_of q (with_record s pairs e) ≡ (if b then (if is_listed s q then Some e.value else value_of q pairs) else value_of q pairs)
+      → (value_of q (with_record s pairs e) ≡ None → Shows s q (value_of q es) (fold (with_record s) (with_record s pairs e) es))
+      → value_of q (fold (with_record s) (with_record s pairs e) es) ≡ (if is_listed s q then (if b then Some e.value else value_of q es) else None)
   on true is g rest =
-      others_stay s q es (with_record s pairs e) (subst (λ (k : List ℕ). payload_of k es ≡ None) (same_is e.key q is) (none_below e.key es h.1 h.0))
-      ∙ g ∙ ap (λ (o : Option Value). if is_listed s q then Some e.payload else o) none
+      others_stay s q es (with_record s pairs e) (subst (λ (k : List ℕ). value_of k es ≡ None) (same_is e.key q is) (none_below e.key es h.1 h.0))
+      ∙ g ∙ ap (λ (o : Option Value). if is_listed s q then Some e.value else o) none
   on false is g rest = rest (g ∙ none)
 
 -- ---- the client's own changes
@@ -285,24 +286,24 @@ all_records s q (e ∷ es) pairs h none = on (bytes_same e.key q) refl (record_f
 pending_shows : (s : Sight) (q : List ℕ) (p : Pending) (pairs : List Entry) (v : Option Value) → IsAscending pairs → Shows s q v pairs
     → Shows s q (if is_lacked_by s.leaf s.client s.tree q p then act v p.change else v) (with_pending s pairs p)
 pending_shows s q p pairs v up h = on (bytes_same (key_of p.change) q) refl (acted_finds q pairs p.change up) where
-  hit : (t l n : Bool) → payload_of q (acted pairs p.change) ≡ act (payload_of q pairs) p.change → payload_of q pairs ≡ (if l then v else None)
-      → payload_of q (if t && (l && n) then acted pairs p.change else pairs) ≡ (if l then (if (t && true) && n then act v p.change else v) else None)
+  hit : (t l n : Bool) → value_of q (acted pairs p.change) ≡ act (value_of q pairs) p.change → value_of q pairs ≡ (if l then v else None)
+      → value_of q (if t && (l && n) then acted pairs p.change else pairs) ≡ (if l then (if (t && true) && n then act v p.change else v) else None)
   hit true true true f g = f ∙ ap (λ (o : Option Value). act o p.change) g
   hit true true false f g = g
   hit true false n f g = g
   hit false true n f g = g
   hit false false n f g = g
 
-  miss : (t c l n : Bool) → payload_of q (acted pairs p.change) ≡ payload_of q pairs → payload_of q pairs ≡ (if l then v else None)
-      → payload_of q (if t && c then acted pairs p.change else pairs) ≡ (if l then (if (t && false) && n then act v p.change else v) else None)
+  miss : (t c l n : Bool) → value_of q (acted pairs p.change) ≡ value_of q pairs → value_of q pairs ≡ (if l then v else None)
+      → value_of q (if t && c then acted pairs p.change else pairs) ≡ (if l then (if (t && false) && n then act v p.change else v) else None)
   miss true true l n f g = f ∙ g
   miss true false l n f g = g
   miss false c l n f g = g
 
-  on : (b : Bool) → bytes_same (key_of p.change) q ≡ b → payload_of q (acted pairs p.change) ≡ (if b then act (payload_of q pairs) p.change else payload_of q pairs)
+  on : (b : Bool) → bytes_same (key_of p.change) q ≡ b → value_of q (acted pairs p.change) ≡ (if b then act (value_of q pairs) p.change else value_of q pairs)
       → Shows s q (if is_lacked_by s.leaf s.client s.tree q p then act v p.change else v) (with_pending s pairs p)
   on true is f =
-      ap (λ (k : List ℕ). payload_of q (if (p.tree == s.tree) && (is_listed s k && nat_lt (number_of s.leaf.done p.page s.client) p.number) then acted pairs p.change else pairs))
+      ap (λ (k : List ℕ). value_of q (if (p.tree == s.tree) && (is_listed s k && nat_lt (number_of s.leaf.done p.page s.client) p.number) then acted pairs p.change else pairs))
       (same_is (key_of p.change) q is)
       ∙ hit (p.tree == s.tree) (is_listed s q) (nat_lt (number_of s.leaf.done p.page s.client) p.number) f h
       ∙ ap (λ (e : Bool). if is_listed s q then (if ((p.tree == s.tree) && e) && nat_lt (number_of s.leaf.done p.page s.client) p.number then act v p.change else v) else None)
@@ -344,15 +345,15 @@ nat_flip m n = on (nat_eq m n) (nat_eq n m) refl refl where
 noted_shows : (s : Sight) (q : List ℕ) (n : Noted) (pairs : List Entry) (v : Option Value) → IsAscending pairs → Shows s q v pairs
     → Shows s q (if is_of s.tree q n then act v n.change else v) (with_noted s pairs n)
 noted_shows s q n pairs v up h = on (bytes_same (key_of n.change) q) refl (acted_finds q pairs n.change up) where
-  hit : (t l : Bool) → payload_of q (acted pairs n.change) ≡ act (payload_of q pairs) n.change → payload_of q pairs ≡ (if l then v else None)
-      → payload_of q (if t && l then acted pairs n.change else pairs) ≡ (if l then (if t && true then act v n.change else v) else None)
+  hit : (t l : Bool) → value_of q (acted pairs n.change) ≡ act (value_of q pairs) n.change → value_of q pairs ≡ (if l then v else None)
+      → value_of q (if t && l then acted pairs n.change else pairs) ≡ (if l then (if t && true then act v n.change else v) else None)
   hit true true f g = f ∙ ap (λ (o : Option Value). act o n.change) g
   hit true false f g = g
   hit false true f g = g
   hit false false f g = g
 
-  miss : (t c l : Bool) → payload_of q (acted pairs n.change) ≡ payload_of q pairs → payload_of q pairs ≡ (if l then v else None)
-      → payload_of q (if t && c then acted pairs n.change else pairs) ≡ (if l then (if t && false then act v n.change else v) else None)
+  miss : (t c l : Bool) → value_of q (acted pairs n.change) ≡ value_of q pairs → value_of q pairs ≡ (if l then v else None)
+      → value_of q (if t && c then acted pairs n.change else pairs) ≡ (if l then (if t && false then act v n.change else v) else None)
   miss true true l f g = f ∙ g
   miss true false l f g = g
   miss false c l f g = g
@@ -363,10 +364,10 @@ noted_shows s q n pairs v up h = on (bytes_same (key_of n.change) q) refl (acted
       ap (λ (e : Bool). if is_listed s q then (if (n.tree == s.tree) && e then act v n.change else v) else None) (sym is ∙ sym (bytes_same_eq (key_of n.change) q))
       ∙ ap (λ (t : Bool). if is_listed s q then (if t && bytes_eq q (key_of n.change) then act v n.change else v) else None) (nat_flip n.tree s.tree)
 
-  on : (b : Bool) → bytes_same (key_of n.change) q ≡ b → payload_of q (acted pairs n.change) ≡ (if b then act (payload_of q pairs) n.change else payload_of q pairs)
+  on : (b : Bool) → bytes_same (key_of n.change) q ≡ b → value_of q (acted pairs n.change) ≡ (if b then act (value_of q pairs) n.change else value_of q pairs)
       → Shows s q (if is_of s.tree q n then act v n.change else v) (with_noted s pairs n)
   on true is f =
-      ap (λ (k : List ℕ). payload_of q (if (n.tree == s.tree) && is_listed s k then acted pairs n.change else pairs)) (same_is (key_of n.change) q is)
+      ap (λ (k : List ℕ). value_of q (if (n.tree == s.tree) && is_listed s k then acted pairs n.change else pairs)) (same_is (key_of n.change) q is)
       ∙ hit (n.tree == s.tree) (is_listed s q) f h
       ∙ as_is true is
   on false is f = miss (n.tree == s.tree) (is_listed s (key_of n.change)) (is_listed s q) f h ∙ as_is false is
@@ -416,7 +417,7 @@ are_items s h apart = record { ascending = ascend; each = has } where
   ascend : IsAscending (items_of s)
   ascend = all_ascend (with_noted s) (noted_ascends s) s.buffer (with_pendings s) up_next
 
-  has : (q : List ℕ) → Shows s q (after_buffered (after_pending (payload_of q s.leaf.records) (filter (is_lacked_by s.leaf s.client s.tree q) s.head.pending)) (found_in s.buffer s.tree q)) (items_of s)
+  has : (q : List ℕ) → Shows s q (after_buffered (after_pending (value_of q s.leaf.records) (filter (is_lacked_by s.leaf s.client s.tree q) s.head.pending)) (found_in s.buffer s.tree q)) (items_of s)
   has q = all_noted s q s.buffer (with_pendings s) _ apart up_next
       (all_pending s q s.head.pending (with_records s) _ up_first (all_records s q s.leaf.records [] (ordered s.leaf.records h) refl))
 
@@ -439,39 +440,39 @@ one_buffered s start now new buffer i n at before is =
 
 -- ---- what the code makes
 
-pub record_added : (s : Sight) (es new : List (Bor (List ℕ) × Value)) (old : List Entry) (k : Bor (List ℕ)) (e : Entry) (v : Value) → is_listed s e.key ≡ true → k.now ≡ e.key → v ≡ e.payload
+pub record_added : (s : Sight) (es new : List (Bor (List ℕ) × Value)) (old : List Entry) (k : Bor (List ℕ)) (e : Entry) (v : Value) → is_listed s e.key ≡ true → k.now ≡ e.key → v ≡ e.value
     → map valued es ≡ old → new ≡ insert_entry (λ (a b : Bor (List ℕ)). slice_cmp nat_cmp a.now b.now) es k v → map valued new ≡ with_record s old e
-record_added s es new old k e v is key payload view put =
+record_added s es new old k e v is key value view put =
     ap (λ (x : List (Bor (List ℕ) × Value)). map valued x) put
     ∙ valued_inserted es k v
     ∙ ap (λ (x : List Entry). put_pair x k.now v) view
     ∙ ap (λ (q : List ℕ). put_pair old q v) key
-    ∙ ap (λ (p : List ℕ). put_pair old e.key p) payload
-    ∙ ap (λ (b : Bool). if b then put_pair old e.key e.payload else old) (sym is)
+    ∙ ap (λ (x : Value). put_pair old e.key x) value
+    ∙ ap (λ (b : Bool). if b then put_pair old e.key e.value else old) (sym is)
 
--- what a change leaves, by the payload before it
-by_payload : (es left : List (Bor (List ℕ) × Value)) (old : List Entry) (k : Bor (List ℕ)) (c : Change) (before after : Option Value) → k.now ≡ key_of c → map valued es ≡ old
+-- what a change leaves, by the value before it
+by_value : (es left : List (Bor (List ℕ) × Value)) (old : List Entry) (k : Bor (List ℕ)) (c : Change) (before after : Option Value) → k.now ≡ key_of c → map valued es ≡ old
     → before ≡ lookup (λ (a : Bor (List ℕ)). bytes_same k.now a.now) es → left ≡ remove_entry (λ (a : Bor (List ℕ)). bytes_same k.now a.now) es → after ≡ act before c
-    → with_payload (map valued left) k.now after ≡ acted old c
-by_payload es left old k c before after key view was removed is =
-    let found : before ≡ payload_of (key_of c) old =
-    was ∙ valued_found es k ∙ ap (λ (x : List Entry). payload_of k.now x) view ∙ ap (λ (q : List ℕ). payload_of q old) key in
+    → with_value (map valued left) k.now after ≡ acted old c
+by_value es left old k c before after key view was removed is =
+    let found : before ≡ value_of (key_of c) old =
+    was ∙ valued_found es k ∙ ap (λ (x : List Entry). value_of k.now x) view ∙ ap (λ (q : List ℕ). value_of q old) key in
     let gone : map valued left ≡ without_pair old k.now =
     ap (λ (x : List (Bor (List ℕ) × Value)). map valued x) removed ∙ valued_removed es k ∙ ap (λ (x : List Entry). without_pair x k.now) view in
-    ap (λ (x : List Entry). with_payload x k.now after) gone
-    ∙ ap (λ (q : List ℕ). with_payload (without_pair old q) q after) key
-    ∙ ap (λ (o : Option Value). with_payload (without_pair old (key_of c)) (key_of c) o) (is ∙ ap (λ (o : Option Value). act o c) found)
+    ap (λ (x : List Entry). with_value x k.now after) gone
+    ∙ ap (λ (q : List ℕ). with_value (without_pair old q) q after) key
+    ∙ ap (λ (o : Option Value). with_value (without_pair old (key_of c)) (key_of c) o) (is ∙ ap (λ (o : Option Value). act o c) found)
 
 pub change_left : (es left : List (Bor (List ℕ) × Value)) (old : List Entry) (k : Bor (List ℕ)) (c : Change) (before : Option Value) → k.now ≡ key_of c → map valued es ≡ old
     → before ≡ lookup (λ (a : Bor (List ℕ)). bytes_same k.now a.now) es → left ≡ remove_entry (λ (a : Bor (List ℕ)). bytes_same k.now a.now) es → None ≡ act before c
     → map valued left ≡ acted old c
-change_left es left old k c before key view was removed is = by_payload es left old k c before None key view was removed is
+change_left es left old k c before key view was removed is = by_value es left old k c before None key view was removed is
 
 pub change_put : (es left new : List (Bor (List ℕ) × Value)) (old : List Entry) (k : Bor (List ℕ)) (c : Change) (before : Option Value) (v : Value) → k.now ≡ key_of c → map valued es ≡ old
     → before ≡ lookup (λ (a : Bor (List ℕ)). bytes_same k.now a.now) es → left ≡ remove_entry (λ (a : Bor (List ℕ)). bytes_same k.now a.now) es → Some v ≡ act before c
     → new ≡ insert_entry (λ (a b : Bor (List ℕ)). slice_cmp nat_cmp a.now b.now) left k v → map valued new ≡ acted old c
 change_put es left new old k c before v key view was removed is put =
-    ap (λ (x : List (Bor (List ℕ) × Value)). map valued x) put ∙ valued_inserted left k v ∙ by_payload es left old k c before (Some v) key view was removed is
+    ap (λ (x : List (Bor (List ℕ) × Value)). map valued x) put ∙ valued_inserted left k v ∙ by_value es left old k c before (Some v) key view was removed is
 
 pub are_listed : (s x : Sight) (a b c d records : List Entry) (pending : List Pending) → x ≡ s → a ≡ [] → records ≡ x.leaf.records → pending ≡ x.head.pending
     → b ≡ fold (with_record s) a records → c ≡ fold (with_pending s) b pending → d ≡ fold (with_noted s) c x.buffer → d ≡ items_of s

@@ -9,8 +9,9 @@ use Rattle.std.proofs.lemmas.Cmp.{nat_list_cmp_total}
 use Rattle.byte_format.specs.Order.{bytes_cmp, bytes_below, bytes_same, below_bound}
 use Rattle.byte_format.proofs.OrderLemmas.{same_is, same_itself}
 use Rattle.leaf_view.specs.Fits.{IsHigh}
+use Rattle.db_base.specs.Value.{Value}
 use Rattle.leaf_view.specs.Leaf.{Entry, Leaf, IsLeaf}
-use Rattle.leaf_view.specs.Lookup.{holds, payload_of}
+use Rattle.leaf_view.specs.Lookup.{holds, value_of}
 use Rattle.leaf_view.proofs.Split.{leaf_fits}
 use Rattle.route_plan.specs.Seen.{seen}
 use Rattle.range_scan.specs.Pairs.{Sight, BelowFirst, IsAscending, item_at}
@@ -47,33 +48,33 @@ below_least a b c e f = on (bytes_cmp b c) refl where
 
 -- ---- lists of pairs
 
-absent_then : (key : List ℕ) (a b : List Entry) → payload_of key a ≡ None → payload_of key (a ++ b) ≡ payload_of key b
+absent_then : (key : List ℕ) (a b : List Entry) → value_of key a ≡ None → value_of key (a ++ b) ≡ value_of key b
 absent_then key [] b e = refl
 absent_then key (x ∷ a) b e = on (bytes_same x.key key) e (absent_then key a b) where
-  on : (c : Bool) → (if c then Some x.payload else payload_of key a) ≡ None → (payload_of key a ≡ None → payload_of key (a ++ b) ≡ payload_of key b)
-      → (if c then Some x.payload else payload_of key (a ++ b)) ≡ payload_of key b
+  on : (c : Bool) → (if c then Some x.value else value_of key a) ≡ None → (value_of key a ≡ None → value_of key (a ++ b) ≡ value_of key b)
+      → (if c then Some x.value else value_of key (a ++ b)) ≡ value_of key b
   on true h more = absurd (cc (h))
   on false h more = more h
 
-then_absent : (key : List ℕ) (a b : List Entry) → payload_of key b ≡ None → payload_of key (a ++ b) ≡ payload_of key a
+then_absent : (key : List ℕ) (a b : List Entry) → value_of key b ≡ None → value_of key (a ++ b) ≡ value_of key a
 then_absent key [] b e = e
-then_absent key (x ∷ a) b e = ap (λ (o : Option (List ℕ)). if bytes_same x.key key then Some x.payload else o) (then_absent key a b e)
+then_absent key (x ∷ a) b e = ap (λ (o : Option Value). if bytes_same x.key key then Some x.value else o) (then_absent key a b e)
 
 -- what holds of each key that has a pair holds of each pair's key
-of_each : (P : List ℕ → Type 0) (pairs : List Entry) → ((key : List ℕ) → payload_of key pairs ≢ None → P key) → AllByRecursion (λ (e : Entry). P e.key) pairs
+of_each : (P : List ℕ → Type 0) (pairs : List Entry) → ((key : List ℕ) → value_of key pairs ≢ None → P key) → AllByRecursion (λ (e : Entry). P e.key) pairs
 of_each P [] h = tt
 of_each P (x ∷ xs) h = (h x.key first, of_each P xs rest) where
-  first : payload_of x.key (x ∷ xs) ≢ None
+  first : value_of x.key (x ∷ xs) ≢ None
   first none =
-      let some : payload_of x.key (x ∷ xs) ≡ Some x.payload = ap (λ (b : Bool). if b then Some x.payload else payload_of x.key xs) (same_itself x.key) in
+      let some : value_of x.key (x ∷ xs) ≡ Some x.value = ap (λ (b : Bool). if b then Some x.value else value_of x.key xs) (same_itself x.key) in
       absurd (cc (some, none))
 
-  kept : (b : Bool) (o : Option (List ℕ)) → o ≢ None → (if b then Some x.payload else o) ≢ None
+  kept : (b : Bool) (o : Option Value) → o ≢ None → (if b then Some x.value else o) ≢ None
   kept true o never = λ none. absurd (cc (none))
   kept false o never = never
 
-  rest : (key : List ℕ) → payload_of key xs ≢ None → P key
-  rest key never = h key (kept (bytes_same x.key key) (payload_of key xs) never)
+  rest : (key : List ℕ) → value_of key xs ≢ None → P key
+  rest key never = h key (kept (bytes_same x.key key) (value_of key xs) never)
 
 below_joined : (key : List ℕ) (a b : List Entry) → BelowFirst key a → BelowFirst key b → BelowFirst key (a ++ b)
 below_joined key [] b h g = g
@@ -118,7 +119,7 @@ held_of s key never = on (holds s.leaf key) refl where
   on true is = is
   on false is = absurd (never (no_item s key is))
 
-no_pair : (key : List ℕ) (xs : List Listed) → AllByRecursion IsListed xs → AllByRecursion (IsOutside key) xs → payload_of key (all_pairs xs) ≡ None
+no_pair : (key : List ℕ) (xs : List Listed) → AllByRecursion IsListed xs → AllByRecursion (IsOutside key) xs → value_of key (all_pairs xs) ≡ None
 no_pair key [] listed out = refl
 no_pair key (x ∷ xs) listed out =
     absent_then key (all_pairs xs) x.pairs (no_pair key xs listed.1 out.1) ∙ (listed.0.items.each key ∙ no_item x.sight key out.0)
@@ -144,7 +145,7 @@ outside_among : (pairs : List Entry) (key : List ℕ) (xs : List Listed) → All
 outside_among pairs key [] out = tt
 outside_among pairs key (x ∷ xs) out = (λ held. absurd (cc (out.0, held)), outside_among pairs key xs out.1)
 
-among_same : (pairs more : List Entry) (key : List ℕ) (xs : List Listed) → payload_of key more ≡ payload_of key pairs → AllByRecursion (IsAmong pairs key) xs → AllByRecursion (IsAmong more key) xs
+among_same : (pairs more : List Entry) (key : List ℕ) (xs : List Listed) → value_of key more ≡ value_of key pairs → AllByRecursion (IsAmong pairs key) xs → AllByRecursion (IsAmong more key) xs
 among_same pairs more key [] same h = tt
 among_same pairs more key (x ∷ xs) same h = (λ held. same ∙ h.0 held, among_same pairs more key xs same h.1)
 
@@ -172,7 +173,7 @@ all_ascend r (x ∷ xs) meeting listed =
         of_each (λ key. bytes_below key x.sight.leaf.low ≡ false) x.pairs
         (λ key never. from_low x.sight.leaf key (held_of x.sight key (λ none. never (listed.0.items.each key ∙ none))))
 
-    below : (key : List ℕ) → payload_of key (all_pairs xs) ≢ None → (b : Bool) → bytes_below key x.sight.leaf.low ≡ b → bytes_below key x.sight.leaf.low ≡ true
+    below : (key : List ℕ) → value_of key (all_pairs xs) ≢ None → (b : Bool) → bytes_below key x.sight.leaf.low ≡ b → bytes_below key x.sight.leaf.low ≡ true
     below key never true is = is
     below key never false is = absurd (never (no_pair key xs listed.1 (before_next r key x xs meeting listed.1 is)))
 

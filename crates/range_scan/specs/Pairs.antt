@@ -3,12 +3,13 @@ use Rattle.std.specs.Prelude.{ℕ, ◌≡◌, ⊤, Bool, not, ◌&&◌, ◌==◌
 use Rattle.std.specs.declared.cmp.Ordering.TheVariants.{Less}
 use Rattle.std.specs.Ordering.{match_ordering}
 use Rattle.byte_format.specs.Order.{bytes_cmp, bytes_below, bytes_same, below_bound}
-use Rattle.db_base.specs.Change.{Value, act, key_of}
+use Rattle.db_base.specs.Change.{act, key_of}
 use Rattle.db_base.specs.declared.change.Change.{Change}
+use Rattle.db_base.specs.Value.{Value}
 use Rattle.head_codec.specs.declared.head.Head.{Head}
 use Rattle.head_codec.specs.declared.lists.Pending.{Pending}
 use Rattle.leaf_view.specs.Leaf.{Entry, Leaf}
-use Rattle.leaf_view.specs.Lookup.{holds, number_of, payload_of}
+use Rattle.leaf_view.specs.Lookup.{holds, number_of, value_of}
 use Rattle.txn_buffer.specs.Noted.{Noted}
 use Rattle.route_plan.specs.Seen.{seen}
 use Rattle.tree_walk.specs.Walk.{sought}
@@ -29,7 +30,7 @@ pub record Sight : Type 0 where
 abbrev pub is_listed : Sight → List ℕ → Bool
 is_listed s key = holds s.leaf key && (not (bytes_below key s.from) && below_bound key s.to)
 
--- the payload that the client sees at such a key
+-- the value that the client sees at such a key
 abbrev pub item_at : Sight → List ℕ → Option Value
 item_at s key = if is_listed s key then seen s.leaf s.tree key s.client s.head s.buffer else None
 
@@ -43,36 +44,36 @@ abbrev pub IsAscending : List Entry → Type 0
 IsAscending [] = ⊤
 IsAscending (e ∷ es) = BelowFirst e.key es × IsAscending es
 
--- the pairs of all keys that are asked for, of the leaf's range, and at which the client sees a payload: each once, in key order,
+-- the pairs of all keys that are asked for, of the leaf's range, and at which the client sees a value: each once, in key order,
 -- and no other
 pub record AreItems (s : Sight) (pairs : List Entry) : Type 0 where
   pub ascending : IsAscending pairs
-  pub each : (key : List ℕ) → payload_of key pairs ≡ item_at s key
+  pub each : (key : List ℕ) → value_of key pairs ≡ item_at s key
 
 -- ---- the one list of these
 
 -- a pair in its place
-abbrev pub put_pair : List Entry → List ℕ → List ℕ → List Entry
-put_pair [] key payload = record { key = key; payload = payload } ∷ []
-put_pair (e ∷ es) key payload =
-    match_ordering (bytes_cmp key e.key) (record { key = key; payload = payload } ∷ e ∷ es) (record { key = e.key; payload = payload } ∷ es) (e ∷ put_pair es key payload)
+abbrev pub put_pair : List Entry → List ℕ → Value → List Entry
+put_pair [] key value = record { key = key; value = value } ∷ []
+put_pair (e ∷ es) key value =
+    match_ordering (bytes_cmp key e.key) (record { key = key; value = value } ∷ e ∷ es) (record { key = e.key; value = value } ∷ es) (e ∷ put_pair es key value)
 
 -- the pairs without that of a key
 abbrev pub without_pair : List Entry → List ℕ → List Entry
 without_pair [] key = []
 without_pair (e ∷ es) key = if bytes_same key e.key then es else e ∷ without_pair es key
 
-abbrev pub with_payload : List Entry → List ℕ → Option (List ℕ) → List Entry
-with_payload pairs key None = pairs
-with_payload pairs key (Some payload) = put_pair pairs key payload
+abbrev pub with_value : List Entry → List ℕ → Option Value → List Entry
+with_value pairs key None = pairs
+with_value pairs key (Some value) = put_pair pairs key value
 
 -- the pairs after a change of one key
 abbrev pub acted : List Entry → Change → List Entry
-acted pairs change = with_payload (without_pair pairs (key_of change)) (key_of change) (act (payload_of (key_of change) pairs) change)
+acted pairs change = with_value (without_pair pairs (key_of change)) (key_of change) (act (value_of (key_of change) pairs) change)
 
 -- with a record of the leaf, where its key is asked for
 abbrev pub with_record : Sight → List Entry → Entry → List Entry
-with_record s pairs e = if is_listed s e.key then put_pair pairs e.key e.payload else pairs
+with_record s pairs e = if is_listed s e.key then put_pair pairs e.key e.value else pairs
 
 -- whether a pending entry is of a key that is asked for, and the leaf lacks it
 abbrev pub is_listed_pending : Sight → Pending → Bool

@@ -3,7 +3,7 @@ use Rattle.std.specs.Prelude.{ℕ, ◌≡◌, true, false, List, [], ◌∷◌, 
 use Rattle.std.specs.List.{AllByRecursion}
 use Rattle.byte_format.specs.Order.{below_bound}
 use Rattle.leaf_view.specs.Leaf.{Entry, Leaf}
-use Rattle.leaf_view.specs.Lookup.{holds, payload_of}
+use Rattle.leaf_view.specs.Lookup.{holds, value_of}
 use Rattle.range_scan.specs.Pairs.{Sight, IsAscending, AreItems, item_at}
 
 -- a leaf at which a scan ended, as it is looked at, and the pairs that are listed of it
@@ -35,10 +35,10 @@ IsOutside key x = holds x.sight.leaf key ≡ false
 
 -- a key of the leaf's range has its pair where the leaf's own list has it
 abbrev pub IsAmong : List Entry → List ℕ → Listed → Type 0
-IsAmong pairs key x = holds x.sight.leaf key ≡ true → payload_of key pairs ≡ item_at x.sight key
+IsAmong pairs key x = holds x.sight.leaf key ≡ true → value_of key pairs ≡ item_at x.sight key
 
 -- the pairs of a whole scan: in key order over all leaves, for each key those of the leaf whose range has it, and no other
 pub record IsWhole (xs : List Listed) : Type 0 where
   pub ascending : IsAscending (all_pairs xs)
   pub each : (key : List ℕ) → AllByRecursion (IsAmong (all_pairs xs) key) xs
-  pub no_other : (key : List ℕ) → AllByRecursion (IsOutside key) xs → payload_of key (all_pairs xs) ≡ None
+  pub no_other : (key : List ℕ) → AllByRecursion (IsOutside key) xs → value_of key (all_pairs xs) ≡ None

@@ -52,12 +52,12 @@ impl<'a> Items<'a> {
         &mut self,
         sight: &Sight<'a>,
         key: &'a [u8],
-        payload: &'a [u8],
+        value: Value<'a>,
     ) -> Result<(), AllocError>
-        ensures { OnOk result (self.new ≡ with_record sight.now self.old (record { key = key.now; payload = payload.now })) }
+        ensures { OnOk result (self.new ≡ with_record sight.now self.old (record { key = key.now; value = value })) }
     {
         if sight.is_listed(key) {
-            self.pairs.insert(key, Value::of(payload))?;
+            self.pairs.insert(key, value)?;
         }
         Ok(())
     }
@@ -102,8 +102,8 @@ impl<'a> Items<'a> {
         ensures { OnOk result (self.new ≡ fold (with_record sight.now) self.old records.entry) }
     {
         let mut left = records;
-        while let Some(((key, payload), rest)) = left.split() {
-            self.add_record(sight, key, payload)?;
+        while let Some(((key, payload, attr), rest)) = left.split() {
+            self.add_record(sight, key, Value::with(payload, attr))?;
             left = rest;
         }
         Ok(())

@@ -1,6 +1,6 @@
 -- The value of a read.
 use Rattle.std.specs.Prelude.{ℕ, List, Option, Some, None}
-use Rattle.db_base.specs.Change.{Value}
+use Rattle.db_base.specs.Value.{Value}
 use Rattle.head_codec.specs.declared.head.Head.{Head}
 use Rattle.leaf_view.specs.Leaf.{Leaf}
 use Rattle.txn_buffer.specs.Noted.{Noted}

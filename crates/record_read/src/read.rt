@@ -89,7 +89,7 @@ impl RecordRead {
         self.walk.step(alloc, cloud, who, cache)
     }
 
-    /// The payload of the key as its client sees it, once the read ended. Takes no memory.
+    /// The value of the key as its client sees it, once the read ended. Takes no memory.
     pub fn value<'a>(
         &self,
         cache: &'a PageCache,

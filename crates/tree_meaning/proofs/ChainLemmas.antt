@@ -4,7 +4,7 @@ use Rattle.std.specs.Prelude.{map}
 use Rattle.std.proofs.lemmas.List.{flat_map_more}
 use Rattle.db_base.specs.Ids.{IsPage}
 use Rattle.db_base.specs.declared.names.ObjName.TheVariants as object
-use Rattle.db_base.specs.declared.pair.Pair.{Pair}
+use Rattle.report_types.specs.declared.stored.Stored.{Stored}
 use Rattle.byte_format.proofs.Wholes.{one_value}
 use Rattle.cloud_trait.specs.State.{CloudState, newest}
 use Rattle.leaf_view.specs.Leaf.{Leaf, leaf}
@@ -12,7 +12,7 @@ use Rattle.leaf_view.specs.Fits.{Ascend, entry_below, IsHigh}
 use Rattle.leaf_view.specs.Lookup.{page_at}
 use Rattle.leaf_view.proofs.Exactness.{leaf_exact}
 use Rattle.leaf_view.proofs.Split.{leaf_fits}
-use Rattle.tree_meaning.specs.Chain.{IsReadAs, IsNewestLeaf, Leads, Walked, records_of, pair_of}
+use Rattle.tree_meaning.specs.Chain.{IsReadAs, IsNewestLeaf, Leads, Walked, records_of, stored_of}
 
 -- ---- the newest leaf of a page
 
@@ -45,8 +45,8 @@ pub no_page : (n : ℕ) → None ≡ page_at n → n ≡ 0
 no_page zero e = refl
 no_page (suc n) e = cc
 
-pub records_on : (leaves : List Leaf) (l : Leaf) (old new : List Pair) → old ≡ records_of leaves → new ≡ old ++ map pair_of l.records → new ≡ records_of (leaves ++ l ∷ [])
-records_on leaves l old new o n = n ∙ (ap (λ (x : List Pair). x ++ map pair_of l.records) o ∙ flat_map_more (λ (m : Leaf). map pair_of m.records) [] leaves l)
+pub records_on : (leaves : List Leaf) (l : Leaf) (old new : List Stored) → old ≡ records_of leaves → new ≡ old ++ map stored_of l.records → new ≡ records_of (leaves ++ l ∷ [])
+records_on leaves l old new o n = n ∙ (ap (λ (x : List Stored). x ++ map stored_of l.records) o ∙ flat_map_more (λ (m : Leaf). map stored_of m.records) [] leaves l)
 
 -- ---- a whole chain
 

@@ -1,6 +1,7 @@
 -- What is known of a tree stays where the newest bytes of each object are the same.
 use Rattle.std.proofs.Common.{◌≡◌, ℕ, suc, List, [], ◌∷◌, Ok, sym, subst, ◌∙◌}
 use Rattle.std.specs.Prelude.{Option}
+use Rattle.db_base.specs.Value.{Value}
 use Rattle.db_base.specs.declared.names.ObjName.{ObjName}
 use Rattle.db_base.specs.declared.names.ObjName.TheVariants as object
 use Rattle.cloud_trait.specs.State.{CloudState, newest}
@@ -32,8 +33,8 @@ reaches_same s t e tree key level page leaf (right_inner above p node l is right
 reaches_same s t e tree key level page leaf (down above p node l low child is within entry rest) =
     down above p node l low child (newest_inner_same s t e tree p node is) within entry (reaches_same s t e tree key above child l rest)
 
-pub finds_same : (s t : CloudState) → AreNewest s t → (tree : ℕ) (key : List ℕ) (payload : Option (List ℕ)) → Finds s tree key payload → Finds t tree key payload
-finds_same s t e tree key payload h = record {
+pub finds_same : (s t : CloudState) → AreNewest s t → (tree : ℕ) (key : List ℕ) (value : Option Value) → Finds s tree key value → Finds t tree key value
+finds_same s t e tree key value h = record {
   root = h.root;
   is_root = (let P : Option (List ℕ) → Type 0 = λ b. IsRootIn b h.root in subst P (sym (e (object.Tree tree))) h.is_root);
   low = h.low;
@@ -43,5 +44,5 @@ finds_same s t e tree key payload h = record {
   level = h.level;
   leaf = h.leaf;
   reaches = reaches_same s t e tree key h.above h.child h.leaf h.reaches;
-  payload_is = h.payload_is;
+  value_is = h.value_is;
 }

@@ -5,10 +5,10 @@ use Rattle.byte_format.specs.Whole.{offset}
 use Rattle.db_base.specs.Ids.{IsPage}
 use Rattle.db_base.specs.declared.names.ObjName.TheVariants as object
 use Rattle.db_base.specs.declared.names.Place.TheVariants as place
-use Rattle.db_base.specs.declared.pair.Pair.{Pair}
 use Rattle.db_base.specs.declared.trouble.Trouble.{Trouble}
 use Rattle.db_base.specs.declared.trouble.Trouble.TheVariants.{Absent, Damaged}
 use Rattle.cloud_trait.specs.State.{CloudState, newest}
+use Rattle.report_types.specs.declared.stored.Stored.{Stored}
 use Rattle.leaf_view.specs.Leaf.{Entry, Leaf, IsLeaf, leaf}
 use Rattle.leaf_view.specs.Lookup.{empty_leaf}
 
@@ -33,15 +33,15 @@ abbrev pub AreLeaves : CloudState → ℕ → List Leaf → Type 0
 AreLeaves s tree leaves = Leads s tree 1 leaves 0
 
 -- a record as a report shows it
-abbrev pub pair_of : Entry → Pair
-pair_of e = record { key = e.key; payload = e.payload }
+abbrev pub stored_of : Entry → Stored
+stored_of e = record { key = e.key; payload = e.value.payload; attr = e.value.attr }
 
 -- the records of leaves, in their order
-abbrev pub records_of : List Leaf → List Pair
-records_of leaves = flat_map (λ (l : Leaf). map pair_of l.records) leaves
+abbrev pub records_of : List Leaf → List Stored
+records_of leaves = flat_map (λ (l : Leaf). map stored_of l.records) leaves
 
 -- the records are those of leaves that lead from page 1 to a page
-pub record Walked (s : CloudState) (tree to : ℕ) (records : List Pair) : Type 0 where
+pub record Walked (s : CloudState) (tree to : ℕ) (records : List Stored) : Type 0 where
   pub leaves : List Leaf
   pub lead : Leads s tree 1 leaves to
   pub are : records ≡ records_of leaves

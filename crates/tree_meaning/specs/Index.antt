@@ -1,10 +1,11 @@
 -- What is found through the index of a tree, from its root down and to the right.
 use Rattle.std.specs.Prelude.{ℕ, suc, ◌≡◌, List, Option, Some, None, IsTrue, not}
 use Rattle.byte_format.specs.Order.{bytes_below}
+use Rattle.db_base.specs.Value.{Value}
 use Rattle.db_base.specs.declared.names.ObjName.TheVariants as object
 use Rattle.cloud_trait.specs.State.{CloudState, newest}
 use Rattle.leaf_view.specs.Leaf.{Leaf}
-use Rattle.leaf_view.specs.Lookup.{payload_of}
+use Rattle.leaf_view.specs.Lookup.{value_of}
 use Rattle.node_codec.specs.Node.{child_of}
 use Rattle.node_codec.specs.Tree.{Tree, IsTree, empty_tree}
 use Rattle.node_codec.specs.Inner.{Inner, IsInner}
@@ -39,8 +40,8 @@ abbrev pub IsRootIn : Option (List ℕ) → Tree → Type 0
 IsRootIn None root = root ≡ empty_tree
 IsRootIn (Some bytes) root = IsTree bytes root
 
--- what the index leads to for the key: the payload of the record with it in the leaf where its walk ends, or none
-pub record Finds (t : CloudState) (tree : ℕ) (key : List ℕ) (payload : Option (List ℕ)) : Type 0 where
+-- what the index leads to for the key: the value of the record with it in the leaf where its walk ends, or none
+pub record Finds (t : CloudState) (tree : ℕ) (key : List ℕ) (value : Option Value) : Type 0 where
   pub root : Tree
   pub is_root : IsRootIn (newest t (object.Tree tree)) root
   pub low : List ℕ
@@ -50,4 +51,4 @@ pub record Finds (t : CloudState) (tree : ℕ) (key : List ℕ) (payload : Optio
   pub level : root.level ≡ suc above
   pub leaf : Leaf
   pub reaches : Reaches t tree key above child leaf
-  pub payload_is : payload ≡ payload_of key leaf.records
+  pub value_is : value ≡ value_of key leaf.records

@@ -5,8 +5,8 @@ use Rattle.route_plan.proofs.seen.after_pending.Given as goal
 
 abbrev pub invariant-loop-entry : goal.invariant-loop-entry
 invariant-loop-entry l =
-    after_pending l.payload (filter (is_lacked_by l.view l.client l.tree l.key) l.left)
-    ≡ after_pending l.initial.payload (filter (is_lacked_by l.view l.client l.tree l.key) l.pending)
+    after_pending l.value (filter (is_lacked_by l.view l.client l.tree l.key) l.left)
+    ≡ after_pending l.initial.value (filter (is_lacked_by l.view l.client l.tree l.key) l.pending)
 
 abbrev pub decreases-loop-entry : goal.decreases-loop-entry
 decreases-loop-entry l = length l.left

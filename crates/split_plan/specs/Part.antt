@@ -24,8 +24,9 @@ NodePart = Part Entry ℕ
 abbrev pub part_of_leaf : Leaf → LeafPart
 part_of_leaf l = record { version = l.version; low = l.low; right = l.right; high = l.high; common = l.done; items = l.records }
 
+-- in the format in which leaves are written
 abbrev pub leaf_of_part : LeafPart → Leaf
-leaf_of_part p = record { version = p.version; low = p.low; right = p.right; high = p.high; done = p.common; records = p.items }
+leaf_of_part p = record { format = 2; version = p.version; low = p.low; right = p.right; high = p.high; done = p.common; records = p.items }
 
 abbrev pub part_of_node : Inner → NodePart
 part_of_node n = record { version = n.version; low = n.low; right = n.right; high = n.high; common = n.level; items = n.entries }

@@ -63,27 +63,30 @@ from_right low = number w64 0 greatest then λ right. high_key low right
 abbrev from_low : Format (List ℕ × (ℕ × Option (List ℕ)))
 from_low = text w8 0 64 then λ low. from_right low
 
-abbrev from_version : Format Heads
+abbrev from_version : Format (ℕ × (List ℕ × (ℕ × Option (List ℕ))))
 from_version = number w64 1 greatest then λ version. from_low
+
+abbrev from_format : Format Heads
+from_format = number w8 1 2 then λ format. from_version
 
 pub head_sides : (bytes : List ℕ) (x : Head × List ℕ) → leaf_head.reading bytes ≡ Ok x → HasSides x.0.right x.0.high
 unfolding leaf_head
 head_sides bytes x e =
-    let s = seen_read head_of head_parts (behind 76 (behind 1 from_version)) bytes x e in
-    let b = behind_read 76 (behind 1 from_version) bytes s.0 s.1 in
-    let c = behind_read 1 from_version b.0 s.0 b.1 in
-    let v = then_read (number w64 1 greatest) (λ version. from_low) c.0 s.0 c.1 in
-    let l = then_read (text w8 0 64) from_right v.0 (s.0.0.1, s.0.1) v.2 in
-    let r = then_read (number w64 0 greatest) (high_key s.0.0.1.0) l.0 (s.0.0.1.1, s.0.1) l.2 in
-    let sides : HasSides s.0.0.1.1.0 s.0.0.1.1.1 = option_read (key_above s.0.0.1.0) r.0 s.0.0.1.1.0 (s.0.0.1.1.1, s.0.1) r.2 in
+    let s = seen_read head_of head_parts (behind 76 from_format) bytes x e in
+    let b = behind_read 76 from_format bytes s.0 s.1 in
+    let c = then_read (number w8 1 2) (λ format. from_version) b.0 s.0 b.1 in
+    let v = then_read (number w64 1 greatest) (λ version. from_low) c.0 (s.0.0.1, s.0.1) c.2 in
+    let l = then_read (text w8 0 64) from_right v.0 (s.0.0.1.1, s.0.1) v.2 in
+    let r = then_read (number w64 0 greatest) (high_key s.0.0.1.1.0) l.0 (s.0.0.1.1.1, s.0.1) l.2 in
+    let sides : HasSides s.0.0.1.1.1.0 s.0.0.1.1.1.1 = option_read (key_above s.0.0.1.1.0) r.0 s.0.0.1.1.1.0 (s.0.0.1.1.1.1, s.0.1) r.2 in
     subst (λ (h : Head). HasSides h.right h.high) s.2 sides
 
 pub read_sides : (bytes : List ℕ) (l : Leaf) → whole leaf bytes ≡ Ok l → HasSides l.right l.high
 unfolding leaf
 read_sides bytes l e =
     let w = whole_read leaf bytes l e in
-    let s = seen_read leaf_of leaf_parts (leaf_head then λ head. list_of true done_item None then λ done. list_of true (record_item head.low head.high) None) bytes w.0 w.1 in
-    let t = then_read leaf_head (λ head. list_of true done_item None then λ done. list_of true (record_item head.low head.high) None) bytes s.0 s.1 in
+    let s = seen_read leaf_of leaf_parts (leaf_head then λ head. list_of true done_item None then λ done. list_of true (record_item head.format head.low head.high) None) bytes w.0 w.1 in
+    let t = then_read leaf_head (λ head. list_of true done_item None then λ done. list_of true (record_item head.format head.low head.high) None) bytes s.0 s.1 in
     let sides : HasSides s.0.0.0.right s.0.0.0.high = head_sides bytes (s.0.0.0, t.0) t.1 in
     let read : HasSides w.0.0.right w.0.0.high = subst (λ (k : Leaf). HasSides k.right k.high) s.2 sides in
     subst (λ (k : Leaf). HasSides k.right k.high) w.2 read

@@ -5,7 +5,7 @@ use Rattle.std.specs.Int.{Width, w8, w64}
 use Rattle.std.specs.Result.{result_ok}
 use Rattle.std.proofs.lemmas.Bool.{and_from, leb-true}
 use Rattle.std.proofs.lemmas.List.{length-take-le}
-use Rattle.byte_format.specs.Format.{Format, ◌>>=◌, greatest, guarded, in_range, number, number_at, unsigned_at, text, text_at, ruled, behind, ◌then◌, seen_as, list_of, list_from, list_at, list_fits, more_at}
+use Rattle.byte_format.specs.Format.{Format, ◌>>=◌, greatest, guarded, in_range, number, number_at, unsigned_at, text, text_at, ruled, behind, ◌then◌, seen_as, list_of, list_from, list_at, list_fits, more_at, only_where, option_fits, flagged, maybe}
 use Rattle.byte_format.specs.Whole.{whole}
 use Rattle.node_codec.specs.Node.{Entry, entry, may_stand, client_number, least_client}
 use Rattle.node_codec.specs.Tree.{Tree, tree_of, tree_format, tree_fields, tree_of_fields, fields_of_tree, HasTreeSpelling, TreeFields}
@@ -49,6 +49,30 @@ pub seen_fits : {A B : Type 0} (view : A → B) (back : B → A) (f : Format A) 
 seen_fits {A} {B} view back f again h bytes y e =
     let s = seen_read view back f bytes y e in
     subst (λ (x : B). f.fits (back x) ≡ true) s.2 (ap f.fits (again s.0.0) ∙ h bytes s.0 s.1)
+
+-- a field that is there exactly where it is said
+pub only_where_fits : {A : Type 0} (there : Bool) (f : Format A) → ReadsFit f → ReadsFit (only_where there f)
+only_where_fits {A} true f h bytes y e =
+    let b = bound (f.reading bytes) (λ (x : A × List ℕ). Ok (Some x.0, x.1)) y e in
+    subst (λ (x : Option A × List ℕ). option_fits true f x.0 ≡ true) (of_ok (Some b.0.0, b.0.1) y b.2) (h bytes b.0 b.1)
+only_where_fits {A} false f h bytes y e = subst (λ (x : Option A × List ℕ). option_fits false f x.0 ≡ true) (of_ok (None, bytes) y e) refl
+
+-- the flag is told by whether the field is there
+flagged_again : {A : Type 0} (f : Format A) (x : ℕ × Option A) → (in_range 0 1 x.0 && option_fits (x.0 == 1) f x.1) ≡ true → flagged x.1 ≡ x
+flagged_again f (zero, None) h = refl
+flagged_again f (zero, Some v) h = absurd cc
+flagged_again f (suc zero, None) h = absurd cc
+flagged_again f (suc zero, Some v) h = refl
+flagged_again f (suc (suc n), x) h = absurd cc
+
+-- a field that may be there
+pub maybe_fits : {A : Type 0} (f : Format A) → ReadsFit f → ReadsFit (maybe f)
+maybe_fits {A} f h bytes y e =
+    let g : Format (ℕ × Option A) = number w8 0 1 then λ (there : ℕ). only_where (there == 1) f in
+    let s = seen_read (λ (x : ℕ × Option A). x.1) flagged g bytes y e in
+    let fits : g.fits s.0.0 ≡ true =
+    then_fits (number w8 0 1) (λ (there : ℕ). only_where (there == 1) f) (number_fits w8 0 1) (λ there. only_where_fits (there == 1) f h) bytes s.0 s.1 in
+    subst (λ (o : Option A). g.fits (flagged o) ≡ true) s.2 (ap g.fits (flagged_again f s.0.0 fits) ∙ fits)
 
 -- an item follows where there may be none
 more_is : (bytes : List ℕ) (y : Bool × List ℕ) → more_at false bytes ≡ Ok y → y.0 ≡ true

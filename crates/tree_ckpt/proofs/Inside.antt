@@ -4,11 +4,11 @@ use Rattle.std.specs.Prelude.{◌==◌, ◌&&◌, not, map, drop, nat_le}
 use Rattle.std.specs.Int.{w8, w16}
 use Rattle.std.specs.List.{AllByRecursion, flat_map}
 use Rattle.std.proofs.lemmas.Bool.{leb-true}
-use Rattle.byte_format.specs.Format.{greatest, in_range, list_fits, list_of, ruled, text, ◌then◌}
+use Rattle.byte_format.specs.Format.{Format, greatest, in_range, list_fits, list_of, maybe, only_where, ruled, text, ◌then◌}
 use Rattle.byte_format.specs.Order.{bytes_below, below_bound}
 use Rattle.byte_format.specs.Whole.{whole}
 use Rattle.db_base.specs.Change.{key_of}
-use Rattle.leaf_view.specs.Leaf.{Leaf, leaf, leaf_head, leaf_of, leaf_parts, done_item, record_item, key_stands}
+use Rattle.leaf_view.specs.Leaf.{Leaf, leaf, leaf_head, leaf_of, leaf_parts, done_item, record_item, attr_text, attribute, key_stands}
 use Rattle.leaf_view.specs.Leaf.{Entry as Rec, entry_of as record_of, entry_parts as record_parts}
 use Rattle.leaf_view.specs.Fits.{IsEntryIn}
 use Rattle.leaf_view.specs.Lookup.{holds}
@@ -33,7 +33,7 @@ use Rattle.tree_rising.specs.Nodes.{goes_to, with_links}
 use Rattle.node_codec.specs.Tree.{Tree}
 use Rattle.tree_ckpt.specs.Working.{IsAmong, PutsPieces, PutsLeaf, HoldsLeaf, linked_node, HoldsLow}
 use Rattle.tree_ckpt.proofs.Fences.{seen_read, then_read, whole_read}
-use Rattle.tree_ckpt.proofs.Fits.{ReadsFit, text_fits, ruled_fits, then_fits, seen_fits, list_of_fits}
+use Rattle.tree_ckpt.proofs.Fits.{ReadsFit, maybe_fits, only_where_fits, text_fits, ruled_fits, then_fits, seen_fits, list_of_fits}
 use Rattle.tree_ckpt.proofs.Entries.{among_front, among_back, entry_at, with_from}
 use Rattle.tree_ckpt.proofs.Nodes.{and_both}
 use Rattle.tree_ckpt.proofs.Roots.{entries_short}
@@ -167,12 +167,22 @@ turned_false : (b : Bool) → not b ≡ true → b ≡ false
 turned_false true e = absurd (cc (e))
 turned_false false e = refl
 
-record_fits : (low : List ℕ) (high : Option (List ℕ)) (before : Option Rec) → ReadsFit (record_item low high before)
+attribute_fits : (format : ℕ) → ReadsFit (attribute format)
+attribute_fits format = on (format == 2) where
+  on : (b : Bool) → ReadsFit (cond b (maybe attr_text) (only_where false attr_text))
+  on true = maybe_fits attr_text (text_fits w8 1 32)
+  on false = only_where_fits false attr_text (text_fits w8 1 32)
+
+abbrev from_payload : ℕ → Format (List ℕ × Option (List ℕ))
+from_payload format = text w16 0 1024 then λ payload. attribute format
+
+record_fits : (format : ℕ) (low : List ℕ) (high : Option (List ℕ)) (before : Option Rec) → ReadsFit (record_item format low high before)
 unfolding record_item
-record_fits low high before =
-    seen_fits record_of record_parts (ruled (key_stands low high before) (text w8 1 64) then λ (key : List ℕ). text w16 0 1024) (λ x. refl)
-    (then_fits (ruled (key_stands low high before) (text w8 1 64)) (λ (key : List ℕ). text w16 0 1024)
-    (ruled_fits (key_stands low high before) (text w8 1 64) (text_fits w8 1 64)) (λ key. text_fits w16 0 1024))
+record_fits format low high before =
+    seen_fits record_of record_parts (ruled (key_stands low high before) (text w8 1 64) then λ (key : List ℕ). from_payload format) (λ x. refl)
+    (then_fits (ruled (key_stands low high before) (text w8 1 64)) (λ (key : List ℕ). from_payload format)
+    (ruled_fits (key_stands low high before) (text w8 1 64) (text_fits w8 1 64))
+    (λ key. then_fits (text w16 0 1024) (λ (payload : List ℕ). attribute format) (text_fits w16 0 1024) (λ payload. attribute_fits format)))
 
 within_all : (low : List ℕ) (high : Option (List ℕ)) (es : List Rec) → AllByRecursion (IsEntryIn low high) es → AllByRecursion (KeyWithin low high) es
 within_all low high [] h = tt
@@ -182,13 +192,14 @@ read_within : (bytes : List ℕ) (l : Leaf) → whole leaf bytes ≡ Ok l → Al
 unfolding leaf
 read_within bytes l e =
     let w = whole_read leaf bytes l e in
-    let s = seen_read leaf_of leaf_parts (leaf_head then λ head. list_of true done_item None then λ done. list_of true (record_item head.low head.high) None) bytes w.0 w.1 in
-    let t = then_read leaf_head (λ head. list_of true done_item None then λ done. list_of true (record_item head.low head.high) None) bytes s.0 s.1 in
+    let s = seen_read leaf_of leaf_parts (leaf_head then λ head. list_of true done_item None then λ done. list_of true (record_item head.format head.low head.high) None) bytes w.0 w.1 in
+    let t = then_read leaf_head (λ head. list_of true done_item None then λ done. list_of true (record_item head.format head.low head.high) None) bytes s.0 s.1 in
+    let format : ℕ = s.0.0.0.format in
     let low : List ℕ = s.0.0.0.low in
     let high : Option (List ℕ) = s.0.0.0.high in
-    let d = then_read (list_of true done_item None) (λ done. list_of true (record_item low high) None) t.0 (s.0.0.1, s.0.1) t.2 in
-    let fit : list_fits true (record_item low high) None s.0.0.1.1 ≡ true = list_of_fits true (record_item low high) None (record_fits low high) d.0 (s.0.0.1.1, s.0.1) d.2 in
-    let all : AllByRecursion (KeyWithin low high) s.0.0.1.1 = within_all low high s.0.0.1.1 (records_fit low high None s.0.0.1.1 fit).0 in
+    let d = then_read (list_of true done_item None) (λ done. list_of true (record_item format low high) None) t.0 (s.0.0.1, s.0.1) t.2 in
+    let fit : list_fits true (record_item format low high) None s.0.0.1.1 ≡ true = list_of_fits true (record_item format low high) None (record_fits format low high) d.0 (s.0.0.1.1, s.0.1) d.2 in
+    let all : AllByRecursion (KeyWithin low high) s.0.0.1.1 = within_all low high s.0.0.1.1 (records_fit format low high None s.0.0.1.1 fit).0.0 in
     let read : AllByRecursion (KeyWithin w.0.0.low w.0.0.high) w.0.0.records = subst (λ (k : Leaf). AllByRecursion (KeyWithin k.low k.high) k.records) s.2 all in
     subst (λ (k : Leaf). AllByRecursion (KeyWithin k.low k.high) k.records) w.2 read
 

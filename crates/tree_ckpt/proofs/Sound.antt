@@ -9,7 +9,7 @@ use Rattle.byte_format.specs.Format.{Format, greatest, number, text, mark_at, be
 use Rattle.byte_format.specs.HighKey.{key_above, high_key}
 use Rattle.byte_format.specs.Order.{bytes_below}
 use Rattle.byte_format.specs.Whole.{whole}
-use Rattle.leaf_view.specs.Leaf.{Leaf, Head, head_of, head_parts, leaf, leaf_head, leaf_of, leaf_parts, done_item, record_item}
+use Rattle.leaf_view.specs.Leaf.{Leaf, Head, Heads, head_of, head_parts, leaf, leaf_head, leaf_of, leaf_parts, done_item, record_item}
 use Rattle.leaf_view.specs.Lookup.{page_at}
 use Rattle.node_codec.specs.Inner.{Inner, inner_of, inner_format, inner_fields, inner_of_fields, fields_of_inner, InnerFields}
 use Rattle.node_codec.specs.Node as node
@@ -106,24 +106,27 @@ leaf_from_low = text w8 0 64 then λ low. leaf_from_right low
 abbrev leaf_from_version : Format (ℕ × (List ℕ × (ℕ × Option (List ℕ))))
 leaf_from_version = number w64 1 greatest then λ version. leaf_from_low
 
+abbrev leaf_from_format : Format Heads
+leaf_from_format = number w8 1 2 then λ format. leaf_from_version
+
 head_above : (bytes : List ℕ) (x : Head × List ℕ) → leaf_head.reading bytes ≡ Ok x → IsAbove x.0.low x.0.high
 unfolding leaf_head
 head_above bytes x e =
-    let s = seen_read head_of head_parts (behind 76 (behind 1 leaf_from_version)) bytes x e in
-    let b = behind_read 76 (behind 1 leaf_from_version) bytes s.0 s.1 in
-    let c = behind_read 1 leaf_from_version b.0 s.0 b.1 in
-    let v = then_read (number w64 1 greatest) (λ version. leaf_from_low) c.0 s.0 c.1 in
-    let l = then_read (text w8 0 64) leaf_from_right v.0 (s.0.0.1, s.0.1) v.2 in
-    let r = then_read (number w64 0 greatest) (high_key s.0.0.1.0) l.0 (s.0.0.1.1, s.0.1) l.2 in
-    let above : IsAbove s.0.0.1.0 s.0.0.1.1.1 = above_read s.0.0.1.0 s.0.0.1.1.0 r.0 (s.0.0.1.1.1, s.0.1) r.2 in
+    let s = seen_read head_of head_parts (behind 76 leaf_from_format) bytes x e in
+    let b = behind_read 76 leaf_from_format bytes s.0 s.1 in
+    let c = then_read (number w8 1 2) (λ format. leaf_from_version) b.0 s.0 b.1 in
+    let v = then_read (number w64 1 greatest) (λ version. leaf_from_low) c.0 (s.0.0.1, s.0.1) c.2 in
+    let l = then_read (text w8 0 64) leaf_from_right v.0 (s.0.0.1.1, s.0.1) v.2 in
+    let r = then_read (number w64 0 greatest) (high_key s.0.0.1.1.0) l.0 (s.0.0.1.1.1, s.0.1) l.2 in
+    let above : IsAbove s.0.0.1.1.0 s.0.0.1.1.1.1 = above_read s.0.0.1.1.0 s.0.0.1.1.1.0 r.0 (s.0.0.1.1.1.1, s.0.1) r.2 in
     subst (λ (h : Head). IsAbove h.low h.high) s.2 above
 
 read_above : (bytes : List ℕ) (l : Leaf) → whole leaf bytes ≡ Ok l → IsAbove l.low l.high
 unfolding leaf
 read_above bytes l e =
     let w = whole_read leaf bytes l e in
-    let s = seen_read leaf_of leaf_parts (leaf_head then λ head. list_of true done_item None then λ done. list_of true (record_item head.low head.high) None) bytes w.0 w.1 in
-    let t = then_read leaf_head (λ head. list_of true done_item None then λ done. list_of true (record_item head.low head.high) None) bytes s.0 s.1 in
+    let s = seen_read leaf_of leaf_parts (leaf_head then λ head. list_of true done_item None then λ done. list_of true (record_item head.format head.low head.high) None) bytes w.0 w.1 in
+    let t = then_read leaf_head (λ head. list_of true done_item None then λ done. list_of true (record_item head.format head.low head.high) None) bytes s.0 s.1 in
     let above : IsAbove s.0.0.0.low s.0.0.0.high = head_above bytes (s.0.0.0, t.0) t.1 in
     let read : IsAbove w.0.0.low w.0.0.high = subst (λ (k : Leaf). IsAbove k.low k.high) s.2 above in
     subst (λ (k : Leaf). IsAbove k.low k.high) w.2 read
@@ -146,10 +149,10 @@ leaf_marked : (bytes : List ℕ) (l : Leaf) → whole leaf bytes ≡ Ok l → (r
 unfolding leaf leaf_head
 leaf_marked bytes l e =
     let w = whole_read leaf bytes l e in
-    let s = seen_read leaf_of leaf_parts (leaf_head then λ head. list_of true done_item None then λ done. list_of true (record_item head.low head.high) None) bytes w.0 w.1 in
-    let t = then_read leaf_head (λ head. list_of true done_item None then λ done. list_of true (record_item head.low head.high) None) bytes s.0 s.1 in
-    let h = seen_read head_of head_parts (behind 76 (behind 1 leaf_from_version)) bytes (s.0.0.0, t.0) t.1 in
-    let b = bound (mark_at 76 bytes) (behind 1 leaf_from_version).reading h.0 h.1 in
+    let s = seen_read leaf_of leaf_parts (leaf_head then λ head. list_of true done_item None then λ done. list_of true (record_item head.format head.low head.high) None) bytes w.0 w.1 in
+    let t = then_read leaf_head (λ head. list_of true done_item None then λ done. list_of true (record_item head.format head.low head.high) None) bytes s.0 s.1 in
+    let h = seen_read head_of head_parts (behind 76 leaf_from_format) bytes (s.0.0.0, t.0) t.1 in
+    let b = bound (mark_at 76 bytes) leaf_from_format.reading h.0 h.1 in
     (b.0, b.1)
 
 node_marked : (bytes : List ℕ) (n : Inner) → inner_of bytes ≡ Some n → (rest : List ℕ) × (mark_at 0x49 bytes ≡ Ok rest)

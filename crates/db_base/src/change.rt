@@ -1,6 +1,8 @@
 ghost use Rattle.std.specs.Prelude.{◌≡◌, ℕ, List, Option, IfOk};
-ghost use Rattle.db_base.specs.Change.{key_of, act, net, IsChange, Value as Bytes};
+ghost use Rattle.db_base.specs.Change.{key_of, act, net, IsChange};
+ghost use Rattle.db_base.specs.Value.{Value as Record};
 
+use crate::attr::{Attr, attr_bytes, attr_copied};
 use crate::key::{Key, Payload};
 use crate::value::Value;
 use std::alloc::{AllocError, Global};
@@ -8,20 +10,28 @@ use std::alloc::{AllocError, Global};
 /// A change of one record. Changes are blind: they do not depend on a read.
 #[derive(Debug)]
 pub enum Change {
-    /// Sets the payload, whether or not the key is there.
-    Insert { key: Key, payload: Payload },
-    /// Sets the payload only where the key is there.
+    /// Sets the payload and sets or clears the attribute, whether or not the key is there.
+    Insert {
+        key: Key,
+        payload: Payload,
+        attr: Option<Attr>,
+    },
+    /// Sets the payload only where the key is there, and keeps the attribute.
     Update { key: Key, payload: Payload },
     /// Removes the record where it is there.
     Delete { key: Key },
-    /// Adds to the payload, modulo 2^64, where the key is there and the payload has eight bytes.
+    /// Adds to the payload, modulo 2^64, where the key is there and the payload has eight bytes, and keeps the attribute.
     Add { key: Key, amount: u64 },
 }
 
 impl Drop for Change {
     fn drop(self) {
         match self {
-            Change::Insert { key: _, payload: _ } => {}
+            Change::Insert {
+                key: _,
+                payload: _,
+                attr: _,
+            } => {}
             Change::Update { key: _, payload: _ } => {}
             Change::Delete { key: _ } => {}
             Change::Add { key: _, amount: _ } => {}
@@ -93,9 +103,10 @@ impl Change {
         ensures is_change { IfOk result (λ _. IsChange self.now) }
     {
         Ok(match self {
-            Change::Insert { key, payload } => Change::Insert {
+            Change::Insert { key, payload, attr } => Change::Insert {
                 key: key.copied(alloc)?,
                 payload: payload.copied(alloc)?,
+                attr: attr_copied(attr, alloc)?,
             },
             Change::Update { key, payload } => Change::Update {
                 key: key.copied(alloc)?,
@@ -112,14 +123,14 @@ impl Change {
     }
 }
 
-/// The payload of the change's key after it, from the payload before. Takes no memory.
+/// What the record of the change's key holds after it, from what it held before. Takes no memory.
 pub fn act<'a>(old: Option<Value<'a>>, change: &'a Change) -> Option<Value<'a>>
     ensures { result ≡ act old.entry change.now }
 {
     match change {
-        Change::Insert { payload, .. } => Some(Value::of(payload.as_slice())),
+        Change::Insert { payload, attr, .. } => Some(Value::with(payload.as_slice(), attr_bytes(attr))),
         Change::Update { payload, .. } => match old {
-            Some(_) => Some(Value::of(payload.as_slice())),
+            Some(value) => Some(value.with_payload(payload.as_slice())),
             None => None,
         },
         Change::Delete { .. } => None,
@@ -142,5 +153,5 @@ pub fn net(first: Change, second: Change) -> Change
 
 /// Two changes of one key act as their net change.
 pub fn net_acts_as_both()
-    ensures { (old : Option Bytes) (first second : Change) → act (act old first) second ≡ act old (net first second) }
+    ensures { (old : Option Record) (first second : Change) → act (act old first) second ≡ act old (net first second) }
 {}

@@ -1,6 +1,7 @@
 //! The words of the store: bytes, keys, names, changes, troubles.
 #![tactic(auto)]
 
+pub mod attr;
 pub mod blob;
 pub mod change;
 pub mod cursor;

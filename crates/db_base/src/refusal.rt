@@ -26,10 +26,12 @@ pub enum Refusal {
     AlreadyOpen,
     /// The session is not at work.
     NotWorking,
+    /// An attribute of no byte, or of more than 32.
+    BadAttr,
 }
 
 impl Refusal {
-    /// The number under which a reply shows the rule: 1 to 10.
+    /// The number under which a reply shows the rule: 1 to 11.
     pub fn number(self) -> u64
         ensures { result ≡ number_of_refusal self }
     {
@@ -44,6 +46,7 @@ impl Refusal {
             Refusal::Broken => 8,
             Refusal::AlreadyOpen => 9,
             Refusal::NotWorking => 10,
+            Refusal::BadAttr => 11,
         }
     }
 }

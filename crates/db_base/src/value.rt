@@ -1,6 +1,7 @@
-//! A record's payload, borrowed or computed.
+//! What a record holds: a payload, borrowed or computed, and an attribute.
 
-ghost use Rattle.std.specs.Prelude.{◌≡◌, ℕ, IfSome, MatchOption, length};
+ghost use Rattle.std.specs.Prelude.{◌≡◌, ℕ, Option, IfSome, MatchOption, length};
+ghost use Rattle.std.specs.Option.{option_copied};
 ghost use Rattle.db_base.specs.Change.{plus};
 
 use std::marker::Model;
@@ -12,19 +13,21 @@ enum Held<'a> {
     Sum([u8; 8]),
 }
 
-/// The payload of a record, as a change left it: bytes that are kept somewhere, or a sum that is kept nowhere. No call takes memory.
+/// What a record holds, as a change left it: a payload, whose bytes are kept somewhere or are a sum that is kept nowhere, and an attribute or none.
+/// No call takes memory.
 #[derive(Drop)]
 pub struct Value<'a> {
     held: Held<'a>,
+    attr: Option<&'a [u8]>,
 }
 
 impl<'a> Model for Value<'a> {
-    ghost use Rattle.std.specs.Prelude.{List, ℕ};
-    ghost use Rattle.db_base.specs.Value.{held_bytes};
+    ghost use Rattle.std.specs.Option.{option_copied};
+    ghost use Rattle.db_base.specs.Value.{Value as Held_in, held_bytes};
 
-    ghost Value = { List ℕ };
+    ghost Value = { Held_in };
 
-    ghost view = { λ v. held_bytes v.held };
+    ghost view = { λ v. record { payload = held_bytes v.held; attr = option_copied v.attr } };
 }
 
 /// The eight bytes of a payload with an amount added, modulo 2^64; `None` where it has not eight.
@@ -44,18 +47,35 @@ pub(crate) fn sum(payload: &[u8], amount: u64) -> Option<[u8; 8]>
 }
 
 impl<'a> Value<'a> {
-    /// The payload of these bytes.
+    ghost use Rattle.db_base.specs.Value.{plain};
+
+    /// A payload of these bytes, without attribute.
     pub fn of(payload: &'a [u8]) -> Value<'a>
-        ensures { result ≡ payload.now }
+        ensures { result ≡ plain payload.now }
+    {
+        Value::with(payload, None)
+    }
+
+    /// A payload and an attribute of these bytes.
+    pub fn with(payload: &'a [u8], attr: Option<&'a [u8]>) -> Value<'a>
+        ensures { result ≡ record { payload = payload.now; attr = option_copied attr } }
     {
         Value {
             held: Held::Kept(payload),
+            attr,
         }
     }
 
-    /// The bytes.
-    pub fn bytes(&self) -> &[u8]
-        ensures { result.now ≡ self.now }
+    /// The attribute's bytes, where there is one.
+    pub fn attr(&self) -> Option<&'a [u8]>
+        ensures { option_copied result ≡ self.now.attr }
+    {
+        self.attr
+    }
+
+    /// The payload's bytes.
+    pub fn payload(&self) -> &[u8]
+        ensures { result.now ≡ self.now.payload }
     {
         match &self.held {
             Held::Kept(bytes) => bytes,
@@ -63,13 +83,21 @@ impl<'a> Value<'a> {
         }
     }
 
-    /// With an amount added, where there are eight bytes.
-    pub(crate) fn plus(self, amount: u64) -> Value<'a>
-        ensures { result ≡ plus self.entry amount }
+    /// The attribute with another payload.
+    pub(crate) fn with_payload(self, payload: &'a [u8]) -> Value<'a>
+        ensures { result ≡ record { payload = payload.now; attr = self.entry.attr } }
     {
-        match sum(self.bytes(), amount) {
+        Value::with(payload, self.attr)
+    }
+
+    /// With an amount added, where the payload has eight bytes.
+    pub(crate) fn plus(self, amount: u64) -> Value<'a>
+        ensures { result ≡ record { payload = plus self.entry.payload amount; attr = self.entry.attr } }
+    {
+        match sum(self.payload(), amount) {
             Some(bytes) => Value {
                 held: Held::Sum(bytes),
+                attr: self.attr,
             },
             None => self,
         }

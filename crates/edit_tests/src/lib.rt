@@ -2,6 +2,8 @@
 #![tactic(auto)]
 
 #[cfg(test)]
+mod attribute_tests;
+#[cfg(test)]
 mod ckpt_policy_tests;
 #[cfg(test)]
 mod leaf_edit_tests;

@@ -1,6 +1,6 @@
 use db_base::ids::{ClientId, PageId};
 use db_base::pair::EditFault;
-use leaf_edit::LeafBuf;
+use leaf_edit::{LeafBuf, apply};
 use leaf_view::LeafView;
 use node_codec::{InnerBuf, InnerView, TreeBuf, TreeView};
 use split_plan::count::pieces;
@@ -20,9 +20,9 @@ const CUTS: [(u8, &[usize]); 5] = [
     (200, &[50, 50, 50, 50]),
 ];
 
-// A leaf up to its records: version 3, no low key, right page 5 from key 255 on; number 1 of client 1 of the tree's queue applied.
+// A leaf of format 1 up to its records: version 2, no low key, right page 5 from key 255 on; number 1 of client 1 of the tree's queue applied.
 const LEAF: [u8; 40] = [
-    0x4c, 1, 0, 0, 0, 0, 0, 0, 0, 3, 0, 0, 0, 0, 0, 0, 0, 0, 5, 1, 255, 1, 0, 0, 0, 0, 0, 0, 0, 0,
+    0x4c, 1, 0, 0, 0, 0, 0, 0, 0, 2, 0, 0, 0, 0, 0, 0, 0, 0, 5, 1, 255, 1, 0, 0, 0, 0, 0, 0, 0, 0,
     1, 0, 0, 0, 0, 0, 0, 0, 1, 0,
 ];
 
@@ -44,11 +44,19 @@ fn add_records(bytes: &mut Vec<u8>, count: u8) -> Result<(), AllocError> {
     bytes.extend_from_slice(&[0])
 }
 
-/// A leaf of the records from key 1 on.
+/// A leaf of version 3 and of the records from key 1 on.
 fn leaf_of(alloc: Global, count: u8) -> Option<LeafBuf> {
     let mut bytes = LEAF.to_vec(alloc).ok()?;
     match add_records(&mut bytes, count) {
-        Ok(()) => LeafBuf::read(bytes).ok(),
+        Ok(()) => next_leaf(alloc, &bytes),
+        Err(_) => None,
+    }
+}
+
+/// The next version of the leaf that the bytes spell, with nothing applied.
+fn next_leaf(alloc: Global, bytes: &[u8]) -> Option<LeafBuf> {
+    match LeafView::read(bytes) {
+        Ok(leaf) => apply(alloc, &leaf, 0, &[]).ok(),
         Err(_) => None,
     }
 }
@@ -115,7 +123,7 @@ fn are_named(plan: &Pieces, free: u64) -> bool {
 /// Whether bytes are a leaf of so many records with the whole's table.
 fn is_leaf_of(bytes: &[u8], size: usize, client: ClientId) -> bool {
     match LeafView::read(bytes) {
-        Ok(leaf) => leaf.records().len() == size && leaf.done(0, client) == 1,
+        Ok(leaf) => leaf.format() == 2 && leaf.records().len() == size && leaf.done(0, client) == 1,
         Err(_) => false,
     }
 }

@@ -100,7 +100,7 @@ release page:1:1
 done 1 1 0
 ";
 
-/// Page 1 has nothing of the record but its number.
+/// Page 1 has nothing of the record but its number, and its put in format 2 comes all the same.
 const MOVED: &[Step<'static>] = &[
     Step::Puts(1, LEFT),
     Step::Puts(2, RIGHT),

@@ -17,11 +17,19 @@ pub enum Change {
         attr: Option<Attr>,
     },
     /// Sets the payload only where the key is there, and keeps the attribute.
-    Update { key: Key, payload: Payload },
+    Update {
+        key: Key,
+        payload: Payload,
+    },
     /// Removes the record where it is there.
-    Delete { key: Key },
+    Delete {
+        key: Key,
+    },
     /// Adds to the payload, modulo 2^64, where the key is there and the payload has eight bytes, and keeps the attribute.
-    Add { key: Key, amount: u64 },
+    Add {
+        key: Key,
+        amount: u64,
+    },
 }
 
 impl Drop for Change {
@@ -128,7 +136,10 @@ pub fn act<'a>(old: Option<Value<'a>>, change: &'a Change) -> Option<Value<'a>>
     ensures { result ≡ act old.entry change.now }
 {
     match change {
-        Change::Insert { payload, attr, .. } => Some(Value::with(payload.as_slice(), attr_bytes(attr))),
+        Change::Insert { payload, attr, .. } => Some(Value::with(
+            payload.as_slice(),
+            attr_bytes(attr),
+        )),
         Change::Update { payload, .. } => match old {
             Some(value) => Some(value.with_payload(payload.as_slice())),
             None => None,

@@ -58,7 +58,7 @@ impl<'a> Value<'a> {
 
     /// A payload and an attribute of these bytes.
     pub fn with(payload: &'a [u8], attr: Option<&'a [u8]>) -> Value<'a>
-        ensures { result ≡ record { payload = payload.now; attr = option_copied attr } }
+        ensures { result ≡ record { payload = payload.now; attr = option_copied attr.entry } }
     {
         Value {
             held: Held::Kept(payload),

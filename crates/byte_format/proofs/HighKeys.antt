@@ -1,5 +1,5 @@
 -- The format of a high key is exact.
-use Rattle.std.proofs.Common.{ℕ, ◌<◌, List, lit<}
+use Rattle.std.proofs.Common.{ℕ, List, lit<}
 use Rattle.byte_format.specs.Whole.{IsExact}
 use Rattle.byte_format.specs.HighKey.{high_key}
 use Rattle.byte_format.proofs.Fields.{text8_exact}

@@ -1,9 +1,8 @@
 -- A field that may be there is exact.
-use Rattle.std.proofs.Common.{◌≡◌, ℕ, zero, suc, ◌≤◌, Bool, true, false, eqb, Option, Some, None, refl, arith, lit<}
-use Rattle.std.specs.Prelude.{◌&&◌}
-use Rattle.std.specs.Int.{w8}
-use Rattle.std.proofs.lemmas.Bool.{and_parts, eqb-true}
-use Rattle.byte_format.specs.Format.{Format, in_range, number, option_fits, only_where, ◌then◌, seen_as, flagged, maybe}
+use Rattle.std.proofs.Common.{◌≡◌, ℕ, zero, suc, true, eqb, Option, Some, None, refl, arith, lit<}
+use Rattle.std.specs.Prelude.{◌&&◌, nat_le}
+use Rattle.std.proofs.lemmas.Bool.{and_parts, leb-true}
+use Rattle.byte_format.specs.Format.{Format, in_range, option_fits, flagged, maybe}
 use Rattle.byte_format.specs.Whole.{IsExact}
 use Rattle.byte_format.proofs.Fields.{u8_exact}
 use Rattle.byte_format.proofs.Exact.{then_exact, only_where_exact, seen_as_exact}
@@ -14,7 +13,10 @@ maybe_undone f (zero, None) h = refl
 maybe_undone f (zero, Some v) h = absurd cc
 maybe_undone f (suc zero, None) h = absurd cc
 maybe_undone f (suc zero, Some v) h = refl
-maybe_undone f (suc (suc n), x) h = absurd cc
+maybe_undone f (suc (suc n), x) h =
+    let p = and_parts (in_range 0 1 (suc (suc n))) (option_fits (eqb (suc (suc n)) 1) f x) h in
+    let q = and_parts (nat_le 0 (suc (suc n))) (nat_le (suc (suc n)) 1) p.0 in
+    absurd (omega (arith, leb-true (suc (suc n)) 1 q.1))
 
 maybe_redone : {A : Type 0} (y : Option A) → (flagged y).1 ≡ y
 maybe_redone None = refl

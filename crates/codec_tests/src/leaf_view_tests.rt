@@ -5,17 +5,31 @@ use leaf_view::LeafView;
 use std::alloc::Global;
 use std::process::Abort;
 
-/// Version 1, no fence, one entry of what is done and one record.
-const PAGE: [u8; 45] = [
+/// Format 1: version 1, no fence, one entry of what is done and one record.
+pub(crate) const PAGE: [u8; 45] = [
     0x4c, 1, 0, 0, 0, 0, 0, 0, 0, 1, 0, 0, 0, 0, 0, 0, 0, 0, 0, 1, 0, 0, 0, 0, 0, 0, 0, 0, 1, 0, 0,
     0, 0, 0, 0, 0, 1, 0, 1, 1, 0x6b, 0, 1, 0x76, 0,
 ];
 
-/// Keys from b on and below d, page 2 to the right, three entries of what is done, two records.
-const FENCED: [u8; 89] = [
+/// The same in format 2.
+pub(crate) const PAGE_NOW: [u8; 46] = [
+    0x4c, 2, 0, 0, 0, 0, 0, 0, 0, 1, 0, 0, 0, 0, 0, 0, 0, 0, 0, 1, 0, 0, 0, 0, 0, 0, 0, 0, 1, 0, 0,
+    0, 0, 0, 0, 0, 1, 0, 1, 1, 0x6b, 0, 1, 0x76, 0, 0,
+];
+
+/// Format 1: keys from b on and below d, page 2 to the right, three entries of what is done, two records.
+pub(crate) const FENCED: [u8; 89] = [
     0x4c, 1, 0, 0, 0, 0, 0, 0, 0, 2, 1, b'b', 0, 0, 0, 0, 0, 0, 0, 2, 1, b'd', 1, 0, 0, 0, 0, 0, 0,
     0, 0, 1, 0, 0, 0, 0, 0, 0, 0, 5, 1, 0, 0, 0, 0, 0, 0, 0, 0, 2, 0, 0, 0, 0, 0, 0, 0, 1, 1, 0, 0,
     0, 0, 0, 0, 0, 3, 1, 0, 0, 0, 0, 0, 0, 0, 1, 0, 1, 1, b'b', 0, 0, 1, 1, b'c', 0, 1, b'x', 0,
+];
+
+/// The same in format 2, where c has an attribute of two bytes.
+pub(crate) const FENCED_NOW: [u8; 94] = [
+    0x4c, 2, 0, 0, 0, 0, 0, 0, 0, 2, 1, b'b', 0, 0, 0, 0, 0, 0, 0, 2, 1, b'd', 1, 0, 0, 0, 0, 0, 0,
+    0, 0, 1, 0, 0, 0, 0, 0, 0, 0, 5, 1, 0, 0, 0, 0, 0, 0, 0, 0, 2, 0, 0, 0, 0, 0, 0, 0, 1, 1, 0, 0,
+    0, 0, 0, 0, 0, 3, 1, 0, 0, 0, 0, 0, 0, 0, 1, 0, 1, 1, b'b', 0, 0, 0, 1, 1, b'c', 0, 1, b'x', 1,
+    2, b'y', b'z', 0,
 ];
 
 /// How many bytes of the fenced leaf are there, and where it is refused: at the begin, in each field, before a continuation.
@@ -64,6 +78,38 @@ const FENCED_CHANGES: [(usize, u8, u64); 20] = [
     (85, 5, 85),
 ];
 
+/// How many bytes of the fenced leaf of format 2 are there, and where it is refused: before a flag, a continuation, an attribute's length,
+/// in an attribute and before the end.
+const FENCED_NOW_CUTS: [(usize, u64); 8] = [
+    (1, 1),
+    (82, 82),
+    (83, 83),
+    (89, 89),
+    (90, 90),
+    (91, 90),
+    (92, 90),
+    (93, 93),
+];
+
+/// A place in the fenced leaf of format 2, the byte that stands there instead, and where that is refused.
+const FENCED_NOW_CHANGES: [(usize, u8, u64); 11] = [
+    // no format, format 1, whose table of records ends at the first flag, and format 3
+    (1, 0, 1),
+    (1, 1, 83),
+    (1, 3, 1),
+    // a flag that is none, and one that takes the next record for an attribute
+    (82, 2, 82),
+    (89, 255, 89),
+    (82, 1, 85),
+    // no attribute, and then a continuation that is none
+    (89, 0, 90),
+    // an attribute of no byte, of 33 bytes, of more bytes than there are, and one that takes the end with it
+    (90, 0, 90),
+    (90, 33, 90),
+    (90, 4, 90),
+    (90, 3, 94),
+];
+
 /// Reads bytes as a leaf.
 struct Leaves;
 
@@ -80,6 +126,8 @@ impl Reads for Leaves {
 fn refused(rt: HostRuntime) {
     assert!(rt; refuses_cuts::<Leaves>(rt.alloc(), &FENCED, &FENCED_CUTS));
     assert!(rt; refuses_changes::<Leaves>(rt.alloc(), &FENCED, &FENCED_CHANGES));
+    assert!(rt; refuses_cuts::<Leaves>(rt.alloc(), &FENCED_NOW, &FENCED_NOW_CUTS));
+    assert!(rt; refuses_changes::<Leaves>(rt.alloc(), &FENCED_NOW, &FENCED_NOW_CHANGES));
 }
 
 /// The same of the page without a fence; place 45 is behind its end.
@@ -87,10 +135,17 @@ const PAGE_CUTS: [(usize, u64); 2] = [(0, 0), (44, 44)];
 
 const PAGE_CHANGES: [(usize, u8, u64); 2] = [(9, 0, 2), (45, 0, 45)];
 
+/// And of the page in format 2, whose record ends with a flag.
+const PAGE_NOW_CUTS: [(usize, u64); 3] = [(0, 0), (44, 44), (45, 45)];
+
+const PAGE_NOW_CHANGES: [(usize, u8, u64); 4] = [(1, 1, 45), (44, 1, 45), (44, 2, 44), (46, 0, 46)];
+
 #[test]
 fn refused_pages(rt: HostRuntime) {
     assert!(rt; refuses_cuts::<Leaves>(rt.alloc(), &PAGE, &PAGE_CUTS));
     assert!(rt; refuses_changes::<Leaves>(rt.alloc(), &PAGE, &PAGE_CHANGES));
+    assert!(rt; refuses_cuts::<Leaves>(rt.alloc(), &PAGE_NOW, &PAGE_NOW_CUTS));
+    assert!(rt; refuses_changes::<Leaves>(rt.alloc(), &PAGE_NOW, &PAGE_NOW_CHANGES));
     assert!(rt; Leaves::fault_of(rt.alloc(), &[0x4c, 3]) == Some(1));
 }
 
@@ -99,9 +154,17 @@ fn has_no_fence(page: &LeafView<'_>) -> bool {
     page.version() == 1 && page.low().is_empty() && page.high().is_none() && page.right().is_none()
 }
 
-/// Whether a leaf has the record of k and v, and none of l.
+/// Whether a leaf has this value at a key.
+fn has_value(page: &LeafView<'_>, key: &[u8], payload: &[u8], attr: Option<&[u8]>) -> bool {
+    match page.value(key) {
+        Some(value) => value.payload() == payload && value.attr() == attr,
+        None => false,
+    }
+}
+
+/// Whether a leaf has the record of k and v without an attribute, and none of l.
 fn has_one_record(page: &LeafView<'_>) -> bool {
-    page.find(b"k") == Some(b"v".as_slice()) && page.find(b"l").is_none()
+    has_value(page, b"k", b"v", None) && page.value(b"l").is_none()
 }
 
 /// Whether number 1 of the tree's queue of client 1 is done, and none of the queue of page 1.
@@ -114,13 +177,16 @@ fn has_done_one(page: &LeafView<'_>) -> bool {
 
 #[test]
 fn a_page_is_read(rt: HostRuntime) {
-    match LeafView::read(&PAGE) {
-        Ok(page) => {
-            assert!(rt; has_no_fence(&page) && has_one_record(&page) && has_done_one(&page));
+    for (format, bytes) in [(1, PAGE.as_slice()), (2, PAGE_NOW.as_slice())] {
+        match LeafView::read(bytes) {
+            Ok(page) => {
+                assert!(rt; page.format() == format && has_no_fence(&page));
+                assert!(rt; has_one_record(&page) && has_done_one(&page));
+            }
+            Err(_) => rt.panic("no leaf"),
         }
-        Err(_) => rt.panic("no leaf"),
     }
-    assert!(rt; LeafView::empty().version() == 0);
+    assert!(rt; LeafView::empty().version() == 0 && LeafView::empty().format() == 2);
 }
 
 /// Whether a leaf's keys are those from b on and below d, and page 2 is to the right.
@@ -144,10 +210,17 @@ fn fences_are_read(rt: HostRuntime) {
 }
 
 /// The records of the fenced leaf.
-const RECORDS: [(&[u8], &[u8]); 2] = [(b"b", b""), (b"c", b"x")];
+const RECORDS: [(&[u8], &[u8], Option<&[u8]>); 2] = [(b"b", b"", None), (b"c", b"x", None)];
+
+/// Those of the one of format 2.
+const RECORDS_NOW: [(&[u8], &[u8], Option<&[u8]>); 2] =
+    [(b"b", b"", None), (b"c", b"x", Some(b"yz"))];
 
 /// Whether a leaf has these records, in their order, and no other.
-fn has_records(fenced: &LeafView<'_>, wanted: &[(&[u8], &[u8])]) -> bool {
+fn has_records(
+    fenced: &LeafView<'_>,
+    wanted: &[(&[u8], &[u8], Option<&[u8]>)],
+) -> bool {
     let mut count = 0;
     for record in fenced.records() {
         if wanted.get(count) != Some(&record) {
@@ -162,6 +235,13 @@ fn has_records(fenced: &LeafView<'_>, wanted: &[(&[u8], &[u8])]) -> bool {
 fn records_are_read(rt: HostRuntime) {
     match LeafView::read(&FENCED) {
         Ok(fenced) => assert!(rt; has_records(&fenced, &RECORDS)),
+        Err(_) => rt.panic("no leaf"),
+    }
+    match LeafView::read(&FENCED_NOW) {
+        Ok(fenced) => {
+            assert!(rt; has_records(&fenced, &RECORDS_NOW));
+            assert!(rt; has_value(&fenced, b"c", b"x", Some(b"yz")));
+        }
         Err(_) => rt.panic("no leaf"),
     }
 }

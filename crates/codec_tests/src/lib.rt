@@ -10,6 +10,8 @@ mod db_base_tests;
 #[cfg(test)]
 mod head_codec_tests;
 #[cfg(test)]
+mod leaf_spellings;
+#[cfg(test)]
 mod leaf_view_tests;
 #[cfg(test)]
 mod log_codec_tests;

@@ -112,10 +112,10 @@ bare_of [] plain = tt
 bare_of (e ∷ es) plain = (plain.0 refl, bare_of es plain.1)
 
 format_apart : (format : ℕ) (es : List Entry) → in_range 1 2 format ≡ true → AllByRecursion (IsPlain format) es → IsFormat format es
-format_apart zero es h plain = absurd cc
+format_apart zero es h plain = absurd (omega (arith, (range_is 1 2 zero h).0))
 format_apart (suc zero) es h plain = inr (refl, bare_of es plain)
 format_apart (suc (suc zero)) es h plain = inl refl
-format_apart (suc (suc (suc n))) es h plain = absurd cc
+format_apart (suc (suc (suc n))) es h plain = absurd (omega (arith, (range_is 1 2 (suc (suc (suc n))) h).1))
 
 plain_of : (es : List Entry) → AreBare es → AllByRecursion (IsPlain 1) es
 plain_of [] bare = tt

@@ -160,10 +160,7 @@ fn record_alone(alloc: Global, words: Parts<'_>) -> Result<(Key, Payload), TextF
 
 /// A key, a payload, an attribute or none, and nothing else.
 #[tactic(auto, unfolding(crate::specs::Counted::insert_alone))]
-fn insert_alone(
-    alloc: Global,
-    words: Parts<'_>,
-) -> Result<(Key, Payload, Option<Attr>), TextFault>
+fn insert_alone(alloc: Global, words: Parts<'_>) -> Result<(Key, Payload, Option<Attr>), TextFault>
     ensures { Reads result (insert_alone words.entry) }
 {
     let (key, words) = words.bytes(alloc)?;

@@ -1,8 +1,7 @@
 -- The grammar of replies: which values have a text, and that a text spells a value.
 use Rattle.std.specs.Prelude.{ℕ, ◌≡◌, ◌<◌, ◌^◌, List, [], ◌∷◌, length, Option, IfSome}
 use Rattle.db_base.specs.Ids.{IsClient, IsTree, IsPage}
-use Rattle.db_base.specs.Attr.{IsAttr}
-use Rattle.db_base.specs.Key.{IsKey, IsPayload}
+use Rattle.db_base.specs.Key.{IsKey, IsPayload, IsAttr}
 use Rattle.db_base.specs.declared.change.Change.{Change}
 use Rattle.db_base.specs.declared.change.Change.TheVariants.{Insert, Update, Delete, Add}
 use Rattle.db_base.specs.declared.names.Lock.{Lock}

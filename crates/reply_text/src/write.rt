@@ -8,8 +8,8 @@ ghost use Rattle.reply_text.specs.Reply.{refusal_word, counter_word, trouble_wor
 
 use crate::name::{lock_word, place_word};
 use crate::reply::Reply;
-use db_base::blob::Blob;
 use db_base::attr::Attr;
+use db_base::blob::Blob;
 use db_base::change::Change;
 use db_base::key::{Key, Payload};
 use db_base::pair::Pair;

@@ -4,7 +4,7 @@ replies, and holds every report against what it follows:
 
 - `committed` is what the lines committed, each transaction whole, one client's in their order;
 - `order` has committed entries alone, each once, one client's entries of a key in their order, behind the last order;
-- `contents` is the fold of `order`, from no record, in key order;
+- `contents` is the fold of `order`, from no record, in key order, each with its attribute where it has one;
 - behind `left 0 0` the order has every committed entry.
 
 A commit that was cut off by a crash, or is in doubt, is committed where the next report says so, and never afterwards.
@@ -42,16 +42,17 @@ def plus(payload, amount):
 
 
 def fold(changes):
-    """The records that changes come to."""
+    """The records that changes come to, each its payload, and its attribute where it has one. Only an insert sets or clears an attribute."""
     records = {}
     for change in changes:
-        what, key, *payload = change.split(" ")
-        if what == "insert" or (what == "update" and key in records):
-            records[key] = payload[0]
-        elif what == "add" and key in records:
-            records[key] = plus(records[key], payload[0])
+        what, key, *words = change.split(" ")
+        if what == "insert":
+            records[key] = words
         elif what == "delete":
             records.pop(key, None)
+        elif key in records:
+            payload, *attr = records[key]
+            records[key] = [words[0] if what == "update" else plus(payload, words[0]), *attr]
     return records
 
 
@@ -133,16 +134,19 @@ class Model:
             self.answer(session, said)
             session.at_work = None
 
-    def note(self, session, what, tree, key, *payload):
-        self.noted.setdefault((tree, key), set()).update([what] if what == "add" else payload)
+    def note(self, session, what, tree, key, *words):
+        self.noted.setdefault((tree, key), set()).update([what] if what == "add" else words[:1])
         before = session.buffer.get((tree, key))
         if before:
             first, _, *old = before.split(" ")
             both = NET[first, what]
             if what == "add" and old:
-                payload = [str((int(old[0]) + int(payload[0])) % 2**64) if first == "add" else plus(old[0], payload[0])]
+                words = [str((int(old[0]) + int(words[0])) % 2**64) if first == "add" else plus(old[0], words[0])]
+            if both == "insert" and what != "insert":
+                # (an insert keeps its attribute under what only sets or raises its payload)
+                words = [words[0], *old[1:]]
             what = both
-        session.buffer[tree, key] = " ".join([what, key, *([] if what == "delete" else payload)])
+        session.buffer[tree, key] = " ".join([what, key, *([] if what == "delete" else words)])
 
     def may_show(self, tree, key, payload):
         """Whether somebody noted the payload, or it may be a sum."""
@@ -207,7 +211,7 @@ class Model:
         must(order[: len(before)] == before, "the order does not go on from the last one")
         self.orders[tree] = order
         records = fold(it.split(" ", 3)[3] for it in order)
-        must(report["contents"] == [f"{key} {records[key]}" for key in sorted(records)], "the contents are not the fold of the order")
+        must(report["contents"] == [" ".join([key, *records[key]]) for key in sorted(records)], "the contents are not the fold of the order")
         must(report["left"] != [0, 0] or len(order) == len(told), "nothing is left, and the order has not all that was committed")
         self.reports.append(report)
 

@@ -10,7 +10,7 @@ from dataclasses import dataclass, field
 
 # Limits, as the pages have them.
 CLIENTS, TREES, SESSIONS = 64, 16, 16
-MOST_KEY, MOST_PAYLOAD, MOST_CHANGES = 64, 1024, 200
+MOST_KEY, MOST_PAYLOAD, MOST_ATTR, MOST_CHANGES = 64, 1024, 32, 200
 MOST_WAIT, MOST_POSITIONS, MOST_INPUT = 1_000_000, 256, 262_144
 GREATEST = 2**64 - 1
 # The longest that a lease lasts, in ticks; in a folder a tick is a second.
@@ -65,16 +65,20 @@ class Reader:
     def payload(self):
         return self.sized(2, "a payload", 0, MOST_PAYLOAD)
 
+    def attr(self):
+        return self.sized(1, "an attribute", 1, MOST_ATTR)
+
     def sized(self, size, what, least, most):
         at = self.at
         length = int.from_bytes(self.take(size, at, what), "big")
         self.must(least <= length <= most, at, f"{what} of {length} bytes")
         return self.take(length, at, what)
 
-    def tag(self, letter):
+    def tag(self, letter, newest=1):
+        """The tag, and the format behind it, from 1 to the newest."""
         self.must(self.data[:1] == letter, 0, f"its tag is not {letter.decode()}")
         self.at = 1
-        self.u8("the format", 1, 1)
+        return self.u8("the format", 1, newest)
 
     def list_of(self, read, least=0):
         """Items behind continuation bytes; `read` is given the item before."""
@@ -98,20 +102,25 @@ class Change:
     key: bytes
     payload: bytes = b""
     amount: int = 0
+    # What an insert sets beside the payload, where it sets one.
+    attr: bytes | None = None
 
     def __str__(self):
         words = [self.what, text_of(self.key)]
         behind = {"delete": [], "add": [str(self.amount)]}
-        return " ".join([*words, *behind.get(self.what, [text_of(self.payload)])])
+        attr = [] if self.attr is None else [text_of(self.attr)]
+        return " ".join([*words, *behind.get(self.what, [text_of(self.payload), *attr])])
 
 
 def read_change(reader):
-    kind = reader.u8("a kind", 1, 4)
+    kind = reader.u8("a kind", 1, 5)
     key = reader.key()
     if kind == 3:
         return Change("delete", key)
     if kind == 4:
         return Change("add", key, amount=reader.u64("an amount", 0))
+    if kind == 5:
+        return Change("insert", key, reader.payload(), attr=reader.attr())
     return Change(("insert", "update")[kind - 1], key, reader.payload())
 
 
@@ -123,7 +132,10 @@ class Leaf:
     high: bytes
     # For a queue (its page, 0 for the tree's own) and a client the number up to which records are applied.
     done: dict
+    # Triples of a key, a payload, and an attribute or None.
     records: list
+    # 1, or 2, whose records may have attributes.
+    format: int
     level = 0
 
 
@@ -199,7 +211,7 @@ def read_fences(reader):
 
 def read_leaf(data):
     reader = Reader(data)
-    reader.tag(b"L")
+    format = reader.tag(b"L", newest=2)
     version = reader.u64("the version", 1)
     low, right, high = read_fences(reader)
 
@@ -216,10 +228,12 @@ def read_leaf(data):
         at = reader.at
         key = reader.key()
         reader.must((last is None or key > last[0]) and key >= low and (not right or key < high), at, "a key out of its order or its fences")
-        return key, reader.payload()
+        payload = reader.payload()
+        has_attr = format == 2 and reader.u8("whether an attribute follows", 0, 1)
+        return key, payload, reader.attr() if has_attr else None
 
     done = {(queue, client): number for queue, client, number in reader.list_of(done_item)}
-    leaf = Leaf(version, low, right, high, done, reader.list_of(record))
+    leaf = Leaf(version, low, right, high, done, reader.list_of(record), format)
     reader.end()
     return leaf
 
@@ -410,9 +424,9 @@ def number_in(text):
 
 # ---- Lines of a shell -----------------------------------------------------------------------------------------------
 
-# What follows each word of a shell's lines.
+# What follows each word of a shell's lines; a last word in brackets may be left out.
 SHELL_LINES = {
-    "insert": ("TREE", "KEY", "PAYLOAD"),
+    "insert": ("TREE", "KEY", "PAYLOAD", "[ATTR]"),
     "update": ("TREE", "KEY", "PAYLOAD"),
     "delete": ("TREE", "KEY"),
     "add": ("TREE", "KEY", "AMOUNT"),
@@ -439,12 +453,17 @@ def is_payload(text):
     return data is not None and len(data) <= MOST_PAYLOAD
 
 
+def is_attr(text):
+    return 1 <= len(bytes_in(text) or b"") <= MOST_ATTR
+
+
 # What each of these is, and whether a text is one.
 SHELL_WORDS = {
     "TREE": (f"a tree, 1 to {TREES}", lambda text: 1 <= (number_in(text) or 0) <= TREES),
     "PAGE": ("a page, 1 and above", lambda text: (number_in(text) or 0) >= 1),
     "KEY": (f"a key of 1 to {MOST_KEY} bytes, two lower-case hexadecimal digits each", is_key),
     "PAYLOAD": (f"a payload of at most {MOST_PAYLOAD} bytes, two lower-case hexadecimal digits each, or -", is_payload),
+    "[ATTR]": (f"an attribute of 1 to {MOST_ATTR} bytes, two lower-case hexadecimal digits each", is_attr),
     "AMOUNT": ("a number of 64 bits without leading zeros", lambda text: number_in(text) is not None),
     "FROM": ("a key from which on to list, or - for the first", is_bound),
     "TO": ("a key below which to list, or - for no end", is_bound),
@@ -456,7 +475,7 @@ def shell_line_fault(words):
     if not words or words[0] not in SHELL_LINES:
         return f"one of {', '.join(SHELL_LINES)}"
     wanted = SHELL_LINES[words[0]]
-    if len(words) - 1 != len(wanted):
+    if not sum(not kind.startswith("[") for kind in wanted) <= len(words) - 1 <= len(wanted):
         return " ".join([words[0], *wanted])
     for kind, word in zip(wanted, words[1:]):
         expected, holds = SHELL_WORDS[kind]

@@ -30,7 +30,7 @@ use Rattle.cloud_facts.specs.Book.Records.{StandsAt, IsIn}
 use Rattle.cloud_facts.specs.Book.Tally.{Store, at}
 use Rattle.txn_buffer.specs.Noted.{Noted, AreNoted}
 
--- changes that may be committed: at most 200, one for each tree and key, each of a tree and a change
+-- changes that may be committed: at most 200, one for each tree and key, each a change of a tree
 pub record MayCommit (changes : List Noted) : Type 0 where
   pub noted : AreNoted changes
   pub each : (n : Noted) → IsIn changes n → IsTree n.tree × IsChange n.change

@@ -6,7 +6,7 @@ ghost use Rattle.db_base.specs.Change.{IsChange};
 ghost use Rattle.db_base.specs.Key.{IsKey};
 ghost use Rattle.change_codec.specs.Change.{change_bytes};
 
-use byte_format::{try_add, try_add_text16, try_add_u64};
+use byte_format::{try_add, try_add_text8, try_add_text16, try_add_u64};
 use db_base::change::Change;
 use db_base::key::Key;
 use std::alloc::AllocError;
@@ -28,9 +28,22 @@ pub fn add_change(out: &mut Vec<u8>, change: &Change) -> Result<(), AllocError>
     ensures valid { OnOk result (IsChange change.now) }
 {
     match change {
-        Change::Insert { key, payload } => {
+        Change::Insert {
+            key,
+            payload,
+            attr: None,
+        } => {
             add_key(out, 1, key)?;
             try_add_text16(out, payload.as_slice())
+        }
+        Change::Insert {
+            key,
+            payload,
+            attr: Some(attr),
+        } => {
+            add_key(out, 5, key)?;
+            try_add_text16(out, payload.as_slice())?;
+            try_add_text8(out, attr.as_slice())
         }
         Change::Update { key, payload } => {
             add_key(out, 2, key)?;

@@ -22,13 +22,13 @@ is_of-Decides tree key entry = Decides-and _ _ (Decides-eqb tree entry.tree) (by
 
 -- a net change is of the key of both
 pub key_of-net : (first second : Change) → key_of first ≡ key_of second → key_of (net first second) ≡ key_of second
-key_of-net first (Insert key payload) h = refl
-key_of-net (Insert old other) (Update key payload) h = h
+key_of-net first (Insert key payload attr) h = refl
+key_of-net (Insert old other attr) (Update key payload) h = h
 key_of-net (Update old other) (Update key payload) h = h
 key_of-net (Delete old) (Update key payload) h = h
 key_of-net (Add old amount) (Update key payload) h = refl
 key_of-net first (Delete key) h = refl
-key_of-net (Insert old payload) (Add key amount) h = h
+key_of-net (Insert old payload attr) (Add key amount) h = h
 key_of-net (Update old payload) (Add key amount) h = h
 key_of-net (Delete old) (Add key amount) h = h
 key_of-net (Add old amount) (Add key more) h = h

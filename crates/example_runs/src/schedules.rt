@@ -5,7 +5,7 @@ use crate::output::output;
 use std::io;
 
 /// Their names, the shortest walks first.
-const NAMES: [&str; 17] = [
+const NAMES: [&str; 18] = [
     "first-path",
     "two-transactions",
     "three-trees",
@@ -16,6 +16,7 @@ const NAMES: [&str; 17] = [
     "lease-ends",
     "two-writers",
     "counter",
+    "attributes",
     "old-read",
     "two-hundred-keys",
     "late-update",

@@ -3,20 +3,28 @@ use change_codec::{add_change, client_of, read_change, tree_of};
 use db_base::change::Change;
 use std::alloc::Global;
 
-const INSERT: [u8; 6] = [1, 1, 0x6b, 0, 1, 0x76];
+pub(crate) const INSERT: [u8; 6] = [1, 1, 0x6b, 0, 1, 0x76];
 
-const UPDATE: [u8; 5] = [2, 1, 0x6b, 0, 0];
+pub(crate) const UPDATE: [u8; 5] = [2, 1, 0x6b, 0, 0];
 
-const DELETE: [u8; 4] = [3, 2, 0x6b, 0x6c];
+pub(crate) const DELETE: [u8; 4] = [3, 2, 0x6b, 0x6c];
 
 /// Of 256.
-const ADD: [u8; 11] = [4, 1, 0x6b, 0, 0, 0, 0, 0, 0, 1, 0];
+pub(crate) const ADD: [u8; 11] = [4, 1, 0x6b, 0, 0, 0, 0, 0, 0, 1, 0];
+
+/// The insert with the attribute a.
+pub(crate) const WITH: [u8; 8] = [5, 1, 0x6b, 0, 1, 0x76, 1, 0x61];
 
 /// Bytes that begin with no change, and how many are left from the field on that fails.
-const REFUSED: [(&[u8], usize); 15] = [
+const REFUSED: [(&[u8], usize); 20] = [
     (&[], 0),
     (&[0, 1, 0x6b, 0, 0], 5),
-    (&[5, 1, 0x6b, 0, 0], 5),
+    (&[6, 1, 0x6b, 0, 0], 5),
+    (&[5, 1, 0x6b, 0], 1),
+    (&[5, 1, 0x6b, 0, 0], 0),
+    (&[5, 1, 0x6b, 0, 0, 0], 1),
+    (&[5, 1, 0x6b, 0, 0, 33, 0x61], 2),
+    (&[5, 1, 0x6b, 0, 0, 2, 0x61], 2),
     (&[4, 1, 0x6b, 0, 0], 2),
     (&[4, 1, 0x6b, 0, 0, 0, 0, 0, 0, 1], 7),
     (&[1], 0),
@@ -74,6 +82,7 @@ fn changes(rt: HostRuntime) {
     assert!(rt; is_written_back(rt.alloc(), &UPDATE));
     assert!(rt; is_written_back(rt.alloc(), &DELETE));
     assert!(rt; is_written_back(rt.alloc(), &ADD));
+    assert!(rt; is_written_back(rt.alloc(), &WITH));
     assert!(rt; are_refused(rt.alloc(), &REFUSED));
     assert!(rt; client_of(64).get() == 64 && tree_of(16).get() == 16);
 }

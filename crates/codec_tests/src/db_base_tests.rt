@@ -1,3 +1,4 @@
+use db_base::attr::Attr;
 use db_base::blob::Blob;
 use db_base::change::{Change, act, net};
 use db_base::cursor::Cursor;
@@ -63,6 +64,33 @@ fn lengths_are_refused_exactly(rt: HostRuntime) {
     assert!(rt; are_all_refused(rt.alloc(), &[7; 1025], &LENGTHS));
 }
 
+/// A count of bytes, and how an attribute of so many is refused.
+const ATTRIBUTES: [(usize, Option<Refusal>); 4] = [
+    (0, Some(Refusal::BadAttr)),
+    (1, None),
+    (32, None),
+    (33, Some(Refusal::BadAttr)),
+];
+
+/// Whether the first so many bytes are refused as an attribute as each row says.
+fn are_refused_attributes(alloc: Global, bytes: &[u8], rows: &[(usize, Option<Refusal>)]) -> bool {
+    for (len, refusal) in rows {
+        let Some(bytes) = bytes.get(..*len) else {
+            return false;
+        };
+        if Attr::new(alloc, bytes).err() != refusal.map(Refused::Rule) {
+            return false;
+        }
+    }
+    true
+}
+
+#[test]
+fn lengths_of_attributes_are_refused_exactly(rt: HostRuntime) {
+    assert!(rt; are_refused_attributes(rt.alloc(), &[7; 33], &ATTRIBUTES));
+    assert!(rt; Refusal::BadAttr.number() == 11);
+}
+
 /// Whether so many positions are taken.
 fn are_positions(alloc: Global, numbers: &[u64], len: usize) -> Option<bool> {
     let numbers = numbers.get(..len)?;
@@ -117,7 +145,11 @@ fn numbers_are_refused_exactly(rt: HostRuntime) {
 /// An insert of a payload under k.
 fn insert(alloc: Global, payload: &[u8]) -> Option<Change> {
     match (Key::new(alloc, b"k"), Payload::new(alloc, payload)) {
-        (Ok(key), Ok(payload)) => Some(Change::Insert { key, payload }),
+        (Ok(key), Ok(payload)) => Some(Change::Insert {
+            key,
+            payload,
+            attr: None,
+        }),
         _ => None,
     }
 }
@@ -137,7 +169,7 @@ fn makes(old: Option<&[u8]>, change: &Change, new: Option<&[u8]>) -> bool {
         None => None,
     };
     match act(old, change) {
-        Some(value) => new == Some(value.bytes()),
+        Some(value) => new == Some(value.payload()) && value.attr().is_none(),
         None => new.is_none(),
     }
 }

@@ -1,8 +1,10 @@
 use crate::refusals::{Reads, refuses_changes, refuses_cuts};
 use db_base::blob::Blob;
+use db_base::attr::Attr;
 use db_base::change::Change;
 use db_base::ids::TreeId;
 use db_base::key::{Key, Payload};
+use db_base::refusal::Refused;
 use head_codec::head::{Head, HeadFault, Phase};
 use head_codec::lists::{Pending, PendingList};
 use std::alloc::Global;
@@ -13,6 +15,13 @@ const HEAD: [u8; 63] = [
     0x48, 1, 0, 0, 0, 0, 0, 0, 0, 1, 0, 0, 0, 0, 0, 0, 0, 1, 0, 1, 1, 0, 0, 0, 0, 0, 0, 0, 0, 0, 0,
     0, 0, 0, 0, 0, 1, 0, 1, 1, 0, 0, 0, 0, 0, 0, 0, 0, 0, 0, 0, 0, 0, 0, 0, 1, 1, 1, 0x6b, 0, 1,
     0x76, 0,
+];
+
+/// HEAD with the attribute a of its pending insert.
+const HEAD_WITH: [u8; 65] = [
+    0x48, 1, 0, 0, 0, 0, 0, 0, 0, 1, 0, 0, 0, 0, 0, 0, 0, 1, 0, 1, 1, 0, 0, 0, 0, 0, 0, 0, 0, 0, 0,
+    0, 0, 0, 0, 0, 1, 0, 1, 1, 0, 0, 0, 0, 0, 0, 0, 0, 0, 0, 0, 0, 0, 0, 0, 1, 5, 1, 0x6b, 0, 1,
+    0x76, 1, 0x61, 0,
 ];
 
 /// Epoch 1, no transaction; counters of pages 2 and 3 of tree 1.
@@ -55,7 +64,7 @@ const CUTS: [(usize, u64); 18] = [
 ];
 
 /// A place in HEAD, the byte that stands there instead, and where that is refused. Place 63 is behind the end.
-const HEAD_CHANGES: [(usize, u8, u64); 22] = [
+const HEAD_CHANGES: [(usize, u8, u64); 23] = [
     (0, 0x49, 0),
     (1, 2, 1),
     (9, 0, 2),
@@ -70,7 +79,8 @@ const HEAD_CHANGES: [(usize, u8, u64); 22] = [
     (39, 0, 39),
     (39, 17, 39),
     (55, 0, 48),
-    (56, 5, 56),
+    (56, 5, 62),
+    (56, 6, 56),
     (56, 4, 59),
     (57, 0, 57),
     (60, 3, 59),
@@ -78,6 +88,15 @@ const HEAD_CHANGES: [(usize, u8, u64); 22] = [
     (62, 2, 62),
     (62, 1, 63),
     (63, 0, 63),
+];
+
+/// A place in HEAD_WITH, the byte that stands there instead, and where that is refused.
+const HEAD_WITH_CHANGES: [(usize, u8, u64); 5] = [
+    (56, 0, 56),
+    (56, 1, 64),
+    (62, 0, 62),
+    (62, 3, 62),
+    (62, 33, 62),
 ];
 
 const COUNTERS_CHANGES: [(usize, u8, u64); 4] = [
@@ -120,6 +139,7 @@ fn is_written_back(alloc: Global, bytes: &[u8]) -> bool {
 #[test]
 fn vectors(rt: HostRuntime) {
     assert!(rt; is_written_back(rt.alloc(), &HEAD));
+    assert!(rt; is_written_back(rt.alloc(), &HEAD_WITH));
     assert!(rt; is_written_back(rt.alloc(), &COUNTERS));
     assert!(rt; is_written_back(rt.alloc(), &OPEN));
 }
@@ -146,26 +166,36 @@ fn settled(alloc: Global, bytes: &[u8], tree: TreeId, change: Change) -> Option<
     head.write_settled(alloc, bytes, 1).ok()
 }
 
-/// Whether UNDER_WAY is settled as HEAD with the insert of a payload.
-fn is_settled_by(alloc: Global, tree: TreeId, key: Key, payload: Payload) -> bool {
-    match settled(alloc, &UNDER_WAY, tree, Change::Insert { key, payload }) {
-        Some(written) => written.as_slice() == HEAD.as_slice(),
-        None => false,
-    }
+/// The insert of `v` under `k`, with the attribute `a` or without.
+fn insert(alloc: Global, with: bool) -> Result<Change, Refused> {
+    let key = Key::new(alloc, b"k")?;
+    let payload = Payload::new(alloc, b"v")?;
+    let attr = if with {
+        Some(Attr::new(alloc, b"a")?)
+    } else {
+        None
+    };
+    Ok(Change::Insert { key, payload, attr })
 }
 
-/// The same of the payload `v` under the key `k`.
-fn is_settled_in(alloc: Global, tree: TreeId) -> bool {
-    match (Key::new(alloc, b"k"), Payload::new(alloc, b"v")) {
-        (Ok(key), Ok(payload)) => is_settled_by(alloc, tree, key, payload),
-        _ => false,
+/// Whether UNDER_WAY is settled as these bytes with such an insert.
+fn is_settled_in(alloc: Global, tree: TreeId, with: bool, bytes: &[u8]) -> bool {
+    let Ok(change) = insert(alloc, with) else {
+        return false;
+    };
+    match settled(alloc, &UNDER_WAY, tree, change) {
+        Some(written) => written.as_slice() == bytes,
+        None => false,
     }
 }
 
 #[test]
 fn a_head_is_settled(rt: HostRuntime) {
     match TreeId::new(1) {
-        Ok(tree) => assert!(rt; is_settled_in(rt.alloc(), tree)),
+        Ok(tree) => {
+            assert!(rt; is_settled_in(rt.alloc(), tree, false, &HEAD));
+            assert!(rt; is_settled_in(rt.alloc(), tree, true, &HEAD_WITH));
+        }
         Err(_) => rt.panic("no tree"),
     }
 }
@@ -197,6 +227,7 @@ fn cut_heads_are_refused(rt: HostRuntime) {
 #[test]
 fn changed_heads_are_refused(rt: HostRuntime) {
     assert!(rt; refuses_changes::<Heads>(rt.alloc(), &HEAD, &HEAD_CHANGES));
+    assert!(rt; refuses_changes::<Heads>(rt.alloc(), &HEAD_WITH, &HEAD_WITH_CHANGES));
     assert!(rt; refuses_changes::<Heads>(rt.alloc(), &COUNTERS, &COUNTERS_CHANGES));
     assert!(rt; refuses_changes::<Heads>(rt.alloc(), &OPEN, &OPEN_CHANGES));
 }

@@ -7,12 +7,12 @@ use leaf_view::{Done, LeafView};
 use std::alloc::Global;
 use std::process::Abort;
 
-fn add_text8(out: &mut Vec<u8>, bytes: &[u8]) -> Option<()> {
+pub(crate) fn add_text8(out: &mut Vec<u8>, bytes: &[u8]) -> Option<()> {
     out.push(u8::try_from(bytes.len()).ok()?).ok()?;
     out.extend_from_slice(bytes).ok()
 }
 
-fn add_text16(out: &mut Vec<u8>, bytes: &[u8]) -> Option<()> {
+pub(crate) fn add_text16(out: &mut Vec<u8>, bytes: &[u8]) -> Option<()> {
     let len = u16::try_from(bytes.len()).ok()?;
     out.extend_from_slice(&len.to_be_bytes()).ok()?;
     out.extend_from_slice(bytes).ok()

@@ -2,9 +2,13 @@
 #![tactic(auto)]
 
 #[cfg(test)]
+mod attribute_tests;
+#[cfg(test)]
 mod byte_format_tests;
 #[cfg(test)]
 mod change_codec_tests;
+#[cfg(test)]
+mod change_spellings;
 #[cfg(test)]
 mod db_base_tests;
 #[cfg(test)]

@@ -16,6 +16,33 @@ const ATOMIC: [u8; 44] = [
     0, 0, 0, 0, 0, 0, 1, 1, 1, 0x6b, 0, 1, 0x76,
 ];
 
+/// PU with the attribute a.
+const PU_WITH: [u8; 35] = [
+    0x50, 1, 1, 0, 0, 0, 0, 0, 0, 0, 1, 0, 0, 0, 0, 0, 0, 0, 1, 0, 0, 0, 0, 0, 0, 0, 1, 5, 1, 0x6b,
+    0, 1, 0x76, 1, 0x61,
+];
+
+/// ATOMIC with the attribute a.
+const ATOMIC_WITH: [u8; 46] = [
+    0x41, 1, 1, 0, 0, 0, 0, 0, 0, 0, 1, 0, 0, 0, 0, 0, 0, 0, 1, 1, 1, 1, 0, 0, 0, 0, 0, 0, 0, 0, 0,
+    0, 0, 0, 0, 0, 0, 1, 5, 1, 0x6b, 0, 1, 0x76, 1, 0x61,
+];
+
+/// How many bytes of PU_WITH are there, and where it is refused.
+const PU_WITH_CUTS: [(usize, u64); 3] = [(32, 30), (33, 33), (34, 33)];
+
+/// A place in PU_WITH, the byte that stands there instead, and where that is refused. Place 35 is behind the end.
+const PU_WITH_CHANGES: [(usize, u8, u64); 8] = [
+    (27, 0, 27),
+    (27, 1, 33),
+    (27, 2, 33),
+    (27, 6, 27),
+    (33, 0, 33),
+    (33, 2, 33),
+    (33, 33, 33),
+    (35, 0, 35),
+];
+
 /// How many bytes of PU are there, and where it is refused.
 const PU_CUTS: [(usize, u64); 9] = [
     (0, 0),
@@ -30,7 +57,7 @@ const PU_CUTS: [(usize, u64); 9] = [
 ];
 
 /// A place in PU, the byte that stands there instead, and where that is refused. Place 33 is behind the end.
-const PU_CHANGES: [(usize, u8, u64); 16] = [
+const PU_CHANGES: [(usize, u8, u64); 17] = [
     (0, 0x41, 0),
     (1, 2, 1),
     (2, 0, 2),
@@ -39,7 +66,8 @@ const PU_CHANGES: [(usize, u8, u64); 16] = [
     (18, 0, 11),
     (26, 0, 19),
     (27, 0, 27),
-    (27, 5, 27),
+    (27, 6, 27),
+    (27, 5, 33),
     (27, 4, 30),
     (27, 3, 30),
     (28, 0, 28),
@@ -65,7 +93,7 @@ const ATOMIC_CUTS: [(usize, u64); 13] = [
     (43, 41),
 ];
 
-const ATOMIC_CHANGES: [(usize, u8, u64); 19] = [
+const ATOMIC_CHANGES: [(usize, u8, u64); 20] = [
     (0, 0x50, 0),
     (1, 0, 1),
     (2, 0, 2),
@@ -81,7 +109,8 @@ const ATOMIC_CHANGES: [(usize, u8, u64); 19] = [
     (38, 0, 38),
     (38, 3, 41),
     (38, 4, 41),
-    (38, 5, 38),
+    (38, 5, 44),
+    (38, 6, 38),
     (39, 0, 39),
     (42, 2, 41),
     (44, 1, 44),
@@ -138,6 +167,8 @@ fn is_spelled(spelling: Option<Blob>, bytes: &[u8]) -> bool {
 fn vectors(rt: HostRuntime) {
     assert!(rt; is_spelled(pu_again(rt.alloc(), &PU), &PU));
     assert!(rt; is_spelled(atomic_again(rt.alloc(), &ATOMIC), &ATOMIC));
+    assert!(rt; is_spelled(pu_again(rt.alloc(), &PU_WITH), &PU_WITH));
+    assert!(rt; is_spelled(atomic_again(rt.alloc(), &ATOMIC_WITH), &ATOMIC_WITH));
 }
 
 /// Whether client, epoch, transaction and number of a copy of a record are 1.
@@ -159,12 +190,15 @@ fn are_copied(alloc: Global, bytes: &[u8]) -> bool {
 #[test]
 fn copies(rt: HostRuntime) {
     assert!(rt; are_copied(rt.alloc(), &PU));
+    assert!(rt; are_copied(rt.alloc(), &PU_WITH));
 }
 
 #[test]
 fn refused_pu_records(rt: HostRuntime) {
     assert!(rt; refuses_cuts::<Updates>(rt.alloc(), &PU, &PU_CUTS));
     assert!(rt; refuses_changes::<Updates>(rt.alloc(), &PU, &PU_CHANGES));
+    assert!(rt; refuses_cuts::<Updates>(rt.alloc(), &PU_WITH, &PU_WITH_CUTS));
+    assert!(rt; refuses_changes::<Updates>(rt.alloc(), &PU_WITH, &PU_WITH_CHANGES));
 }
 
 #[test]

@@ -10,6 +10,7 @@ fn insert(alloc: Global, key: &[u8], payload: &[u8]) -> Result<Change, Refused> 
     Ok(Change::Insert {
         key: Key::new(alloc, key)?,
         payload: Payload::new(alloc, payload)?,
+        attr: None,
     })
 }
 

@@ -1,5 +1,5 @@
 -- The schedule of a number and a count of rounds.
-use Rattle.std.specs.Prelude.{ℕ, zero, suc, ◌+◌, ◌*◌, ◌/◌, ◌%◌, ◌^◌, ◌==◌, nat_le, if◌then◌else◌, List, [], ◌∷◌, ◌++◌}
+use Rattle.std.specs.Prelude.{ℕ, zero, suc, ◌+◌, ◌*◌, ◌/◌, ◌%◌, ◌^◌, ◌==◌, nat_le, if◌then◌else◌, List, [], ◌∷◌, ◌++◌, None}
 use Rattle.std.specs.Int.{to_be_bytes, w16, w64}
 use Rattle.event_text.specs.declared.event.Event.{Event}
 use Rattle.event_text.specs.declared.event.Event.TheVariants.{Open, Close, Insert, Update, Delete, Commit, Page, Tree, Run, Settle}
@@ -16,11 +16,11 @@ drawn x = x / 2 ^ 33
 abbrev pub key_of : ℕ → List ℕ
 key_of place = to_be_bytes w16 (place % 4096)
 
--- the change of a round: an insert in four of eight cases, an update in three, a deletion in one
+-- the change of a round: an insert without attribute in four of eight cases, an update in three, a deletion in one
 abbrev pub change_event : ℕ → ℕ → ℕ → ℕ → Event
 change_event session place kind round =
     if kind % 8 == 7 then Delete session 1 (key_of place)
-    else (if nat_le (kind % 8) 3 then Insert session 1 (key_of place) (to_be_bytes w64 round)
+    else (if nat_le (kind % 8) 3 then Insert session 1 (key_of place) (to_be_bytes w64 round) None
     else Update session 1 (key_of place) (to_be_bytes w64 round))
 
 -- the checkpoint of a round: each sixteenth of the tree, and halfway between two of these of a page

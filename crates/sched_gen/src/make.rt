@@ -44,6 +44,7 @@ fn change_event(
             tree,
             key,
             payload,
+            attr: None,
         })
     } else {
         Ok(Event::Update {

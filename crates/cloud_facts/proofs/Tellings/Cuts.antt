@@ -3,7 +3,7 @@ use Rattle.std.proofs.Common.{◌≡◌, ◌+◌, ◌<◌, ℕ, zero, suc, Bool,
 use Rattle.byte_format.specs.Order.{bytes_below, bytes_same}
 use Rattle.byte_format.proofs.OrderLemmas.{same_is}
 use Rattle.db_base.specs.Value.{Value}
-use Rattle.leaf_edit.proofs.Payloads.{value_of-before}
+use Rattle.leaf_edit.proofs.Values.{value_of-before}
 use Rattle.leaf_view.specs.Fits.{Ascend, entry_below}
 use Rattle.leaf_view.specs.Leaf.{Entry, Leaf}
 use Rattle.leaf_view.specs.Lookup.{value_of}

@@ -15,7 +15,7 @@ use Rattle.leaf_edit.specs.Edited.{edited, edited_by}
 use Rattle.leaf_edit.specs.Lacked.{is_lacked, lacked}
 use Rattle.leaf_edit.specs.Raised.{greatest_of}
 use Rattle.leaf_edit.proofs.Edits.{edited-ascends}
-use Rattle.leaf_edit.proofs.Payloads.{value_of-edited_by}
+use Rattle.leaf_edit.proofs.Values.{value_of-edited_by}
 use Rattle.leaf_view.specs.Fits.{Ascend, entry_below}
 use Rattle.leaf_view.specs.Leaf.{Entry, Leaf, IsLeaf}
 use Rattle.leaf_view.specs.Lookup.{empty_leaf, holds, value_of, number_of as done_number}

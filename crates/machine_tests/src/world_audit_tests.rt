@@ -4,15 +4,27 @@ use cloud_trait::lease::Lease;
 use cloud_trait::who::Who;
 use db_base::ids::{PageId, SessionNo, TreeId};
 use db_base::names::{Lock, ObjName, Place, QueueName};
-use db_base::pair::Pair;
 use db_base::trouble::Trouble;
 use memory_cloud::memory::MemoryCloud;
 use report_types::report::Report;
+use report_types::stored::Stored;
 use std::alloc::Global;
 use world_audit::audit::Audit;
 
-/// A leaf of version 1, with no fence, one entry of what is done, and the record of k and v.
+/// A leaf of version 1, with no fence, one entry of what is done, and the record of k and v, in format 2.
 const PAGE: &[u8] = &[
+    0x4c, 2, 0, 0, 0, 0, 0, 0, 0, 1, 0, 0, 0, 0, 0, 0, 0, 0, 0, 1, 0, 0, 0, 0, 0, 0, 0, 0, 1, 0, 0,
+    0, 0, 0, 0, 0, 1, 0, 1, 1, 0x6b, 0, 1, 0x76, 0, 0,
+];
+
+/// The same with the attribute a.
+const PAGE_WITH_ATTRIBUTE: &[u8] = &[
+    0x4c, 2, 0, 0, 0, 0, 0, 0, 0, 1, 0, 0, 0, 0, 0, 0, 0, 0, 0, 1, 0, 0, 0, 0, 0, 0, 0, 0, 1, 0, 0,
+    0, 0, 0, 0, 0, 1, 0, 1, 1, 0x6b, 0, 1, 0x76, 1, 1, 0x61, 0,
+];
+
+/// The same in format 1, which has no attributes.
+const OLD_PAGE: &[u8] = &[
     0x4c, 1, 0, 0, 0, 0, 0, 0, 0, 1, 0, 0, 0, 0, 0, 0, 0, 0, 0, 1, 0, 0, 0, 0, 0, 0, 0, 0, 1, 0, 0,
     0, 0, 0, 0, 0, 1, 0, 1, 1, 0x6b, 0, 1, 0x76, 0,
 ];
@@ -34,8 +46,9 @@ enum Step<'a> {
     Puts(u64, &'a [u8]),
     /// A message is sent to the queue of tree 1.
     Sends(&'a [u8]),
-    /// A report of tree 1 has no entries, no open head, so many messages, and the one record of this key and payload.
-    Reports(u64, &'a [u8], &'a [u8]),
+    /// A report of tree 1 has no entries, no open head, so many messages, and the one record of this key and payload, and
+    /// of this attribute or none.
+    Reports(u64, &'a [u8], &'a [u8], Option<&'a [u8]>),
     /// A report stops at a page that is absent.
     FindsAbsent(u64),
     /// A report stops at a byte of a page.
@@ -128,8 +141,8 @@ fn reports<C: Bench>(alloc: Global, cloud: &mut C, names: &Names, step: Step<'_>
 /// Whether a report is of tree 1 and as a step says.
 fn is_report(report: &Report, step: Step<'_>) -> bool {
     match step {
-        Step::Reports(messages, key, payload) => {
-            has_counts(report, messages) && has_contents(report, key, payload)
+        Step::Reports(messages, key, payload, attr) => {
+            has_counts(report, messages) && has_contents(report, key, payload, attr)
         }
         _ => false,
     }
@@ -142,14 +155,23 @@ fn has_counts(report: &Report, messages: u64) -> bool {
 }
 
 /// Whether a report has this record alone.
-fn has_contents(report: &Report, key: &[u8], payload: &[u8]) -> bool {
-    report.contents.len() == 1 && is_pair(report.contents.as_slice().first(), key, payload)
+fn has_contents(report: &Report, key: &[u8], payload: &[u8], attr: Option<&[u8]>) -> bool {
+    match report.contents.as_slice() {
+        [stored] => {
+            stored.key.as_slice() == key
+                && stored.payload.as_slice() == payload
+                && has_attribute(stored, attr)
+        }
+        _ => false,
+    }
 }
 
-fn is_pair(pair: Option<&Pair>, key: &[u8], payload: &[u8]) -> bool {
-    match pair {
-        Some(pair) => pair.key.as_slice() == key && pair.payload.as_slice() == payload,
-        None => false,
+/// Whether a record has this attribute, or none.
+fn has_attribute(stored: &Stored, wanted: Option<&[u8]>) -> bool {
+    match (&stored.attr, wanted) {
+        (Some(attr), Some(wanted)) => attr.as_slice() == wanted,
+        (None, None) => true,
+        _ => false,
     }
 }
 
@@ -192,7 +214,18 @@ fn reports_a_page(rt: HostRuntime) {
     let script = [
         Step::Puts(1, PAGE),
         Step::Sends(b"m"),
-        Step::Reports(1, b"k", b"v"),
+        Step::Reports(1, b"k", b"v", None),
+    ];
+    assert!(rt; play(rt.alloc(), &script));
+}
+
+#[test]
+fn reports_attributes_and_pages_of_both_formats(rt: HostRuntime) {
+    let script = [
+        Step::Puts(1, OLD_PAGE),
+        Step::Reports(0, b"k", b"v", None),
+        Step::Puts(1, PAGE_WITH_ATTRIBUTE),
+        Step::Reports(0, b"k", b"v", Some(b"a")),
     ];
     assert!(rt; play(rt.alloc(), &script));
 }
@@ -205,7 +238,7 @@ fn stops_at_an_absent_page(rt: HostRuntime) {
 
 #[test]
 fn stops_at_damaged_bytes(rt: HostRuntime) {
-    let script = [Step::Puts(1, &[0x4c, 2]), Step::FindsDamaged(1, 1)];
+    let script = [Step::Puts(1, &[0x4c, 3]), Step::FindsDamaged(1, 1)];
     assert!(rt; play(rt.alloc(), &script));
 }
 

@@ -4,12 +4,17 @@ use std::process::Abort;
 use words::fault::TextFault;
 
 /// Every line of a schedule.
-const LINES: [&str; 27] = [
+const LINES: [&str; 32] = [
     "open 1 64\n",
     "close 16\n",
     "renew 2\n",
     "insert 1 1 6b 76\n",
     "insert 0 18446744073709551615 - -\n",
+    "insert 1 1 6b 76 61\n",
+    "insert 1 1 6b 76 -\n",
+    "insert 1 1 6b - 616161616161616161616161616161616161616161616161616161616161616161\n",
+    "add 1 1 6b 0\n",
+    "add 1 1 6b 18446744073709551615\n",
     "update 1 16 00ff 0123456789abcdef\n",
     "delete 3 1 6b\n",
     "commit 1\n",
@@ -35,7 +40,7 @@ const LINES: [&str; 27] = [
 ];
 
 /// Lines that are nearly in the grammar.
-const NEAR_MISSES: [&str; 22] = [
+const NEAR_MISSES: [&str; 33] = [
     "",
     "\n",
     "open 1 64",
@@ -54,6 +59,17 @@ const NEAR_MISSES: [&str; 22] = [
     "insert 1 1 6 76\n",
     "insert 1 1 6B 76\n",
     "insert 1 1 6b \n",
+    "insert 1 1 6b 76 \n",
+    "insert 1 1 6b 76 6\n",
+    "insert 1 1 6b 76 6A\n",
+    "insert 1 1 6b 76 61 61\n",
+    "insert 1 1 6b 76 61 \n",
+    "insert 1 1 6b 76  61\n",
+    "update 1 1 6b 76 61\n",
+    "delete 1 1 6b 61\n",
+    "add 1 1 6b 1 61\n",
+    "add 1 1 6b 18446744073709551616\n",
+    "read 1 1 6b 61\n",
     "step 1 give\n",
     "step 1 old\n",
     "crash 1 Done\n",
@@ -61,8 +77,11 @@ const NEAR_MISSES: [&str; 22] = [
 ];
 
 /// A shell's lines, and the lines of session 1 that they stand for.
-const SHELL_LINES: [(&str, &str); 10] = [
+const SHELL_LINES: [(&str, &str); 13] = [
     ("insert 1 6b 76\n", "insert 1 1 6b 76\n"),
+    ("insert 1 6b 76 61\n", "insert 1 1 6b 76 61\n"),
+    ("insert 1 6b 76 -\n", "insert 1 1 6b 76 -\n"),
+    ("add 1 6b 7\n", "add 1 1 6b 7\n"),
     ("update 1 6b -\n", "update 1 1 6b -\n"),
     ("delete 2 6b\n", "delete 1 2 6b\n"),
     ("commit\n", "commit 1\n"),
@@ -75,13 +94,15 @@ const SHELL_LINES: [(&str, &str); 10] = [
 ];
 
 /// Lines of a schedule that are no shell's lines.
-const NO_SHELL_LINES: [&str; 6] = [
+const NO_SHELL_LINES: [&str; 8] = [
     "open 1\n",
     "close\n",
     "run\n",
     "wait 1\n",
     "settle\n",
     "commit 1\n",
+    "insert 1 6b 76 61 61\n",
+    "update 1 6b 76 61\n",
 ];
 
 /// Whether an event is written as this line.
@@ -167,6 +188,25 @@ fn are_refused_by_shells(alloc: Global, lines: &[&str]) -> bool {
 #[test]
 fn each_line_is_read_and_written_back(rt: HostRuntime) {
     assert!(rt; are_written_back(rt.alloc(), &LINES));
+}
+
+/// Whether a line is read as an insert with this attribute, or without one.
+fn is_insert_with(alloc: Global, line: &str, wanted: Option<&[u8]>) -> bool {
+    match Event::read(alloc, line.as_bytes()) {
+        Ok(Event::Insert { attr, .. }) => match (attr, wanted) {
+            (Some(attr), Some(wanted)) => attr.as_slice() == wanted,
+            (None, None) => true,
+            _ => false,
+        },
+        _ => false,
+    }
+}
+
+#[test]
+fn the_last_word_of_an_insert_is_its_attribute(rt: HostRuntime) {
+    assert!(rt; is_insert_with(rt.alloc(), "insert 1 1 6b 76\n", None));
+    assert!(rt; is_insert_with(rt.alloc(), "insert 1 1 6b 76 -\n", Some(b"")));
+    assert!(rt; is_insert_with(rt.alloc(), "insert 1 1 6b 76 6162\n", Some(b"ab")));
 }
 
 #[test]

@@ -4,7 +4,7 @@ use std::alloc::Global;
 use words::fault::TextFault;
 
 /// Every reply of one line that is no trouble.
-const ANSWERS: [&str; 32] = [
+const ANSWERS: [&str; 33] = [
     "begun",
     "called",
     "noted",
@@ -21,6 +21,7 @@ const ANSWERS: [&str; 32] = [
     "refused 8 broken",
     "refused 9 already-open",
     "refused 10 not-working",
+    "refused 11 bad-attr",
     "opened 1",
     "closed",
     "renewed 18446744073709551615",
@@ -65,14 +66,15 @@ const TROUBLES: [&str; 22] = [
     "exhausted pages",
 ];
 
-/// Reports: an empty one, and one with each kind of change.
-const REPORTS: [&str; 2] = [
+/// Reports: an empty one, one with each kind of change, and one with attributes, of which one has 32 bytes.
+const REPORTS: [&str; 3] = [
     "report 1\ncommitted 0\norder 0\ncontents 0\nleft 0 0",
     "report 16\ncommitted 3\n2 3 4 insert 6b 76\n2 3 4 update 6b -\n64 1 1 delete 6c\norder 1\n2 3 4 insert 6b 76\ncontents 2\n6b 76\n6c -\nleft 1 2",
+    "report 1\ncommitted 3\n1 1 1 insert 6b 76 61\n1 1 1 insert 6c - 6161616161616161616161616161616161616161616161616161616161616161\n1 1 1 add 6c 7\norder 1\n1 1 1 insert 6b 76 61\ncontents 3\n6b 76 61\n6c -\n6d - 6261\nleft 1 2",
 ];
 
 /// Lines that are nearly in the grammar.
-const NEAR_ANSWERS: [&str; 36] = [
+const NEAR_ANSWERS: [&str; 39] = [
     "",
     "\n",
     "begun ",
@@ -92,6 +94,9 @@ const NEAR_ANSWERS: [&str; 36] = [
     "refused 2 empty-key",
     "refused 01 empty-key",
     "refused 1",
+    "refused 10 bad-attr",
+    "refused 12 bad-attr",
+    "scan 1 6b=76=61",
     "value",
     "value 7",
     "value 7F",
@@ -137,7 +142,7 @@ const NEAR_TROUBLES: [&str; 21] = [
 ];
 
 /// Reports that are nearly in the grammar.
-const NEAR_REPORTS: [&str; 14] = [
+const NEAR_REPORTS: [&str; 21] = [
     "report 1",
     "report 0\ncommitted 0\norder 0\ncontents 0\nleft 0 0",
     "report 17\ncommitted 0\norder 0\ncontents 0\nleft 0 0",
@@ -152,6 +157,13 @@ const NEAR_REPORTS: [&str; 14] = [
     "report 1\ncommitted 1\n1 1 1 delete -\norder 0\ncontents 0\nleft 0 0",
     "report 1\ncommitted 1\n1 1 1 insert 6b\norder 0\ncontents 0\nleft 0 0",
     "report 1\ncommitted 0\norder 0\ncontents 1\n6b=76\nleft 0 0",
+    "report 1\ncommitted 1\n1 1 1 insert 6b 76 -\norder 0\ncontents 0\nleft 0 0",
+    "report 1\ncommitted 1\n1 1 1 insert 6b 76 616161616161616161616161616161616161616161616161616161616161616161\norder 0\ncontents 0\nleft 0 0",
+    "report 1\ncommitted 1\n1 1 1 insert 6b 76 61 61\norder 0\ncontents 0\nleft 0 0",
+    "report 1\ncommitted 1\n1 1 1 update 6b 76 61\norder 0\ncontents 0\nleft 0 0",
+    "report 1\ncommitted 1\n1 1 1 add 6b 7 61\norder 0\ncontents 0\nleft 0 0",
+    "report 1\ncommitted 0\norder 0\ncontents 1\n6b 76 61 61\nleft 0 0",
+    "report 1\ncommitted 0\norder 0\ncontents 1\n6b 76=61\nleft 0 0",
 ];
 
 /// Whether a text is read, and what is read is written as it.

@@ -1,4 +1,5 @@
 use cloud_trait::turn::CkptAnswer;
+use db_base::attr::Attr;
 use db_base::blob::Blob;
 use db_base::change::Change;
 use db_base::ids::{ClientId, MsgId, PageId, TreeId};
@@ -12,6 +13,8 @@ use report_types::entry::Entry;
 use report_types::entry_log::EntryLog;
 use report_types::pair_list::PairList;
 use report_types::report::Report;
+use report_types::stored::Stored;
+use report_types::stored_list::StoredList;
 use std::alloc::Global;
 use std::process::Abort;
 
@@ -56,6 +59,7 @@ fn is_refusal_written(alloc: Global, refusal: Refusal, text: &str) -> bool {
 fn refusals_are_written(rt: HostRuntime) {
     assert!(rt; is_refusal_written(rt.alloc(), Refusal::LongPayload, "refused 3 long-payload"));
     assert!(rt; is_refusal_written(rt.alloc(), Refusal::NotWorking, "refused 10 not-working"));
+    assert!(rt; is_refusal_written(rt.alloc(), Refusal::BadAttr, "refused 11 bad-attr"));
 }
 
 fn are_numbers_written(alloc: Global) -> bool {
@@ -223,9 +227,9 @@ fn damage_is_written(rt: HostRuntime) {
     assert!(rt; is_exhausted_told(rt.alloc()));
 }
 
-fn insertion(alloc: Global, key: Key) -> Option<Change> {
+fn insertion(alloc: Global, key: Key, attr: Option<Attr>) -> Option<Change> {
     match Payload::new(alloc, b"v") {
-        Ok(payload) => Some(Change::Insert { key, payload }),
+        Ok(payload) => Some(Change::Insert { key, payload, attr }),
         Err(_) => None,
     }
 }
@@ -245,20 +249,30 @@ fn add_entry(entries: &mut EntryLog, txn: u64, change: Change) -> bool {
     entries.push(entry).is_ok()
 }
 
-/// Adds the entry of the insert of v under a key.
-fn add_insert(alloc: Global, entries: &mut EntryLog, key: Key) -> bool {
-    match insertion(alloc, key) {
+/// Adds the entry of the insert of v under the key k.
+fn add_insert(alloc: Global, entries: &mut EntryLog, attr: Option<Attr>) -> bool {
+    let Ok(key) = Key::new(alloc, b"k") else {
+        return false;
+    };
+    match insertion(alloc, key, attr) {
         Some(change) => add_entry(entries, 4, change),
         None => false,
     }
 }
 
-/// Adds the entries of an insert and a deletion by client 2.
-fn add_entries(alloc: Global, entries: &mut EntryLog) -> bool {
-    match Key::new(alloc, b"k") {
-        Ok(key) => add_insert(alloc, entries, key) && add_deletion(alloc, entries),
+/// Adds the entry of the insert of v with the attribute a under the key k.
+fn add_insert_with(alloc: Global, entries: &mut EntryLog) -> bool {
+    match Attr::new(alloc, b"a") {
+        Ok(attr) => add_insert(alloc, entries, Some(attr)),
         Err(_) => false,
     }
+}
+
+/// Adds the entries of an insert, of one with an attribute, and of a deletion, by client 2.
+fn add_entries(alloc: Global, entries: &mut EntryLog) -> bool {
+    add_insert(alloc, entries, None)
+        && add_insert_with(alloc, entries)
+        && add_deletion(alloc, entries)
 }
 
 /// Adds the entry of the deletion of l.
@@ -275,7 +289,7 @@ fn report(alloc: Global, tree: TreeId) -> Report {
         tree,
         committed: EntryLog::new(alloc),
         order: EntryLog::new(alloc),
-        contents: PairList::new(alloc),
+        contents: StoredList::new(alloc),
         heads: 1,
         messages: 2,
     }
@@ -283,12 +297,40 @@ fn report(alloc: Global, tree: TreeId) -> Report {
 
 /// The report, as it is written.
 const REPORT: &str =
-    "report 1\ncommitted 2\n2 3 4 insert 6b 76\n2 3 5 delete 6c\norder 0\ncontents 2\n6b 76\n6c -\nleft 1 2";
+    "report 1\ncommitted 3\n2 3 4 insert 6b 76\n2 3 4 insert 6b 76 61\n2 3 5 delete 6c\norder 0\ncontents 3\n6b 76\n6c -\n6d - 61\nleft 1 2";
+
+/// A record of a leaf.
+fn stored(alloc: Global, key: &[u8], payload: &[u8], attr: Option<Blob>) -> Option<Stored> {
+    let Ok(key) = Blob::copy_of(alloc, key) else {
+        return None;
+    };
+    match Blob::copy_of(alloc, payload) {
+        Ok(payload) => Some(Stored { key, payload, attr }),
+        Err(_) => None,
+    }
+}
+
+fn add_stored(records: &mut StoredList, stored: Option<Stored>) -> bool {
+    match stored {
+        Some(stored) => records.push(stored).is_ok(),
+        None => false,
+    }
+}
+
+/// Adds the records k with v, l with no byte, and m with no byte and the attribute a.
+fn add_records(alloc: Global, records: &mut StoredList) -> bool {
+    let Ok(attr) = Blob::copy_of(alloc, b"a") else {
+        return false;
+    };
+    add_stored(records, stored(alloc, b"k", b"v", None))
+        && add_stored(records, stored(alloc, b"l", b"", None))
+        && add_stored(records, stored(alloc, b"m", b"", Some(attr)))
+}
 
 /// Whether a report of these entries and records is written so.
 fn is_report_written(alloc: Global, tree: TreeId) -> bool {
     let mut report = report(alloc, tree);
-    if !add_entries(alloc, &mut report.committed) || !add_pairs(alloc, &mut report.contents) {
+    if !add_entries(alloc, &mut report.committed) || !add_records(alloc, &mut report.contents) {
         return false;
     }
     is_written(alloc, Reply::Report(report), REPORT)

@@ -6,7 +6,6 @@ use Rattle.std.proofs.lemmas.Bool.{cases_lt}
 use Rattle.db_base.specs.Ids.{IsPage, IsClient}
 use Rattle.db_base.specs.declared.names.ObjName.{ObjName}
 use Rattle.db_base.specs.declared.names.ObjName.TheVariants as object
-use Rattle.db_base.specs.declared.pair.Pair.{Pair}
 use Rattle.db_base.specs.declared.trouble.Trouble.{Trouble}
 use Rattle.db_base.specs.declared.trouble.Trouble.TheVariants as trouble
 use Rattle.db_base.specs.declared.wish.Wish.TheVariants.{Plain}
@@ -15,6 +14,7 @@ use Rattle.cloud_trait.specs.State.{CloudState, newest, newest_of, never_taken}
 use Rattle.cloud_trait.specs.declared.state.Version.{Version}
 use Rattle.report_types.specs.declared.entry.Entry.{Entry}
 use Rattle.report_types.specs.declared.report.Report.{Report}
+use Rattle.report_types.specs.declared.stored.Stored.{Stored}
 use Rattle.tree_meaning.specs.Chain.{Walked}
 use Rattle.world_audit.specs.Counts.{heads_upto, open_count, head_in, IsNextPage}
 use Rattle.world_audit.specs.Look.{Looked}
@@ -85,7 +85,7 @@ shown_behind before mid object Holds behind h = record { told = λ s e. h.told s
 -- ---- leaves
 
 -- a walk over pages that it looked at comes to a page, with what it is to find there and the records so far
-pub record Reaches (before : Seen) (tree : ℕ) (pages : List ℕ) (page : ℕ) (low : List ℕ) (records : List Pair) : Type 0 where
+pub record Reaches (before : Seen) (tree : ℕ) (pages : List ℕ) (page : ℕ) (low : List ℕ) (records : List Stored) : Type 0 where
   pub looks : ℕ → Bytes
   pub told : (s : CloudState) → IsAsTold before s → Answers (object.Page tree) (Contains pages) looks s
   pub comes : (s : CloudState) → Answers (object.Page tree) (Contains pages) looks s → Comes s tree pages page low × Walked s tree page records
@@ -120,21 +120,21 @@ reaches_first before tree = record {
   comes = λ s a. (comes_first s tree, walk_first s tree);
 }
 
-module _ (before : Seen) (tree : ℕ) (pages : List ℕ) (page : ℕ) (low : List ℕ) (records : List Pair) (here : Reaches before tree pages page low records) where
+module _ (before : Seen) (tree : ℕ) (pages : List ℕ) (page : ℕ) (low : List ℕ) (records : List Stored) (here : Reaches before tree pages page low records) where
   -- a slip, or a page that was met
-  pub leaves_slip : (result : Result (List Pair) Trouble) (e : Trouble) → result ≡ Err e → (e ≡ trouble.Failed) ⊎ (e ≡ trouble.Memory)
+  pub leaves_slip : (result : Result (List Stored) Trouble) (e : Trouble) → result ≡ Err e → (e ≡ trouble.Failed) ⊎ (e ≡ trouble.Memory)
       → Shown before (object.Page tree) (LeavesFound tree result)
-  leaves_slip result e is slip = shown_always before (object.Page tree) (LeavesFound tree result) (λ s. subst (λ (r : Result (List Pair) Trouble). LeavesFound tree r s) (sym is) (on s slip))
+  leaves_slip result e is slip = shown_always before (object.Page tree) (LeavesFound tree result) (λ s. subst (λ (r : Result (List Stored) Trouble). LeavesFound tree r s) (sym is) (on s slip))
     where
       on : (s : CloudState) → (e ≡ trouble.Failed) ⊎ (e ≡ trouble.Memory) → SlipOr (ChainStops s tree e) e
       on s (inl failed) = inl failed
       on s (inr memory) = inr (inl memory)
 
-  pub leaves_loop : (result : Result (List Pair) Trouble) (e : Trouble) → result ≡ Err e → (e ≡ trouble.Memory) ⊎ ((e ≡ trouble.Loop page) × Contains pages page)
+  pub leaves_loop : (result : Result (List Stored) Trouble) (e : Trouble) → result ≡ Err e → (e ≡ trouble.Memory) ⊎ ((e ≡ trouble.Loop page) × Contains pages page)
       → Shown before (object.Page tree) (LeavesFound tree result)
   leaves_loop result e is (inl memory) = leaves_slip result e is (inr memory)
   leaves_loop result e is (inr loop) = shown_by before (object.Page tree) (Contains pages) here.looks (LeavesFound tree result) here.told
-      (λ s a. subst (λ (r : Result (List Pair) Trouble). LeavesFound tree r s) (sym is) (inr (inr (record {
+      (λ s a. subst (λ (r : Result (List Stored) Trouble). LeavesFound tree r s) (sym is) (inr (inr (record {
         pages = pages;
         page = page;
         low = low;
@@ -156,11 +156,11 @@ module _ (before : Seen) (tree : ℕ) (pages : List ℕ) (page : ℕ) (low : Lis
         let c = here.comes s (answers_less (object.Page tree) (Contains pages) (Contains (pages ++ page ∷ [])) here.looks page bytes s (contains_more pages page) first a) in
         (c.0, c.1, sym (answers_there (object.Page tree) (Contains (pages ++ page ∷ [])) here.looks page bytes s (contains_last pages page) a))
 
-    pub leaves_stop_here : (result : Result (List Pair) Trouble) (e : Trouble) → result ≡ Err e → (e ≡ trouble.Memory) ⊎ StopsWalk tree pages page low bytes e
+    pub leaves_stop_here : (result : Result (List Stored) Trouble) (e : Trouble) → result ≡ Err e → (e ≡ trouble.Memory) ⊎ StopsWalk tree pages page low bytes e
         → Shown before (object.Page tree) (LeavesFound tree result)
     leaves_stop_here result e is (inl memory) = leaves_slip result e is (inr memory)
     leaves_stop_here result e is (inr why) = shown_by before (object.Page tree) (Contains (pages ++ page ∷ [])) looks_on (LeavesFound tree result) told_on
-        (λ s a. let c = comes_here s a in subst (λ (r : Result (List Pair) Trouble). LeavesFound tree r s) (sym is) (inr (inr (record {
+        (λ s a. let c = comes_here s a in subst (λ (r : Result (List Stored) Trouble). LeavesFound tree r s) (sym is) (inr (inr (record {
           pages = pages;
           page = page;
           low = low;
@@ -168,15 +168,15 @@ module _ (before : Seen) (tree : ℕ) (pages : List ℕ) (page : ℕ) (low : Lis
           why = subst (λ (b : Bytes). StopsWalk tree pages page low b e) c.2 why;
         }))))
 
-    pub leaves_end : (result : Result (List Pair) Trouble) (high : List ℕ) (new : List Pair) (next : Option ℕ) → result ≡ Ok new → next ≡ None
+    pub leaves_end : (result : Result (List Stored) Trouble) (high : List ℕ) (new : List Stored) (next : Option ℕ) → result ≡ Ok new → next ≡ None
         → Adds bytes tree page records new next → Passes bytes tree page low high next → Shown before (object.Page tree) (LeavesFound tree result)
     leaves_end result high new next is none adds passes = shown_by before (object.Page tree) (Contains (pages ++ page ∷ [])) looks_on (LeavesFound tree result) told_on
-        (λ s a. let c = comes_here s a in subst (λ (r : Result (List Pair) Trouble). LeavesFound tree r s) (sym is) (
+        (λ s a. let c = comes_here s a in subst (λ (r : Result (List Stored) Trouble). LeavesFound tree r s) (sym is) (
           walk_ends s tree page next records new c.1 is_page none (subst (λ (b : Bytes). Adds b tree page records new next) c.2 adds),
           chain_ends s tree pages page low high next c.0 is_page first none (subst (λ (b : Bytes). Passes b tree page low high next) c.2 passes),
         ))
 
-    pub reaches_on : (more : List ℕ) (to : ℕ) (high : List ℕ) (new : List Pair) (next : Option ℕ) → next ≡ Some to → more ≡ pages ++ page ∷ []
+    pub reaches_on : (more : List ℕ) (to : ℕ) (high : List ℕ) (new : List Stored) (next : Option ℕ) → next ≡ Some to → more ≡ pages ++ page ∷ []
         → Adds bytes tree page records new next → Passes bytes tree page low high next → Reaches before tree more to high new
     reaches_on more to high new next some over adds passes = subst (λ (ps : List ℕ). Reaches before tree ps to high new) (sym over) (record {
       looks = looks_on;
@@ -384,7 +384,7 @@ module _ (tree : ℕ) (before : Seen) (result : Result Report Trouble) where
   finds_leaves e is leaves = finds tree before result (LeavesFound tree (Err e)) Any Any leaves (any object.Head) (any object.Tree)
       (λ s l h r. subst (IsReported s tree) (sym is) (leaves_stop s tree e l))
 
-  module _ (records : List Pair) (leaves : Shown before (object.Page tree) (LeavesFound tree (Ok records))) where
+  module _ (records : List Stored) (leaves : Shown before (object.Page tree) (LeavesFound tree (Ok records))) where
     pub finds_heads : (committed : List Entry) (e : Trouble) → result ≡ Err e → Shown before object.Head (HeadsFound tree committed (Err e)) → Finds tree before result
     finds_heads committed e is heads = finds tree before result (LeavesFound tree (Ok records)) (HeadsFound tree committed (Err e)) Any leaves heads (any object.Tree)
         (λ s l h r. subst (IsReported s tree) (sym is) (heads_stop s tree e l.1 h))

@@ -3,7 +3,7 @@ use Rattle.std.proofs.Common.{◌≡◌, ℕ, List, [], ◌∷◌, ◌++◌, ref
 use Rattle.std.specs.Prelude.{Option, Some, None}
 use Rattle.db_base.specs.Ids.{IsPage}
 use Rattle.db_base.specs.declared.names.ObjName.TheVariants.{Page}
-use Rattle.db_base.specs.declared.pair.Pair.{Pair}
+use Rattle.report_types.specs.declared.stored.Stored.{Stored}
 use Rattle.cloud_trait.specs.State.{CloudState, newest}
 use Rattle.tree_meaning.specs.Chain.{Leads, Walked}
 use Rattle.tree_meaning.proofs.ChainLemmas.{leads_on, records_on, right_page, no_page}
@@ -12,7 +12,7 @@ use Rattle.world_audit.specs.Walk.{Adds}
 pub walk_first : (s : CloudState) (tree : ℕ) → Walked s tree 1 []
 walk_first s tree = record { leaves = []; lead = refl; are = refl }
 
-pub walk_on : (s : CloudState) (tree page to : ℕ) (next : Option ℕ) (old new : List Pair)
+pub walk_on : (s : CloudState) (tree page to : ℕ) (next : Option ℕ) (old new : List Stored)
     → Walked s tree page old → IsPage page → next ≡ Some to → Adds (newest s (Page tree page)) tree page old new next → Walked s tree to new
 walk_on s tree page to next old new w is_page e a = record {
   leaves = w.leaves ++ a.leaf ∷ [];
@@ -20,7 +20,7 @@ walk_on s tree page to next old new w is_page e a = record {
   are = records_on w.leaves a.leaf old new w.are a.added;
 }
 
-pub walk_ends : (s : CloudState) (tree page : ℕ) (next : Option ℕ) (old new : List Pair)
+pub walk_ends : (s : CloudState) (tree page : ℕ) (next : Option ℕ) (old new : List Stored)
     → Walked s tree page old → IsPage page → next ≡ None → Adds (newest s (Page tree page)) tree page old new next → Walked s tree 0 new
 walk_ends s tree page next old new w is_page e a = record {
   leaves = w.leaves ++ a.leaf ∷ [];

@@ -1,12 +1,12 @@
 -- What a report found, by the answers of its looks.
 use Rattle.std.specs.Prelude.{ℕ, ◌≡◌, ◌⊎◌, List, Option, Some, None, Result, Ok, Err}
 use Rattle.db_base.specs.declared.names.ObjName.{ObjName}
-use Rattle.db_base.specs.declared.pair.Pair.{Pair}
 use Rattle.db_base.specs.declared.trouble.Trouble.{Trouble}
 use Rattle.cloud_trait.specs.Seen.{Seen, Showing}
 use Rattle.cloud_trait.specs.State.{CloudState, newest}
 use Rattle.report_types.specs.declared.entry.Entry.{Entry}
 use Rattle.report_types.specs.declared.report.Report.{Report}
+use Rattle.report_types.specs.declared.stored.Stored.{Stored}
 use Rattle.tree_meaning.specs.Chain.{Walked}
 use Rattle.world_audit.specs.Counts.{heads_upto}
 use Rattle.world_audit.specs.Stop.{SlipOr, ChainStops, ChainIsWhole, HeadStops, AllHeadsRead, RootStops, RootReads, Stopped}
@@ -27,7 +27,7 @@ pub record Shown (before : Seen) (object : ℕ → ObjName) (Holds : CloudState 
   pub shown : (s : CloudState) → ((number : ℕ) → newest s (object number) ≡ looks number) → Holds s
 
 -- what looks at leaves find: the records of a whole chain, or why it is none
-abbrev pub LeavesFound : ℕ → Result (List Pair) Trouble → CloudState → Type 0
+abbrev pub LeavesFound : ℕ → Result (List Stored) Trouble → CloudState → Type 0
 LeavesFound tree (Ok records) s = Walked s tree 0 records × ChainIsWhole s tree
 LeavesFound tree (Err trouble) s = SlipOr (ChainStops s tree trouble) trouble
 

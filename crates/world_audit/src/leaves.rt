@@ -2,11 +2,12 @@
 
 ghost use Rattle.std.specs.Prelude.{◌≡◌, ℕ, [], ◌∷◌, ◌++◌, ◌⊎◌, map, List, Some, IfSome, IfOk, IfErr, OnOk};
 ghost use Rattle.std.specs.List.{Contains};
+ghost use Rattle.std.specs.Option.{option_copied};
 ghost use Rattle.db_base.specs.Ids.{IsPage};
 ghost use Rattle.db_base.specs.declared.names.ObjName.TheVariants.{Page};
 ghost use Rattle.leaf_view.specs.Fits.{IsHigh};
 ghost use Rattle.world_audit.specs.Look.{Looked, FailsDark};
-ghost use Rattle.tree_meaning.specs.Chain.{IsReadAs, pair_of};
+ghost use Rattle.tree_meaning.specs.Chain.{IsReadAs, stored_of};
 ghost use Rattle.world_audit.specs.Walk.{Adds};
 ghost use Rattle.world_audit.specs.Stop.{StopsWalk, MayStop, Passes};
 ghost use Rattle.world_audit.specs.Finding.{Shown, LeavesFound};
@@ -16,10 +17,10 @@ use cloud_trait::cloud::Bench;
 use db_base::blob::Blob;
 use db_base::ids::{PageId, TreeId};
 use db_base::names::{ObjName, Place};
-use db_base::pair::Pair;
 use db_base::trouble::Trouble;
 use leaf_view::{LeafView, Records};
-use report_types::pair_list::PairList;
+use report_types::stored::Stored;
+use report_types::stored_list::StoredList;
 use std::alloc::Global;
 
 /// The leaf that the newest version of a page spells.
@@ -72,34 +73,51 @@ fn check_low(alloc: Global, page: PageId, expected: &[u8], low: &[u8]) -> Result
     })
 }
 
+/// A copy of the bytes, where there are some. Fails for memory alone.
+fn copy_of_some(alloc: Global, bytes: Option<&[u8]>) -> Result<Option<Blob>, Trouble>
+    ensures ok { IfOk result (λ b. b ≡ option_copied bytes) }
+    ensures memory { IfErr result (λ e. e ≡ Trouble.Memory) }
+{
+    match bytes {
+        Some(bytes) => Ok(Some(copy_of(alloc, bytes)?)),
+        None => Ok(None),
+    }
+}
+
 /// Adds a record. Fails for memory alone.
 fn add_record(
     alloc: Global,
-    contents: &mut PairList,
+    contents: &mut StoredList,
     key: &[u8],
     payload: &[u8],
+    attr: Option<&[u8]>,
 ) -> Result<(), Trouble>
-    ensures ok { OnOk result (contents.new ≡ contents.old ++ (record { key = key.now; payload = payload.now }) ∷ []) }
+    ensures ok { OnOk result (contents.new ≡ contents.old ++ (record { key = key.now; payload = payload.now; attr = option_copied attr }) ∷ []) }
     ensures memory { IfErr result (λ e. e ≡ Trouble.Memory) }
 {
-    let pair = Pair {
+    let stored = Stored {
         key: copy_of(alloc, key)?,
         payload: copy_of(alloc, payload)?,
+        attr: copy_of_some(alloc, attr)?,
     };
-    match contents.push(pair) {
+    match contents.push(stored) {
         Ok(()) => Ok(()),
         Err(_) => Err(Trouble::Memory),
     }
 }
 
 /// Adds records in their order. Fails for memory alone.
-fn add_records(alloc: Global, contents: &mut PairList, records: Records<'_>) -> Result<(), Trouble>
-    ensures ok { OnOk result (contents.new ≡ contents.old ++ map pair_of records.entry) }
+fn add_records(
+    alloc: Global,
+    contents: &mut StoredList,
+    records: Records<'_>,
+) -> Result<(), Trouble>
+    ensures ok { OnOk result (contents.new ≡ contents.old ++ map stored_of records.entry) }
     ensures memory { IfErr result (λ e. e ≡ Trouble.Memory) }
 {
     let mut left = records;
-    while let Some(((key, payload), rest)) = left.split() {
-        add_record(alloc, contents, key, payload)?;
+    while let Some(((key, payload, attr), rest)) = left.split() {
+        add_record(alloc, contents, key, payload, attr)?;
         left = rest;
     }
     Ok(())
@@ -110,7 +128,7 @@ fn add_records(alloc: Global, contents: &mut PairList, records: Records<'_>) -> 
 struct Walk {
     // the low key that it must have
     low: Blob,
-    contents: PairList,
+    contents: StoredList,
 }
 
 /// Notes the page as visited: Loop where it was, and Memory.
@@ -168,7 +186,7 @@ pub(crate) fn contents<C: Bench>(
     alloc: Global,
     cloud: &mut C,
     tree: TreeId,
-) -> Result<PairList, Trouble>
+) -> Result<StoredList, Trouble>
     ensures looked { Looked (C.seen cloud.old) (C.seen cloud.new) }
     ensures failed { FailsDark result (C.seen cloud.old) (C.seen cloud.new) }
     ensures found { Shown (C.seen cloud.old) (Page tree) (LeavesFound tree result) }
@@ -178,7 +196,7 @@ pub(crate) fn contents<C: Bench>(
     let mut visited = Vec::new(alloc);
     let mut walk = Walk {
         low: Blob::new(alloc),
-        contents: PairList::new(alloc),
+        contents: StoredList::new(alloc),
     };
     loop {
         // Asked before the look, which may fail.

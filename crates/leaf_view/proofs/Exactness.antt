@@ -1,6 +1,6 @@
 -- The leaf's formats are exact.
-use Rattle.std.proofs.Common.{◌≡◌, ℕ, ◌<◌, ◌^◌, Bool, true, false, cond, eqb, List, Option, refl, lit<}
-use Rattle.byte_format.specs.Format.{Format, only_where, maybe, list_of}
+use Rattle.std.proofs.Common.{ℕ, Bool, true, false, cond, eqb, List, Option, refl, lit<}
+use Rattle.byte_format.specs.Format.{only_where, maybe}
 use Rattle.byte_format.specs.Whole.{IsExact}
 use Rattle.byte_format.proofs.Fields.{u8_exact, u64_exact, text8_exact, text16_exact}
 use Rattle.byte_format.proofs.Exact.{ruled_exact, then_exact, behind_exact, only_where_exact, seen_as_exact}
@@ -8,7 +8,7 @@ use Rattle.byte_format.proofs.Maybes.{maybe_exact}
 use Rattle.byte_format.proofs.Lists.{list_exact}
 use Rattle.byte_format.proofs.HighKeys.{high_key_exact}
 use Rattle.leaf_view.specs.declared.done.Done.{Done}
-use Rattle.leaf_view.specs.Leaf.{Entry, Head, Leaf, head_of, head_parts, leaf_head, done_of, done_parts, done_from, done_item, least_queue, least_client, entry_of, entry_parts, attr_text, attribute, key_stands, record_item, leaf_of, leaf_parts, leaf, plain_done, plain_entry}
+use Rattle.leaf_view.specs.Leaf.{Entry, head_of, head_parts, leaf_head, done_of, done_parts, done_from, done_item, least_queue, least_client, entry_of, entry_parts, attr_text, attribute, record_item, leaf_of, leaf_parts, leaf, plain_done, plain_entry}
 
 pub head_exact : IsExact leaf_head
 unfolding leaf_head
@@ -33,8 +33,8 @@ pub attribute_exact : (format : ℕ) → IsExact (attribute format)
 attribute_exact format = of (eqb format 2)
   where
     of : (b : Bool) → IsExact (cond b (maybe attr_text) (only_where false attr_text))
-    of true = maybe_exact _ (text8_exact 1 32 (lit< tt))
-    of false = only_where_exact _ _ (text8_exact 1 32 (lit< tt))
+    of true = maybe_exact attr_text (text8_exact 1 32 (lit< tt))
+    of false = only_where_exact false attr_text (text8_exact 1 32 (lit< tt))
 
 pub record_exact : (format : ℕ) (low : List ℕ) (high : Option (List ℕ)) (before : Option Entry) → IsExact (record_item format low high before)
 unfolding record_item

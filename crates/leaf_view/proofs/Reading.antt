@@ -1,23 +1,22 @@
 -- Reading a leaf step by step.
-use Rattle.std.proofs.Common.{◌≡◌, ℕ, ◌<◌, ◌≤◌, Bool, true, false, eqb, List, [], ◌∷◌, length, Option, Some, None, Result, Ok, Err, refl, sym, ap, subst, ◌∙◌, arith, inl}
-use Rattle.std.specs.Prelude.{◌&&◌, IfOk}
-use Rattle.std.specs.List.{AllByRecursion}
+use Rattle.std.proofs.Common.{◌≡◌, ℕ, Bool, true, false, eqb, List, [], ◌∷◌, length, Option, None, Result, Ok, Err, refl, sym, ap, subst, ◌∙◌, arith, inl}
+use Rattle.std.specs.Prelude.{◌&&◌}
 use Rattle.std.proofs.lemmas.Bool.{and_parts, and_from}
-use Rattle.byte_format.specs.Format.{Reading, ◌>>=◌, Format, greatest, in_range, list_at, more_at}
-use Rattle.byte_format.specs.Whole.{whole, IsSpelling, IsBytes, IsExact}
+use Rattle.byte_format.specs.Format.{Reading, Format, greatest, in_range, list_at, more_at}
+use Rattle.byte_format.specs.Whole.{whole, IsSpelling, IsBytes}
 use Rattle.byte_format.specs.Gives.{behind_it}
-use Rattle.byte_format.specs.Plain.{items_in, IsListed}
+use Rattle.byte_format.specs.Plain.{items_in}
 use Rattle.byte_format.proofs.Steps.{ok_is, never_err, IsBytes-along, IsBytes-behind}
 use Rattle.byte_format.proofs.Lists.{IsWider, list_at-wider, list_exact}
 use Rattle.byte_format.proofs.Wholes.{whole_found, whole_only}
 use Rattle.byte_format.proofs.Plain.{listed_of}
 use Rattle.leaf_view.specs.declared.done.Done.{Done}
-use Rattle.leaf_view.specs.Leaf.{Entry, Head, Leaf, leaf_head, done_item, record_item, leaf, leaf_of, attribute, plain_done, plain_entry, least_queue, least_client, key_stands}
+use Rattle.leaf_view.specs.Leaf.{Entry, Head, Leaf, leaf_head, done_item, record_item, leaf, leaf_of, attribute, plain_done, plain_entry, key_stands}
 use Rattle.leaf_view.specs.Fits.{IsWellFormed}
 use Rattle.leaf_view.specs.Lookup.{empty_leaf}
 use Rattle.leaf_view.specs.Sound.{leaf_with, IsSound}
 use Rattle.leaf_view.proofs.Exactness.{head_exact, done_exact, record_exact, leaf_exact, plain_done_exact, plain_entry_exact}
-use Rattle.leaf_view.proofs.Split.{range_is, range_from, dones_split, leaf_fits}
+use Rattle.leaf_view.proofs.Split.{range_from, dones_split, leaf_fits}
 
 -- ---- the items without their ties fit too
 

@@ -1,10 +1,9 @@
 -- That a leaf fits is a list of independent facts.
-use Rattle.std.proofs.Common.{◌≡◌, ℕ, zero, suc, ◌+◌, ◌<◌, ◌≤◌, Bool, true, false, cond, eqb, List, [], ◌∷◌, length, Option, Some, None, refl, sym, ap, subst, ◌∙◌, arith, inl, inr}
-use Rattle.std.specs.Prelude.{◌&&◌, ◌||◌, not, nat_lt, nat_le, IsTrue, IfSome}
+use Rattle.std.proofs.Common.{◌≡◌, ℕ, zero, suc, ◌+◌, ◌<◌, ◌≤◌, Bool, true, false, cond, eqb, List, [], ◌∷◌, length, Option, Some, None, refl, sym, ap, subst, arith, inl, inr}
+use Rattle.std.specs.Prelude.{◌&&◌, not, nat_lt, nat_le, IsTrue, IfSome}
 use Rattle.std.specs.List.{AllByRecursion}
-use Rattle.std.proofs.lemmas.Bool.{and_parts, and_from, or_cases, or_left, or_right, leb-true, le-leb, eqb-true, eqb-false, eq-eqb, ltb-true, lt-ltb, cases_lt, cases_order, ne_eqb}
-use Rattle.db_base.specs.Key.{IsKey, IsAttr}
-use Rattle.db_base.specs.Ids.{IsClient}
+use Rattle.std.proofs.lemmas.Bool.{and_parts, and_from, or_cases, or_left, or_right, leb-true, le-leb, eqb-true, eqb-false, ltb-true, lt-ltb}
+use Rattle.db_base.specs.Key.{IsAttr}
 use Rattle.byte_format.specs.Format.{Format, greatest, in_range, only_where, maybe, list_fits, option_fits}
 use Rattle.byte_format.specs.Order.{bytes_below, below_bound}
 use Rattle.byte_format.specs.HighKey.{key_above, high_key}
@@ -217,7 +216,7 @@ pub leaf_fits : (l : Leaf) → leaf.fits l ≡ true → IsVersion l.version × I
 unfolding leaf leaf_head
 leaf_fits l h =
     let p = and_parts (in_range 1 2 l.format && (in_range 1 greatest l.version && (in_range 0 64 (length l.low) && (in_range 0 greatest l.right && (high_key l.low l.right).fits l.high))))
-        (list_fits true done_item None l.done && list_fits true (record_item l.format l.low l.high) None l.records) h in
+    (list_fits true done_item None l.done && list_fits true (record_item l.format l.low l.high) None l.records) h in
     let f = and_parts (in_range 1 2 l.format) (in_range 1 greatest l.version && (in_range 0 64 (length l.low) && (in_range 0 greatest l.right && (high_key l.low l.right).fits l.high))) p.0 in
     let v = and_parts (in_range 1 greatest l.version) (in_range 0 64 (length l.low) && (in_range 0 greatest l.right && (high_key l.low l.right).fits l.high)) f.1 in
     let w = and_parts (in_range 0 64 (length l.low)) (in_range 0 greatest l.right && (high_key l.low l.right).fits l.high) v.1 in

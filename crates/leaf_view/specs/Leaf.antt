@@ -1,7 +1,7 @@
 -- Leaves, and how they are spelled.
-use Rattle.std.specs.Prelude.{◌≡◌, ℕ, ◌+◌, Bool, true, false, not, ◌&&◌, List, length, Option, Some, None, ◌==◌, if◌then◌else◌}
+use Rattle.std.specs.Prelude.{ℕ, ◌+◌, Bool, true, false, not, ◌&&◌, List, Option, Some, None, ◌==◌, if◌then◌else◌}
 use Rattle.std.specs.Int.{w8, w16, w64}
-use Rattle.byte_format.specs.Format.{Reading, Format, greatest, number, text, ruled, ◌then◌, behind, only_where, maybe, seen_as, list_of}
+use Rattle.byte_format.specs.Format.{Format, greatest, number, text, ruled, ◌then◌, behind, only_where, maybe, seen_as, list_of}
 use Rattle.byte_format.specs.Whole.{IsSpelling}
 use Rattle.byte_format.specs.Order.{bytes_below, below_bound}
 use Rattle.byte_format.specs.HighKey.{high_key}

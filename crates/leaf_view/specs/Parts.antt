@@ -1,7 +1,7 @@
 -- Where the parts of a leaf lie.
-use Rattle.std.specs.Prelude.{◌≡◌, ℕ, List, ◌++◌, Option, IfSome}
+use Rattle.std.specs.Prelude.{◌≡◌, ℕ, List, ◌++◌, IfSome}
 use Rattle.std.specs.List.{AllByRecursion}
-use Rattle.leaf_view.specs.Leaf.{Entry, Leaf}
+use Rattle.leaf_view.specs.Leaf.{Leaf}
 
 -- part is a piece of bytes
 abbrev pub LiesIn : List ℕ → List ℕ → Type 0

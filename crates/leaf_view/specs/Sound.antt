@@ -1,5 +1,5 @@
 -- What a view of a leaf keeps.
-use Rattle.std.specs.Prelude.{ℕ, List, Option}
+use Rattle.std.specs.Prelude.{ℕ, List}
 use Rattle.byte_format.specs.Plain.{items_in, IsListed}
 use Rattle.leaf_view.specs.Leaf.{Head, Leaf, plain_done, plain_entry}
 use Rattle.leaf_view.specs.Fits.{IsWellFormed}

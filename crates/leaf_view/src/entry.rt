@@ -28,12 +28,8 @@ impl<'a> Model for EntryView<'a> {
 }
 
 impl<'a> EntryView<'a> {
-    pub(crate) fn new(
-        key: &'a [u8],
-        payload: &'a [u8],
-        attr: Option<&'a [u8]>,
-    ) -> EntryView<'a>
-        ensures { result ≡ entry_of (key.now, (payload.now, option_copied attr)) }
+    pub(crate) fn new(key: &'a [u8], payload: &'a [u8], attr: Option<&'a [u8]>) -> EntryView<'a>
+        ensures { result ≡ entry_of (key.now, (payload.now, option_copied attr.entry)) }
     {
         EntryView { key, payload, attr }
     }

@@ -73,7 +73,11 @@ fn is_in_order(alloc: Global, bytes: &[u8]) -> bool {
 
 /// Whether the bytes are in order up to the field with which these last ones begin.
 fn is_refused_behind(alloc: Global, bytes: &[u8], left: usize) -> bool {
-    match bytes.len().checked_sub(left).and_then(|place| bytes.get(..place)) {
+    match bytes
+        .len()
+        .checked_sub(left)
+        .and_then(|place| bytes.get(..place))
+    {
         Some(front) => is_in_order(alloc, front),
         None => false,
     }

@@ -1,6 +1,6 @@
 use crate::refusals::{Reads, refuses_changes, refuses_cuts};
-use db_base::blob::Blob;
 use db_base::attr::Attr;
+use db_base::blob::Blob;
 use db_base::change::Change;
 use db_base::ids::TreeId;
 use db_base::key::{Key, Payload};
@@ -93,7 +93,7 @@ const HEAD_CHANGES: [(usize, u8, u64); 23] = [
 /// A place in HEAD_WITH, the byte that stands there instead, and where that is refused.
 const HEAD_WITH_CHANGES: [(usize, u8, u64); 5] = [
     (56, 0, 56),
-    (56, 1, 64),
+    (56, 1, 63),
     (62, 0, 62),
     (62, 3, 62),
     (62, 33, 62),

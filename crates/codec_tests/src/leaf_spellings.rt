@@ -77,7 +77,10 @@ fn spelled(alloc: Global, view: &LeafView<'_>) -> Option<Vec<u8>> {
 
 /// Whether bytes are in order up to a place, where nothing or a field begins.
 fn is_in_order(bytes: &[u8], place: u64) -> bool {
-    let Some(front) = usize::try_from(place).ok().and_then(|place| bytes.get(..place)) else {
+    let Some(front) = usize::try_from(place)
+        .ok()
+        .and_then(|place| bytes.get(..place))
+    else {
         return false;
     };
     match LeafView::read(front) {
@@ -128,10 +131,22 @@ fn are_cut_short(bytes: &[u8]) -> bool {
 }
 
 #[test]
-fn any_byte_is_another(rt: HostRuntime) {
+fn any_byte_of_a_page_is_another(rt: HostRuntime) {
     assert!(rt; are_spellings(rt.alloc(), &PAGE));
+}
+
+#[test]
+fn any_byte_of_a_page_of_today_is_another(rt: HostRuntime) {
     assert!(rt; are_spellings(rt.alloc(), &PAGE_NOW));
+}
+
+#[test]
+fn any_byte_of_a_fenced_leaf_is_another(rt: HostRuntime) {
     assert!(rt; are_spellings(rt.alloc(), &FENCED));
+}
+
+#[test]
+fn any_byte_of_a_fenced_leaf_of_today_is_another(rt: HostRuntime) {
     assert!(rt; are_spellings(rt.alloc(), &FENCED_NOW));
 }
 

@@ -213,14 +213,13 @@ fn fences_are_read(rt: HostRuntime) {
 const RECORDS: [(&[u8], &[u8], Option<&[u8]>); 2] = [(b"b", b"", None), (b"c", b"x", None)];
 
 /// Those of the one of format 2.
-const RECORDS_NOW: [(&[u8], &[u8], Option<&[u8]>); 2] =
-    [(b"b", b"", None), (b"c", b"x", Some(b"yz"))];
+const RECORDS_NOW: [(&[u8], &[u8], Option<&[u8]>); 2] = [
+    (b"b", b"", None),
+    (b"c", b"x", Some(b"yz")),
+];
 
 /// Whether a leaf has these records, in their order, and no other.
-fn has_records(
-    fenced: &LeafView<'_>,
-    wanted: &[(&[u8], &[u8], Option<&[u8]>)],
-) -> bool {
+fn has_records(fenced: &LeafView<'_>, wanted: &[(&[u8], &[u8], Option<&[u8]>)]) -> bool {
     let mut count = 0;
     for record in fenced.records() {
         if wanted.get(count) != Some(&record) {

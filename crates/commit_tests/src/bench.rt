@@ -251,7 +251,12 @@ fn begun(alloc: Global, home: Home, changes: TxnBuffer) -> Result<CommitRun, Fai
 fn note_insert(alloc: Global, changes: &mut TxnBuffer, tree: u64, key: &[u8]) -> Result<(), Fail> {
     let key = Key::new(alloc, key)?;
     let payload = Payload::new(alloc, b"v")?;
-    changes.note(TreeId::new(tree)?, Change::Insert { key, payload })?;
+    let change = Change::Insert {
+        key,
+        payload,
+        attr: None,
+    };
+    changes.note(TreeId::new(tree)?, change)?;
     Ok(())
 }
 

@@ -1,14 +1,15 @@
--- What entries come to: the payload at each key of a tree after them, in their order, from no record.
+-- What entries come to: the value at each key of a tree after them, in their order, from no record.
 use Rattle.std.specs.Prelude.{ℕ, Bool, List, [], ◌∷◌, Option, None, ◌==◌, if◌then◌else◌, filter}
 use Rattle.std.specs.Ordering.{nat_cmp, is_eq}
 use Rattle.std.specs.Cmp.Lexicographic.{slice_cmp}
 use Rattle.db_base.specs.declared.change.Change.{Change}
 use Rattle.db_base.specs.Change.{key_of, act}
+use Rattle.db_base.specs.Value.{Value}
 use Rattle.report_types.specs.declared.entry.Entry.{Entry}
 
--- the payload at each key, where there is a record
+-- the value at each key, where there is a record
 abbrev pub Records : Type 0
-Records = List ℕ → Option (List ℕ)
+Records = List ℕ → Option Value
 
 -- no record
 abbrev pub no_records : Records

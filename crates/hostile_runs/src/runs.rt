@@ -46,7 +46,11 @@ fn insert(alloc: Global) -> Option<Change> {
     let (Some(key), Some(payload)) = (key(alloc, b'b'), payload(alloc)) else {
         return None;
     };
-    Some(Change::Insert { key, payload })
+    Some(Change::Insert {
+        key,
+        payload,
+        attr: None,
+    })
 }
 
 fn update(alloc: Global) -> Option<Change> {

@@ -14,6 +14,8 @@ mod commits;
 #[cfg(test)]
 mod ends;
 #[cfg(test)]
+mod old_store;
+#[cfg(test)]
 mod planted;
 #[cfg(test)]
 mod replays;

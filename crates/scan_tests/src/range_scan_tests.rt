@@ -12,7 +12,7 @@ leaf 2
 6a=61
 get page:1:3
 leaf 3
-6f=76
+6f=76 61
 70=77
 ";
 
@@ -41,7 +41,7 @@ leaf 2
 get page:1:3
 leaf 3
 6e=76
-6f=76
+6f=76 61
 get page:1:4
 leaf 4
 75=76

@@ -88,11 +88,15 @@ fn scan_of(alloc: Global, from: &[u8], to: &[u8]) -> Result<RangeScan, Fail> {
     Ok(RangeScan::new(alloc, tree()?, from, to))
 }
 
-/// An insert of a key.
+/// An insert of a key, without attribute.
 fn insert_of(alloc: Global, key: &[u8], payload: &[u8]) -> Result<Change, Fail> {
     let key = Key::new(alloc, key)?;
     let payload = Payload::new(alloc, payload)?;
-    Ok(Change::Insert { key, payload })
+    Ok(Change::Insert {
+        key,
+        payload,
+        attr: None,
+    })
 }
 
 impl Own {

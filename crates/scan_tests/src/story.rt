@@ -59,13 +59,19 @@ impl Story {
         self.line(text.as_str())
     }
 
-    /// Adds a pair.
-    fn pair(&mut self, key: &[u8], payload: &[u8]) -> Result<(), Fail> {
+    /// Adds a key, a payload and an attribute, where there is one.
+    fn pair(&mut self, key: &[u8], payload: &[u8], attr: Option<&[u8]>) -> Result<(), Fail> {
         let key = hexadecimal(self.alloc, key)?;
         self.text.push_str(key.as_str())?;
         self.text.push_str("=")?;
         let payload = hexadecimal(self.alloc, payload)?;
-        self.line(payload.as_str())
+        let Some(attr) = attr else {
+            return self.line(payload.as_str());
+        };
+        self.text.push_str(payload.as_str())?;
+        self.text.push_str(" ")?;
+        let attr = hexadecimal(self.alloc, attr)?;
+        self.line(attr.as_str())
     }
 
     /// Adds the pairs of a leaf.
@@ -75,7 +81,7 @@ impl Story {
             let Some((key, value)) = items.take_first() else {
                 return Ok(());
             };
-            self.pair(key, value.bytes())?;
+            self.pair(key, value.payload(), value.attr())?;
         }
         Err(Fail::from("more pairs than any tree of these tests has"))
     }

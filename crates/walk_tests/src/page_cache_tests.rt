@@ -69,10 +69,10 @@ impl Taking for PageCache {
     }
 }
 
-/// A leaf of a version, without fences, entries or records.
+/// A leaf of format 2 of a version, without fences, entries or records.
 fn leaf(version: u8) -> [u8; 21] {
     [
-        0x4c, 1, 0, 0, 0, 0, 0, 0, 0, version, 0, 0, 0, 0, 0, 0, 0, 0, 0, 0, 0,
+        0x4c, 2, 0, 0, 0, 0, 0, 0, 0, version, 0, 0, 0, 0, 0, 0, 0, 0, 0, 0, 0,
     ]
 }
 

@@ -17,8 +17,10 @@ pub(crate) enum Step<'a> {
     GetsVersion(u64),
     /// The client's head from now on.
     HasHead(&'a [u8]),
-    /// The session notes an insert of a key with a payload.
+    /// The session notes an insert of a key with a payload, and no attribute.
     Notes(&'a [u8], &'a [u8]),
+    /// The session notes an update of a key with a payload.
+    Updates(&'a [u8], &'a [u8]),
     /// A walk to a key, to the left end without one, over what is kept.
     Walks(&'a [u8]),
     /// The same, which gets the tree object anew.
@@ -35,6 +37,9 @@ pub(crate) trait Reader {
     /// Notes an insert of its own.
     fn note(&mut self, key: &[u8], payload: &[u8]) -> Result<(), Fail>;
 
+    /// Notes an update of its own.
+    fn update(&mut self, key: &[u8], payload: &[u8]) -> Result<(), Fail>;
+
     /// A walk: its calls, and the leaf at which it ended or its trouble.
     fn walk<C: Cloud>(
         &mut self,
@@ -44,7 +49,7 @@ pub(crate) trait Reader {
         fresh: bool,
     ) -> Result<(), Fail>;
 
-    /// A read of a key: its calls, and then the leaf and the payload.
+    /// A read of a key: its calls, and then the leaf and the value.
     fn read<C: Cloud>(&mut self, cloud: &mut C, story: &mut Story, key: &[u8]) -> Result<(), Fail>;
 }
 
@@ -73,6 +78,7 @@ fn play_step<R: Reader, C: Bench>(
         Step::GetsVersion(number) => wish(cloud, Wish::Old(number)),
         Step::HasHead(bytes) => reader.has_head(bytes),
         Step::Notes(key, payload) => reader.note(key, payload),
+        Step::Updates(key, payload) => reader.update(key, payload),
         Step::Walks(to) => reader.walk(cloud, story, to, false),
         Step::WalksAnew(to) => reader.walk(cloud, story, to, true),
         Step::Reads(key) => reader.read(cloud, story, key),

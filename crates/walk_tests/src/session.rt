@@ -104,11 +104,22 @@ fn read_of(alloc: Global, key: &[u8]) -> Result<RecordRead, Fail> {
     Ok(RecordRead::new(alloc, tree()?, key))
 }
 
-/// An insert of a key.
+/// An insert of a key, without attribute.
 fn insert_of(alloc: Global, key: &[u8], payload: &[u8]) -> Result<Change, Fail> {
     let key = Key::new(alloc, key)?;
     let payload = Payload::new(alloc, payload)?;
-    Ok(Change::Insert { key, payload })
+    Ok(Change::Insert {
+        key,
+        payload,
+        attr: None,
+    })
+}
+
+/// An update of a key.
+fn update_of(alloc: Global, key: &[u8], payload: &[u8]) -> Result<Change, Fail> {
+    let key = Key::new(alloc, key)?;
+    let payload = Payload::new(alloc, payload)?;
+    Ok(Change::Update { key, payload })
 }
 
 impl Own {
@@ -132,6 +143,12 @@ impl Reader for Session {
 
     fn note(&mut self, key: &[u8], payload: &[u8]) -> Result<(), Fail> {
         let change = insert_of(self.alloc, key, payload)?;
+        self.own.buffer.note(tree()?, change)?;
+        Ok(())
+    }
+
+    fn update(&mut self, key: &[u8], payload: &[u8]) -> Result<(), Fail> {
+        let change = update_of(self.alloc, key, payload)?;
         self.own.buffer.note(tree()?, change)?;
         Ok(())
     }

@@ -47,10 +47,16 @@ impl Story {
         self.line(text.as_str())
     }
 
-    /// Adds bytes in hexadecimal.
-    fn bytes(&mut self, bytes: &[u8]) -> Result<(), Fail> {
-        let text = hexadecimal(self.alloc, bytes)?;
-        self.line(text.as_str())
+    /// Adds a payload and an attribute, where there is one, in hexadecimal.
+    fn parts(&mut self, payload: &[u8], attr: Option<&[u8]>) -> Result<(), Fail> {
+        let payload = hexadecimal(self.alloc, payload)?;
+        let Some(attr) = attr else {
+            return self.line(payload.as_str());
+        };
+        self.text.push_str(payload.as_str())?;
+        self.text.push_str(" ")?;
+        let attr = hexadecimal(self.alloc, attr)?;
+        self.line(attr.as_str())
     }
 
     /// Adds a call.
@@ -75,10 +81,10 @@ impl Story {
         Ok(true)
     }
 
-    /// Adds the payload that was read.
+    /// Adds the value that was read.
     pub(crate) fn value(&mut self, value: Option<Value<'_>>) -> Result<(), Fail> {
         match value {
-            Some(value) => self.bytes(value.bytes()),
+            Some(value) => self.parts(value.payload(), value.attr()),
             None => self.line("none"),
         }
     }

@@ -18,7 +18,10 @@ use leaf_view::{DoneList, LeafView, Records};
 use std::alloc::{AllocError, Global};
 
 /// The first record, where `more` of the first ones are left, and those behind it.
-fn next_of<'a>(records: Records<'a>, more: usize) -> Option<((&'a [u8], &'a [u8], Option<&'a [u8]>), Records<'a>)>
+fn next_of<'a>(
+    records: Records<'a>,
+    more: usize,
+) -> Option<((&'a [u8], &'a [u8], Option<&'a [u8]>), Records<'a>)>
     ensures { MatchOption result (TakesNone more records.entry) (λ x. TakesOne more records.entry (shown x.0) x.1) }
 {
     if more == 0 {

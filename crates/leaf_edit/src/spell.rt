@@ -110,7 +110,7 @@ fn attr_len(attr: Option<&[u8]>) -> usize
 /// How many bytes a record has, with the byte that says that it is there.
 pub(crate) fn entry_len(key: &[u8], payload: &[u8], attr: Option<&[u8]>) -> usize
     requires { IsSized (shown (key, payload, attr)) }
-    ensures { result ≡ entry_size (shown (key, payload, attr.entry)) }
+    ensures { result ≡ entry_size (shown (key.entry, payload.entry, attr.entry)) }
 {
     5 + key.len() + payload.len() + attr_len(attr)
 }
@@ -134,7 +134,7 @@ fn add_attr(out: &mut Vec<u8>, attr: Option<&[u8]>)
 pub(crate) fn add_entry(out: &mut Vec<u8>, key: &[u8], payload: &[u8], attr: Option<&[u8]>)
     requires sized { IsSized (shown (key, payload, attr)) }
     requires room { vec_len out.old + entry_size (shown (key, payload, attr)) ≤ vec_capacity out.old }
-    ensures { Adds out.old out.new (entry_bytes (shown (key, payload, attr.entry))) }
+    ensures { Adds out.old out.new (entry_bytes (shown (key.entry, payload.entry, attr.entry))) }
 {
     add_u8(out, 1);
     add_text8(out, key);
@@ -169,9 +169,14 @@ pub(crate) fn try_add_done(out: &mut Vec<u8>, entry: &Done) -> Result<(), AllocE
 }
 
 /// Appends a record, with the byte that says that it is there.
-pub(crate) fn try_add_entry(out: &mut Vec<u8>, key: &[u8], payload: &[u8], attr: Option<&[u8]>) -> Result<(), AllocError>
+pub(crate) fn try_add_entry(
+    out: &mut Vec<u8>,
+    key: &[u8],
+    payload: &[u8],
+    attr: Option<&[u8]>,
+) -> Result<(), AllocError>
     requires { IsSized (shown (key, payload, attr)) }
-    ensures { OnOk result (out.new.items ≡ out.old.items ++ entry_bytes (shown (key, payload, attr.entry))) }
+    ensures { OnOk result (out.new.items ≡ out.old.items ++ entry_bytes (shown (key.entry, payload.entry, attr.entry))) }
 {
     out.reserve(entry_len(key, payload, attr))?;
     add_entry(out, key, payload, attr);

@@ -32,4 +32,4 @@ returns-in-Equal c =
     Steps (record { key = key_of c.args.x.now.rec.change; value = value } ∷ c.in-Some.behind) (c.args.x.now ∷ c.args.rest)
     (option_map valued c.folded-in-Equal.result.record) c.folded-in-Equal.result.records c.folded-in-Equal.result.changes in
     steps-equal _ (shown c.in-Some.record) _ _ _ _ _ _ _ _ (sym c.again.ensures ∙ c.in-Some.ensures) c.requires.split c.key_at.ensures.key
-    c.in-Equal.ensures (subst Q c.of.ensures c.folded-in-Equal.ensures)
+    c.in-Equal.ensures (subst Q c.with.ensures c.folded-in-Equal.ensures)

@@ -1,12 +1,11 @@
 -- The changes of one key, one after another.
-use Rattle.std.proofs.Common.{◌≡◌, ℕ, ◌≤◌, true, false, List, [], ◌∷◌, length, Option, Some, None, refl, sym, ap, subst, ◌∙◌, arith}
+use Rattle.std.proofs.Common.{◌≡◌, ℕ, ◌≤◌, true, false, List, [], ◌∷◌, length, Option, refl, sym, ap, ◌∙◌, arith}
 use Rattle.std.specs.Option.{IfSome}
 use Rattle.std.specs.declared.cmp.Ordering.{Ordering}
 use Rattle.std.specs.declared.cmp.Ordering.TheVariants.{Less, Equal, Greater}
 use Rattle.std.specs.Ordering.{is_lt, is_eq}
 use Rattle.db_base.specs.Change.{key_of, act}
 use Rattle.db_base.specs.Value.{Value}
-use Rattle.db_base.specs.declared.change.Change.{Change}
 use Rattle.byte_format.specs.Order.{bytes_cmp, bytes_below, bytes_same}
 use Rattle.byte_format.proofs.OrderLemmas.{same_is}
 use Rattle.leaf_view.specs.Leaf.{Entry}

@@ -88,10 +88,10 @@ fn key_at(x: &PuItem) -> &[u8]
 }
 
 /// A record that stays as it is.
-fn kept<'a>(record: (&'a [u8], &'a [u8], Option<&'a [u8]>)) -> (&'a [u8], Value<'a>)
-    ensures { valued result ≡ shown record.entry }
+fn kept<'a>(parts: (&'a [u8], &'a [u8], Option<&'a [u8]>)) -> (&'a [u8], Value<'a>)
+    ensures { valued result ≡ shown parts.entry }
 {
-    (record.0, Value::with(record.1, record.2))
+    (parts.0, Value::with(parts.1, parts.2))
 }
 
 /// The record of a key, where there is a value.

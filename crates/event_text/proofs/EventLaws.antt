@@ -1,6 +1,6 @@
 -- Lines on words: what is read is spelled so, and each spelling is read.
-use Rattle.std.proofs.Common.{◌≡◌, ◌≢◌, ℕ, ◌+◌, ◌^◌, ◌<◌, ◌≤◌, Bool, true, false, cond, ◌&&◌, List, [], ◌∷◌, ◌++◌, length, map, Option, Some, None, Result, Ok, Err, refl, sym, ap, ◌∙◌, subst, arith, ◌⊎◌, inl, inr, nat_le, IfOk, Bor, lit<}
-use Rattle.std.specs.Prelude.{codes, option_map, IsTrue, MatchOption, IfSome}
+use Rattle.std.proofs.Common.{◌≡◌, ◌≢◌, ℕ, ◌^◌, ◌<◌, Bool, true, false, cond, ◌&&◌, List, [], ◌∷◌, ◌++◌, length, map, Option, Some, None, Result, Ok, Err, refl, sym, ap, ◌∙◌, ◌⊎◌, inl, inr, nat_le, IfOk, Bor, lit<}
+use Rattle.std.specs.Prelude.{codes, option_map, MatchOption, IfSome}
 use Rattle.std.specs.Fmt.{decimal}
 use Rattle.std.specs.List.{find}
 use Rattle.std.specs.Str.{bytes_eq}
@@ -14,7 +14,7 @@ use Rattle.db_base.specs.declared.wish.Wish.TheVariants.{Plain, Fail, Lost, Hide
 use Rattle.words.specs.declared.fault.TextFault.{TextFault}
 use Rattle.words.specs.declared.fault.TextFault.TheVariants.{NotInGrammar, Memory}
 use Rattle.words.specs.Word.{hexadecimal, AreBytes, AreNumbers, Reads, IsReadTo}
-use Rattle.words.specs.Line.{◌>>=◌, parts_of, text_of, word_at, number_at, bytes_at, end_at, last_words, last_of, numbers_of, one_of, two_of, place_of, record_of, sum_of}
+use Rattle.words.specs.Line.{parts_of, text_of, word_at, number_at, bytes_at, end_at, last_words, last_of, numbers_of, one_of, two_of, place_of, record_of, sum_of}
 use Rattle.words.proofs.Shapes.{bind_some, number_at-takes, number_at-again, bytes_at-takes, bytes_at-again, end_at-takes, end_at-again, last_of-takes, last_of-again, numbers_of-takes, numbers_of-again, one_of-takes, one_of-again, two_of-takes, two_of-again, place_of-takes, place_of-again, record_of-takes, record_of-again, sum_of-takes, sum_of-again}
 use Rattle.words.proofs.Splitting.{all_lack, lacks, lacks-decimal, lacks-hexadecimal, parts_of-text_of, text_of-parts_of}
 use Rattle.event_text.specs.declared.event.Event.{Event}
@@ -22,7 +22,7 @@ use Rattle.event_text.specs.declared.event.Event.TheVariants as event
 use Rattle.event_text.specs.declared.keyword.Keyword.{Keyword}
 use Rattle.event_text.specs.declared.keyword.Keyword.TheVariants.{Open, Close, Renew, Insert, Update, Delete, Add, Commit, Abort, Read, Scan, Page, Tree, Step, Run, Crash, Wait, Report, Settle}
 use Rattle.event_text.specs.Keyword.{keyword_of, keyword_text, keywords, is_shell}
-use Rattle.event_text.specs.Event.{wish_words, crash_words, event_words, line_of, spelling, IsWish, IsInRange, IsEvent, IsShellLine}
+use Rattle.event_text.specs.Event.{wish_words, crash_words, event_words, line_of, IsWish, IsInRange, IsEvent, IsShellLine}
 use Rattle.event_text.specs.Reading.{alone, positions_of, wish_by, wish_of, done_of, insert_of, event_by, session_event, event_behind, event_of_words, shell_event_of_words}
 
 -- ---- steps

@@ -1,5 +1,5 @@
 -- The spelling of an event: a line of words parted by one space, ended by a line feed.
-use Rattle.std.specs.Prelude.{ℕ, ◌≡◌, ◌<◌, ◌^◌, Bool, true, false, List, [], ◌∷◌, ◌++◌, map, codes, Option, IfSome, IsTrue}
+use Rattle.std.specs.Prelude.{ℕ, ◌≡◌, ◌<◌, ◌^◌, Bool, true, false, List, [], ◌∷◌, ◌++◌, map, codes, IfSome, IsTrue}
 use Rattle.std.specs.Fmt.{decimal}
 use Rattle.db_base.specs.Wish.{ArePositions}
 use Rattle.db_base.specs.declared.wish.Wish.{Wish}

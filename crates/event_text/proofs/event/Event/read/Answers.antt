@@ -1,4 +1,3 @@
-use Rattle.std.proofs.Common.{ap, subst, List, ℕ}
 use Rattle.event_text.proofs.EventLaws.{read_found, read_only}
 use Rattle.event_text.proofs.event.Event.read.Goals as goal
 

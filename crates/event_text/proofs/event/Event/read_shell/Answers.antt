@@ -1,4 +1,3 @@
-use Rattle.std.proofs.Common.{ap, subst, List, ℕ}
 use Rattle.event_text.proofs.EventLaws.{shell_found, shell_only}
 use Rattle.event_text.proofs.event.Event.read_shell.Goals as goal
 

@@ -5,7 +5,7 @@ use crate::output::output;
 use std::io;
 
 /// Their names, the shortest walks first.
-const NAMES: [&str; 17] = [
+const NAMES: [&str; 21] = [
     "first-path",
     "two-transactions",
     "three-trees",
@@ -17,6 +17,10 @@ const NAMES: [&str; 17] = [
     "two-writers",
     "counter",
     "old-read",
+    "writer-works",
+    "reader-works",
+    "watchdog-works",
+    "owners-work",
     "two-hundred-keys",
     "late-update",
     "half-cut",

@@ -14,6 +14,8 @@ mod ends;
 #[cfg(test)]
 mod planted;
 #[cfg(test)]
+mod policies;
+#[cfg(test)]
 mod replays;
 #[cfg(test)]
 mod shells;

@@ -43,11 +43,11 @@ const READERS: [(&[u8], Status, &[u8]); 2] = [
         Status::Done,
         b"1 begun\n2 opened 1\n3 begun\n4 opened 1\n5 noted\n6 noted\n7 begun\n8 committed 1\n9 begun\n10 done 1 1 0\n11 noted\n12 begun\n13 committed 2\n14 begun\n15 value 76\n16 worked 0 0\n17 begun\n18 value 76\n19 worked 1 0\n20 begun\n21 value 77\n22 worked 0 0\n",
     ),
-    // A page that is absent was got too.
+    // Page 1 was got also where it is absent, and is a leaf then.
     (
         b"open 1 1\nrun 1\npolicy 1 reader 1\nread 1 1 6b\nrun 1\nwork 1\nwork 1\n",
         Status::Done,
-        b"1 begun\n2 opened 1\n3 noted\n4 begun\n5 none\n6 worked 0 1\n7 worked 0 1\n",
+        b"1 begun\n2 opened 1\n3 noted\n4 begun\n5 none\n6 worked 1 0\n7 worked 0 0\n",
     ),
 ];
 

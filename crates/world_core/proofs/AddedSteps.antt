@@ -50,7 +50,7 @@ pub adding_begins : (lines : List Line) (first : CloudState) (world : World) (se
 adding_begins lines first world seen w = record { rows = rows_begin lines first seen w.rows; acts = w.acts }
 
 -- where what is added within the line is of its kind, and the sessions stand as it says, it is one of the lines
-through : (lines : List Line) (line : Line) (first : CloudState) (world : World) (seen : Seen) → AddsTo (length lines + 1) lines first seen
+pub through : (lines : List Line) (line : Line) (first : CloudState) (world : World) (seen : Seen) → AddsTo (length lines + 1) lines first seen
     → AllActWith lines line (session_at world.sessions) → SettlerRests (session_at world.sessions) → WorldAdds (lines ++ line ∷ []) first world seen
 through lines line first world seen a acts rests = record {
   rows = record {

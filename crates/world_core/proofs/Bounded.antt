@@ -19,7 +19,7 @@ use Rattle.world_core.proofs.StandsLemmas.{IsUnderWay, way_begins, went_on}
 use Rattle.world_core.specs.declared.asked.Asked.{Asked}
 use Rattle.world_core.specs.declared.asked.Asked.TheVariants.{Session, Wait, Report, Settle}
 use Rattle.world_core.specs.declared.asked.Request.{Request}
-use Rattle.world_core.specs.declared.asked.Request.TheVariants.{Begin, Note, Abort, Step, Run, Crash}
+use Rattle.world_core.specs.declared.asked.Request.TheVariants.{Begin, Note, Abort, Policy, Work as WorksDue, Step, Run, Crash}
 use Rattle.world_core.specs.World.{World}
 use Rattle.world_core.specs.declared.world.WorldFault.{WorldFault}
 use Rattle.world_core.specs.Bounded.{steps_of, WereFew, WasSoon, StepsSoon, CameSoon, RanSoon, RunsSoon, CrashesSoon, DoesSoon, ServesSoon, AnswersSoon, MakesFewCalls}

@@ -64,7 +64,7 @@ use Rattle.world_core.specs.World.{World}
 use Rattle.world_core.specs.declared.asked.Asked.{Asked}
 use Rattle.world_core.specs.declared.asked.Asked.TheVariants.{Session, Wait, Report, Settle}
 use Rattle.world_core.specs.declared.asked.Request.{Request}
-use Rattle.world_core.specs.declared.asked.Request.TheVariants.{Begin, Note, Abort, Step, Run, Crash}
+use Rattle.world_core.specs.declared.asked.Request.TheVariants.{Begin, Note, Abort, Policy, Work as WorksDue, Step, Run, Crash}
 use Rattle.world_core.specs.declared.world.WorldFault.{WorldFault}
 
 pub state_is : (x y : CloudState) → Some x ≡ Some y → x ≡ y

@@ -45,7 +45,7 @@ use Rattle.client_work.specs.Session.{Acting, closed_session, Begins, BeginsWith
 use Rattle.world_core.specs.declared.asked.Asked.{Asked}
 use Rattle.world_core.specs.declared.asked.Asked.TheVariants.{Session, Wait, Report, Settle}
 use Rattle.world_core.specs.declared.asked.Request.{Request}
-use Rattle.world_core.specs.declared.asked.Request.TheVariants.{Begin, Note, Abort, Step, Run, Crash}
+use Rattle.world_core.specs.declared.asked.Request.TheVariants.{Begin, Note, Abort, Policy, Work as WorksDue, Step, Run, Crash}
 use Rattle.world_core.specs.declared.put.Put.{Put}
 use Rattle.world_core.specs.declared.world.WorldFault.{WorldFault}
 use Rattle.world_core.specs.Handled.{Answers, BeginsOp, BreaksOff, ComesTo, Crashes, Does, DropsChanges, FallsShort, Handled, MakesStep, NotesChange, Runs, RunsShort, Settles, SettlesOn, StepsLooked, StopsShort, Went, further, start}

@@ -11,6 +11,7 @@ pub mod GrowthLemmas
 pub mod Marks
 pub mod Behind
 pub mod StandsLemmas
+pub mod Workers
 pub mod BeginLemmas
 pub mod EveryLine
 pub mod Keeping

@@ -21,7 +21,7 @@ use Rattle.world_core.specs.declared.asked.Request.{Request}
 use Rattle.world_core.specs.declared.asked.Request.TheVariants.{Work, Step, Run, Crash}
 use Rattle.world_core.specs.World.{World}
 use Rattle.world_core.specs.declared.world.WorldFault.{WorldFault}
-use Rattle.world_core.specs.Handled.{StepsLooked, StepsTo, MakesStep, Went, start, further, ComesTo, RunsTo, Runs, Works, none, one, WorksThrough, Crashes, Does, Serves, Answers, Handled}
+use Rattle.world_core.specs.Handled.{StepsLooked, StepsTo, MakesStep, Went, start, further, ComesTo, RunsTo, Runs, Works, no_checkpoint, checkpoint_more, WorksThrough, Crashes, Does, Serves, Answers, Handled}
 use Rattle.world_core.specs.Stands.{WorldStands}
 
 -- ---- how many calls
@@ -72,8 +72,8 @@ RunsSoon lines n number before after old new result (inr (inr memory)) = Unit {0
 -- each checkpoint that is due makes its own
 abbrev pub EachSoon : (who : Caller) (before : Seen) (old : World) (queues : List QueueName) (done passed : ℕ) (after : Seen) (new : World)
     → Works who before old queues done passed after new → Type 0
-EachSoon who before old queues done passed after new none = Unit {0}
-EachSoon who before old queues done passed after new (one others kept left mid world queue answer _ _ works makes passes) =
+EachSoon who before old queues done passed after new no_checkpoint = Unit {0}
+EachSoon who before old queues done passed after new (checkpoint_more others kept left mid world queue answer _ _ works makes passes) =
     EachSoon who before old others kept left mid world works
     × WereFew (calls_of who mid after makes.begun new answer makes.comes) who Plain makes.comes.mid after makes.comes.world new (Ended answer) makes.comes.steps
 

@@ -18,7 +18,7 @@ use Rattle.world_core.specs.declared.asked.Request.{Request}
 use Rattle.world_core.specs.declared.asked.Request.TheVariants.{Begin, Note, Abort, Policy, Work, Step, Run, Crash}
 use Rattle.world_core.specs.World.{World}
 use Rattle.world_core.specs.declared.world.WorldFault.{WorldFault}
-use Rattle.world_core.specs.Handled.{StepsLooked, StepsTo, MakesStep, Went, start, further, ComesTo, RunsTo, Runs, SettlesOn, Settles, Works, none, one, WorksThrough, Crashes, Does, Serves, Answers, Handled}
+use Rattle.world_core.specs.Handled.{StepsLooked, StepsTo, MakesStep, Went, start, further, ComesTo, RunsTo, Runs, SettlesOn, Settles, Works, no_checkpoint, checkpoint_more, WorksThrough, Crashes, Does, Serves, Answers, Handled}
 
 -- what may be said of a step
 abbrev pub StepFact : Type 1
@@ -75,8 +75,8 @@ EachSettling Holds n before after old new result (inr memory) = Unit {0}
 -- of each step of the checkpoints that a session made
 abbrev pub EachWork : StepFact → (who : Caller) (before : Seen) (old : World) (queues : List QueueName) (done passed : ℕ) (after : Seen) (new : World)
     → Works who before old queues done passed after new → Type 0
-EachWork Holds who before old queues done passed after new none = Unit {0}
-EachWork Holds who before old queues done passed after new (one others kept left mid world queue answer _ _ works makes passes) =
+EachWork Holds who before old queues done passed after new no_checkpoint = Unit {0}
+EachWork Holds who before old queues done passed after new (checkpoint_more others kept left mid world queue answer _ _ works makes passes) =
     EachWork Holds who before old others kept left mid world works × EachCome Holds who mid after makes.begun new answer makes.comes
 
 abbrev pub EachThrough : StepFact → (n number : ℕ) (before after : Seen) (old new : World) (result : Result Reply WorldFault) → WorksThrough n number before after old new result → Type 0

@@ -401,8 +401,8 @@ pub record MakesOne (who : Caller) (queue : QueueName) (done : Bool) (before aft
 
 -- one checkpoint for each of these queues, in their order: how many were done, and how many passed over
 pub data Works (who : Caller) (before : Seen) (old : World) : List QueueName → ℕ → ℕ → Seen → World → Type 0 where
-  none : Works who before old [] 0 0 before old
-  one : (queues : List QueueName) (done passed : ℕ) (mid : Seen) (world : World) (queue : QueueName) (answer : Answer) (after : Seen) (new : World)
+  no_checkpoint : Works who before old [] 0 0 before old
+  checkpoint_more : (queues : List QueueName) (done passed : ℕ) (mid : Seen) (world : World) (queue : QueueName) (answer : Answer) (after : Seen) (new : World)
       → Works who before old queues done passed mid world → Checkpoints who queue mid after world new answer → IsPassable answer
       → Works who before old (queues ++ queue ∷ []) (done + done_by answer) (passed + passed_by answer) after new
 

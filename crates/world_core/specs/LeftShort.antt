@@ -10,7 +10,7 @@ use Rattle.client_work.specs.Session.{Acting, closed_session}
 use Rattle.world_core.specs.declared.asked.Asked.{Asked}
 use Rattle.world_core.specs.declared.asked.Asked.TheVariants.{Session, Wait, Report, Settle}
 use Rattle.world_core.specs.declared.asked.Request.{Request}
-use Rattle.world_core.specs.declared.asked.Request.TheVariants.{Begin, Note, Abort, Policy, Work, Step, Run, Crash}
+use Rattle.world_core.specs.declared.asked.Request.TheVariants.{Begin, Note, Abort, Policy, Work as WorksDue, Step, Run, Crash}
 use Rattle.world_core.specs.World.{World}
 use Rattle.world_core.specs.declared.world.WorldFault.{WorldFault}
 use Rattle.world_core.specs.Asked.{Asks}
@@ -33,7 +33,7 @@ pub record IsLeftShort (old new : Acting) : Type 0 where
 abbrev pub ServesShort : ℕ → Request → List Acting → List Acting → Type 0
 ServesShort number (Begin op) old new = Changes number IsLeftShort old new
 ServesShort number (Step wish) old new = Changes number IsLeftShort old new
-ServesShort number Work old new = Changes number IsLeftShort old new
+ServesShort number WorksDue old new = Changes number IsLeftShort old new
 ServesShort number (Policy role k) old new = ⊥
 ServesShort number Run old new = Changes number IsLeftShort old new
 ServesShort number (Crash done) old new = Changes number IsLeftShort old new

@@ -28,7 +28,8 @@ use Rattle.world_core.specs.Replying.{done_reply}
 use Rattle.world_core.specs.Sessions.{NotesIn, AbortsIn}
 use Rattle.world_core.specs.Handled.{NotesChange, DropsChanges, Does, Answers, Handled}
 use Rattle.world_core.specs.Added.{WorldAdds}
-use Rattle.world_core.proofs.AddedSteps.{adds_declined, adds_quietly, adds_step, adds_run, adds_crash, adds_settle, adds_wait, adds_report}
+use Rattle.world_core.proofs.WorkerRows.{adds_work}
+use Rattle.world_core.proofs.AddedSteps.{adds_policy, adds_declined, adds_quietly, adds_step, adds_run, adds_crash, adds_settle, adds_wait, adds_report}
 use Rattle.world_core.proofs.BeginLemmas.{IsOk, refused_is, opens, has_in_hand, commits, reads, scans, works_with}
 use Rattle.world_core.proofs.EveryLine.{does_own, asked_is}
 

@@ -55,6 +55,8 @@ use Rattle.session_facts.proofs.Sessions.Spending.{pages_in_tree}
 use Rattle.session_facts.proofs.Sessions.Untroubled.{IsAtRest, no_call_by, rested, untroubled_later, step_untroubled, answer_untroubled, answered_rests, closed_rests, at_rest, commit_tells, commit_well}
 use Rattle.tree_walk.specs.Walk.{sought}
 use Rattle.txn_buffer.specs.Noted.{Noted}
+use Rattle.ckpt_policy.specs.declared.role.Role.{Role}
+use Rattle.world_core.proofs.Workers.{open_rests, within_works}
 use Rattle.world_core.specs.declared.asked.Asked.{Asked}
 use Rattle.world_core.specs.declared.asked.Asked.TheVariants.{Session, Wait, Report, Settle}
 use Rattle.world_core.specs.declared.asked.Request.{Request}
@@ -65,7 +67,7 @@ use Rattle.world_core.specs.Asked.{change_noted, tree_noted, Asks, OfSession, Is
 use Rattle.world_core.specs.Calm.{StepIsCalm, spent_by, work_at, DoesWell, BeginsWell, RunsWell, StepsWell, SettlesWell, RepliesWell, AnswersWell}
 use Rattle.world_core.specs.EachStep.{EachWent, EachMade, EachRun, EachSettlingOn, EachSettling, EachDone, EachAsked}
 use Rattle.world_core.specs.Explained.{StepExplains}
-use Rattle.world_core.specs.Handled.{Declines, Has, BeginsOp, NotesChange, DropsChanges, StepsLooked, MakesStep, Went, start, further, Runs, SettlesOn, Settles, Crashes, Does, Answers}
+use Rattle.world_core.specs.Handled.{Declines, Has, BeginsOp, NotesChange, DropsChanges, StepsLooked, MakesStep, Went, start, further, Runs, SettlesOn, Settles, Crashes, Does, Answers, Policies, WorksThrough}
 use Rattle.world_core.specs.Replying.{RepliesTo, RepliesBegun, RepliesSettled, RepliesTurn, value_reply}
 use Rattle.world_core.specs.Sessions.{Changes, NotesIn, AbortsIn}
 use Rattle.world_core.specs.Sound.{IsSoundFor}

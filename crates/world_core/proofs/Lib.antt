@@ -27,6 +27,7 @@ pub mod Calm
 pub mod Settled
 pub mod Seeing
 pub mod AddedSteps
+pub mod WorkerRows
 pub mod AddedLines
 pub mod AddedShort
 pub mod BrokenOff

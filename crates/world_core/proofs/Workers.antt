@@ -119,48 +119,48 @@ within_changed Had Has k first Does old new c w goes = record {
     next = goes (subst (λ (a : Acting). Had a.work) was w.works)
 
 module _ (k : ℕ) (home : Home) (first : Sessions) where
-  abbrev pub Rests : World → Type 0
-  Rests world = IsWithin (IsIdle home) k first world
+  abbrev pub IsBetween : World → Type 0
+  IsBetween world = IsWithin (IsIdle home) k first world
 
-  abbrev pub Goes : World → Type 0
-  Goes world = IsWithin (HasCheckpoint home) k first world
+  abbrev pub IsInside : World → Type 0
+  IsInside world = IsWithin (HasCheckpoint home) k first world
 
-  pub within_begun : (queue : QueueName) (old begun : World) → Rests old → BeginsCheckpoint k queue old begun → Goes begun
+  pub within_begun : (queue : QueueName) (old begun : World) → IsBetween old → BeginsCheckpoint k queue old begun → IsInside begun
   within_begun queue old begun w b =
       within_changed (IsIdle home) (HasCheckpoint home) k first _ old begun b.session w (begun_has home queue b.session.before b.session.after b.pending b.session.does)
 
 module _ (who : Caller) (home : Home) (first : Sessions) where
-  pub within_more : (before after : Seen) (old new : World) → Goes who.session home first old → StepsLooked who Plain before after old new More → Goes who.session home first new
+  pub within_more : (before after : Seen) (old new : World) → IsInside who.session home first old → StepsLooked who Plain before after old new More → IsInside who.session home first new
   within_more before after old new w p =
       within_changed (HasCheckpoint home) (HasCheckpoint home) who.session first _ old new p.session w
       (λ has. (checkpoint_goes who p.under p.to home p.session.before.work p.session.after.work p.session.does.work has,
       p.session.does.buffer ∙ checkpoint_noted home p.session.before.work p.session.before.buffer has))
 
-  pub within_ended : (before after : Seen) (old new : World) (a : Answer) → IsNoWant a → Goes who.session home first old → StepsLooked who Plain before after old new (Ended a)
-      → Rests who.session home first new
+  pub within_ended : (before after : Seen) (old new : World) (a : Answer) → IsNoWant a → IsInside who.session home first old → StepsLooked who Plain before after old new (Ended a)
+      → IsBetween who.session home first new
   within_ended before after old new a some w p =
       within_changed (HasCheckpoint home) (IsIdle home) who.session first _ old new p.session w
       (λ has. (checkpoint_ends who p.under p.to home p.session.before.work p.session.after.work a p.session.does.work has some,
       p.session.does.buffer ∙ checkpoint_noted home p.session.before.work p.session.before.buffer has))
 
-  pub within_went : (before : Seen) (old : World) (after : Seen) (new : World) → Goes who.session home first old → Went who before old after new → Goes who.session home first new
+  pub within_went : (before : Seen) (old : World) (after : Seen) (new : World) → IsInside who.session home first old → Went who before old after new → IsInside who.session home first new
   within_went before old after new w start = w
   within_went before old after new w (further mid _ world _ went step) = within_more mid after world new (within_went before old mid world w went) step
 
-  pub within_made : (queue : QueueName) (before after : Seen) (old new : World) (a : Answer) → IsPassable a → Rests who.session home first old
-      → Checkpoints who queue before after old new a → Rests who.session home first new
+  pub within_made : (queue : QueueName) (before after : Seen) (old new : World) (a : Answer) → IsPassable a → IsBetween who.session home first old
+      → Checkpoints who queue before after old new a → IsBetween who.session home first new
   within_made queue before after old new a passes w c =
       within_ended c.comes.mid after c.comes.world new a (passable a passes)
       (within_went before c.begun c.comes.mid c.comes.world (within_begun who.session home first queue old c.begun w c.begins) c.comes.went) c.comes.steps
 
-  pub within_works : (before : Seen) (old : World) (queues : List QueueName) (done passed : ℕ) (after : Seen) (new : World) → Rests who.session home first old
-      → Works who before old queues done passed after new → Rests who.session home first new
+  pub within_works : (before : Seen) (old : World) (queues : List QueueName) (done passed : ℕ) (after : Seen) (new : World) → IsBetween who.session home first old
+      → Works who before old queues done passed after new → IsBetween who.session home first new
   within_works before old queues done passed after new w no_checkpoint = w
   within_works before old queues done passed after new w (checkpoint_more others kept left mid world queue a _ _ works makes passes) =
       within_made queue mid after world new a passes (within_works before old others kept left mid world w works) makes
 
 -- a session that is open, before its work
-pub open_rests : (k : ℕ) (world : World) → (open : IsOpen k world.sessions) → (home : Home) × (home.client ≡ open.client) × Rests k home (session_at world.sessions) world
+pub open_rests : (k : ℕ) (world : World) → (open : IsOpen k world.sessions) → (home : Home) × (home.client ≡ open.client) × IsBetween k home (session_at world.sessions) world
 open_rests k world open = (h.0, h.2, record { works = subst (λ (a : Acting). IsIdle h.0 a.work) (sym there) h.1; buffer = refl; others = λ m ne. refl })
   where
     h : (home : Home) × IsIdle home open.session.work × (home.client ≡ open.client)
@@ -205,7 +205,7 @@ holds_begun n lines k queue seen old begun h b = record { state = h.state; told 
         (holds_same n lines (at k b.session.after f) (session_at begun.sessions) old.audit old.blind h.state (changed_at k _ old.sessions begun.sessions b.session) own))
 
 module _ (n k : ℕ) (lines : List Line) (home : Home) (row : IsWorkersRow lines (worker k n)) where
-  module _ (first : Sessions) (before after : Seen) (old new : World) (turn : Turn Answer) (w : Goes k home first old) (h : HoldsWithin n lines old before)
+  module _ (first : Sessions) (before after : Seen) (old new : World) (turn : Turn Answer) (w : IsInside k home first old) (h : HoldsWithin n lines old before)
       (p : StepsLooked (worker k n) Plain before after old new turn) where
     abbrev held : Sessions
     held = session_at old.sessions
@@ -234,22 +234,22 @@ module _ (n k : ℕ) (lines : List Line) (home : Home) (row : IsWorkersRow lines
     }
 
   module _ (first : Sessions) where
-    pub holds_went : (before : Seen) (old : World) (after : Seen) (new : World) → Goes k home first old → HoldsWithin n lines old before → Went (worker k n) before old after new
+    pub holds_went : (before : Seen) (old : World) (after : Seen) (new : World) → IsInside k home first old → HoldsWithin n lines old before → Went (worker k n) before old after new
         → HoldsWithin n lines new after
     holds_went before old after new w h start = h
     holds_went before old after new w h (further mid _ world _ went step) =
         holds_step first mid after world new More (within_went (worker k n) home first before old mid world w went) (holds_went before old mid world w h went) step
 
-    pub holds_made : (queue : QueueName) (before after : Seen) (old new : World) (a : Answer) → Rests k home first old → HoldsWithin n lines old before
+    pub holds_made : (queue : QueueName) (before after : Seen) (old new : World) (a : Answer) → IsBetween k home first old → HoldsWithin n lines old before
         → Checkpoints (worker k n) queue before after old new a → HoldsWithin n lines new after
     holds_made queue before after old new a w h c =
         holds_step first c.comes.mid after c.comes.world new (Ended a) (within_went (worker k n) home first before c.begun c.comes.mid c.comes.world begun c.comes.went)
         (holds_went before c.begun c.comes.mid c.comes.world begun (holds_begun n lines k queue before old c.begun h c.begins) c.comes.went) c.comes.steps
       where
-        begun : Goes k home first c.begun
+        begun : IsInside k home first c.begun
         begun = within_begun k home first queue old c.begun w c.begins
 
-    pub holds_works : (before : Seen) (old : World) (queues : List QueueName) (done passed : ℕ) (after : Seen) (new : World) → Rests k home first old → HoldsWithin n lines old before
+    pub holds_works : (before : Seen) (old : World) (queues : List QueueName) (done passed : ℕ) (after : Seen) (new : World) → IsBetween k home first old → HoldsWithin n lines old before
         → Works (worker k n) before old queues done passed after new → HoldsWithin n lines new after
     holds_works before old queues done passed after new w h no_checkpoint = h
     holds_works before old queues done passed after new w h (checkpoint_more others kept left mid world queue a _ _ works makes passes) =
@@ -273,8 +273,8 @@ module _ (lines : List Line) (k n : ℕ) (before : Seen) (old : World) (t : Clou
   worker_rows r = worker_row lines r (worker k n) number
 
 -- each session stands behind it as before
-pub worker_acts : (lines : List Line) (k : ℕ) (home : Home) (old new : World) → AllAct lines (session_at old.sessions) → Rests k home (session_at old.sessions) old
-    → Rests k home (session_at old.sessions) new → AllAct lines (session_at new.sessions)
+pub worker_acts : (lines : List Line) (k : ℕ) (home : Home) (old new : World) → AllAct lines (session_at old.sessions) → IsBetween k home (session_at old.sessions) old
+    → IsBetween k home (session_at old.sessions) new → AllAct lines (session_at new.sessions)
 worker_acts lines k home old new acts first last m = on (cases_eq m k)
   where
     mine : WorksAs (Idle home) (standing lines k)
@@ -287,7 +287,7 @@ worker_acts lines k home old new acts first last m = on (cases_eq m k)
     on (inl e) = subst (λ j. ActsAs (session_at new.sessions j) (standing lines j)) (sym e) own
     on (inr ne) = subst (λ a. ActsAs a (standing lines m)) (sym (last.others m ne)) (acts m)
 
-pub worker_settler : (k : ℕ) (home : Home) (first : Sessions) (new : World) → 1 ≤ k → SettlerRests first → Rests k home first new → SettlerRests (session_at new.sessions)
+pub worker_settler : (k : ℕ) (home : Home) (first : Sessions) (new : World) → 1 ≤ k → SettlerRests first → IsBetween k home first new → SettlerRests (session_at new.sessions)
 worker_settler k home first new some rests last = last.others 0 (λ e. absurd (omega (arith, some, e))) ∙ rests
 
 pub worked_plain : (r : Reply) (done passed : ℕ) → (let result : Result Reply WorldFault = Ok r in result ≡ Ok (reply.Worked done passed)) → IsNoReport r
@@ -317,10 +317,10 @@ works_down lines k n r before after old new t at some told stands d = record {
     home : Home
     home = (open_rests k old d.open).0
 
-    rest : Rests k home first old
+    rest : IsBetween k home first old
     rest = (open_rests k old d.open).2
 
-    last : Rests k home first new
+    last : IsBetween k home first new
     last = within_works (worker k n) home first before old d.queues d.done d.passed after new rest d.works
 
     h : HoldsWithin n all new after

@@ -12,6 +12,7 @@ pub mod Marks
 pub mod Behind
 pub mod StandsLemmas
 pub mod Workers
+pub mod Checkpointing
 pub mod BeginLemmas
 pub mod EveryLine
 pub mod Keeping

@@ -426,11 +426,11 @@ pub record RefusesWork (number : ℕ) (before after : Seen) (old new : World) (r
   pub declines : Declines (refused.Rule rule) before after old new result
 
 -- these queues were gone through, and the reply counts
-pub record WorksOff (who : Caller) (queues : List QueueName) (before after : Seen) (old new : World) (reply : Reply) : Type 0 where
+pub record WorksOff (who : Caller) (queues : List QueueName) (before after : Seen) (old new : World) (r : Reply) : Type 0 where
   pub done : ℕ
   pub passed : ℕ
   pub works : Works who before old queues done passed after new
-  pub replies : reply ≡ reply.Worked done passed
+  pub replies : r ≡ reply.Worked done passed
 
 -- a session that is open makes the checkpoints that are due to it
 pub record WorksDown (n number : ℕ) (before after : Seen) (old new : World) (result : Result Reply WorldFault) : Type 0 where

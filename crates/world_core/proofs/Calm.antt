@@ -465,7 +465,7 @@ module _ (lines : List Line) (n k : ℕ) (before after : Seen) (old new : World)
       let rest = open_rests k old down.open in
       let last = within_works who rest.0 (session_at old.sessions) before old down.queues down.done down.passed after new rest.2 down.works in
       let is : r ≡ reply.Worked down.done down.passed = cc (down.replies) in
-      (rests_in k after new (subst IsAtRest (sym last.works) (at_rest (Idle rest.0) refl refl)), subst WorksWell (sym is) tt)
+      (rests_in k after new (subst IsAtRest (sym last.works) (at_rest (work.Idle rest.0) refl refl)), subst WorksWell (sym is) tt)
   through_well (inr (inr memory)) = absurd (no_memory r memory.0)
 
   notes_well : (tree : ℕ) (change : Change) → after ≡ before → Changes k (NotesChange tree change (Ok r)) old.sessions new.sessions → Behind

@@ -2,6 +2,7 @@
 use Rattle.std.proofs.Common.{◌≡◌, ◌≤◌, ◌⊎◌, ℕ, List, [], Some, Result, Ok, Err, length, refl, sym, ap, subst, ◌∙◌, inl, inr, Bool, true, false, arith}
 use Rattle.client_work.specs.Session.{Acting, StepsSession, Begins, closed_session, settling_session}
 use Rattle.client_work.specs.declared.answer.Answer.{Answer}
+use Rattle.client_work.specs.declared.answer.Begun.TheVariants.{Working}
 use Rattle.client_work.specs.declared.op.Op.{Op}
 use Rattle.client_work.specs.declared.op.Op.TheVariants as op
 use Rattle.cloud_facts.proofs.Book.Names.{at_same}

@@ -510,15 +510,15 @@ impl<S: SessionCalls> World<S> {
     }
 
     /// Passes over the trouble of a checkpoint; want of memory breaks the session off.
-    fn pass_over(&mut self, number: SessionNo, trouble: Trouble) -> Result<bool, WorldFault>
+    fn pass_over(&mut self, session: SessionNo, trouble: Trouble) -> Result<bool, WorldFault>
         ensures ok { OnOk result ((self.new ≡ self.old) × HasText trouble) }
         ensures passed { IfOk result (λ done. done ≡ false) }
-        ensures short { OnErr result (BreaksOff number self.old self.new × (trouble ≡ Trouble.Memory)) }
+        ensures short { OnErr result (BreaksOff session self.old self.new × (trouble ≡ Trouble.Memory)) }
     {
         match told(trouble) {
             Ok(_) => Ok(false),
             Err(fault) => {
-                self.break_off(number);
+                self.break_off(session);
                 Err(fault)
             }
         }

@@ -5,7 +5,6 @@ use Rattle.std.proofs.lemmas.List.Elements.{All-tail}
 use Rattle.db_base.specs.declared.wish.Wish.TheVariants.{Plain}
 use Rattle.std.proofs.lemmas.List.{get_or-set_same, length-set, set-set}
 use Rattle.std.proofs.lemmas.Option.{slice_get_within, slice_get-get_or}
-use Rattle.ckpt_policy.specs.Ledger.{IsNumber}
 use Rattle.ckpt_policy.specs.Notes.{IsPending}
 use Rattle.ckpt_policy.specs.declared.note.Note.{Note}
 use Rattle.client_work.specs.declared.answer.Answer.{Answer}
@@ -15,7 +14,8 @@ use Rattle.client_work.specs.declared.answer.Begun.TheVariants.{Working}
 use Rattle.client_work.specs.declared.work.Work.{Work}
 use Rattle.client_work.specs.declared.work.Work.TheVariants.{Idle, Paging, Folding}
 use Rattle.client_work.specs.Session.{Acting, Begins, BeginsWith, StepsAt, ask_of_work, open_client, rule_of}
-use Rattle.cloud_trait.specs.Ask.{Ask}
+use Rattle.ckpt_policy.specs.Ledger.{Account}
+use Rattle.cloud_trait.specs.Ask.{Ask, PutHeld}
 use Rattle.cloud_trait.specs.Caller.{Caller}
 use Rattle.cloud_trait.specs.Seen.{Seen}
 use Rattle.cloud_trait.specs.declared.turn.Turn.{Turn}
@@ -35,9 +35,11 @@ use Rattle.session_facts.specs.Sessions.Sessions.{Sessions}
 use Rattle.session_facts.proofs.CallKinds.{HasCheckpoint}
 use Rattle.session_facts.proofs.Lists.{session_there}
 use Rattle.session_notes.specs.declared.notebook.Notebook.{Notebook}
-use Rattle.session_notes.specs.Notebook.{ChangesBook, GoesOnBy, GoesOnEnded}
+use Rattle.session_notes.specs.Notebook.{ChangesBook, GoesOnBy, GoesOnEnded, LedgerTakes}
 use Rattle.world_core.specs.World.{World}
 use Rattle.world_core.specs.declared.world.WorldFault.{WorldFault}
+use Rattle.world_core.specs.declared.put.Put.{Put}
+use Rattle.world_core.specs.Put.{put_of, put_of_hand}
 use Rattle.world_core.specs.Sessions.{Changes, IsAtWork}
 use Rattle.world_core.specs.Handled.{BeginsCheckpoint, Checkpoints, ComesTo, FailsAt, IsOpen, IsPassable, IsShut, KnowsNoDue, MakesOne, NotesCall, NotesStep, StepsLooked, Works, no_checkpoint, checkpoint_more, WorksOff, WorksShort, as_one, checkpoint_of, done_by, is_done, note_of_hand, passed_by}
 use Rattle.world_core.proofs.Going.{after_there, same_session}
@@ -264,3 +266,30 @@ notes_step number old w mid new noted turn done a n is there work same c = recor
 
     matched : c.before ≡ n.notes.after
     matched = same_book mid number c.before n.notes.after c.there (ap (λ l. slice_get l number) middle ∙ set_there old.notes number n.notes.before n.notes.after n.notes.there)
+
+-- a put is not noted
+goes_nothing : (b : Notebook) → GoesOnBy None b b
+goes_nothing b = record { ledger = on b.ledger; queue = refl }
+  where
+    on : (ledger : Option Account) → LedgerTakes None ledger ledger
+    on None = refl
+    on (Some a) = record { rule = record { role = refl; k = refl; client = refl }; stands = λ notes h. h }
+
+put_unnoted : (ask : Option Ask) (put : Put) → put_of_hand ask ≡ Some put → note_of_hand ask ≡ None
+put_unnoted (Some (PutHeld name bytes one two)) put e = refl
+put_unnoted (Some ask) put e = absurd (cc)
+put_unnoted None put e = absurd (cc)
+
+pub notes_put : (number : ℕ) (books new : List Notebook) (w : Work) (put : Put) (turn : Turn Answer) (done : Bool) → put_of w ≡ Some put → done ≡ is_done turn
+    → ChangesBook number (GoesOnEnded done) books new → ChangesBook number (NotesStep w turn) books new
+notes_put number books new w put turn done is same c = record {
+  before = c.before;
+  after = c.after;
+  there = c.there;
+  does = record {
+    called = c.before;
+    call = subst (λ n. GoesOnBy n c.before c.before) (sym (put_unnoted (ask_of_work w) put is)) (goes_nothing c.before);
+    end = subst (λ b. GoesOnEnded b c.before c.after) same c.does;
+  };
+  rest = c.rest;
+}

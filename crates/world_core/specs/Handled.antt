@@ -184,6 +184,13 @@ pub record NotesCall (number : ℕ) (old new : World) : Type 0 where
   pub audit : new.audit ≡ old.audit
   pub blind : new.blind ≡ old.blind
 
+-- what came of it behind it
+pub record NotesEnd (number : ℕ) (done : Bool) (old new : World) : Type 0 where
+  pub notes : ChangesBook number (GoesOnEnded done) old.notes new.notes
+  pub sessions : new.sessions ≡ old.sessions
+  pub audit : new.audit ≡ old.audit
+  pub blind : new.blind ≡ old.blind
+
 -- ---- each step
 
 -- one step of a session under a wish, between two looks where it is a put: the audit takes what the put in hand commits or applies where it

@@ -96,7 +96,7 @@ impl<S: SessionCalls> World<S> {
     ghost use Rattle.world_core.specs.Settled.{SettlingEnds, SettlingIsRight, SettlingLeaves};
     ghost use Rattle.world_core.specs.Stands.{KeepsABook, WorldStands, StandsOn};
     ghost use Rattle.world_core.specs.Sessions.{Changes, IsNotWorking, IsAtWork, HasPut};
-    ghost use Rattle.world_core.specs.Handled.{BeginsBook, BeginsCheckpoint, FailsAt, IsOpen, KeepsNotes, MakesOne, NotesCall, Policies, WorksOff, WorksShort, WorksThrough, Handled, Answers, Does, BeginsOp, NotesChange, DropsChanges, MakesStep, ComesTo, Runs, Settles, SettlesOn, Has, Crashes, CrashesDone, StepsLooked, StopsShort, FallsShort, RunsShort, Reports, BreaksOff, LeavesReplied};
+    ghost use Rattle.world_core.specs.Handled.{BeginsBook, BeginsCheckpoint, FailsAt, IsOpen, KeepsNotes, MakesOne, NotesCall, NotesEnd, Policies, WorksOff, WorksShort, WorksThrough, Handled, Answers, Does, BeginsOp, NotesChange, DropsChanges, MakesStep, ComesTo, Runs, Settles, SettlesOn, Has, Crashes, CrashesDone, StepsLooked, StopsShort, FallsShort, RunsShort, Reports, BreaksOff, LeavesReplied};
 
     /// A world whose sessions are closed, and that saw nothing: over an empty cloud it stands for no lines. Refused for memory
     /// alone.
@@ -685,10 +685,19 @@ impl<S: SessionCalls> World<S> {
         }
         cloud.wish(wish);
         let turn = self.call(alloc, cloud, who);
-        match self.notes.end(who.session, is_done(&turn)) {
+        match self.note_end(who.session, is_done(&turn)) {
             Ok(()) => Ok(turn),
             Err(_) => Err(WorldFault::Memory),
         }
+    }
+
+    /// Notes that what the session had in hand came to its end; done where that is a checkpoint that was done. Refused for memory
+    /// alone, and then nothing changes.
+    fn note_end(&mut self, number: SessionNo, done: bool) -> Result<(), Refused>
+        ensures ok { OnOk result (NotesEnd number done self.old self.new) }
+        ensures err { OnErr result (self.new ≡ self.old) }
+    {
+        self.notes.end(number, done)
     }
 
     /// Notes the call in hand of the session, where it counts. Refused for memory alone, and then nothing changes.
@@ -728,10 +737,6 @@ impl<S: SessionCalls> World<S> {
             who.session,
             put.name,
         ) {
-            Ok(()) => {}
-            Err(_) => return Err(WorldFault::Memory),
-        }
-        match self.note_call(who.session) {
             Ok(()) => {}
             Err(_) => return Err(WorldFault::Memory),
         }

@@ -9,7 +9,8 @@ replies, and holds every report against what it follows:
 
 A commit that was cut off by a crash, or is in doubt, is committed where the next report says so, and never afterwards.
 A report while a commit is half done is not for it: lines and replies do not tell whether its head landed.
-A read or a scan shows payloads that a session noted for that key. Lines and replies are matched by their numbers.
+A read or a scan shows payloads that a session noted for that key. A session without a ledger makes no checkpoint by `work`, and a watchdog
+no more than its number. Lines and replies are matched by their numbers.
 
 Usage: bench/model.py SCHEDULE REPLIES [..]     prints one line for each pair; status 1 where one is not as the model says
 """
@@ -86,6 +87,8 @@ class Session:
         self.client = self.epoch = 0
         self.buffer = {}
         self.at_work = None
+        # The role and number of its ledger, where a line gave it one.
+        self.policy = None
 
 
 class Model:
@@ -118,12 +121,19 @@ class Model:
             self.note(session, what, *words[1:])
         elif what == "abort":
             session.buffer = {}
+        elif what == "policy":
+            must(said == "noted", f"{line}: {said}")
+            session.policy = words[1], int(words[2])
+        elif what == "work":
+            self.work(session, line, said)
         elif what == "crash":
             if session.at_work == "commit":
                 self.doubt(self.attempt(session))
             self.sessions[words[0]] = Session()
         elif said == "begun":
             session.at_work = what
+            if what == "close":
+                session.policy = None
             if what == "open":
                 # (a session in doubt that opens again forgets what it noted)
                 session.client, session.buffer = words[1], {}
@@ -147,6 +157,13 @@ class Model:
                 words = [words[0], *old[1:]]
             what = both
         session.buffer[tree, key] = " ".join([what, key, *([] if what == "delete" else words)])
+
+    def work(self, session, line, said):
+        word, *counts = said.split(" ")
+        must(word == "worked" and len(counts) == 2, f"{line}: {said}")
+        made = sum(int(it) for it in counts)
+        must(made == 0 or session.policy is not None, f"{line}: {said}, and the session has no ledger")
+        must(made == 0 or session.policy[0] != "watchdog" or made <= session.policy[1], f"{line}: {said}, and the watchdog's number is {session.policy}")
 
     def may_show(self, tree, key, payload):
         """Whether somebody noted the payload, or it may be a sum."""

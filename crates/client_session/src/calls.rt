@@ -10,9 +10,9 @@ use cloud_trait::cloud::Cloud;
 use cloud_trait::turn::Turn;
 use cloud_trait::who::Who;
 use db_base::change::Change;
-use db_base::ids::TreeId;
+use db_base::ids::{ClientId, TreeId};
 use db_base::pair::Pair;
-use db_base::refusal::Refused;
+use db_base::refusal::{Refusal, Refused};
 use db_base::value::Value;
 use head_codec::head::Head;
 use log_codec::record::PuItem;
@@ -57,6 +57,10 @@ impl<H: Hand> SessionCalls for Session<H> {
         who: Who,
     ) -> Result<Turn<Answer>, Refused> {
         Session::step(self, alloc, cloud, who)
+    }
+
+    fn client(&self) -> Result<ClientId, Refusal> {
+        Session::client(self)
     }
 
     fn in_hand(&self) -> Option<Call<'_>> {

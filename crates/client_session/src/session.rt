@@ -13,7 +13,7 @@ use cloud_trait::cloud::Cloud;
 use cloud_trait::turn::Turn;
 use cloud_trait::who::Who;
 use db_base::change::Change;
-use db_base::ids::TreeId;
+use db_base::ids::{ClientId, TreeId};
 use db_base::pair::Pair;
 use db_base::refusal::{Refusal, Refused};
 use db_base::value::Value;
@@ -60,7 +60,7 @@ impl<H: Hand> Model for Session<H> {
 
 impl<H: Hand> Session<H> {
     ghost use Rattle.client_work.specs.BrokenOff.{broken_off};
-    ghost use Rattle.client_work.specs.Session.{Acting, closed_session, rule_of, NoteRefused, AbortRefused, Begins, StepsSession, settling_session, ask_of_work, committing_of, opens_of, applying_of, value_of, items_of};
+    ghost use Rattle.client_work.specs.Session.{Acting, closed_session, rule_of, NoteRefused, AbortRefused, Begins, StepsSession, settling_session, ask_of_work, committing_of, opens_of, applying_of, value_of, items_of, open_client};
 
     /// A closed session without changes. Refused for memory alone.
     pub fn new(alloc: Global) -> Result<Session<H>, Refused>
@@ -174,6 +174,13 @@ impl<H: Hand> Session<H> {
         left.drop_kept(&mut self.cache);
         self.shown = shown;
         Ok(turn)
+    }
+
+    /// The client of an open session with nothing at work; or the rule that refuses an operation of it.
+    pub fn client(&self) -> Result<ClientId, Refusal>
+        ensures { result ≡ open_client self.now.work }
+    {
+        self.work.client()
     }
 
     /// The service call that the next step makes; none where nothing is at work.

@@ -97,6 +97,21 @@ rule_of (Renewing home) = Some rule.AtWork
 rule_of (Settling m) = Some rule.AtWork
 rule_of (Broken lease) = Some rule.Broken
 
+-- the client of an open session with nothing at work; or the rule that refuses an operation of it
+abbrev pub open_client : Work → Result ℕ Refusal
+open_client (Idle home) = Ok home.client
+open_client Closed = Err rule.NotOpen
+open_client (Opening m) = Err rule.AtWork
+open_client (Committing m) = Err rule.AtWork
+open_client (Reading home m) = Err rule.AtWork
+open_client (Scanning home m) = Err rule.AtWork
+open_client (Paging home m) = Err rule.AtWork
+open_client (Folding home m) = Err rule.AtWork
+open_client (Closing lease) = Err rule.AtWork
+open_client (Renewing home) = Err rule.AtWork
+open_client (Settling m) = Err rule.AtWork
+open_client (Broken lease) = Err rule.Broken
+
 -- ---- what is refused
 
 -- why a change is not noted: the rule of what is in hand, or one change too many of an open client; or want of memory

@@ -5,7 +5,7 @@ ghost use Rattle.std.specs.Option.{option_map, option_copied};
 ghost use Rattle.cloud_trait.specs.Call.{ask_of};
 ghost use Rattle.txn_buffer.specs.Noted.{noted_in};
 ghost use Rattle.client_work.specs.BrokenOff.{broken_off};
-ghost use Rattle.client_work.specs.Session.{Acting, closed_session, settling_session, rule_of, NoteRefused, AbortRefused, Begins, StepsSession, ask_of_work, committing_of, opens_of, applying_of, value_of, items_of};
+ghost use Rattle.client_work.specs.Session.{Acting, closed_session, settling_session, rule_of, NoteRefused, AbortRefused, Begins, StepsSession, ask_of_work, committing_of, opens_of, applying_of, value_of, items_of, open_client};
 
 use crate::answer::{Answer, Begun};
 use crate::op::Op;
@@ -14,9 +14,9 @@ use cloud_trait::cloud::Cloud;
 use cloud_trait::turn::Turn;
 use cloud_trait::who::Who;
 use db_base::change::Change;
-use db_base::ids::TreeId;
+use db_base::ids::{ClientId, TreeId};
 use db_base::pair::Pair;
-use db_base::refusal::Refused;
+use db_base::refusal::{Refusal, Refused};
 use db_base::value::Value;
 use head_codec::head::Head;
 use log_codec::record::PuItem;
@@ -72,6 +72,10 @@ pub trait SessionCalls: Drop {
         who: Who,
     ) -> Result<Turn<Answer>, Refused>
         ensures { StepsSession who (C.seen cloud.old) (C.seen cloud.new) (acting self.old) (acting self.new) result };
+
+    /// The client of an open session with nothing at work; or the rule that refuses an operation of it.
+    fn client(&self) -> Result<ClientId, Refusal>
+        ensures { result ≡ open_client (acting self.now).work };
 
     /// The service call that the next step makes; none where nothing is at work.
     fn in_hand(&self) -> Option<Call<'_>>

@@ -9,7 +9,7 @@ ghost use Rattle.client_work.specs.declared.work.Work.TheVariants.{Closed, Settl
 ghost use Rattle.client_work.specs.BrokenOff.{broken_work};
 ghost use Rattle.client_work.specs.Causing.{MachineSteps};
 ghost use Rattle.client_work.specs.Phase.{BeginsAt, bar_of, phase_of};
-ghost use Rattle.client_work.specs.Session.{ShowsAt, StepsAt, ask_of_work, committing_of, opens_of, applying_of, value_in, is_working};
+ghost use Rattle.client_work.specs.Session.{ShowsAt, StepsAt, ask_of_work, committing_of, opens_of, applying_of, value_in, is_working, open_client};
 
 use crate::answer::{Answer, Begun};
 use crate::op::Op;
@@ -19,6 +19,8 @@ use cloud_trait::call::Call;
 use cloud_trait::cloud::Cloud;
 use cloud_trait::turn::Turn;
 use cloud_trait::who::Who;
+use db_base::ids::ClientId;
+use db_base::refusal::Refusal;
 use db_base::value::Value;
 use head_codec::head::Head;
 use log_codec::record::PuItem;
@@ -42,6 +44,10 @@ pub trait Hand: Drop {
     /// How a session stands that has this in hand.
     fn phase(&self) -> Phase
         ensures { result ≡ phase_of (work self.now) };
+
+    /// The client that is open, with nothing at work; or the rule that refuses an operation of it.
+    fn client(&self) -> Result<ClientId, Refusal>
+        ensures { result ≡ open_client (work self.now) };
 
     /// The service call that the next step makes; none where nothing is at work.
     fn in_hand(&self) -> Option<Call<'_>>

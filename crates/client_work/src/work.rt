@@ -25,6 +25,8 @@ use cloud_trait::lease::Lease;
 use cloud_trait::turn::Turn;
 use cloud_trait::who::Who;
 use commit_run::CommitRun;
+use db_base::ids::ClientId;
+use db_base::refusal::Refusal;
 use db_base::trouble::Trouble;
 use db_base::value::Value;
 use head_codec::head::Head;
@@ -118,6 +120,23 @@ impl Hand for Work {
             Work::Renewing(_) => Phase::Working,
             Work::Settling(_) => Phase::Working,
             Work::Broken(_) => Phase::Broken,
+        }
+    }
+
+    fn client(&self) -> Result<ClientId, Refusal> {
+        match self {
+            Work::Idle(home) => Ok(home.client),
+            Work::Closed => Err(Refusal::NotOpen),
+            Work::Opening(_) => Err(Refusal::AtWork),
+            Work::Committing(_) => Err(Refusal::AtWork),
+            Work::Reading(_, _) => Err(Refusal::AtWork),
+            Work::Scanning(_, _) => Err(Refusal::AtWork),
+            Work::Paging(_, _) => Err(Refusal::AtWork),
+            Work::Folding(_, _) => Err(Refusal::AtWork),
+            Work::Closing(_) => Err(Refusal::AtWork),
+            Work::Renewing(_) => Err(Refusal::AtWork),
+            Work::Settling(_) => Err(Refusal::AtWork),
+            Work::Broken(_) => Err(Refusal::Broken),
         }
     }
 

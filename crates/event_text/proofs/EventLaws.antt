@@ -17,13 +17,16 @@ use Rattle.words.specs.Word.{hexadecimal, AreBytes, AreNumbers, Reads, IsReadTo}
 use Rattle.words.specs.Line.{parts_of, text_of, word_at, number_at, bytes_at, end_at, last_words, last_of, numbers_of, one_of, two_of, place_of, record_of, sum_of}
 use Rattle.words.proofs.Shapes.{bind_some, number_at-takes, number_at-again, bytes_at-takes, bytes_at-again, end_at-takes, end_at-again, last_of-takes, last_of-again, numbers_of-takes, numbers_of-again, one_of-takes, one_of-again, two_of-takes, two_of-again, place_of-takes, place_of-again, record_of-takes, record_of-again, sum_of-takes, sum_of-again}
 use Rattle.words.proofs.Splitting.{all_lack, lacks, lacks-decimal, lacks-hexadecimal, parts_of-text_of, text_of-parts_of}
+use Rattle.ckpt_policy.specs.declared.role.Role.{Role}
+use Rattle.ckpt_policy.specs.declared.role.Role.TheVariants.{Writer, Reader, Watchdog, Owner}
 use Rattle.event_text.specs.declared.event.Event.{Event}
 use Rattle.event_text.specs.declared.event.Event.TheVariants as event
 use Rattle.event_text.specs.declared.keyword.Keyword.{Keyword}
-use Rattle.event_text.specs.declared.keyword.Keyword.TheVariants.{Open, Close, Renew, Insert, Update, Delete, Add, Commit, Abort, Read, Scan, Page, Tree, Step, Run, Crash, Wait, Report, Settle}
+use Rattle.event_text.specs.declared.keyword.Keyword.TheVariants.{Open, Close, Renew, Insert, Update, Delete, Add, Commit, Abort, Read, Scan, Page, Tree, Policy, Work, Step, Run, Crash, Wait, Report, Settle}
 use Rattle.event_text.specs.Keyword.{keyword_of, keyword_text, keywords, is_shell}
-use Rattle.event_text.specs.Event.{wish_words, crash_words, event_words, line_of, IsWish, IsInRange, IsEvent, IsShellLine}
-use Rattle.event_text.specs.Reading.{alone, positions_of, wish_by, wish_of, done_of, insert_of, event_by, session_event, event_behind, event_of_words, shell_event_of_words}
+use Rattle.event_text.specs.RoleWord.{role_of, role_text, roles}
+use Rattle.event_text.specs.Event.{wish_words, crash_words, event_words, line_of, spelling, IsWish, IsInRange, IsEvent, IsShellLine}
+use Rattle.event_text.specs.Reading.{alone, positions_of, wish_by, wish_of, done_of, insert_of, policy_of, event_by, session_event, event_behind, event_of_words, shell_event_of_words}
 
 -- ---- steps
 
@@ -80,6 +83,8 @@ keyword_of-again Read = refl
 keyword_of-again Scan = refl
 keyword_of-again Page = refl
 keyword_of-again Tree = refl
+keyword_of-again Policy = refl
+keyword_of-again Work = refl
 keyword_of-again Step = refl
 keyword_of-again Run = refl
 keyword_of-again Crash = refl
@@ -204,6 +209,37 @@ unfolding insert_of
 insert_of-again tree key payload attr t k p a =
     rw (number_at-again tree (hexadecimal key ∷ hexadecimal payload ∷ last_words attr) t, bytes_at-again key (hexadecimal payload ∷ last_words attr) k, bytes_at-again payload (last_words attr) p, last_of-again attr a) refl
 
+-- ---- roles
+
+role_found : (word : List ℕ) (role : Role) (among : List Role) → find (λ r. bytes_eq (role_text r) word) among ≡ Some role → word ≡ role_text role
+role_found word role [] e = absurd cc
+role_found word role (r ∷ among) e =
+    elim (chosen (bytes_eq (role_text r) word) (Some r) (find (λ r. bytes_eq (role_text r) word) among) (Some role) e) [
+      | inl here ↦ sym ((bytes_eq-Decides (role_text r) word).0 here.0) ∙ ap role_text (same_Some r role here.1)
+      | inr there ↦ role_found word role among there.1
+    ]
+
+role_of-again : (role : Role) → role_of (role_text role) ≡ Some role
+role_of-again Writer = refl
+role_of-again Reader = refl
+role_of-again Watchdog = refl
+role_of-again Owner = refl
+
+policy_of-takes : (words : List (List ℕ)) (x : Role × ℕ) → policy_of words ≡ Some x → (x.1 < 2 ^ 64) × (words ≡ role_text x.0 ∷ decimal x.1 ∷ [])
+unfolding policy_of word_at
+policy_of-takes [] x e = absurd cc
+policy_of-takes (word ∷ words) x e =
+    let r = bind_some (role_of word) _ x e in
+    let n = bind_some (one_of words) _ x r.2 in
+    let role = role_found word r.0 roles r.1 in
+    let number = one_of-takes words n.0 n.1 in
+    let same : (r.0, n.0) ≡ x = same_Some (r.0, n.0) x n.2 in
+    rw (← same) (number.0, ap (λ (w : List ℕ). w ∷ words) role ∙ behind _ number.1)
+
+policy_of-again : (role : Role) (k : ℕ) → k < 2 ^ 64 → policy_of (role_text role ∷ decimal k ∷ []) ≡ Some (role, k)
+unfolding policy_of word_at
+policy_of-again role k small = rw (role_of-again role, one_of-again k small) refl
+
 -- ---- lines
 
 nothing : {A : Type 0} (x : A) → None ≡ Some x → ⊥
@@ -259,6 +295,13 @@ event_by-takes Tree session words e small h =
     let m = mapped (event.Tree session) (one_of words) e h in
     let x = one_of-takes words m.0 m.1 in
     rw (← m.2) ((small, x.0), behind _ (behind _ x.1))
+event_by-takes Policy session words e small h =
+    let m = mapped (λ (x : Role × ℕ). event.Policy session x.0 x.1) (policy_of words) e h in
+    let x = policy_of-takes words m.0 m.1 in
+    rw (← m.2) ((small, x.0), behind _ (behind _ x.1))
+event_by-takes Work session words e small h =
+    let a = alone-takes (event.Work session) e words h in
+    rw (← a.0) (small, behind _ (behind _ a.1))
 event_by-takes Step session words e small h =
     let m = mapped (event.Step session) (wish_of words) e h in
     let x = wish_of-takes words m.0 m.1 in
@@ -307,6 +350,8 @@ event_behind-takes Read words e h = session_event-takes Read words e h
 event_behind-takes Scan words e h = session_event-takes Scan words e h
 event_behind-takes Page words e h = session_event-takes Page words e h
 event_behind-takes Tree words e h = session_event-takes Tree words e h
+event_behind-takes Policy words e h = session_event-takes Policy words e h
+event_behind-takes Work words e h = session_event-takes Work words e h
 event_behind-takes Step words e h = session_event-takes Step words e h
 event_behind-takes Run words e h = session_event-takes Run words e h
 event_behind-takes Crash words e h = session_event-takes Crash words e h
@@ -336,6 +381,8 @@ event_of_words-again (event.Read session tree key) h = rw (number_at-again sessi
 event_of_words-again (event.Scan session tree from to) h = rw (number_at-again session (decimal tree ∷ hexadecimal from ∷ hexadecimal to ∷ []) h.0, record_of-again tree from to h.1 h.2 h.3) refl
 event_of_words-again (event.Page session tree page) h = rw (number_at-again session (decimal tree ∷ decimal page ∷ []) h.0, two_of-again tree page h.1 h.2) refl
 event_of_words-again (event.Tree session tree) h = rw (number_at-again session (decimal tree ∷ []) h.0, one_of-again tree h.1) refl
+event_of_words-again (event.Policy session role k) h = rw (number_at-again session (role_text role ∷ decimal k ∷ []) h.0, policy_of-again role k h.1) refl
+event_of_words-again (event.Work session) h = rw (number_at-again session [] h, alone-again (event.Work session)) refl
 event_of_words-again (event.Step session wish) h = rw (number_at-again session (wish_words wish) h.0, wish_of-again wish h.1) refl
 event_of_words-again (event.Run session) h = rw (number_at-again session [] h, alone-again (event.Run session)) refl
 event_of_words-again (event.Crash session done) h = rw (number_at-again session (crash_words done) h, done_of-again done) refl
@@ -363,6 +410,12 @@ wish_lacks Hide h = refl
 wish_lacks (Old version) h = rw (lacks_number version h) refl
 wish_lacks (Give positions) h = lacks_numbers positions h.1
 
+role_lacks : (role : Role) → lacks 32 (role_text role) ≡ true
+role_lacks Writer = refl
+role_lacks Reader = refl
+role_lacks Watchdog = refl
+role_lacks Owner = refl
+
 crash_lacks : (done : Bool) → all_lack 32 (crash_words done) ≡ true
 crash_lacks true = refl
 crash_lacks false = refl
@@ -386,6 +439,8 @@ event_lacks (event.Read session tree key) h = rw (lacks_number session h.0, lack
 event_lacks (event.Scan session tree from to) h = rw (lacks_number session h.0, lacks_number tree h.1, lacks_bytes from h.2, lacks_bytes to h.3) refl
 event_lacks (event.Page session tree page) h = rw (lacks_number session h.0, lacks_number tree h.1, lacks_number page h.2) refl
 event_lacks (event.Tree session tree) h = rw (lacks_number session h.0, lacks_number tree h.1) refl
+event_lacks (event.Policy session role k) h = rw (lacks_number session h.0, role_lacks role, lacks_number k h.1) refl
+event_lacks (event.Work session) h = rw (lacks_number session h) refl
 event_lacks (event.Step session wish) h = rw (lacks_number session h.0, wish_lacks wish h.1) refl
 event_lacks (event.Run session) h = rw (lacks_number session h) refl
 event_lacks (event.Crash session done) h = rw (lacks_number session h, crash_lacks done) refl
@@ -455,6 +510,8 @@ shell_behind Crash h rest = absurd cc
 shell_behind Wait h rest = absurd cc
 shell_behind Report h rest = absurd cc
 shell_behind Settle h rest = absurd cc
+shell_behind Policy h rest = absurd cc
+shell_behind Work h rest = absurd cc
 
 -- the event of a line that begins with a keyword
 event_of_keyword : (keyword : Keyword) (words : List (List ℕ)) → event_of_words (keyword_text keyword ∷ words) ≡ event_behind keyword words

@@ -8,8 +8,9 @@ use Rattle.words.specs.Word.{hexadecimal, AreBytes, AreNumbers}
 use Rattle.words.specs.Line.{text_of, last_words}
 use Rattle.event_text.specs.declared.event.Event.{Event}
 use Rattle.event_text.specs.declared.keyword.Keyword.{Keyword}
+use Rattle.event_text.specs.RoleWord.{role_text}
 use Rattle.event_text.specs.Keyword.{keyword_text, is_shell}
-use Rattle.event_text.specs.declared.event.Event.TheVariants.{Open, Close, Renew, Insert, Update, Delete, Add, Commit, Abort, Read, Scan, Page, Tree, Step, Run, Crash, Wait, Report, Settle}
+use Rattle.event_text.specs.declared.event.Event.TheVariants.{Open, Close, Renew, Insert, Update, Delete, Add, Commit, Abort, Read, Scan, Page, Tree, Policy, Work, Step, Run, Crash, Wait, Report, Settle}
 
 -- the words of a wish
 abbrev pub wish_words : Wish → List (List ℕ)
@@ -40,6 +41,8 @@ event_words (Read session tree key) = codes "read" ∷ decimal session ∷ decim
 event_words (Scan session tree from to) = codes "scan" ∷ decimal session ∷ decimal tree ∷ hexadecimal from ∷ hexadecimal to ∷ []
 event_words (Page session tree page) = codes "page" ∷ decimal session ∷ decimal tree ∷ decimal page ∷ []
 event_words (Tree session tree) = codes "tree" ∷ decimal session ∷ decimal tree ∷ []
+event_words (Policy session role k) = codes "policy" ∷ decimal session ∷ role_text role ∷ decimal k ∷ []
+event_words (Work session) = codes "work" ∷ decimal session ∷ []
 event_words (Step session wish) = codes "step" ∷ decimal session ∷ wish_words wish
 event_words (Run session) = codes "run" ∷ decimal session ∷ []
 event_words (Crash session done) = codes "crash" ∷ decimal session ∷ crash_words done
@@ -79,6 +82,8 @@ IsInRange (Read session tree key) = (session < 2 ^ 64) × (tree < 2 ^ 64) × Are
 IsInRange (Scan session tree from to) = (session < 2 ^ 64) × (tree < 2 ^ 64) × AreBytes from × AreBytes to
 IsInRange (Page session tree page) = (session < 2 ^ 64) × (tree < 2 ^ 64) × (page < 2 ^ 64)
 IsInRange (Tree session tree) = (session < 2 ^ 64) × (tree < 2 ^ 64)
+IsInRange (Policy session role k) = (session < 2 ^ 64) × (k < 2 ^ 64)
+IsInRange (Work session) = session < 2 ^ 64
 IsInRange (Step session wish) = (session < 2 ^ 64) × IsWish wish
 IsInRange (Run session) = session < 2 ^ 64
 IsInRange (Crash session done) = session < 2 ^ 64

@@ -3,7 +3,7 @@ use Rattle.std.specs.Prelude.{ℕ, Bool, true, false, List, [], ◌∷◌, Optio
 use Rattle.std.specs.List.{find}
 use Rattle.std.specs.Str.{bytes_eq}
 use Rattle.event_text.specs.declared.keyword.Keyword.{Keyword}
-use Rattle.event_text.specs.declared.keyword.Keyword.TheVariants.{Open, Close, Renew, Insert, Update, Delete, Add, Commit, Abort, Read, Scan, Page, Tree, Step, Run, Crash, Wait, Report, Settle}
+use Rattle.event_text.specs.declared.keyword.Keyword.TheVariants.{Open, Close, Renew, Insert, Update, Delete, Add, Commit, Abort, Read, Scan, Page, Tree, Policy, Work, Step, Run, Crash, Wait, Report, Settle}
 
 -- the spelling of a keyword
 abbrev pub keyword_text : Keyword → List ℕ
@@ -20,6 +20,8 @@ keyword_text Read = codes "read"
 keyword_text Scan = codes "scan"
 keyword_text Page = codes "page"
 keyword_text Tree = codes "tree"
+keyword_text Policy = codes "policy"
+keyword_text Work = codes "work"
 keyword_text Step = codes "step"
 keyword_text Run = codes "run"
 keyword_text Crash = codes "crash"
@@ -29,7 +31,7 @@ keyword_text Settle = codes "settle"
 
 -- all keywords
 abbrev pub keywords : List Keyword
-keywords = Open ∷ Close ∷ Renew ∷ Insert ∷ Update ∷ Delete ∷ Add ∷ Commit ∷ Abort ∷ Read ∷ Scan ∷ Page ∷ Tree ∷ Step ∷ Run ∷ Crash ∷ Wait ∷ Report ∷ Settle ∷ []
+keywords = Open ∷ Close ∷ Renew ∷ Insert ∷ Update ∷ Delete ∷ Add ∷ Commit ∷ Abort ∷ Read ∷ Scan ∷ Page ∷ Tree ∷ Policy ∷ Work ∷ Step ∷ Run ∷ Crash ∷ Wait ∷ Report ∷ Settle ∷ []
 
 -- the keyword that a word spells
 abbrev pub keyword_of : List ℕ → Option Keyword
@@ -56,3 +58,5 @@ is_shell Crash = false
 is_shell Wait = false
 is_shell Report = false
 is_shell Settle = false
+is_shell Policy = false
+is_shell Work = false

@@ -1,3 +1,4 @@
 pub mod Keyword
+pub mod RoleWord
 pub mod Event
 pub mod Reading

@@ -3,12 +3,14 @@ use Rattle.std.specs.Prelude.{ℕ, ◌&&◌, nat_le, Bool, true, false, List, []
 use Rattle.std.specs.Str.{bytes_eq}
 use Rattle.db_base.specs.declared.wish.Wish.{Wish}
 use Rattle.db_base.specs.declared.wish.Wish.TheVariants.{Plain, Fail, Lost, Hide, Old, Give}
-use Rattle.words.specs.Line.{◌>>=◌, word_at, number_at, bytes_at, end_at, last_of, numbers_of, one_of, two_of, place_of, record_of, sum_of}
+use Rattle.words.specs.Line.{◌>>=◌, parts_of, word_at, number_at, bytes_at, end_at, last_of, numbers_of, one_of, two_of, place_of, record_of, sum_of}
+use Rattle.ckpt_policy.specs.declared.role.Role.{Role}
 use Rattle.event_text.specs.declared.event.Event.{Event}
 use Rattle.event_text.specs.declared.event.Event.TheVariants as event
 use Rattle.event_text.specs.declared.keyword.Keyword.{Keyword}
-use Rattle.event_text.specs.declared.keyword.Keyword.TheVariants.{Open, Close, Renew, Insert, Update, Delete, Add, Commit, Abort, Read, Scan, Page, Tree, Step, Run, Crash, Wait, Report, Settle}
+use Rattle.event_text.specs.declared.keyword.Keyword.TheVariants.{Open, Close, Renew, Insert, Update, Delete, Add, Commit, Abort, Read, Scan, Page, Tree, Policy, Work, Step, Run, Crash, Wait, Report, Settle}
 use Rattle.event_text.specs.Keyword.{keyword_of, is_shell}
+use Rattle.event_text.specs.RoleWord.{role_of}
 
 -- a value where nothing is left
 unfoldable pub alone : {A : Type 0} → A → List (List ℕ) → Option A
@@ -53,6 +55,14 @@ insert_of words = do
   attr ← last_of payload.1
   Some (tree.0, key.0, payload.0, attr)
 
+-- a role, a number, and nothing else
+unfoldable pub policy_of : List (List ℕ) → Option (Role × ℕ)
+policy_of words = do
+  first ← word_at words
+  role ← role_of first.0
+  number ← one_of first.1
+  Some (role, number)
+
 -- the event of a session that a keyword begins
 unfoldable pub event_by : Keyword → ℕ → List (List ℕ) → Option Event
 event_by Open session words = option_map (event.Open session) (one_of words)
@@ -68,6 +78,8 @@ event_by Read session words = option_map (λ x. event.Read session x.0 x.1) (pla
 event_by Scan session words = option_map (λ x. event.Scan session x.0 x.1 x.2) (record_of words)
 event_by Page session words = option_map (λ x. event.Page session x.0 x.1) (two_of words)
 event_by Tree session words = option_map (event.Tree session) (one_of words)
+event_by Policy session words = option_map (λ x. event.Policy session x.0 x.1) (policy_of words)
+event_by Work session words = alone (event.Work session) words
 event_by Step session words = option_map (event.Step session) (wish_of words)
 event_by Run session words = alone (event.Run session) words
 event_by Crash session words = option_map (event.Crash session) (done_of words)

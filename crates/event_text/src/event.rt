@@ -1,3 +1,4 @@
+use ckpt_policy::Role;
 use db_base::blob::Blob;
 use db_base::wish::Wish;
 
@@ -75,6 +76,16 @@ pub enum Event {
     Tree {
         session: u64,
         tree: u64,
+    },
+    /// Gives a session a ledger, which says by a role and a number which of its queues are due.
+    Policy {
+        session: u64,
+        role: Role,
+        k: u64,
+    },
+    /// Makes one checkpoint of each queue that is due to a session.
+    Work {
+        session: u64,
     },
     /// Makes one service call of a session under a wish.
     Step {
@@ -157,6 +168,12 @@ impl Drop for Event {
                 session: _,
                 tree: _,
             } => {}
+            Event::Policy {
+                session: _,
+                role: _,
+                k: _,
+            } => {}
+            Event::Work { session: _ } => {}
             Event::Step {
                 session: _,
                 wish: _,

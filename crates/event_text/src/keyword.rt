@@ -29,6 +29,10 @@ pub enum Keyword {
     Page,
     /// `tree`
     Tree,
+    /// `policy`
+    Policy,
+    /// `work`
+    Work,
     /// `step`
     Step,
     /// `run`
@@ -44,7 +48,7 @@ pub enum Keyword {
 }
 
 /// All keywords.
-const KEYWORDS: [Keyword; 19] = [
+const KEYWORDS: [Keyword; 21] = [
     Keyword::Open,
     Keyword::Close,
     Keyword::Renew,
@@ -58,6 +62,8 @@ const KEYWORDS: [Keyword; 19] = [
     Keyword::Scan,
     Keyword::Page,
     Keyword::Tree,
+    Keyword::Policy,
+    Keyword::Work,
     Keyword::Step,
     Keyword::Run,
     Keyword::Crash,
@@ -87,6 +93,8 @@ impl Keyword {
             Keyword::Scan => "scan",
             Keyword::Page => "page",
             Keyword::Tree => "tree",
+            Keyword::Policy => "policy",
+            Keyword::Work => "work",
             Keyword::Step => "step",
             Keyword::Run => "run",
             Keyword::Crash => "crash",
@@ -116,6 +124,7 @@ impl Keyword {
             Keyword::Tree | Keyword::Renew | Keyword::Add => true,
             Keyword::Open | Keyword::Close | Keyword::Step | Keyword::Run => false,
             Keyword::Crash | Keyword::Wait | Keyword::Report | Keyword::Settle => false,
+            Keyword::Policy | Keyword::Work => false,
         }
     }
 }

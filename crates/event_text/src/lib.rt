@@ -4,4 +4,5 @@
 pub mod event;
 pub mod keyword;
 pub mod read;
+pub mod role_word;
 pub mod write;

@@ -1,11 +1,13 @@
 ghost use Rattle.std.specs.Prelude.{◌≡◌, ◌≢◌, ℕ, List, [], ◌∷◌, ◌++◌, IfOk, IfSome, IfNone};
 ghost use Rattle.words.specs.Word.{Reads, IsReadTo};
 ghost use Rattle.words.specs.Line.{parts_of};
-ghost use Rattle.event_text.specs.Reading.{alone, positions_of, wish_by, wish_of, done_of, insert_of, event_by, session_event, event_behind, event_of_words, shell_event_of_words};
+ghost use Rattle.event_text.specs.Reading.{alone, positions_of, wish_by, wish_of, done_of, insert_of, policy_of, event_by, session_event, event_behind, event_of_words, shell_event_of_words};
 ghost use Rattle.event_text.specs.Event.{IsEvent, IsShellLine};
 
 use crate::event::Event;
 use crate::keyword::Keyword;
+use crate::role_word::role_of;
+use ckpt_policy::Role;
 use db_base::blob::Blob;
 use db_base::refusal::Refused;
 use db_base::wish::{Positions, Wish};
@@ -104,6 +106,21 @@ fn insert(alloc: Global, words: Parts<'_>) -> Result<(u64, Blob, Blob, Option<Bl
     Ok((tree, key, payload, attr))
 }
 
+/// A role and a number, and nothing else.
+#[tactic(auto, unfolding(crate::specs::Reading::policy_of))]
+fn policy(words: Parts<'_>) -> Result<(Role, u64), TextFault>
+    ensures { Reads result (policy_of words.entry) }
+{
+    let (word, words) = words.word()?;
+    match role_of(word) {
+        Some(role) => {
+            let number = words.one_number()?;
+            Ok((role, number))
+        }
+        None => Err(TextFault::NotInGrammar),
+    }
+}
+
 /// An event behind which nothing is left.
 #[tactic(auto, unfolding(crate::specs::Reading::alone))]
 fn alone(event: Event, words: Parts<'_>) -> Result<Event, TextFault>
@@ -189,6 +206,11 @@ fn event_by(
             let tree = words.one_number()?;
             Ok(Event::Tree { session, tree })
         }
+        Keyword::Policy => {
+            let (role, k) = policy(words)?;
+            Ok(Event::Policy { session, role, k })
+        }
+        Keyword::Work => alone(Event::Work { session }, words),
         Keyword::Step => {
             let wish = wish(alloc, words)?;
             Ok(Event::Step { session, wish })

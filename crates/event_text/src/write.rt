@@ -3,9 +3,12 @@ ghost use Rattle.std.specs.Fmt.{decimal};
 ghost use Rattle.std.specs.String.{string_bytes};
 ghost use Rattle.words.specs.Word.{hexadecimal};
 ghost use Rattle.words.specs.Line.{last_words};
+ghost use Rattle.event_text.specs.RoleWord.{role_text};
 ghost use Rattle.event_text.specs.Event.{wish_words, line_of, spelling};
 
 use crate::event::Event;
+use crate::role_word::role_text;
+use ckpt_policy::Role;
 use db_base::blob::Blob;
 use db_base::wish::Wish;
 use std::alloc::{AllocError, Global};
@@ -52,6 +55,15 @@ fn word_line(alloc: Global, keyword: &str, number: u64, word: &str) -> Result<St
     ensures { IfOk result (λ line. string_bytes line ≡ line_of (keyword.now ∷ decimal number ∷ word.now ∷ [])) }
 {
     let line = format!(in alloc; "{keyword} {number} {word}\n")?;
+    Ok(line)
+}
+
+/// The line of a policy: a session, a role and a number.
+fn policy_line(alloc: Global, session: u64, role: Role, k: u64) -> Result<String, AllocError>
+    ensures { IfOk result (λ line. string_bytes line ≡ line_of (codes "policy" ∷ decimal session ∷ role_text role ∷ decimal k ∷ [])) }
+{
+    let role = role_text(role);
+    let line = format!(in alloc; "policy {session} {role} {k}\n")?;
     Ok(line)
 }
 
@@ -208,6 +220,8 @@ impl Event {
                 page,
             } => three_numbers_line(alloc, "page", *session, *tree, *page),
             Event::Tree { session, tree } => two_numbers_line(alloc, "tree", *session, *tree),
+            Event::Policy { session, role, k } => policy_line(alloc, *session, *role, *k),
+            Event::Work { session } => number_line(alloc, "work", *session),
             Event::Step { session, wish } => step_line(alloc, *session, wish),
             Event::Run { session } => number_line(alloc, "run", *session),
             Event::Crash {

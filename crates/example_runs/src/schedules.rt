@@ -5,7 +5,7 @@ use crate::output::output;
 use std::io;
 
 /// Their names, the shortest walks first.
-const NAMES: [&str; 18] = [
+const NAMES: [&str; 22] = [
     "first-path",
     "two-transactions",
     "three-trees",
@@ -18,6 +18,10 @@ const NAMES: [&str; 18] = [
     "counter",
     "attributes",
     "old-read",
+    "writer-works",
+    "reader-works",
+    "watchdog-works",
+    "owners-work",
     "two-hundred-keys",
     "late-update",
     "half-cut",

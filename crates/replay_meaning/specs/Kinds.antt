@@ -14,7 +14,7 @@ use Rattle.head_codec.specs.declared.head.Phase.TheVariants as phase
 use Rattle.head_codec.specs.Spelling.{head_of}
 use Rattle.log_codec.specs.declared.record.PuRec.{PuRec}
 use Rattle.log_codec.specs.Pu.{pu_of}
-use Rattle.event_text.specs.declared.event.Event.TheVariants.{Settle}
+use Rattle.event_text.specs.declared.event.Event.TheVariants.{Settle, Work}
 use Rattle.txn_buffer.specs.Noted.{Noted}
 use Rattle.history.specs.Legal.{StandsAt}
 use Rattle.report_types.specs.declared.entry.Entry.{Entry}
@@ -64,6 +64,14 @@ pub record IsOfSettler (lines : List Line) (row : Landing) : Type 0 where
   pub there : slice_get lines place ≡ Some line
   pub settles : line.event ≡ Settle
 
+-- the row is of a session's own line that works, by which the session makes the checkpoints that are due to it
+pub record IsOfWork (lines : List Line) (row : Landing) : Type 0 where
+  pub place : ℕ
+  pub event : row.who.event ≡ suc place
+  pub line : Line
+  pub there : slice_get lines place ≡ Some line
+  pub works : line.event ≡ Work row.who.session
+
 -- ---- the kinds of rows
 
 -- a put of a head of the client that is settled: the client is opened, a session of it commits, or all is settled
@@ -74,11 +82,11 @@ MaySettleHead lines row client = OpensClient client (standing_of_row lines row) 
 abbrev pub MayOpenHead : List Line → Landing → ℕ → ℕ → Type 0
 MayOpenHead lines row client count = CommitsCount client count (standing_of_row lines row)
 
--- a put of a root: a checkpoint of the tree, or all is settled
+-- a put of a root: a checkpoint of the tree, the work of a session, or all is settled
 abbrev pub MayPutRoot : List Line → Landing → ℕ → Type 0
-MayPutRoot lines row tree = FoldsTree tree (standing_of_row lines row) ⊎ IsOfSettler lines row
+MayPutRoot lines row tree = FoldsTree tree (standing_of_row lines row) ⊎ (IsOfSettler lines row ⊎ IsOfWork lines row)
 
--- a put of a page: a checkpoint of a page of its tree or of the tree, or all is settled
+-- a put of a page: a checkpoint of a page of its tree or of the tree, the work of a session, or all is settled
 abbrev pub MayPutPage : List Line → Landing → ℕ → Type 0
 MayPutPage lines row tree = FoldsPage tree (standing_of_row lines row) ⊎ MayPutRoot lines row tree
 

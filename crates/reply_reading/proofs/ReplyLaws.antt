@@ -15,8 +15,8 @@ use Rattle.db_base.specs.declared.trouble.Trouble.TheVariants as trouble
 use Rattle.words.specs.declared.fault.TextFault.{TextFault}
 use Rattle.words.specs.declared.fault.TextFault.TheVariants.{NotInGrammar, Memory}
 use Rattle.words.specs.Word.{hexadecimal, AreBytes, Reads, IsReadTo}
-use Rattle.words.specs.Line.{parts_of, text_of, word_at, number_at, bytes_at, end_at, one_of, three_of}
-use Rattle.words.proofs.Shapes.{bind_some, number_at-takes, number_at-again, bytes_at-takes, bytes_at-again, end_at-takes, end_at-again, one_of-takes, one_of-again, three_of-takes, three_of-again}
+use Rattle.words.specs.Line.{parts_of, text_of, word_at, number_at, bytes_at, end_at, one_of, two_of, three_of}
+use Rattle.words.proofs.Shapes.{bind_some, number_at-takes, number_at-again, bytes_at-takes, bytes_at-again, end_at-takes, end_at-again, one_of-takes, one_of-again, two_of-takes, two_of-again, three_of-takes, three_of-again}
 use Rattle.words.proofs.Splitting.{lacks, all_lack, parts_of-text_of, text_of-parts_of}
 use Rattle.reply_text.specs.declared.reply.Reply.{Reply}
 use Rattle.reply_text.specs.declared.reply.Reply.TheVariants as reply
@@ -155,6 +155,10 @@ reply_by-takes answer.Settled words r e =
     let m = mapped reply.Settled (one_of words) r e in
     let x = one_of-takes words m.0 m.1 in
     rw (← m.2) (x.0, single (behind _ x.1))
+reply_by-takes answer.Worked words r e =
+    let m = mapped (λ (x : ℕ × ℕ). reply.Worked x.0 x.1) (two_of words) r e in
+    let x = two_of-takes words m.0 m.1 in
+    rw (← m.2) ((x.0, x.1), single (behind _ x.2))
 reply_by-takes answer.NotSettled words r e =
     let m = mapped reply.NotSettled (trouble_of words) r e in
     let x = trouble_of-takes words m.0 m.1 in
@@ -279,6 +283,7 @@ reply_of_lines-again (reply.Value payload) h = at_first (codes "value" ∷ hexad
 reply_of_lines-again reply.NoValue h = word_again (codes "none") reply.NoValue (rw end_at-again refl) refl
 reply_of_lines-again (reply.Scan pairs) h = at_first (codes "scan" ∷ decimal (length pairs) ∷ map pair_word pairs) [] _ (rw (visible_number (length pairs) h.1, scan_visible pairs h.0) refl) (rw (end_at-again, scan_of-again pairs h) refl)
 reply_of_lines-again (reply.Settled calls) h = at_first (codes "settled" ∷ decimal calls ∷ []) [] _ (rw (visible_number calls h) refl) (rw (end_at-again, one_of-again calls h) refl)
+reply_of_lines-again (reply.Worked done passed) h = at_first (codes "worked" ∷ decimal done ∷ decimal passed ∷ []) [] _ (rw (visible_number done h.0, visible_number passed h.1) refl) (rw (end_at-again, two_of-again done passed h.0 h.1) refl)
 reply_of_lines-again (reply.NotSettled t) h = at_first (codes "not-settled" ∷ trouble_words t) [] _ (rw (visible_trouble t h) refl) (rw (end_at-again, trouble_of-again t h) refl)
 reply_of_lines-again (reply.Trouble t) h = at_first (trouble_words t) [] _ (visible_trouble t h) (trouble_again t h ∙ ap (option_map reply.Trouble) (trouble_of-again t h))
 reply_of_lines-again (reply.Report report) h = at_first (codes "report" ∷ decimal report.tree ∷ []) (map (text_of 32) (committed_lines report)) _ (rw (visible_number report.tree (small_tree report.tree h.tree)) refl) (rw (report_of-again report h) refl)
@@ -302,6 +307,7 @@ visible_lines (reply.Value payload) h = rw (visible_bytes payload h) refl
 visible_lines reply.NoValue h = refl
 visible_lines (reply.Scan pairs) h = rw (visible_number (length pairs) h.1, scan_visible pairs h.0) refl
 visible_lines (reply.Settled calls) h = rw (visible_number calls h) refl
+visible_lines (reply.Worked done passed) h = rw (visible_number done h.0, visible_number passed h.1) refl
 visible_lines (reply.NotSettled t) h = rw (visible_trouble t h) refl
 visible_lines (reply.Trouble t) h = rw (visible_trouble t h) refl
 visible_lines (reply.Report report) h = both_true (all_visible (codes "report" ∷ decimal report.tree ∷ [])) (lines_visible (committed_lines report)) (rw (visible_number report.tree (small_tree report.tree h.tree)) refl) (report_visible report h)

@@ -148,6 +148,10 @@ fn reply_by(alloc: Global, kind: ReplyKind, words: Parts<'_>) -> Result<Reply, T
             let calls = words.one_number()?;
             Ok(Reply::Settled { calls })
         }
+        ReplyKind::Worked => {
+            let (done, passed) = words.two_numbers()?;
+            Ok(Reply::Worked { done, passed })
+        }
         ReplyKind::NotSettled => Ok(Reply::NotSettled(trouble_of(alloc, words)?)),
     }
 }

@@ -41,12 +41,14 @@ pub enum ReplyKind {
     Scan,
     /// `settled`
     Settled,
+    /// `worked`
+    Worked,
     /// `not-settled`
     NotSettled,
 }
 
 /// All of them.
-const REPLY_KINDS: [ReplyKind; 20] = [
+const REPLY_KINDS: [ReplyKind; 21] = [
     ReplyKind::Begun,
     ReplyKind::Called,
     ReplyKind::Noted,
@@ -66,6 +68,7 @@ const REPLY_KINDS: [ReplyKind; 20] = [
     ReplyKind::NoValue,
     ReplyKind::Scan,
     ReplyKind::Settled,
+    ReplyKind::Worked,
     ReplyKind::NotSettled,
 ];
 
@@ -96,6 +99,7 @@ impl ReplyKind {
             ReplyKind::NoValue => "none",
             ReplyKind::Scan => "scan",
             ReplyKind::Settled => "settled",
+            ReplyKind::Worked => "worked",
             ReplyKind::NotSettled => "not-settled",
         }
     }

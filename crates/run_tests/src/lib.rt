@@ -18,6 +18,8 @@ mod old_store;
 #[cfg(test)]
 mod planted;
 #[cfg(test)]
+mod policies;
+#[cfg(test)]
 mod replays;
 #[cfg(test)]
 mod shells;

@@ -92,6 +92,14 @@ const BACK_TO_THE_FIRST: &[u8] =
 const NODE: &[u8] =
     b"\x49\x01\x00\x00\x00\x00\x00\x00\x00\x01\x01\x00\x00\x00\x00\x00\x00\x00\x00\x00\x01\x00\x00\x00\x00\x00\x00\x00\x00\x01\x00";
 
+/// A tree of two levels, whose root has the inner node at page 2 alone.
+const TALL: &[u8] =
+    b"\x54\x01\x00\x00\x00\x00\x00\x00\x00\x01\x00\x00\x00\x00\x00\x00\x00\x03\x02\x00\x01\x00\x00\x00\x00\x00\x00\x00\x00\x02\x00";
+
+/// A leaf without records, for all keys.
+const BARE: &[u8] =
+    b"\x4c\x01\x00\x00\x00\x00\x00\x00\x00\x01\x00\x00\x00\x00\x00\x00\x00\x00\x00\x00\x00";
+
 /// A settled head in the greatest epoch.
 const LAST_EPOCH: &[u8] =
     b"\x48\x01\xff\xff\xff\xff\xff\xff\xff\xff\x00\x00\x00\x00\x00\x00\x00\x00\x00\x00\x00";
@@ -231,4 +239,20 @@ fn rewrites(alloc: Global) -> bool {
 #[test]
 fn puts_an_old_leaf_in_the_new_format(rt: HostRuntime) {
     assert!(rt; rewrites(rt.alloc()));
+}
+
+/// A reader that met an inner node is due there for ever, and passes it over each time.
+const READERS: [(&[(Place, &[u8])], &[u8], &[u8]); 1] = [(
+    &[
+        (Place::Tree, TALL),
+        (Place::Page(2), NODE),
+        (Place::Page(1), BARE),
+    ],
+    b"open 1 1\nrun 1\npolicy 1 reader 1\nread 1 1 6b\nrun 1\nwork 1\nwork 1\nread 1 1 6b\nrun 1\nwork 1\n",
+    b"1 begun\n2 opened 1\n3 noted\n4 begun\n5 none\n6 worked 1 1\n7 worked 0 1\n8 begun\n9 none\n10 worked 1 1\n",
+)];
+
+#[test]
+fn a_reader_passes_an_inner_node_over(rt: HostRuntime) {
+    assert!(rt; all_reply(rt.alloc(), &READERS));
 }

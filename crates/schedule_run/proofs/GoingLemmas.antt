@@ -137,7 +137,7 @@ lines_more texts text n w v u s t z first old new line count h spells a grows ad
 
 -- a new world stands for no lines over an empty cloud
 pub fresh_stands : (world : World) (t : CloudState) → IsNew world → IsEmptyCloud t → WorldStands [] world t
-fresh_stands world t fresh empty = new_stands world.sessions world.audit world.blind t fresh.sessions fresh.audit fresh.sees empty
+fresh_stands world t fresh empty = new_stands world.sessions world.audit world.blind world.notes t fresh.sessions fresh.audit fresh.sees empty
 
 -- and so every reply of lines that were handled from it on is sound
 pub replies_sound : (lines : List Line) (s t : Seen) (first world : World) (x : CloudState) → WentOn s first lines t world → IsNew first → s.state ≡ Some x → IsEmptyCloud x

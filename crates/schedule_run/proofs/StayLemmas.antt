@@ -37,12 +37,15 @@ use Rattle.session_facts.specs.Facts.{IsPlaced, IsPlacedAt}
 use Rattle.session_facts.proofs.Acknowledged.{kept_on}
 use Rattle.session_facts.proofs.CommittedLemmas.{committed_same, committed_line, slice_get-append_left}
 use Rattle.session_facts.proofs.Steps.{made_call}
+use Rattle.db_base.specs.declared.names.QueueName.{QueueName}
+use Rattle.ckpt_policy.specs.declared.role.Role.{Role}
+use Rattle.cloud_facts.specs.Book.Tally.{at}
 use Rattle.world_core.specs.World.{World}
 use Rattle.world_core.specs.declared.asked.Asked.{Asked}
 use Rattle.world_core.specs.declared.asked.Asked.TheVariants.{Session, Wait, Report, Settle}
 use Rattle.world_core.specs.declared.asked.Request.{Request}
-use Rattle.world_core.specs.declared.asked.Request.TheVariants.{Begin, Note, Abort, Step, Run, Crash}
-use Rattle.world_core.specs.Handled.{SetsWish, StepsLooked, Went, start as went_start, further as went_further, ComesTo, MakesStep, Runs, Crashes, SettlesOn, Settles, Does, Answers}
+use Rattle.world_core.specs.declared.asked.Request.TheVariants.{Begin, Note, Abort, Policy, Work as WorksDue, Step, Run, Crash}
+use Rattle.world_core.specs.Handled.{SetsWish, StepsLooked, Went, start as went_start, further as went_further, ComesTo, MakesStep, Runs, Crashes, SettlesOn, Settles, Does, Answers, Policies, Works, WorksThrough, checkpoint_more, no_checkpoint}
 use Rattle.world_core.specs.Stands.{WorldStands}
 use Rattle.world_core.proofs.Acknowledged.{durable_after}
 use Rattle.world_core.proofs.Counting.{stands_after}
@@ -134,6 +137,13 @@ lands_come : (who : Caller) (before after : Seen) (old new : World) (a : Answer)
 lands_come who before after old new a c =
     lands_on who.event before c.mid after (lands_went who before old c.mid c.world c.went) (lands_stepped who _ c.mid after c.world new _ c.steps)
 
+-- the checkpoints of a session's work
+lands_works : (who : Caller) (before : Seen) (old : World) (queues : List QueueName) (done passed : ℕ) (after : Seen) (new : World) → Works who before old queues done passed after new
+    → Lands who.event before after
+lands_works who before old queues done passed after new no_checkpoint = lands_same who.event before before refl
+lands_works who before old queues done passed after new (checkpoint_more others kept left mid world queue a _ _ works makes passes) =
+    lands_on who.event before mid after (lands_works who before old others kept left mid world works) (lands_come who mid after makes.begun new a makes.comes)
+
 module _ (n : ℕ) (before after : Seen) (old new : World) (r : Reply) where
   abbrev who : ℕ → Caller
   who k = record { session = k; event = n }
@@ -154,10 +164,22 @@ module _ (n : ℕ) (before after : Seen) (old new : World) (r : Reply) where
   lands_crash k true (inr (inl dies)) = lands_stepped (who k) _ before after old dies.world dies.turn dies.steps
   lands_crash k true (inr (inr memory)) = absurd (no_memory r memory.0)
 
+  lands_policy : (k : ℕ) (role : Role) (number : ℕ) → Policies k role number before after old new (Ok r) → Lands n before after
+  lands_policy k role number (inl refuses) = lands_same n before after refuses.declines.seen
+  lands_policy k role number (inr (inl refuses)) = lands_same n before after refuses.1.declines.seen
+  lands_policy k role number (inr (inr gives)) = lands_same n before after gives.quiet.seen
+
+  lands_through : (k : ℕ) → WorksThrough n k before after old new (Ok r) → Lands n before after
+  lands_through k (inl refuses) = lands_same n before after refuses.declines.seen
+  lands_through k (inr (inl down)) = lands_works (who k) before old down.queues down.done down.passed after new down.works
+  lands_through k (inr (inr memory)) = absurd (no_memory r memory.0)
+
   lands_does : (k : ℕ) (request : Request) → Does n k request before after old new (Ok r) → Lands n before after
   lands_does k (Begin o) h = lands_same n before after h.0.seen
   lands_does k (Note tree change) h = lands_same n before after h.0.seen
   lands_does k Abort h = lands_same n before after h.0.seen
+  lands_does k (Policy role number) h = lands_policy k role number h
+  lands_does k WorksDue h = lands_through k h
   lands_does k (Step wish) h = lands_made k wish h
   lands_does k Run h = lands_run k h
   lands_does k (Crash done) h = lands_crash k done h

@@ -22,6 +22,7 @@ use Rattle.session_facts.specs.Facts.{session_at, WasLeft}
 use Rattle.session_facts.specs.LeftNone.{IsLeftReply}
 use Rattle.session_facts.specs.Opened.{AddsNoneTwice}
 use Rattle.session_facts.specs.Sessions.Untroubled.{IsUntroubled}
+use Rattle.session_notes.specs.Notebook.{blank}
 use Rattle.world_core.specs.World.{World}
 use Rattle.world_core.specs.declared.world.WorldFault.{WorldFault}
 use Rattle.world_core.specs.Added.{WorldAdds}
@@ -45,6 +46,7 @@ pub record IsNew (world : World) : Type 0 where
   pub sessions : world.sessions ≡ replicate 17 closed_session
   pub audit : world.audit ≡ record { committed = []; order = [] }
   pub sees : world.blind ≡ false
+  pub notes : world.notes ≡ replicate 17 blank
 
 -- these lines were handled one behind another: each did what its event asks for, and its reply is the reply to that
 pub data WentOn (before : Seen) (old : World) : List Line → Seen → World → Type 0 where

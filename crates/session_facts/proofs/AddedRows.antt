@@ -22,7 +22,8 @@ use Rattle.replay_meaning.specs.Kinds.{IsOfKind}
 use Rattle.session_facts.specs.RowKinds.Asks.{MayAsk}
 use Rattle.session_facts.specs.Added.{AddsKinds, AddsTo}
 use Rattle.session_facts.specs.Facts.{IsPlaced, WorksAs}
-use Rattle.session_facts.proofs.CallKinds.{IsSettling, IsSettlersRow, settle_asks, call_kind}
+use Rattle.session_facts.proofs.CallKinds.{HasCheckpoint, IsSettling, IsSettlersRow, IsWorkersRow, checkpoint_asks, settle_asks, call_kind}
+use Rattle.recover_run.specs.declared.home.Home.{Home}
 use Rattle.session_facts.proofs.CommittedLemmas.{placed_effect}
 use Rattle.session_facts.proofs.LineRows.{kinds_effect, rows_line, rows_same}
 use Rattle.session_facts.proofs.Steps.{MadeCall, made_call, sound_of}
@@ -176,3 +177,9 @@ pub settler_adds : (n : ℕ) (lines : List Line) (who : Caller) (before after : 
 settler_adds n lines who before after start x w new turn le told settles settler p h =
     call_adds n lines who before after start x w new turn le told
     (λ ask hand row is. settle_asks lines row w settles (settler row is) (sound_of who before after w new turn p) ask hand) p h
+
+-- and a checkpoint within a line that works, which is one of the lines
+pub worker_adds : (n : ℕ) (lines : List Line) (who : Caller) (home : Home) (before after : Seen) (start x : CloudState) (w new : Work) (turn : Turn Answer) → who.event ≤ n
+    → before.state ≡ Some x → HasCheckpoint home w → IsWorkersRow lines who → StepsAt who before after w new turn → AddsKinds n lines start x → AddsTo n lines start after
+worker_adds n lines who home before after start x w new turn le told checkpoint worker p h =
+    call_adds n lines who before after start x w new turn le told (λ ask hand row is. checkpoint_asks lines row home w checkpoint (worker row is) ask hand) p h

@@ -20,7 +20,7 @@ use Rattle.commit_run.specs.declared.hand.Hand.{Hand}
 use Rattle.commit_run.specs.declared.hand.Hand.TheVariants.{Writes, First, Change}
 use Rattle.commit_run.specs.Run.{Run, home_of, ask_at as run_ask_at, run_ask}
 use Rattle.commit_run.specs.Sound.{IsSoundAt as IsSoundHand, IsSoundRun}
-use Rattle.page_ckpt.specs.Paging.{paging_ask}
+use Rattle.page_ckpt.specs.Paging.{Paging as PageState, paging_ask}
 use Rattle.range_scan.specs.Scan.{scan_ask}
 use Rattle.recover_run.specs.declared.items.AtomicItem.{AtomicItem}
 use Rattle.recover_run.specs.declared.stage.Stage.{Stage as OpeningStage}
@@ -34,7 +34,7 @@ use Rattle.tree_rising.specs.Rising.{last_ask}
 use Rattle.tree_moves.specs.declared.work.Work.{Work as TreeWork}
 use Rattle.tree_moves.specs.declared.work.Work.TheVariants as tree_work
 use Rattle.tree_moves.specs.Work.{delete_ask, release_ask, work_ask}
-use Rattle.tree_ckpt.specs.Making.{making_ask}
+use Rattle.tree_ckpt.specs.Making.{Making as TreeState, making_ask}
 use Rattle.settle_run.specs.declared.part.Part.{Part}
 use Rattle.settle_run.specs.declared.part.Part.TheVariants.{Client, Tree, Page}
 use Rattle.settle_run.specs.Parts.{part_ask, IsSoundPart}
@@ -46,7 +46,7 @@ use Rattle.session_facts.specs.RowKinds.Asks.{MayAsk, MayAskBeside}
 use Rattle.session_facts.specs.Sessions.Puts.{IsSoundWork}
 use Rattle.session_facts.proofs.RowKinds.Asks.{recovery_asks, run_asks, paging_asks}
 use Rattle.replay_meaning.specs.Standing.{Line, Standing, standing_of_row}
-use Rattle.replay_meaning.specs.Kinds.{OpensClient, CommitsCount, IsOfSettler, MaySettleHead, MayPutRoot, MaySendPending, MayPutPhase, MayPutHead, MayPutBytes}
+use Rattle.replay_meaning.specs.Kinds.{OpensClient, CommitsCount, IsOfSettler, IsOfWork, MaySettleHead, MayPutRoot, MaySendPending, MayPutPhase, MayPutHead, MayPutBytes}
 use Rattle.session_facts.specs.Running.{IsSettledHead, WritesAt, RunsAt, IsRunning, IsOfTree, PutsSettled}
 use Rattle.session_facts.specs.Facts.{WorksAs}
 
@@ -199,8 +199,8 @@ module _ (lines : List Line) (row : Landing) where
   own_root tree (tree_work.Releasing held end) of may = tt
   own_root tree tree_work.Finished of may = tt
 
-  -- the settler may put that of any
-  any_root : (w : TreeWork) → IsOfSettler lines row → RootMay w
+  -- the settler may put that of any, and so may a session at its own line that works
+  any_root : (w : TreeWork) → IsOfSettler lines row ⊎ IsOfWork lines row → RootMay w
   any_root (tree_work.Folding h f) own = inr own
   any_root (tree_work.Rising h r) own = inr own
   any_root tree_work.TakingTree own = tt
@@ -218,11 +218,19 @@ module _ (lines : List Line) (row : Landing) where
 
   part_may : (part : Part) → PutsSettled part → IsSoundPart part → IsOfSettler lines row → MayAsk lines row (part_ask part)
   part_may (Client client r) settled sound own = recovery_may r settled (inr (inr own)) (inr (inr own)) sound
-  part_may (Tree tree m) settled sound own = work_may m.tree m.work (any_root m.work own)
-  part_may (Page tree page m) settled sound own = paging_asks lines row m (inr (inr own))
+  part_may (Tree tree m) settled sound own = work_may m.tree m.work (any_root m.work (inl own))
+  part_may (Page tree page m) settled sound own = paging_asks lines row m (inr (inr (inl own)))
 
   pub settling_may : (m : SettlingState) → PutsSettled m.part → IsSoundPart m.part → IsOfSettler lines row → MayAsk lines row (settle_ask m)
   settling_may m settled sound own = part_may m.part settled sound own
+
+  -- ---- a checkpoint at a line that works
+
+  pub page_at_work : (p : PageState) → IsOfWork lines row → MayAsk lines row (paging_ask p)
+  page_at_work p own = paging_asks lines row p (inr (inr (inr own)))
+
+  pub tree_at_work : (m : TreeState) → IsOfWork lines row → MayAsk lines row (making_ask m)
+  tree_at_work m own = work_may m.tree m.work (any_root m.work (inr own))
 
   -- ---- the call in hand, by the work
 

@@ -6,11 +6,18 @@ use Rattle.cloud_trait.specs.declared.state.Landing.{Landing}
 use Rattle.cloud_trait.specs.Ask.{Ask, Get, GetHeld, PutHeld, Send, Receive, Delete, Take, Renew, Release}
 use Rattle.cloud_trait.specs.Caller.{Caller}
 use Rattle.cloud_trait.specs.Seen.{Seen}
-use Rattle.cloud_trait.specs.declared.turn.Turn.TheVariants.{More}
+use Rattle.cloud_trait.specs.declared.turn.Turn.TheVariants.{More, Ended}
 use Rattle.cloud_trait.specs.State.{CloudState}
 use Rattle.client_work.specs.declared.work.Work.{Work}
-use Rattle.client_work.specs.declared.work.Work.TheVariants.{Settling}
-use Rattle.client_work.specs.Session.{StepsAt, ask_of_work, opens_of, committing_of}
+use Rattle.client_work.specs.declared.answer.Answer.{Answer}
+use Rattle.client_work.specs.declared.answer.Answer.TheVariants as answer
+use Rattle.client_work.specs.declared.work.Work.TheVariants.{Idle, Paging, Folding, Settling}
+use Rattle.client_work.specs.Session.{StepsAt, ask_of_work, opens_of, committing_of, stopped_work}
+use Rattle.db_base.specs.declared.trouble.Trouble.{Trouble}
+use Rattle.db_base.specs.declared.trouble.Trouble.TheVariants as trouble
+use Rattle.page_ckpt.specs.Paging.{paging_ask}
+use Rattle.recover_run.specs.declared.home.Home.{Home}
+use Rattle.tree_ckpt.specs.Making.{making_ask}
 use Rattle.head_codec.specs.declared.head.Head.{Head}
 use Rattle.head_codec.specs.declared.head.Phase.TheVariants as phase
 use Rattle.head_codec.specs.Spelling.{head_of}
@@ -22,7 +29,7 @@ use Rattle.page_cache.specs.Cache.{Cache}
 use Rattle.settle_run.specs.Settling.{settle_ask}
 use Rattle.replay_meaning.specs.Standing.{Line, standing, standing_of_row}
 use Rattle.replay_meaning.specs.Committed.{committed}
-use Rattle.replay_meaning.specs.Kinds.{IsOfSettler, IsOfKind, LandsOpen}
+use Rattle.replay_meaning.specs.Kinds.{IsOfSettler, IsOfWork, IsOfKind, LandsOpen}
 use Rattle.session_facts.specs.Sessions.Puts.{IsSoundWork, Commits, PutsHead}
 use Rattle.session_facts.specs.Sessions.Sessions.{KnowsWork}
 use Rattle.session_facts.proofs.Sessions.HeadPuts.{head_put}
@@ -30,7 +37,7 @@ use Rattle.cloud_facts.specs.Book.Records.{entries_of}
 use Rattle.cloud_facts.specs.Book.Tally.{Store}
 use Rattle.session_facts.specs.Facts.{WorksAs}
 use Rattle.session_facts.specs.Running.{PutsSettled}
-use Rattle.session_facts.proofs.CallAsks.{settling_may, work_asks}
+use Rattle.session_facts.proofs.CallAsks.{settling_may, page_at_work, tree_at_work, work_asks}
 use Rattle.session_facts.proofs.CommittedLemmas.{now_standing}
 use Rattle.session_facts.proofs.SettlingHeads.{settling_stays}
 use Rattle.session_facts.proofs.Once.{at_place, not_opened, OpensUnopened}
@@ -60,6 +67,57 @@ settle_asks lines row w settles own sound ask e = absurd settles
 pub settling_goes : (who : Caller) (before after : Seen) (w new : Work) → StepsAt who before after w new More → IsSettling w → IsSettling new
 settling_goes who before after (Settling m) new p is = subst IsSettling (sym p.1.2) (settling_stays m p.1.0 p.1.1.did.answer p.1.1.did.took is)
 settling_goes who before after w new p is = absurd is
+
+-- a checkpoint beside an open client is in hand
+abbrev pub HasCheckpoint : Home → Work → Type 0
+HasCheckpoint home (Paging h p) = h ≡ home
+HasCheckpoint home (Folding h f) = h ≡ home
+HasCheckpoint home w = ⊥
+
+-- a row of this caller is of its session's own line that works
+abbrev pub IsWorkersRow : List Line → Caller → Type 0
+IsWorkersRow lines who = (row : Landing) → row.who ≡ who → IsOfWork lines row
+
+-- a checkpoint commits nothing
+pub checkpoint_none : (home : Home) (w : Work) → HasCheckpoint home w → committing_of w ≡ None
+checkpoint_none home (Paging h p) is = refl
+checkpoint_none home (Folding h f) is = refl
+checkpoint_none home w is = absurd is
+
+-- the call of a checkpoint, for a row of a line that works
+pub checkpoint_asks : (lines : List Line) (row : Landing) (home : Home) (w : Work) → HasCheckpoint home w → IsOfWork lines row → (ask : Ask) → ask_of_work w ≡ Some ask → MayAsk lines row ask
+checkpoint_asks lines row home (Paging h p) is own ask e =
+    let same : paging_ask p ≡ ask = cc in
+    subst (MayAsk lines row) same (page_at_work lines row p own)
+checkpoint_asks lines row home (Folding h f) is own ask e =
+    let same : making_ask f ≡ ask = cc in
+    subst (MayAsk lines row) same (tree_at_work lines row f own)
+checkpoint_asks lines row home w is own ask e = absurd is
+
+-- a checkpoint that goes on is one beside the same client
+pub checkpoint_goes : (who : Caller) (before after : Seen) (home : Home) (w new : Work) → StepsAt who before after w new More → HasCheckpoint home w → HasCheckpoint home new
+checkpoint_goes who before after home (Paging h m) new p is = subst (HasCheckpoint home) (sym p.2) is
+checkpoint_goes who before after home (Folding h f) new p is = subst (HasCheckpoint home) (sym p.2) is
+checkpoint_goes who before after home w new p is = absurd is
+
+-- an answer that is not want of memory
+abbrev pub IsNoWant : Answer → Type 0
+IsNoWant (answer.Trouble trouble.Memory) = ⊥
+IsNoWant a = Unit {0}
+
+open_still : (t : Trouble) (home : Home) → IsNoWant (answer.Trouble t) → stopped_work t home ≡ Idle home
+open_still trouble.Memory home some = absurd some
+open_still t home some = refl
+
+-- one that comes to its end leaves the client open, but for want of memory
+pub checkpoint_ends : (who : Caller) (before after : Seen) (home : Home) (w new : Work) (a : Answer) → StepsAt who before after w new (Ended a) → HasCheckpoint home w → IsNoWant a → new ≡ Idle home
+checkpoint_ends who before after home (Paging h m) new (answer.Done n) p is some = p.2 ∙ ap (λ (x : Home). Idle x) is
+checkpoint_ends who before after home (Paging h m) new (answer.Trouble t) p is some = p.2 ∙ open_still t h some ∙ ap (λ (x : Home). Idle x) is
+checkpoint_ends who before after home (Paging h m) new a p is some = absurd p
+checkpoint_ends who before after home (Folding h f) new (answer.Done n) p is some = p.2 ∙ ap (λ (x : Home). Idle x) is
+checkpoint_ends who before after home (Folding h f) new (answer.Trouble t) p is some = p.2 ∙ open_still t h some ∙ ap (λ (x : Home). Idle x) is
+checkpoint_ends who before after home (Folding h f) new a p is some = absurd p
+checkpoint_ends who before after home w new a p is some = absurd is
 
 -- how the session of a row within a line stands after the lines before it
 standing_now : (lines : List Line) (who : Caller) (row : Landing) → who.event ≡ length lines + 1 → row.who ≡ who → standing_of_row lines row ≡ standing lines who.session

@@ -36,6 +36,7 @@ pub mod OpenedRuns
 pub mod OpenedCalls
 pub mod LineLemmas
 pub mod SettlerLemmas
+pub mod WorkerLemmas
 pub mod StartLemmas
 pub mod UptoRight
 pub mod LeftLemmas

@@ -22,7 +22,7 @@ use Rattle.head_codec.specs.Spelling.{head_of}
 use Rattle.session_facts.specs.RowKinds.Asks.{MayAsk}
 use Rattle.replay_meaning.specs.Standing.{Line, Standing, standing, standing_of_row}
 use Rattle.replay_meaning.specs.Committed.{Versions}
-use Rattle.replay_meaning.specs.Kinds.{OpensClient, IsCommitting, CommitsFor, CommitsCount, FoldsTree, FoldsPage, IsOfSettler, MaySettleHead, MayPutRoot, MayPutPage, MaySendPending, MayPutPhase, MayPutHead, MayPutBytes, MaySend, IsOfKindAt, IsOfKind}
+use Rattle.replay_meaning.specs.Kinds.{OpensClient, IsCommitting, CommitsFor, CommitsCount, FoldsTree, FoldsPage, IsOfSettler, IsOfWork, MaySettleHead, MayPutRoot, MayPutPage, MaySendPending, MayPutPhase, MayPutHead, MayPutBytes, MaySend, IsOfKindAt, IsOfKind}
 use Rattle.session_facts.specs.Facts.{IsPlaced, IsPlacedAt}
 use Rattle.session_facts.proofs.CommittedLemmas.{new_version, kept_version}
 use Rattle.cloud_facts.proofs.Book.Places.{get_front}
@@ -45,6 +45,9 @@ module _ (lines more : List Line) (row : Landing) (within : row.who.event ≤ le
   settler_more : IsOfSettler lines row → IsOfSettler (lines ++ more) row
   settler_more s = record { session = s.session; place = s.place; event = s.event; line = s.line; there = get_front lines more s.place s.line s.there; settles = s.settles }
 
+  worker_more : IsOfWork lines row → IsOfWork (lines ++ more) row
+  worker_more w = record { place = w.place; event = w.event; line = w.line; there = get_front lines more w.place w.line w.there; works = w.works }
+
   settled_more : (client : ℕ) → MaySettleHead lines row client → MaySettleHead (lines ++ more) row client
   settled_more client (inl o) = inl (stands_more (OpensClient client) o)
   settled_more client (inr (inl c)) = inr (inl (stands_more (CommitsFor client) c))
@@ -52,7 +55,8 @@ module _ (lines more : List Line) (row : Landing) (within : row.who.event ≤ le
 
   root_more : (tree : ℕ) → MayPutRoot lines row tree → MayPutRoot (lines ++ more) row tree
   root_more tree (inl f) = inl (stands_more (FoldsTree tree) f)
-  root_more tree (inr s) = inr (settler_more s)
+  root_more tree (inr (inl s)) = inr (inl (settler_more s))
+  root_more tree (inr (inr w)) = inr (inr (worker_more w))
 
   page_more : (tree : ℕ) → MayPutPage lines row tree → MayPutPage (lines ++ more) row tree
   page_more tree (inl f) = inl (stands_more (FoldsPage tree) f)

@@ -54,13 +54,15 @@ use Rattle.session_facts.specs.RowKinds.Asks.{MayAsk}
 use Rattle.session_facts.specs.Sessions.Puts.{IsSoundWork}
 use Rattle.replay_meaning.specs.Standing.{Line, Closed as NotOpen, Standing, standing, standing_of_row}
 use Rattle.replay_meaning.specs.Committed.{Versions}
-use Rattle.replay_meaning.specs.Kinds.{IsCommitting, CommitsFor, CommitsCount, MayPutHead, MayPutPhase, LandsOpen}
+use Rattle.replay_meaning.specs.Kinds.{IsCommitting, CommitsFor, CommitsCount, IsOfWork, MayPutHead, MayPutPhase, LandsOpen}
 use Rattle.session_facts.specs.Facts.{IsPlaced, WorksAs}
 use Rattle.session_facts.specs.Sessions.Sessions.{Sessions}
 use Rattle.session_facts.specs.Running.{WritesAt, RunsAt}
 use Rattle.session_facts.specs.Opened.{first_at, first_in, first_of, later_at, later_in, later_of, TakesAt, TakesIn, TakesNumber, IsBelow, IsOpenedBy, MayHaveOpened, MayOpen, WorksFor, AllOpened, with_rows, AddsOpened, AddsOpenedTo, AddsNoneTwice, MayBeThere, AddsApart}
 use Rattle.session_facts.proofs.AddedRows.{effect_rows, effect_same}
-use Rattle.session_facts.proofs.CallKinds.{IsSettling, IsSettlersRow, settle_asks, call_kind}
+use Rattle.session_facts.proofs.CallKinds.{HasCheckpoint, IsSettling, IsSettlersRow, checkpoint_asks, settle_asks, call_kind}
+use Rattle.event_text.specs.declared.event.Event.TheVariants as event
+use Rattle.reply_text.specs.declared.reply.Reply.TheVariants as reply
 use Rattle.session_facts.proofs.CommittedLemmas.{placed_effect, new_version, now_standing}
 use Rattle.session_facts.proofs.Once.{at_place, lands_same, sends_none, put_kept, once_same, once_effect, OpensUnopened}
 use Rattle.session_facts.proofs.OpenedRuns.{RunsFrom, run_goes_from}
@@ -430,6 +432,18 @@ settles_lead who before after (Settling m) new (Ended (answer.Trouble k)) settle
 settles_lead who before after (Settling m) new turn settles p = absurd p.1
 settles_lead who before after w new turn settles p = absurd settles
 
+-- what a checkpoint leads to works for the client that it worked for
+checkpoint_leads : (who : Caller) (before after : Seen) (home : Home) (w new : Work) (turn : Turn Answer) → HasCheckpoint home w → StepsAt who before after w new turn → LeadsFrom w new
+checkpoint_leads who before after home (Paging h m) new More is p = own_leads h (Paging h p.0) new p.2 (λ head k. k, tt, λ client k. k)
+checkpoint_leads who before after home (Paging h m) new (Ended (answer.Done n)) is p = own_leads h (Idle h) new p.2 (idle_leads h)
+checkpoint_leads who before after home (Paging h m) new (Ended (answer.Trouble k)) is p = own_leads h (stopped_work k h) new p.2 (stopped_leads k h)
+checkpoint_leads who before after home (Paging h m) new turn is p = absurd p
+checkpoint_leads who before after home (Folding h f) new More is p = own_leads h (Folding h p.0) new p.2 (λ head k. k, tt, λ client k. k)
+checkpoint_leads who before after home (Folding h f) new (Ended (answer.Done n)) is p = own_leads h (Idle h) new p.2 (idle_leads h)
+checkpoint_leads who before after home (Folding h f) new (Ended (answer.Trouble k)) is p = own_leads h (stopped_work k h) new p.2 (stopped_leads k h)
+checkpoint_leads who before after home (Folding h f) new turn is p = absurd p
+checkpoint_leads who before after home w new turn is p = absurd is
+
 -- ---- one session changes
 
 module _ (Was : ℕ → Type 0) (f : Sessions) (k : ℕ) (b : Acting) (Is : Head → Type 0) (leads : Leads (λ client. WorksFor client (f k).work) Is b.work) where
@@ -698,3 +712,34 @@ settler_apart Was lines line who before after start f b turn event settles own c
         let may = settle_asks (lines ++ line ∷ []) row w settles (own row refl) (sound_of who before after w b.work turn p) call.ask call.hand in
         let commits = commits_to (lines ++ line ∷ []) row call.ask client head may puts in
         absurd (never client (standing lines who.session) closed (subst (CommitsFor client) before_line commits))
+
+-- a call of a checkpoint puts no open head: a row of a first line that works, at which no session stands, could not either
+opens_none : (home : Home) (w : Work) (ask : Ask) (client : ℕ) (head : Head) → HasCheckpoint home w → ask_of_work w ≡ Some ask → PutsOpen ask client head → ⊥
+opens_none home w ask client head is hand puts = never (commits_to lines row ask client head (checkpoint_asks lines row home w is own ask hand) puts)
+  where
+    lines : List Line
+    lines = record { event = event.Work 0; reply = reply.Called } ∷ []
+
+    row : Landing
+    row = record { who = record { session = 0; event = 1 }; site = Object (object.Head client); position = 0 }
+
+    own : IsOfWork lines row
+    own = record { place = 0; event = refl; line = record { event = event.Work 0; reply = reply.Called }; there = refl; works = refl }
+
+    never : CommitsFor client (standing_of_row lines row) → ⊥
+    never c = let commits = c.commits.1 in absurd (cc)
+
+-- a step of a checkpoint
+pub worker_apart : (Was : ℕ → Type 0) (who : Caller) (home : Home) (before after : Seen) (start : CloudState) (f : Sessions) (b : Acting) (turn : Turn Answer)
+    → HasCheckpoint home (f who.session).work → StepsAt who before after (f who.session).work b.work turn → AddsApart Was start f before → AddsApart Was start (at who.session b f) after
+worker_apart Was who home before after start f b turn is p h =
+    called_apart Was who before after start f b (checkpoint_leads who before after home w b.work turn is p) call opens h
+  where
+    w : Work
+    w = (f who.session).work
+
+    call : MadeCall who before after w
+    call = made_call who before after w b.work turn p
+
+    opens : (client : ℕ) (head : Head) → PutsOpen call.ask client head → OpensNew w client head
+    opens client head puts = absurd (opens_none home w call.ask client head is call.hand puts)

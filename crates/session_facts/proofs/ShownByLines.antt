@@ -24,6 +24,7 @@ use Rattle.replay_meaning.specs.Standing.{Line, Standing, standing}
 use Rattle.report_types.specs.declared.entry.Entry.{Entry}
 use Rattle.session_facts.specs.Facts.{WorksAs, ActsAs, CloudHolds}
 use Rattle.session_facts.specs.Sessions.Sessions.{Sessions, IsHome, KnowsWork}
+use Rattle.session_facts.proofs.CallKinds.{HasCheckpoint}
 use Rattle.session_facts.specs.ShownByLines.{IsOfCommitted, ShowsByLines}
 
 module _ (n : ℕ) (lines : List Line) (sessions : Sessions) (audit : Audited) (blind : Bool) (t : CloudState) (h : CloudHolds n lines sessions audit blind t) where
@@ -108,3 +109,10 @@ pub settler_by_lines : (lines : List Line) (t : CloudState) (who : Caller) (befo
 settler_by_lines lines t who before after old new (Ended answer.Value) settles p = absurd (subst IsSettler p.whole.2 settles)
 settler_by_lines lines t who before after old new (Ended answer.Scan) settles p = absurd (subst IsSettler p.whole.2 settles)
 settler_by_lines lines t who before after old new turn settles p = tt
+
+-- nor does a checkpoint
+pub checkpoint_by_lines : (lines : List Line) (t : CloudState) (who : Caller) (before after : Seen) (home : Home) (old new : Acting) (turn : Turn Answer) → HasCheckpoint home old.work
+    → StepsSession who before after old new (Ok turn) → ShowsByLines lines t who before after old new turn
+checkpoint_by_lines lines t who before after home old new (Ended answer.Value) has p = absurd (subst (HasCheckpoint home) p.whole.2 has)
+checkpoint_by_lines lines t who before after home old new (Ended answer.Scan) has p = absurd (subst (HasCheckpoint home) p.whole.2 has)
+checkpoint_by_lines lines t who before after home old new turn has p = tt

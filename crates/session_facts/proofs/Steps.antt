@@ -43,7 +43,7 @@ use Rattle.session_facts.proofs.Sessions.Calling.{session_keeps}
 use Rattle.session_facts.proofs.Sessions.HeadPuts.{head_put}
 use Rattle.session_facts.proofs.Sessions.Laws.{rest_keeps, decodes}
 use Rattle.session_facts.specs.Facts.{IsPlaced, WorksAs, CloudHolds}
-use Rattle.session_facts.proofs.CallKinds.{IsSettling, IsSettlersRow, settles_none, settle_asks, call_kind, call_opens}
+use Rattle.session_facts.proofs.CallKinds.{HasCheckpoint, IsSettling, IsSettlersRow, IsWorkersRow, checkpoint_asks, checkpoint_none, settles_none, settle_asks, call_kind, call_opens}
 use Rattle.session_facts.proofs.CommitRows.{CommitsAs, stood_on, ask_commits, audited_commits}
 use Rattle.session_facts.proofs.CommittedLemmas.{placed_effect, placed_called}
 use Rattle.session_facts.proofs.Once.{OpensUnopened, once_same, once_effect}
@@ -284,6 +284,34 @@ settle_holds n lines who before after x sessions new turn a b blind blind_after 
           (λ client bytes one two is. head_put (store_of h.book h.order x) x.now (sessions who.session).cache w (h.stand.parts who.session) (h.stand.each who.session).work
           sound client bytes one two (hand ∙ ap (λ a. Some a) is));
       kind = λ row is. settle_asks lines row w settles (settler row is) sound ask hand;
+    }
+
+-- a call of a checkpoint up to event n, where the line that works is one of the lines
+pub work_holds : (n : ℕ) (lines : List Line) (who : Caller) (home : Home) (before after : Seen) (x : CloudState) (sessions : Sessions) (new : Acting) (turn : Turn Answer) (a b : Audited) (blind blind_after : Bool)
+    → who.event ≤ n → before.state ≡ Some x → CloudHolds n lines sessions a blind x → HasCheckpoint home (sessions who.session).work → IsWorkersRow lines who
+    → StepsSession who before after (sessions who.session) new (Ok turn) → Sees x after (sessions who.session).work a b blind blind_after
+    → CallLeavesUpto n lines after sessions who.session new b blind_after
+work_holds n lines who home before after x sessions new turn a b blind blind_after event told h checkpoint worker p sees =
+    call_leaves n lines who before after x sessions new turn a b blind blind_after event told h by p sees
+  where
+    w : Work
+    w = (sessions who.session).work
+
+    sound : IsSoundWork w
+    sound = sound_of who before after w new.work turn p.work
+
+    commits_none : (changes : List Noted) → committing_of w ≡ Some changes → ⊥
+    commits_none changes e = never (sym (checkpoint_none home w checkpoint) ∙ e)
+      where
+        never : (let none : Option (List Noted) = None in none ≡ Some changes) → ⊥
+        never h = absurd (cc)
+
+    by : (ask : Ask) → ask_of_work w ≡ Some ask → IsByLines lines who w ask
+    by ask hand = record {
+      commits = ask_commits lines who w ask (λ changes e. absurd (commits_none changes e))
+          (λ client bytes one two is. head_put (store_of h.book h.order x) x.now (sessions who.session).cache w (h.stand.parts who.session) (h.stand.each who.session).work
+          sound client bytes one two (hand ∙ ap (λ a. Some a) is));
+      kind = λ row is. checkpoint_asks lines row home w checkpoint (worker row is) ask hand;
     }
 
 -- ---- what is no call

@@ -1,1 +1,2 @@
 pub mod Notebook
+pub mod Metered

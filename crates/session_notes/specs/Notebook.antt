@@ -1,5 +1,5 @@
 -- What is kept of a session for the choice of its checkpoints, and how it goes on.
-use Rattle.std.specs.Prelude.{ℕ, ◌≡◌, List, [], ◌∷◌, ◌++◌, slice_get, slice_set, Option, Some, None}
+use Rattle.std.specs.Prelude.{ℕ, ◌≡◌, Bool, true, false, List, [], ◌∷◌, ◌++◌, slice_get, slice_set, Option, Some, None}
 use Rattle.cloud_trait.specs.Ask.{Ask, Get, GetHeld, PutHeld, Send, Receive, Delete, Take, Renew, Release}
 use Rattle.db_base.specs.declared.names.ObjName.{ObjName}
 use Rattle.db_base.specs.declared.names.ObjName.TheVariants as object
@@ -42,6 +42,11 @@ abbrev pub note_of_done : Option QueueName → Option Note
 note_of_done None = None
 note_of_done (Some queue) = Some (Kept queue)
 
+-- that of an operation's end, where it was a checkpoint that was done
+abbrev pub note_of_end : Bool → Option QueueName → Option Note
+note_of_end true queue = note_of_done queue
+note_of_end false queue = None
+
 -- ---- one session
 
 -- no ledger, and no checkpoint in hand
@@ -77,6 +82,10 @@ pub record GoesOnBy (note : Option Note) (old new : Notebook) : Type 0 where
 -- the checkpoint in hand was done
 abbrev pub GoesOnKept : Notebook → Notebook → Type 0
 GoesOnKept old new = GoesOnBy (note_of_done old.queue) old new
+
+-- what it had in hand came to its end
+abbrev pub GoesOnEnded : Bool → Notebook → Notebook → Type 0
+GoesOnEnded done old new = GoesOnBy (note_of_end done old.queue) old new
 
 -- the queues that are due by its ledger, whatever notes it stands for; none without one
 abbrev pub AreDue : Option Account → List QueueName → Type 0

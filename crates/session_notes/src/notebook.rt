@@ -3,7 +3,7 @@
 ghost use Rattle.std.specs.Prelude.{◌≡◌, All, List, Some, OnOk, OnErr, IfOk, IfErr};
 ghost use Rattle.ckpt_policy.specs.declared.note.Note.{Note as Noted};
 ghost use Rattle.ckpt_policy.specs.Notes.{IsPending};
-ghost use Rattle.session_notes.specs.Notebook.{blank, GoesOnBy, GoesOnKept, IsDue};
+ghost use Rattle.session_notes.specs.Notebook.{blank, GoesOnBy, GoesOnEnded, GoesOnKept, IsDue};
 
 use ckpt_policy::{Ledger, Note};
 use db_base::names::QueueName;
@@ -60,6 +60,28 @@ impl Notebook {
             Some(queue) => self.note(Note::Kept(queue)),
             None => Ok(()),
         }
+    }
+
+    /// A note more, where there is one. Refused for memory alone, and then nothing changes.
+    pub fn take(&mut self, note: Option<Note>) -> Result<(), Refused>
+        ensures ok { OnOk result (GoesOnBy note self.old self.new) }
+        ensures err { OnErr result (self.new ≡ self.old) }
+        ensures memory { IfErr result (λ e. e ≡ Refused.Memory) }
+    {
+        match note {
+            Some(note) => self.note(note),
+            None => Ok(()),
+        }
+    }
+
+    /// What the session had in hand came to its end; done where that is a checkpoint that was done. Refused for memory alone, and
+    /// then nothing changes.
+    pub fn end(&mut self, done: bool) -> Result<(), Refused>
+        ensures ok { OnOk result (GoesOnEnded done self.old self.new) }
+        ensures err { OnErr result (self.new ≡ self.old) }
+        ensures memory { IfErr result (λ e. e ≡ Refused.Memory) }
+    {
+        if done { self.keep() } else { self.take(None) }
     }
 
     /// The queues that are due, pending update queues: none without a ledger. Refused for memory alone.

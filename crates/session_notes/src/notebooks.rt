@@ -36,7 +36,7 @@ impl Model for Notebooks {
 impl Notebooks {
     ghost use Rattle.std.specs.Prelude.{replicate, All, IfOk, IfErr, OnOk, OnErr, Some, None};
     ghost use Rattle.ckpt_policy.specs.Notes.{IsPending};
-    ghost use Rattle.session_notes.specs.Notebook.{blank, ChangesBook, GoesOnBy, GoesOnKept, IsDueAt};
+    ghost use Rattle.session_notes.specs.Notebook.{blank, ChangesBook, GoesOnBy, GoesOnEnded, IsDueAt};
 
     /// Blank ones. Refused for memory alone.
     #[tactic(auto, using(crate::proofs::Blank::one_more, crate::proofs::Blank::seventeen))]
@@ -72,22 +72,23 @@ impl Notebooks {
         self.list[place_of(number)].queue = queue;
     }
 
-    /// One note more of the session of a number. Refused for memory alone, and then nothing changes.
-    pub fn note(&mut self, number: SessionNo, note: Note) -> Result<(), Refused>
-        ensures ok { OnOk result (ChangesBook number (GoesOnBy (Some note)) self.old self.new) }
+    /// A note more of the session of a number, where there is one. Refused for memory alone, and then nothing changes.
+    pub fn take(&mut self, number: SessionNo, note: Option<Note>) -> Result<(), Refused>
+        ensures ok { OnOk result (ChangesBook number (GoesOnBy note) self.old self.new) }
         ensures err { OnErr result (self.new ≡ self.old) }
         ensures memory { IfErr result (λ e. e ≡ Refused.Memory) }
     {
-        self.list[place_of(number)].note(note)
+        self.list[place_of(number)].take(note)
     }
 
-    /// The checkpoint that the session of a number has in hand was done. Refused for memory alone, and then nothing changes.
-    pub fn keep(&mut self, number: SessionNo) -> Result<(), Refused>
-        ensures ok { OnOk result (ChangesBook number GoesOnKept self.old self.new) }
+    /// What the session of a number had in hand came to its end; done where that is a checkpoint that was done. Refused for memory
+    /// alone, and then nothing changes.
+    pub fn end(&mut self, number: SessionNo, done: bool) -> Result<(), Refused>
+        ensures ok { OnOk result (ChangesBook number (GoesOnEnded done) self.old self.new) }
         ensures err { OnErr result (self.new ≡ self.old) }
         ensures memory { IfErr result (λ e. e ≡ Refused.Memory) }
     {
-        self.list[place_of(number)].keep()
+        self.list[place_of(number)].end(done)
     }
 
     /// The queues that are due to the session of a number. Refused for memory alone.

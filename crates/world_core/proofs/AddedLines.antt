@@ -20,7 +20,7 @@ use Rattle.session_facts.specs.Facts.{ActsAs}
 use Rattle.session_facts.proofs.LineLemmas.{line_of, refused_own}
 use Rattle.world_core.specs.World.{World}
 use Rattle.world_core.specs.declared.asked.Request.{Request}
-use Rattle.world_core.specs.declared.asked.Request.TheVariants.{Begin, Note, Abort, Step, Run, Crash}
+use Rattle.world_core.specs.declared.asked.Request.TheVariants.{Begin, Note, Abort, Policy, Work as WorksDue, Step, Run, Crash}
 use Rattle.world_core.specs.declared.asked.Asked.{Asked}
 use Rattle.world_core.specs.declared.asked.Asked.TheVariants.{Session, Wait, Report, Settle}
 use Rattle.world_core.specs.Asked.{change_noted, tree_noted, bound_of, IsOpening, IsReading, IsScanning, IsPaging, IsFolding, IsMade, IsNoted, IsStep, OfSession, Asks}
@@ -28,7 +28,8 @@ use Rattle.world_core.specs.Replying.{done_reply}
 use Rattle.world_core.specs.Sessions.{NotesIn, AbortsIn}
 use Rattle.world_core.specs.Handled.{NotesChange, DropsChanges, Does, Answers, Handled}
 use Rattle.world_core.specs.Added.{WorldAdds}
-use Rattle.world_core.proofs.AddedSteps.{adds_declined, adds_quietly, adds_step, adds_run, adds_crash, adds_settle, adds_wait, adds_report}
+use Rattle.world_core.proofs.WorkerRows.{adds_work}
+use Rattle.world_core.proofs.AddedSteps.{adds_policy, adds_declined, adds_quietly, adds_step, adds_run, adds_crash, adds_settle, adds_wait, adds_report}
 use Rattle.world_core.proofs.BeginLemmas.{IsOk, refused_is, opens, has_in_hand, commits, reads, scans, works_with}
 use Rattle.world_core.proofs.EveryLine.{does_own, asked_is}
 
@@ -94,6 +95,8 @@ noted_adds lines event n k tree change (Note tree_of c) before after old new r f
     adds_quietly lines event r k first before after old new _ own some h.0 h.1
     (notes_acts event tree change r h.1.before h.1.after (standing lines k) does h.1.does) w
 noted_adds lines event n k tree change (Begin o) before after old new r first Is own some does is_change w noted done = absurd noted
+noted_adds lines event n k tree change (Policy role number) before after old new r first Is own some does is_change w noted done = absurd noted
+noted_adds lines event n k tree change WorksDue before after old new r first Is own some does is_change w noted done = absurd noted
 noted_adds lines event n k tree change Abort before after old new r first Is own some does is_change w noted done = absurd noted
 noted_adds lines event n k tree change (Step wish) before after old new r first Is own some does is_change w noted done = absurd noted
 noted_adds lines event n k tree change Run before after old new r first Is own some does is_change w noted done = absurd noted
@@ -162,6 +165,10 @@ module _ (n : ℕ) (before after : Seen) (old new : World) (r : Reply) (lines : 
       (λ request some is done.
       let h = does k request Abort (asked_is request Abort is) done in
       adds_quietly lines (event.Abort k) r k first before after old new _ refl some h.0 h.1 (aborts_acts k r h.1.before h.1.after (standing lines k) h.1.does) w)
+  asked_adds (event.Policy k role number) asked asks answers = by_request k (event.Policy k role number) (λ request. request ≡ Ok (Policy role number)) asked asks answers
+      (λ request some is done. adds_policy lines first k number role r before after old new w (does k request (Policy role number) (asked_is request (Policy role number) is) done))
+  asked_adds (event.Work k) asked asks answers = by_request k (event.Work k) (λ request. request ≡ Ok WorksDue) asked asks answers
+      (λ request some is done. adds_work lines first k n r before after old new at some w (does k request WorksDue (asked_is request WorksDue is) done))
   asked_adds (event.Step k wish) asked asks answers = by_request k (event.Step k wish) (IsStep wish) asked asks answers
       (λ request some is done. adds_step lines first k n wish r before after old new at some w (does k request (Step wish) is done))
   asked_adds (event.Run k) asked asks answers = by_request k (event.Run k) (λ request. request ≡ Ok Run) asked asks answers

@@ -18,15 +18,17 @@ use Rattle.session_facts.proofs.AddedRows.{adds_same, adds_line}
 use Rattle.session_facts.proofs.CallKinds.{IsSettlersRow}
 use Rattle.session_facts.proofs.LineLemmas.{line_of}
 use Rattle.session_facts.proofs.SettlerLemmas.{settler_row}
+use Rattle.ckpt_policy.specs.declared.role.Role.{Role}
 use Rattle.world_core.specs.World.{World}
 use Rattle.world_core.specs.declared.asked.Asked.{Asked}
 use Rattle.world_core.specs.declared.asked.Asked.TheVariants.{Session, Wait, Report, Settle}
 use Rattle.world_core.specs.declared.asked.Request.{Request}
-use Rattle.world_core.specs.declared.asked.Request.TheVariants.{Begin, Note, Abort, Step, Run, Crash}
+use Rattle.world_core.specs.declared.asked.Request.TheVariants.{Begin, Note, Abort, Policy, Work as WorksDue, Step, Run, Crash}
 use Rattle.world_core.specs.declared.world.WorldFault.{WorldFault}
 use Rattle.world_core.specs.Added.{WorldAdds}
 use Rattle.world_core.specs.Asked.{Asks}
-use Rattle.world_core.specs.Handled.{Has, FallsShort, RunsShort, StepsTo, MakesStep, StopsShort, ComesTo, RunsTo, Runs, SettlesOn, Settles, Crashes, Does, Answers, Handled}
+use Rattle.world_core.specs.Handled.{Has, FallsShort, RunsShort, StepsTo, MakesStep, StopsShort, ComesTo, RunsTo, Runs, SettlesOn, Settles, Crashes, Does, Answers, Handled, Policies}
+use Rattle.world_core.proofs.WorkerRows.{work_rows}
 use Rattle.world_core.proofs.AddedSteps.{IsAdding, SettlerAdds, adding_begins, begun_way, rows_called, rows_seen, rows_stay, rows_stepped, settler_rows, settler_rows_called, settler_went, went_adding}
 use Rattle.world_core.proofs.StandsLemmas.{settler}
 
@@ -45,6 +47,27 @@ module _ (lines : List Line) (first : CloudState) (who : Caller) (number : who.e
 
   stops_rows : (before after : Seen) (old new : World) → IsAdding lines first old before → StopsShort who before after old new → Rows after
   stops_rows before after old new way s = short_rows Plain s.mid after s.world new (went_adding lines first who before old s.mid s.world number way s.went) s.short
+
+-- the line that asks to work
+asks_work : (e : Event) (k : ℕ) → Asks e (Session k (Ok WorksDue)) → e ≡ event.Work k
+asks_work (event.Work session) k asks = ap event.Work (sym asks.0)
+asks_work (event.Policy session role kept) k asks = absurd (cc (asks.1))
+asks_work (event.Open session client) k asks = absurd (cc (asks.1.1))
+asks_work (event.Close session) k asks = absurd (cc (asks.1))
+asks_work (event.Renew session) k asks = absurd (cc (asks.1))
+asks_work (event.Commit session) k asks = absurd (cc (asks.1))
+asks_work (event.Abort session) k asks = absurd (cc (asks.1))
+asks_work (event.Read session tree key) k asks = absurd (cc (asks.1.2))
+asks_work (event.Scan session tree from to) k asks = absurd (cc (asks.1.3))
+asks_work (event.Page session tree page) k asks = absurd (cc (asks.1.2))
+asks_work (event.Tree session tree) k asks = absurd (cc (asks.1.1))
+asks_work (event.Run session) k asks = absurd (cc (asks.1))
+asks_work (event.Step session wish) k asks = absurd (cc (asks.1))
+asks_work (event.Crash session done) k asks = absurd (cc (asks.1))
+asks_work (event.Wait ticks) k asks = absurd (cc)
+asks_work (event.Report tree) k asks = absurd (cc)
+asks_work event.Settle k asks = absurd (cc)
+asks_work e k asks = absurd asks.1
 
 module _ (lines : List Line) (first : CloudState) (n : ℕ) (before after : Seen) (old new : World) (result : Result Reply WorldFault) (number : length lines + 1 ≡ n)
     (w : WorldAdds lines first old before) where
@@ -86,13 +109,25 @@ module _ (lines : List Line) (first : CloudState) (n : ℕ) (before after : Seen
   crash_rows k true (inr (inl h)) = rows_stepped lines first _ Plain before after old h.world h.turn (sym number) way h.steps
   crash_rows k true (inr (inr memory)) = short_rows lines first _ (sym number) Plain before after old new way memory.1
 
-  does_rows : (k : ℕ) (request : Request) → Does n k request before after old new result → RowsNow
-  does_rows k (Begin op) h = as_seen h.0.seen
-  does_rows k (Note tree change) h = as_seen h.0.seen
-  does_rows k Abort h = as_seen h.0.seen
-  does_rows k (Step wish) h = step_rows k wish h
-  does_rows k Run h = run_rows k h
-  does_rows k (Crash done) h = crash_rows k done h
+  policy_rows : (k : ℕ) (role : Role) (kept : ℕ) → Policies k role kept before after old new result → RowsNow
+  policy_rows k role kept (inl refuses) = as_seen refuses.declines.seen
+  policy_rows k role kept (inr (inl refuses)) = as_seen refuses.1.declines.seen
+  policy_rows k role kept (inr (inr gives)) = as_seen gives.quiet.seen
+
+  -- of a request that is not to work
+  abbrev IsNoWork : Request → Type 0
+  IsNoWork WorksDue = ⊥
+  IsNoWork request = Unit {0}
+
+  does_rows : (k : ℕ) (request : Request) → IsNoWork request → Does n k request before after old new result → RowsNow
+  does_rows k WorksDue other h = absurd other
+  does_rows k (Policy role kept) other h = policy_rows k role kept h
+  does_rows k (Begin op) other h = as_seen h.0.seen
+  does_rows k (Note tree change) other h = as_seen h.0.seen
+  does_rows k Abort other h = as_seen h.0.seen
+  does_rows k (Step wish) other h = step_rows k wish h
+  does_rows k Run other h = run_rows k h
+  does_rows k (Crash done) other h = crash_rows k done h
 
   -- ---- a settling
 
@@ -150,9 +185,22 @@ module _ (lines : List Line) (first : CloudState) (n : ℕ) (before after : Seen
       }
   wait_rows ticks (inr long) = as_seen long.declines.seen
 
+  -- a line of a session
+  session_rows : (e : Event) (r : Reply) (k : ℕ) (request : Request) → Asks e (Session k (Ok request)) → Does n k request before after old new result
+      → AddsTo n (lines ++ line_of e r ∷ []) first after
+  session_rows e r k WorksDue asks h =
+      subst (λ (x : Event). AddsTo n (lines ++ line_of x r ∷ []) first after) (sym (asks_work e k asks)) (work_rows lines first k n r before after old new result number w h)
+  session_rows e r k (Begin op) asks h = with_line e r (does_rows k (Begin op) tt h)
+  session_rows e r k (Note tree change) asks h = with_line e r (does_rows k (Note tree change) tt h)
+  session_rows e r k Abort asks h = with_line e r (does_rows k Abort tt h)
+  session_rows e r k (Policy role kept) asks h = with_line e r (does_rows k (Policy role kept) tt h)
+  session_rows e r k (Step wish) asks h = with_line e r (does_rows k (Step wish) tt h)
+  session_rows e r k Run asks h = with_line e r (does_rows k Run tt h)
+  session_rows e r k (Crash done) asks h = with_line e r (does_rows k (Crash done) tt h)
+
   -- whatever reply the line would have had
   asked_rows : (e : Event) (r : Reply) (asked : Asked) → Asks e asked → Answers n asked before after old new result → AddsTo n (lines ++ line_of e r ∷ []) first after
-  asked_rows e r (Session k (Ok request)) asks (inl h) = with_line e r (does_rows k request h.1)
+  asked_rows e r (Session k (Ok request)) asks (inl h) = session_rows e r k request asks h.1
   asked_rows e r (Session k (Err why)) asks (inl h) = with_line e r (as_seen h.1.seen)
   asked_rows e r (Session k request) asks (inr none) = with_line e r (as_seen none.declines.seen)
   asked_rows e r (Wait ticks) asks h = with_line e r (wait_rows ticks h)

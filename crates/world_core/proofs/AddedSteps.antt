@@ -29,10 +29,11 @@ use Rattle.session_facts.proofs.CommittedLemmas.{standing_line}
 use Rattle.session_facts.proofs.LineLemmas.{line_of, AllActWith, own_line, still_line, refused_own, acts_set}
 use Rattle.session_facts.proofs.SettlerLemmas.{settler_row}
 use Rattle.world_audit.specs.Look.{Looked}
+use Rattle.ckpt_policy.specs.declared.role.Role.{Role}
 use Rattle.world_core.specs.World.{World}
 use Rattle.world_core.specs.Replying.{RepliesTo, RepliesTurn}
 use Rattle.world_core.specs.Sessions.{Changes}
-use Rattle.world_core.specs.Handled.{Declines, Has, MakesNoCall, SetsWish, StepsLooked, MakesStep, Went, start, further, RunsTo, Runs, SettlesTo, SettlesOn, Settles, Dies, DiesDone, Crashes, WaitsFor, WaitsTooLong, Reports}
+use Rattle.world_core.specs.Handled.{Declines, Has, MakesNoCall, SetsWish, StepsLooked, MakesStep, Went, start, further, RunsTo, Runs, SettlesTo, SettlesOn, Settles, Dies, DiesDone, Crashes, WaitsFor, WaitsTooLong, Reports, Policies}
 use Rattle.world_core.specs.Added.{WorldAdds}
 use Rattle.world_core.proofs.StandsLemmas.{refused_is, changed_at, changed_was, changed_rests, went_rests, replies_to, no_stop, no_memory, crashed_own, closed_twice, has_at, settler}
 
@@ -50,7 +51,7 @@ pub adding_begins : (lines : List Line) (first : CloudState) (world : World) (se
 adding_begins lines first world seen w = record { rows = rows_begin lines first seen w.rows; acts = w.acts }
 
 -- where what is added within the line is of its kind, and the sessions stand as it says, it is one of the lines
-through : (lines : List Line) (line : Line) (first : CloudState) (world : World) (seen : Seen) → AddsTo (length lines + 1) lines first seen
+pub through : (lines : List Line) (line : Line) (first : CloudState) (world : World) (seen : Seen) → AddsTo (length lines + 1) lines first seen
     → AllActWith lines line (session_at world.sessions) → SettlerRests (session_at world.sessions) → WorldAdds (lines ++ line ∷ []) first world seen
 through lines line first world seen a acts rests = record {
   rows = record {
@@ -105,7 +106,7 @@ adds_quietly lines event r k first before after old new Does own some quiet c le
 -- ---- steps
 
 -- the wish that is set changes no row
-rows_wished : (n : ℕ) (lines : List Line) (first : CloudState) (wish : Wish) (before after : Seen) → SetsWish wish before after → AddsTo n lines first before → AddsTo n lines first after
+pub rows_wished : (n : ℕ) (lines : List Line) (first : CloudState) (wish : Wish) (before after : Seen) → SetsWish wish before after → AddsTo n lines first before → AddsTo n lines first after
 rows_wished n lines first wish before after sets a = record {
   state = record a.state { wish = wish };
   told = sets.set a.state a.told;
@@ -227,6 +228,17 @@ pub adds_step : (lines : List Line) (first : CloudState) (k n : ℕ) (wish : Wis
 adds_step lines first k n wish r before after old new at some w (inl refuses) = adds_declined lines (event.Step k wish) r _ first before after old new refuses.declines w
 adds_step lines first k n wish r before after old new at some w (inr (inl step)) = step_adding lines first k n wish r before after old new step.turn at some w step.steps step.replies
 adds_step lines first k n wish r before after old new at some w (inr (inr memory)) = absurd (no_memory r memory.0)
+
+-- ---- a session's ledger
+
+pub adds_policy : (lines : List Line) (first : CloudState) (k number : ℕ) (role : Role) (r : Reply) (before after : Seen) (old new : World) → WorldAdds lines first old before
+    → Policies k role number before after old new (Ok r) → WorldAdds (lines ++ line_of (event.Policy k role number) r ∷ []) first new after
+adds_policy lines first k number role r before after old new w (inl refuses) = adds_declined lines (event.Policy k role number) r _ first before after old new refuses.declines w
+adds_policy lines first k number role r before after old new w (inr (inl refuses)) = adds_declined lines (event.Policy k role number) r _ first before after old new refuses.1.declines w
+adds_policy lines first k number role r before after old new w (inr (inr gives)) =
+    through lines (line_of (event.Policy k role number) r) first new after (rows_seen (length lines + 1) lines first before after gives.quiet.seen (rows_begin lines first before w.rows))
+    (still_line lines (event.Policy k role number) r (session_at new.sessions) (λ s. refl) (subst (λ (l : List Acting). AllAct lines (session_at l)) (sym gives.sessions) w.acts))
+    (subst (λ (l : List Acting). SettlerRests (session_at l)) (sym gives.sessions) w.rests)
 
 -- ---- a session that dies
 

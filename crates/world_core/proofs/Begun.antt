@@ -34,7 +34,7 @@ use Rattle.reply_text.specs.declared.reply.Reply.{Reply}
 use Rattle.world_core.specs.declared.asked.Asked.{Asked}
 use Rattle.world_core.specs.declared.asked.Asked.TheVariants.{Session, Wait, Report, Settle}
 use Rattle.world_core.specs.declared.asked.Request.{Request}
-use Rattle.world_core.specs.declared.asked.Request.TheVariants.{Begin, Note, Abort, Step, Run, Crash}
+use Rattle.world_core.specs.declared.asked.Request.TheVariants.{Begin, Note, Abort, Policy, Work as WorksDue, Step, Run, Crash}
 use Rattle.world_core.specs.World.{World}
 use Rattle.world_core.specs.declared.world.WorldFault.{WorldFault}
 use Rattle.world_core.specs.Begun.{CommitShows, KeptShows, BeginShows, WasBegun, ShowsBegin, DoesShow, ServesShow, AsksShow}
@@ -118,6 +118,8 @@ module _ (n : ℕ) (before after : Seen) (old new : World) (result : Result Repl
   does_begun k (Crash done) h = tt
   does_begun k (Note tree change) h = tt
   does_begun k Abort h = tt
+  does_begun k (Policy role number) h = tt
+  does_begun k WorksDue h = tt
 
   serves_begun : (k : ℕ) (request : Result Request Refused) (h : Serves n k request before after old new result) → ServesShow n k request before after old new result h
   serves_begun k (Ok request) h = does_begun k request h

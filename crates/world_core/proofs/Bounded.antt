@@ -14,16 +14,25 @@ use Rattle.replay_meaning.specs.Standing.{Line}
 use Rattle.reply_text.specs.declared.reply.Reply.{Reply}
 use Rattle.session_facts.specs.Counted.{calls_told, CountsAll, FewFor}
 use Rattle.session_facts.specs.Facts.{session_at}
-use Rattle.world_core.proofs.Counting.{state_is, few_of, begins_own, went_counts}
+use Rattle.recover_run.specs.declared.home.Home.{Home}
+use Rattle.session_facts.proofs.CallKinds.{IsWorkersRow}
+use Rattle.db_base.specs.declared.names.QueueName.{QueueName}
+use Rattle.session_facts.specs.Sessions.Sessions.{Sessions}
+use Rattle.cloud_facts.specs.Book.Tally.{at}
+use Rattle.session_facts.proofs.LineLemmas.{line_of}
+use Rattle.world_core.proofs.Workers.{HoldsWithin, IsBetween, holds_begun, holds_went, holds_works, open_rests, within_begun, within_went, within_works, worker, worker_begins, worker_rows}
+use Rattle.world_core.proofs.Counting.{state_is, few_of, begins_own, went_counts, begun_none, worker_few, worker_went, works_none}
 use Rattle.world_core.proofs.StandsLemmas.{IsUnderWay, way_begins, went_on}
+use Rattle.event_text.specs.declared.event.Event.TheVariants as event
+use Rattle.reply_text.specs.declared.reply.Reply.TheVariants as reply
 use Rattle.world_core.specs.declared.asked.Asked.{Asked}
 use Rattle.world_core.specs.declared.asked.Asked.TheVariants.{Session, Wait, Report, Settle}
 use Rattle.world_core.specs.declared.asked.Request.{Request}
-use Rattle.world_core.specs.declared.asked.Request.TheVariants.{Begin, Note, Abort, Step, Run, Crash}
+use Rattle.world_core.specs.declared.asked.Request.TheVariants.{Begin, Note, Abort, Policy, Work as WorksDue, Step, Run, Crash}
 use Rattle.world_core.specs.World.{World}
 use Rattle.world_core.specs.declared.world.WorldFault.{WorldFault}
-use Rattle.world_core.specs.Bounded.{steps_of, WereFew, WasSoon, StepsSoon, CameSoon, RanSoon, RunsSoon, CrashesSoon, DoesSoon, ServesSoon, AnswersSoon, MakesFewCalls}
-use Rattle.world_core.specs.Handled.{StepsLooked, StepsTo, MakesStep, ComesTo, RunsTo, Runs, Crashes, Does, Serves, Answers}
+use Rattle.world_core.specs.Bounded.{steps_of, WereFew, WasSoon, StepsSoon, CameSoon, RanSoon, RunsSoon, CrashesSoon, EachSoon, WorksSoon, calls_of, DoesSoon, ServesSoon, AnswersSoon, MakesFewCalls}
+use Rattle.world_core.specs.Handled.{StepsLooked, StepsTo, MakesStep, ComesTo, RunsTo, Runs, Crashes, Does, Serves, Answers, Checkpoints, Works, WorksThrough, checkpoint_more, no_checkpoint}
 use Rattle.world_core.specs.Stands.{WorldStands}
 
 module _ (lines : List Line) (n : ℕ) (before after : Seen) (old new : World) (result : Result Reply WorldFault) (t : CloudState) (number : length lines + 1 ≡ n) (told : before.state ≡ Some t)
@@ -78,10 +87,49 @@ module _ (lines : List Line) (n : ℕ) (before after : Seen) (old new : World) (
     crashes_soon true (inr (inl dies)) = one_few Plain dies.world dies.turn dies.steps
     crashes_soon true (inr (inr memory)) = tt
 
+    -- each checkpoint that is due makes its own calls
+    module _ (all_lines : List Line) (home : Home) (row : IsWorkersRow all_lines (worker k n)) (first : Sessions) where
+      made_soon : (queue : QueueName) (from to : Seen) (world left : World) (a : Answer) → IsBetween k home first world → (h : HoldsWithin n all_lines world from) (mine : ℕ)
+          → CountsAll (at k mine (calls_told lines)) h.state (session_at world.sessions) → (c : Checkpoints (worker k n) queue from to world left a)
+          → WereFew (calls_of (worker k n) from to c.begun left a c.comes) (worker k n) Plain c.comes.mid to c.comes.world left (Ended a) c.comes.steps
+      made_soon queue from to world left a w h mine counts c = λ last seen.
+          let begun = within_begun k home first queue world c.begun w c.begins in
+          let held = holds_begun n all_lines k queue from world c.begun h c.begins in
+          let none = begun_none (calls_told lines) k mine home queue h.state world c.begun w.works c.begins counts in
+          let gone = holds_went n k all_lines home row first from c.begun c.comes.mid c.comes.world begun held c.comes.went in
+          worker_few n k all_lines home row first (calls_told lines) c.comes.mid to c.comes.world left (Ended a)
+          (within_went (worker k n) home first from c.begun c.comes.mid c.comes.world begun c.comes.went) gone c.comes.steps (steps_of (worker k n) from c.begun c.comes.mid c.comes.world c.comes.went)
+          (worker_went n k all_lines home row first (calls_told lines) from c.begun c.comes.mid c.comes.world begun held none c.comes.went gone.state gone.told) last seen
+
+      each_soon : (from : Seen) (world : World) (queues : List QueueName) (done passed : ℕ) (to : Seen) (left : World) → IsBetween k home first world → (h : HoldsWithin n all_lines world from)
+          → (mine : ℕ) → CountsAll (at k mine (calls_told lines)) h.state (session_at world.sessions) → (works : Works (worker k n) from world queues done passed to left)
+          → EachSoon (worker k n) from world queues done passed to left works
+      each_soon from world queues done passed to left w h mine counts no_checkpoint = tt
+      each_soon from world queues done passed to left w h mine counts (checkpoint_more others kept passes_by mid prior queue a _ _ works makes passes) =
+          let gone = holds_works n k all_lines home row first from world others kept passes_by mid prior w h works in
+          let was = works_none n k all_lines home row first (calls_told lines) from world others kept passes_by mid prior w h mine counts works gone.state gone.told in (
+            each_soon from world others kept passes_by mid prior w h mine counts works,
+            made_soon queue mid to prior left a (within_works (worker k n) home first from world others kept passes_by mid prior w works) gone was.0 was.1 makes,
+          )
+
+    works_soon : (h : WorksThrough n k before after old new result) → WorksSoon n k before after old new result h
+    works_soon (inl refused) = tt
+    works_soon (inr (inl down)) =
+        let rest = open_rests k old down.open in
+        let q : Reply = reply.Worked 0 0 in
+        let begins = worker_begins lines k n before old t (sym number) told stands.by_lines q tt in
+        each_soon (lines ++ line_of (event.Work k) q ∷ []) rest.0 (worker_rows lines k n before old t (sym number) told stands.by_lines q) (session_at old.sessions) before old down.queues
+        down.done down.passed after new rest.2 begins (calls_told lines k)
+        (begins_own lines k old begins.state (subst (λ (z : CloudState). CountsAll (calls_told lines) z (session_at old.sessions)) (state_is t begins.state (sym told ∙ begins.told)) stands.counted))
+        down.works
+    works_soon (inr (inr memory)) = tt
+
     does_soon : (request : Request) (h : Does n k request before after old new result) → DoesSoon lines n k request before after old new result h
     does_soon (Step wish) h = steps_soon wish h
     does_soon Run h = runs_soon h
     does_soon (Crash done) h = crashes_soon done h
+    does_soon WorksDue h = works_soon h
+    does_soon (Policy role kept) h = tt
     does_soon (Begin op) h = tt
     does_soon (Note tree change) h = tt
     does_soon Abort h = tt

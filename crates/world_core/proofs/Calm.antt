@@ -56,17 +56,19 @@ use Rattle.session_facts.proofs.Sessions.Spending.{pages_in_tree}
 use Rattle.session_facts.proofs.Sessions.Untroubled.{IsAtRest, no_call_by, rested, untroubled_later, step_untroubled, answer_untroubled, answered_rests, closed_rests, at_rest, commit_tells, commit_well}
 use Rattle.tree_walk.specs.Walk.{sought}
 use Rattle.txn_buffer.specs.Noted.{Noted}
+use Rattle.ckpt_policy.specs.declared.role.Role.{Role}
+use Rattle.world_core.proofs.Workers.{open_rests, within_works}
 use Rattle.world_core.specs.declared.asked.Asked.{Asked}
 use Rattle.world_core.specs.declared.asked.Asked.TheVariants.{Session, Wait, Report, Settle}
 use Rattle.world_core.specs.declared.asked.Request.{Request}
-use Rattle.world_core.specs.declared.asked.Request.TheVariants.{Begin, Note, Abort, Step, Run, Crash}
+use Rattle.world_core.specs.declared.asked.Request.TheVariants.{Begin, Note, Abort, Policy, Work as WorksDue, Step, Run, Crash}
 use Rattle.world_core.specs.World.{World}
 use Rattle.world_core.specs.declared.world.WorldFault.{WorldFault}
 use Rattle.world_core.specs.Asked.{change_noted, tree_noted, Asks, OfSession, IsOpening, IsReading, IsScanning, IsPaging, IsFolding, IsMade, IsNoted, IsStep, bound_of}
 use Rattle.world_core.specs.Calm.{StepIsCalm, spent_by, work_at, DoesWell, BeginsWell, RunsWell, StepsWell, SettlesWell, RepliesWell, AnswersWell}
 use Rattle.world_core.specs.EachStep.{EachWent, EachMade, EachRun, EachSettlingOn, EachSettling, EachDone, EachAsked}
 use Rattle.world_core.specs.Explained.{StepExplains}
-use Rattle.world_core.specs.Handled.{Declines, Has, BeginsOp, NotesChange, DropsChanges, StepsLooked, MakesStep, Went, start, further, Runs, SettlesOn, Settles, Crashes, Does, Answers}
+use Rattle.world_core.specs.Handled.{Declines, Has, BeginsOp, NotesChange, DropsChanges, StepsLooked, MakesStep, Went, start, further, Runs, SettlesOn, Settles, Crashes, Does, Answers, Policies, WorksThrough}
 use Rattle.world_core.specs.Replying.{RepliesTo, RepliesBegun, RepliesSettled, RepliesTurn, value_reply}
 use Rattle.world_core.specs.Sessions.{Changes, NotesIn, AbortsIn}
 use Rattle.world_core.specs.Sound.{IsSoundFor}
@@ -451,6 +453,22 @@ module _ (lines : List Line) (n k : ℕ) (before after : Seen) (old new : World)
   crash_well true (inr (inl h)) = rests_in k after new (has_closed k h.world new h.closes)
   crash_well true (inr (inr memory)) = absurd (no_memory r memory.0)
 
+  policy_well : (role : Role) (number : ℕ) → Policies k role number before after old new (Ok r) → Behind
+  policy_well role number (inl refuses) = (not_done _ refuses.declines).0
+  policy_well role number (inr (inl refuses)) = (not_done _ refuses.1.declines).0
+  policy_well role number (inr (inr gives)) = λ x told_x.
+      subst (λ (l : List Acting). IsUntroubled x (session_at l k).work) (sym gives.sessions) (well x (sym (ap (λ (z : Seen). z.state) gives.quiet.seen) ∙ told_x))
+
+  -- a session that worked is at rest
+  through_well : WorksThrough n k before after old new (Ok r) → Behind × WorksWell r
+  through_well (inl refuses) = let is = not_done _ refuses.declines in (is.0, subst WorksWell (sym is.1.1) tt)
+  through_well (inr (inl down)) =
+      let rest = open_rests k old down.open in
+      let last = within_works who rest.0 (session_at old.sessions) before old down.queues down.done down.passed after new rest.2 down.works in
+      let is : r ≡ reply.Worked down.done down.passed = cc (down.replies) in
+      (rests_in k after new (subst IsAtRest (sym last.works) (at_rest (work.Idle rest.0) refl refl)), subst WorksWell (sym is) tt)
+  through_well (inr (inr memory)) = absurd (no_memory r memory.0)
+
   notes_well : (tree : ℕ) (change : Change) → after ≡ before → Changes k (NotesChange tree change (Ok r)) old.sessions new.sessions → Behind
   notes_well tree change seen c = rests_after k before after _ old new c seen (λ x was. on x was c.does.noted c.does.notes) well
     where
@@ -567,6 +585,8 @@ module _ (lines : List Line) (n k : ℕ) (before after : Seen) (old new : World)
   noted_well : (tree : ℕ) (Is : Result Change Refused → Type 0) (request : Request) → IsNoted tree Is (Ok request) → DoesCalmly k request → Behind × Unit {0}
   noted_well tree Is (Note j change) is does = (notes_well j change does.0.0.seen does.0.1, tt)
   noted_well tree Is (Begin o) is does = absurd is
+  noted_well tree Is (Policy role number) is does = absurd is
+  noted_well tree Is WorksDue is does = absurd is
   noted_well tree Is Abort is does = absurd is
   noted_well tree Is (Step wish) is does = absurd is
   noted_well tree Is Run is does = absurd is
@@ -672,6 +692,12 @@ module _ (lines : List Line) (n : ℕ) (before after : Seen) (old new : World) (
             (as_asked lines n k before after old new r t number told stands well u told_after request Abort is does).0.1,
         tt,
       ))
+  asked_well (event.Policy k role kept) asked asks h calm explains sound well =
+      request_well lines n k before after old new r t number told stands well u told_after (λ q. Unit {0}) (λ rule. tt) (λ request. request ≡ Ok (Policy role kept)) asked asks h calm explains
+      (λ request is does. (policy_well lines n k before after old new r t number told stands well u told_after role kept (as_asked lines n k before after old new r t number told stands well u told_after request (Policy role kept) is does).0, tt))
+  asked_well (event.Work k) asked asks h calm explains sound well =
+      request_well lines n k before after old new r t number told stands well u told_after WorksWell (λ rule. tt) (λ request. request ≡ Ok WorksDue) asked asks h calm explains
+      (λ request is does. through_well lines n k before after old new r t number told stands well u told_after (as_asked lines n k before after old new r t number told stands well u told_after request WorksDue is does).0)
   asked_well (event.Step k wish) asked asks h calm explains sound well =
       request_well lines n k before after old new r t number told stands well u told_after (StepsWell u (standing lines k).posture) (λ rule. tt) (IsStep wish) asked asks h calm explains
       (λ request is does.

@@ -29,13 +29,14 @@ use Rattle.reply_text.specs.declared.reply.Reply.{Reply}
 use Rattle.reply_text.specs.declared.reply.Reply.TheVariants as reply
 use Rattle.session_facts.specs.Facts.{session_at, WorksAs}
 use Rattle.session_facts.specs.Sessions.Sessions.{Sessions}
+use Rattle.ckpt_policy.specs.declared.role.Role.{Role}
 use Rattle.world_core.specs.declared.asked.Asked.{Asked}
 use Rattle.world_core.specs.declared.asked.Asked.TheVariants.{Session, Wait, Report, Settle}
 use Rattle.world_core.specs.declared.asked.Request.{Request}
-use Rattle.world_core.specs.declared.asked.Request.TheVariants.{Begin, Note, Abort, Step, Run, Crash}
+use Rattle.world_core.specs.declared.asked.Request.TheVariants.{Begin, Note, Abort, Policy, Work as WorksDue, Step, Run, Crash}
 use Rattle.world_core.specs.declared.world.WorldFault.{WorldFault}
 use Rattle.world_core.specs.Asked.{change_noted, tree_noted, Asks, OfSession, IsOpening, IsReading, IsScanning, IsPaging, IsFolding, IsMade, IsNoted, IsStep}
-use Rattle.world_core.specs.Handled.{Declines, BeginsOp, StepsLooked, MakesStep, Runs, Settles, SettlesOn, Crashes, Reports, Does, Answers}
+use Rattle.world_core.specs.Handled.{Declines, BeginsOp, StepsLooked, MakesStep, Runs, Settles, SettlesOn, Crashes, Reports, Does, Answers, Policies, WorksThrough}
 use Rattle.world_core.specs.Replying.{declined, done_reply, unsettled_reply, value_reply, RepliesTo, RepliesSettled, RepliesBegun, RepliesTurn}
 use Rattle.world_core.specs.Sessions.{Changes}
 use Rattle.world_core.proofs.Behind.{LinesStand}
@@ -204,10 +205,22 @@ module _ (Holds : Posture → Work → CommitAnswer → Type 0) (nothing : SaysN
   crash_keeps true (inr (inl h)) = plain reply.Crashed h.replies tt
   crash_keeps true (inr (inr memory)) = absurd (no_memory r memory.0)
 
+  policy_keeps : (role : Role) (number : ℕ) → Policies k role number before after old new (Ok r) → Kept r
+  policy_keeps role number (inl refuses) = not_done _ refuses.declines
+  policy_keeps role number (inr (inl refuses)) = not_done _ refuses.1.declines
+  policy_keeps role number (inr (inr gives)) = plain reply.Noted gives.replies tt
+
+  through_keeps : WorksThrough n k before after old new (Ok r) → Kept r
+  through_keeps (inl refuses) = not_done _ refuses.declines
+  through_keeps (inr (inl down)) = plain (reply.Worked down.done down.passed) down.replies tt
+  through_keeps (inr (inr memory)) = absurd (no_memory r memory.0)
+
   does_keeps : (request : Request) → Does n k request before after old new (Ok r) → Kept r
   does_keeps (Begin o) h = begin_keeps o h.1
   does_keeps (Note tree change) h = done_keeps Holds stood.posture hand r reply.Noted tt h.1.does.noted h.1.does.replies
   does_keeps Abort h = done_keeps Holds stood.posture hand r reply.Aborted tt h.1.does.dropped h.1.does.replies
+  does_keeps (Policy role number) h = policy_keeps role number h
+  does_keeps WorksDue h = through_keeps h
   does_keeps (Step wish) h = makes_keeps wish h
   does_keeps Run h = runs_keeps h
   does_keeps (Crash done) h = crash_keeps done h
@@ -272,6 +285,8 @@ module _ (Holds : Posture → Work → CommitAnswer → Type 0) (nothing : SaysN
   asked_keeps (event.Scan k tree from to) ends asked asks answers = of_session (event.Scan k tree from to) ends (IsScanning tree from to) asked asks answers
   asked_keeps (event.Page k tree page) ends asked asks answers = of_session (event.Page k tree page) ends (IsPaging tree page) asked asks answers
   asked_keeps (event.Tree k tree) ends asked asks answers = of_session (event.Tree k tree) ends (IsFolding tree) asked asks answers
+  asked_keeps (event.Policy k role number) ends asked asks answers = of_session (event.Policy k role number) ends (λ request. request ≡ Ok (Policy role number)) asked asks answers
+  asked_keeps (event.Work k) ends asked asks answers = of_session (event.Work k) ends (λ request. request ≡ Ok WorksDue) asked asks answers
   asked_keeps (event.Step k wish) ends asked asks answers = of_session (event.Step k wish) ends (IsStep wish) asked asks answers
   asked_keeps (event.Run k) ends asked asks answers = of_session (event.Run k) ends (λ request. request ≡ Ok Run) asked asks answers
   asked_keeps (event.Crash k done) ends asked asks answers = of_session (event.Crash k done) ends (λ request. request ≡ Ok (Crash done)) asked asks answers

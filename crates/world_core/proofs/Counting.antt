@@ -43,19 +43,22 @@ use Rattle.session_facts.proofs.LineLemmas.{line_of}
 use Rattle.session_facts.proofs.Sessions.CheckpointCalls.{IsOther, Leads, begun_counts, page_begun, counts_beside, other_counts, session_few, session_names, more_counts, end_counts}
 use Rattle.session_facts.proofs.SettlerLemmas.{settler_row}
 use Rattle.session_facts.proofs.Steps.{CallLeaves, CallLeavesUpto, wish_holds}
-use Rattle.session_facts.proofs.CallKinds.{IsSettlersRow}
+use Rattle.session_facts.proofs.CallKinds.{IsSettlersRow, IsWorkersRow}
 use Rattle.session_facts.specs.Counted.{counted, counted_line, counted_from, calls_told, CountsWork, CountsAll, FewFor}
 use Rattle.session_facts.specs.Facts.{session_at, CloudHolds}
 use Rattle.session_facts.specs.Few.{next_page}
 use Rattle.session_facts.specs.Sessions.Sessions.{Sessions, SessionsStand}
 use Rattle.session_facts.specs.TreeCheckpoints.Named.{NamesPieces}
 use Rattle.txn_buffer.specs.Noted.{Noted}
+use Rattle.db_base.specs.declared.names.QueueName.{QueueName}
+use Rattle.ckpt_policy.specs.declared.role.Role.{Role}
+use Rattle.world_core.proofs.Workers.{IsInside, HoldsWithin, IsIdle, IsBetween, holds_begun, holds_went, holds_works, open_rests, within_begun, within_went, within_works, worker, worker_begins, worker_call, worker_own, worker_rows}
 use Rattle.world_core.proofs.Behind.{LinesStand}
 use Rattle.world_core.proofs.EveryLine.{line_leaves}
 use Rattle.world_core.proofs.StandsLemmas.{IsUnderWay, IsNoReport, SettlerGoes, changed_at, changed_was, has_at, way_begins, went_on, call, steps_own, no_stop, no_memory, refused_is, settler, settler_went, settler_own, settler_call, settler_begins, settled_plain}
 use Rattle.world_core.specs.Asked.{Asks}
 use Rattle.world_core.specs.Bounded.{steps_of}
-use Rattle.world_core.specs.Handled.{Declines, Has, MakesNoCall, BeginsOp, NotesChange, DropsChanges, StepsLooked, MakesStep, Went, start, further, ComesTo, Runs, SettlesOn, Settles, Dies, Crashes, Does, Serves, ReportReply, Reports, Answers, Handled}
+use Rattle.world_core.specs.Handled.{Declines, Has, MakesNoCall, BeginsOp, NotesChange, DropsChanges, StepsLooked, MakesStep, Went, start, further, ComesTo, Runs, SettlesOn, Settles, Dies, Crashes, Does, Serves, ReportReply, Reports, Answers, Handled, BeginsCheckpoint, Checkpoints, Policies, Works, WorksThrough, checkpoint_more, checkpoint_of, no_checkpoint}
 use Rattle.world_core.specs.Named.{StepNames}
 use Rattle.world_core.specs.Replying.{declined, done_reply, unsettled_reply, RepliesBegun, RepliesTurn, RepliesSettled}
 use Rattle.world_core.specs.Sessions.{Changes, NotesIn, AbortsIn}
@@ -64,7 +67,7 @@ use Rattle.world_core.specs.World.{World}
 use Rattle.world_core.specs.declared.asked.Asked.{Asked}
 use Rattle.world_core.specs.declared.asked.Asked.TheVariants.{Session, Wait, Report, Settle}
 use Rattle.world_core.specs.declared.asked.Request.{Request}
-use Rattle.world_core.specs.declared.asked.Request.TheVariants.{Begin, Note, Abort, Step, Run, Crash}
+use Rattle.world_core.specs.declared.asked.Request.TheVariants.{Begin, Note, Abort, Policy, Work as WorksDue, Step, Run, Crash}
 use Rattle.world_core.specs.declared.world.WorldFault.{WorldFault}
 
 pub state_is : (x y : CloudState) → Some x ≡ Some y → x ≡ y
@@ -364,6 +367,100 @@ begins_own lines k old t all =
     counts_like (calls_told lines) (at k (calls_told lines k) (calls_told lines)) t (session_at old.sessions) (session_at old.sessions)
     (own_again k (calls_told lines)) (λ m. refl) all
 
+-- ---- a session's work
+
+-- a checkpoint that begins has made no call, and the others as many as before
+pub begun_none : (calls : ℕ → ℕ) (k mine : ℕ) (home : Home) (queue : QueueName) (s : CloudState) (old begun : World) → IsIdle home (session_at old.sessions k).work
+    → BeginsCheckpoint k queue old begun → CountsAll (at k mine calls) s (session_at old.sessions) → CountsAll (at k 0 calls) s (session_at begun.sessions)
+begun_none calls k mine home queue s old begun idle b all m =
+    subst (λ (a : Acting). CountsWork (at k 0 calls m) s a.work) (sym (changed_at k _ old.sessions begun.sessions c m)) (on (cases_eq m k))
+  where
+    c : Changes k (λ a b. Begins (checkpoint_of queue) a b (Ok Working)) old.sessions begun.sessions
+    c = b.session
+
+    mine_is : CountsWork 0 s c.after.work
+    mine_is =
+        begin_counts reply.Begun 0 s c.before c.after (checkpoint_of queue) (Ok Working) c.does refl
+        (subst (λ (w : Work). CountsWork 0 s w) (sym (ap (λ (a : Acting). a.work) (sym (changed_was k _ old.sessions begun.sessions c)) ∙ idle)) tt)
+
+    on : (m ≡ k) ⊎ (m ≢ k) → CountsWork (at k 0 calls m) s (at k c.after (session_at old.sessions) m).work
+    on (inl same) =
+        subst (λ (j : ℕ). CountsWork j s (at k c.after (session_at old.sessions) m).work) (sym (at_same k 0 calls m same))
+        (subst (λ (a : Acting). CountsWork 0 s a.work) (sym (at_same k c.after (session_at old.sessions) m same)) mine_is)
+    on (inr other) =
+        subst (λ (j : ℕ). CountsWork j s (at k c.after (session_at old.sessions) m).work) (at_other k mine calls m other ∙ sym (at_other k 0 calls m other))
+        (subst (λ (a : Acting). CountsWork (at k mine calls m) s a.work) (sym (at_other k c.after (session_at old.sessions) m other)) (all m))
+
+module _ (n k : ℕ) (lines : List Line) (home : Home) (row : IsWorkersRow lines (worker k n)) (first : Sessions) (calls : ℕ → ℕ) where
+  -- so many calls of the session at work
+  abbrev Mine : ℕ → CloudState → World → Type 0
+  Mine mine s world = CountsAll (at k mine calls) s (session_at world.sessions)
+
+  module _ (before after : Seen) (old new : World) (turn : Turn Answer) (w : IsInside k home first old) (h : HoldsWithin n lines old before)
+      (p : StepsLooked (worker k n) Plain before after old new turn) (mine : ℕ) (all : Mine mine h.state old) (last : CloudState) (seen : after.state ≡ Some last) where
+    held : CloudHolds n lines (session_at old.sessions) old.audit old.blind (record h.state { wish = Plain })
+    held = wish_holds n lines (session_at old.sessions) old.audit old.blind h.state Plain h.holds
+
+    leaves : CallLeavesUpto n lines p.to (session_at old.sessions) k p.session.after new.audit new.blind
+    leaves = worker_call n k lines home row first before after old new turn w h p
+
+    steps : StepsSession (worker k n) p.under p.to (session_at old.sessions k) p.session.after (Ok turn)
+    steps = worker_own n k lines home row first before after old new turn w h p
+
+    mine_is : at k mine calls k ≡ mine
+    mine_is = at_same k mine calls k refl
+
+    pub worker_few : FewFor (mine + 1) last p.session.before.work
+    worker_few =
+        subst (λ (j : ℕ). FewFor (j + 1) last p.session.before.work) mine_is
+        (step_few (worker k n) Plain before after old new turn p h.state h.told held.book held.order held.stand steps leaves.state leaves.told (at k mine calls) all last seen)
+
+    pub worker_names : StepNames (worker k n) Plain before after old new turn p
+    worker_names =
+        step_names (worker k n) Plain before after old new turn p h.state h.told held.book held.order held.stand steps leaves.state leaves.told (at k mine calls) all last seen
+
+    pub worker_more : turn ≡ More → Mine (mine + 1) last new
+    worker_more more =
+        counts_like (at k (at k mine calls k + 1) (at k mine calls)) (at k (mine + 1) calls) last (session_at new.sessions) (session_at new.sessions)
+        (λ m. sym (own_twice k mine (mine + 1) calls m) ∙ ap (λ (j : ℕ). at k (j + 1) (at k mine calls) m) (sym mine_is)) (λ m. refl)
+        (step_more (worker k n) Plain before after old new turn p h.state h.told held.book held.order held.stand steps leaves.state leaves.told (at k mine calls) all last seen
+        leaves.holds.book leaves.holds.order leaves.holds.stand more)
+
+    pub worker_end : (a : Answer) (j : ℕ) → turn ≡ Ended a → Mine j last new
+    worker_end a j ends =
+        counts_like (at k j (at k mine calls)) (at k j calls) last (session_at new.sessions) (session_at new.sessions)
+        (λ m. sym (own_twice k mine j calls m)) (λ m. refl)
+        (step_end (worker k n) Plain before after old new turn p h.state h.told held.book held.order held.stand steps leaves.state leaves.told (at k mine calls) all last seen a j ends)
+
+  -- behind some steps of a checkpoint
+  pub worker_went : (before : Seen) (old : World) (after : Seen) (new : World) → IsInside k home first old → (h : HoldsWithin n lines old before) → Mine 0 h.state old
+      → (went : Went (worker k n) before old after new) (s : CloudState) → after.state ≡ Some s → Mine (steps_of (worker k n) before old after new went) s new
+  worker_went before old after new w h all start s seen = subst (λ (z : CloudState). Mine 0 z old) (state_is h.state s (sym h.told ∙ seen)) all
+  worker_went before old after new w h all (further mid _ world _ went step) s seen =
+      let gone = holds_went n k lines home row first before old mid world w h went in
+      worker_more mid after world new More (within_went (worker k n) home first before old mid world w went) gone step (steps_of (worker k n) before old mid world went)
+      (worker_went before old mid world w h all went gone.state gone.told) s seen refl
+
+  -- behind one that begins
+  pub made_none : (queue : QueueName) (before after : Seen) (old new : World) (a : Answer) → IsBetween k home first old → (h : HoldsWithin n lines old before) (mine : ℕ) → Mine mine h.state old
+      → Checkpoints (worker k n) queue before after old new a → (s : CloudState) → after.state ≡ Some s → Mine 0 s new
+  made_none queue before after old new a w h mine all c s seen =
+      let begun = within_begun k home first queue old c.begun w c.begins in
+      let held = holds_begun n lines k queue before old c.begun h c.begins in
+      let none = begun_none calls k mine home queue h.state old c.begun w.works c.begins all in
+      let gone = holds_went n k lines home row first before c.begun c.comes.mid c.comes.world begun held c.comes.went in
+      worker_end c.comes.mid after c.comes.world new (Ended a) (within_went (worker k n) home first before c.begun c.comes.mid c.comes.world begun c.comes.went) gone c.comes.steps
+      (steps_of (worker k n) before c.begun c.comes.mid c.comes.world c.comes.went)
+      (worker_went before c.begun c.comes.mid c.comes.world begun held none c.comes.went gone.state gone.told) s seen a 0 refl
+
+  pub works_none : (before : Seen) (old : World) (queues : List QueueName) (done passed : ℕ) (after : Seen) (new : World) → IsBetween k home first old → (h : HoldsWithin n lines old before)
+      → (mine : ℕ) → Mine mine h.state old → Works (worker k n) before old queues done passed after new → (s : CloudState) → after.state ≡ Some s → (own : ℕ) × Mine own s new
+  works_none before old queues done passed after new w h mine all no_checkpoint s seen = (mine, subst (λ (z : CloudState). Mine mine z old) (state_is h.state s (sym h.told ∙ seen)) all)
+  works_none before old queues done passed after new w h mine all (checkpoint_more others kept left mid world queue a _ _ works makes passes) s seen =
+      let gone = holds_works n k lines home row first before old others kept left mid world w h works in
+      let was = works_none before old others kept left mid world w h mine all works gone.state gone.told in
+      (0, made_none queue mid after world new a (within_works (worker k n) home first before old others kept left mid world w works) gone was.0 was.1 makes s seen)
+
 -- the session that a line names is the one that is asked
 own_session : (e : Event) (k : ℕ) (request : Result Request Refused) → Asks e (Session k request) → session_of e ≡ k
 own_session (event.Wait ticks) k request asks = absurd (cc (asks))
@@ -524,7 +621,58 @@ module _ (lines : List Line) (n : ℕ) (number : length lines + 1 ≡ n) (before
     crashes true (inr (inl d)) = dies_done d.world d.turn d.steps d.closes
     crashes true (inr (inr memory)) = absurd (no_memory r memory.0)
 
+    policy : (role : Role) (kept : ℕ) → Policies k role kept before after old new (Ok r) → Behind
+    policy role kept (inl refuses) = declined_counts _ refuses.declines
+    policy role kept (inr (inl refuses)) = declined_counts _ refuses.1.declines
+    policy role kept (inr (inr gives)) =
+        let is : r ≡ reply.Noted = cc (gives.replies) in
+        subst (λ (z : CloudState). CountsAll (calls_told (lines ++ line_of e r ∷ [])) z (session_at new.sessions)) (unmoved gives.quiet.seen)
+        (counts_like (calls_told lines) (calls_told (lines ++ line_of e r ∷ [])) t (session_at old.sessions) (session_at new.sessions)
+        (still_tells lines e r (λ (calls : ℕ). ap (λ (q : Reply). counted q calls) is)) (λ m. ap (λ (l : List Acting). session_at l m) gives.sessions) all)
+
+    -- behind its work a session is open, and the others made as many calls as before
+    worked : WorksThrough n k before after old new (Ok r) → Behind
+    worked (inl refuses) = declined_counts _ refuses.declines
+    worked (inr (inl down)) = λ m. on m (cases_eq m k)
+      where
+        rest : (home : Home) × (home.client ≡ down.open.client) × IsBetween k home (session_at old.sessions) old
+        rest = open_rests k old down.open
+
+        q : Reply
+        q = reply.Worked down.done down.passed
+
+        is : r ≡ q
+        is = cc (down.replies)
+
+        all_lines : List Line
+        all_lines = lines ++ line_of (event.Work k) q ∷ []
+
+        begins : HoldsWithin n all_lines old before
+        begins = worker_begins lines k n before old t (sym number) told stands q tt
+
+        last : IsBetween k rest.0 (session_at old.sessions) new
+        last = within_works (worker k n) rest.0 (session_at old.sessions) before old down.queues down.done down.passed after new rest.2 down.works
+
+        own_counts : CountsAll (at k (calls_told lines k) (calls_told lines)) begins.state (session_at old.sessions)
+        own_counts = begins_own lines k old begins.state (subst (λ (z : CloudState). CountsAll (calls_told lines) z (session_at old.sessions)) (state_is t begins.state (sym told ∙ begins.told)) all)
+
+        end : (own : ℕ) × CountsAll (at k own (calls_told lines)) u (session_at new.sessions)
+        end =
+            works_none n k all_lines rest.0 (worker_rows lines k n before old t (sym number) told stands q) (session_at old.sessions) (calls_told lines) before old down.queues down.done
+            down.passed after new rest.2 begins (calls_told lines k) own_counts down.works u seen
+
+        on : (m : ℕ) → (m ≡ k) ⊎ (m ≢ k) → CountsWork (calls_told (lines ++ line_of e r ∷ []) m) u (session_at new.sessions m).work
+        on m (inl same) =
+            subst (λ (j : ℕ). CountsWork (calls_told (lines ++ line_of e r ∷ []) m) u (session_at new.sessions j).work) (sym same)
+            (subst (λ (w : Work). CountsWork (calls_told (lines ++ line_of e r ∷ []) m) u w) (sym last.works) tt)
+        on m (inr other) =
+            subst (λ (c : ℕ). CountsWork c u (session_at new.sessions m).work)
+            (at_other k end.0 (calls_told lines) m other ∙ sym (still_tells lines e r (λ (calls : ℕ). ap (λ (z : Reply). counted z calls) is) m)) (end.1 m)
+    worked (inr (inr memory)) = absurd (no_memory r memory.0)
+
     does : (request : Request) → Does n k request before after old new (Ok r) → Behind
+    does (Policy role kept) h = policy role kept h
+    does WorksDue h = worked h
     does (Begin o) h = begun o h.0 h.1
     does (Note tree change) h = noted tree change h.0 h.1
     does Abort h = aborted h.0 h.1

@@ -7,14 +7,15 @@ use Rattle.cloud_trait.specs.declared.turn.Turn.{Turn}
 use Rattle.db_base.specs.declared.refusal.Refused.{Refused}
 use Rattle.db_base.specs.declared.wish.Wish.{Wish}
 use Rattle.reply_text.specs.declared.reply.Reply.{Reply}
+use Rattle.db_base.specs.declared.names.QueueName.{QueueName}
 use Rattle.world_core.specs.declared.asked.Asked.{Asked}
 use Rattle.world_core.specs.declared.asked.Asked.TheVariants.{Session, Wait, Report, Settle}
 use Rattle.world_core.specs.declared.asked.Request.{Request}
-use Rattle.world_core.specs.declared.asked.Request.TheVariants.{Begin, Note, Abort, Step, Run, Crash}
+use Rattle.world_core.specs.declared.asked.Request.TheVariants.{Begin, Note, Abort, Policy, Work as WorksDue, Step, Run, Crash}
 use Rattle.world_core.specs.World.{World}
 use Rattle.world_core.specs.declared.world.WorldFault.{WorldFault}
-use Rattle.world_core.specs.EachStep.{StepFact, EachWent, EachCome, EachTold, EachMade, EachRunTold, EachRun, EachCrashed, EachSettlingOn, EachSettling, EachDone, EachServed, EachAsked}
-use Rattle.world_core.specs.Handled.{StepsLooked, StepsTo, MakesStep, Went, start, further, ComesTo, RunsTo, Runs, SettlesOn, Settles, Crashes, Does, Serves, Answers}
+use Rattle.world_core.specs.EachStep.{StepFact, EachWent, EachCome, EachTold, EachMade, EachRunTold, EachRun, EachCrashed, EachSettlingOn, EachSettling, EachDone, EachServed, EachAsked, EachThrough, EachWork}
+use Rattle.world_core.specs.Handled.{StepsLooked, StepsTo, MakesStep, Went, start, further, ComesTo, RunsTo, Runs, SettlesOn, Settles, Crashes, Does, Serves, Answers, Works, WorksThrough, checkpoint_more, no_checkpoint}
 
 module _ (Holds : StepFact)
     (own : (who : Caller) (wish : Wish) (before after : Seen) (old new : World) (turn : Turn Answer) (p : StepsLooked who wish before after old new turn)
@@ -27,6 +28,12 @@ module _ (Holds : StepFact)
       → EachCome Holds who before after old new answer comes
   comes_each who before after old new answer comes =
       (went_each who before old comes.mid comes.world comes.went, own who _ comes.mid after comes.world new _ comes.steps)
+
+  works_each : (who : Caller) (before : Seen) (old : World) (queues : List QueueName) (done passed : ℕ) (after : Seen) (new : World) (works : Works who before old queues done passed after new)
+      → EachWork Holds who before old queues done passed after new works
+  works_each who before old queues done passed after new no_checkpoint = tt
+  works_each who before old queues done passed after new (checkpoint_more others kept left mid world queue a _ _ works makes passes) =
+      (works_each who before old others kept left mid world works, comes_each who mid after makes.begun new a makes.comes)
 
   module _ (n : ℕ) (before after : Seen) (old new : World) (result : Result Reply WorldFault) where
     told_each : (k : ℕ) (wish : Wish) (r : Result Reply WorldFault) (h : StepsTo n k wish before after old new r) → EachTold Holds n k wish before after old new r h
@@ -47,6 +54,11 @@ module _ (Holds : StepFact)
     run_each k (inr (inl run)) = ran_each k result run
     run_each k (inr (inr memory)) = tt
 
+    through_each : (k : ℕ) (h : WorksThrough n k before after old new result) → EachThrough Holds n k before after old new result h
+    through_each k (inl refused) = tt
+    through_each k (inr (inl down)) = works_each _ before old down.queues down.done down.passed after new down.works
+    through_each k (inr (inr memory)) = tt
+
     crash_each : (k : ℕ) (done : Bool) (h : Crashes n k done before after old new result) → EachCrashed Holds n k done before after old new result h
     crash_each k false dies = tt
     crash_each k true (inl idle) = tt
@@ -57,6 +69,8 @@ module _ (Holds : StepFact)
     does_each k (Step wish) h = made_each k wish h
     does_each k Run h = run_each k h
     does_each k (Crash done) h = crash_each k done h
+    does_each k WorksDue h = through_each k h
+    does_each k (Policy role number) h = tt
     does_each k (Begin o) h = tt
     does_each k (Note tree change) h = tt
     does_each k Abort h = tt

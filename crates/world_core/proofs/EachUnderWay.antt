@@ -14,11 +14,11 @@ use Rattle.reply_text.specs.declared.reply.Reply.{Reply}
 use Rattle.world_core.specs.declared.asked.Asked.{Asked}
 use Rattle.world_core.specs.declared.asked.Asked.TheVariants.{Session, Wait, Report, Settle}
 use Rattle.world_core.specs.declared.asked.Request.{Request}
-use Rattle.world_core.specs.declared.asked.Request.TheVariants.{Begin, Note, Abort, Step, Run, Crash}
+use Rattle.world_core.specs.declared.asked.Request.TheVariants.{Begin, Note, Abort, Policy, Work as WorksDue, Step, Run, Crash}
 use Rattle.world_core.specs.World.{World}
 use Rattle.world_core.specs.declared.world.WorldFault.{WorldFault}
-use Rattle.world_core.specs.EachStep.{StepFact, EachWent, EachCome, EachTold, EachMade, EachRunTold, EachRun, EachCrashed, EachSettling, EachDone, EachServed, EachAsked}
-use Rattle.world_core.specs.Handled.{StepsLooked, StepsTo, MakesStep, Went, start, further, ComesTo, RunsTo, Runs, Settles, Crashes, Does, Serves, Answers}
+use Rattle.world_core.specs.EachStep.{StepFact, EachWent, EachCome, EachTold, EachMade, EachRunTold, EachRun, EachCrashed, EachSettling, EachDone, EachServed, EachAsked, EachThrough}
+use Rattle.world_core.specs.Handled.{StepsLooked, StepsTo, MakesStep, Went, start, further, ComesTo, RunsTo, Runs, Settles, Crashes, Does, Serves, Answers, WorksThrough}
 use Rattle.world_core.specs.Stands.{WorldStands}
 use Rattle.world_core.proofs.StandsLemmas.{IsUnderWay, way_begins, went_on}
 
@@ -26,7 +26,9 @@ module _ (Holds : StepFact) (lines : List Line)
     (own : (who : Caller) (wish : Wish) (before after : Seen) (old new : World) (turn : Turn Answer) → who.event ≡ length lines + 1 → IsUnderWay lines old before
     → (p : StepsLooked who wish before after old new turn) → Holds who wish before after old new turn p)
     (settles : (n : ℕ) (before after : Seen) (old new : World) (result : Result Reply WorldFault) (h : Settles n before after old new result)
-    → EachSettling Holds n before after old new result h) where
+    → EachSettling Holds n before after old new result h)
+    (works : (n k : ℕ) (before after : Seen) (old new : World) (result : Result Reply WorldFault) (h : WorksThrough n k before after old new result)
+    → EachThrough Holds n k before after old new result h) where
   went_each : (who : Caller) (before : Seen) (old : World) (after : Seen) (new : World) → who.event ≡ length lines + 1 → IsUnderWay lines old before
       → (went : Went who before old after new) → EachWent Holds who before old after new went
   went_each who before old after new number way start = tt
@@ -78,6 +80,8 @@ module _ (Holds : StepFact) (lines : List Line)
     does_each k (Step wish) h = made_each k wish h
     does_each k Run h = run_each k h
     does_each k (Crash done) h = crash_each k done h
+    does_each k WorksDue h = works n k before after old new result h
+    does_each k (Policy role number) h = tt
     does_each k (Begin o) h = tt
     does_each k (Note tree change) h = tt
     does_each k Abort h = tt

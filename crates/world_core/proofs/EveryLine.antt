@@ -16,13 +16,14 @@ use Rattle.replay_meaning.specs.Standing.{Line, Standing, after_own, session_of,
 use Rattle.session_facts.proofs.LineLemmas.{line_of}
 use Rattle.world_core.specs.World.{World}
 use Rattle.world_core.specs.declared.asked.Request.{Request}
-use Rattle.world_core.specs.declared.asked.Request.TheVariants.{Begin, Note, Abort, Step, Run, Crash}
+use Rattle.world_core.specs.declared.asked.Request.TheVariants.{Begin, Note, Abort, Policy, Work as WorksDue, Step, Run, Crash}
 use Rattle.world_core.specs.declared.asked.Asked.{Asked}
 use Rattle.world_core.specs.declared.asked.Asked.TheVariants.{Session, Wait, Report, Settle}
 use Rattle.world_core.specs.Asked.{change_noted, tree_noted, bound_of, IsOpening, IsReading, IsScanning, IsPaging, IsFolding, IsMade, IsNoted, IsStep, OfSession, Asks}
 use Rattle.world_core.specs.Handled.{MakesNoCall, Does, Answers, Handled}
 use Rattle.world_core.proofs.Behind.{LinesStand, LineLeaves}
-use Rattle.world_core.proofs.StandsLemmas.{Ready, declines, runs, makes_step, crashes, settles, waits, reports}
+use Rattle.world_core.proofs.StandsLemmas.{Ready, declines, runs, makes_step, crashes, policies, settles, waits, reports}
+use Rattle.world_core.proofs.Workers.{works_through}
 use Rattle.world_core.proofs.BeginLemmas.{opening_begun, read_begun, scan_begun, paging_begun, close_begun, renewal_begun, folding_begun, commit_begun, notes, aborts}
 
 -- the line of a session, and what is known before it is looked at
@@ -63,6 +64,8 @@ noted_line lines event n k tree change (Note tree_of c) before after old new r t
     let Own : ℕ → Change → Type 0 = λ j d. Does n k (Note j d) before after old new (Ok r) in
     let h : Does n k (Note tree change) before after old new (Ok r) = subst (λ d. Own tree d) is.0 (subst (λ j. Own j c) noted.0 done) in
     notes lines event k tree change r before after old new t noted.1 is.1 does (ready_of lines event n k before after old new t own s h.0) h.1
+noted_line lines event n k tree change (Policy role number) before after old new r t Is own does is_change s noted done = absurd noted
+noted_line lines event n k tree change WorksDue before after old new r t Is own does is_change s noted done = absurd noted
 noted_line lines event n k tree change (Begin o) before after old new r t Is own does is_change s noted done = absurd noted
 noted_line lines event n k tree change Abort before after old new r t Is own does is_change s noted done = absurd noted
 noted_line lines event n k tree change (Step wish) before after old new r t Is own does is_change s noted done = absurd noted
@@ -135,6 +138,14 @@ asked_stands n (event.Crash k d) asked before after old new r lines t asks answe
     request_stands n k (event.Crash k d) (λ request. request ≡ Ok (Crash d)) asked before after old new r lines t asks answers at told stands
     (λ request s is done.
     crashes lines k n d r before after old new t s.at s.session.some s.told s.stands (does_own n k request (Crash d) before after old new r (asked_is request (Crash d) is) done))
+asked_stands n (event.Policy k role number) asked before after old new r lines t asks answers at told stands =
+    request_stands n k (event.Policy k role number) (λ request. request ≡ Ok (Policy role number)) asked before after old new r lines t asks answers at told stands
+    (λ request s is done.
+    policies lines k number role r before after old new t s.told s.stands (does_own n k request (Policy role number) before after old new r (asked_is request (Policy role number) is) done))
+asked_stands n (event.Work k) asked before after old new r lines t asks answers at told stands =
+    request_stands n k (event.Work k) (λ request. request ≡ Ok WorksDue) asked before after old new r lines t asks answers at told stands
+    (λ request s is done.
+    works_through lines k n r before after old new t s.at s.session.some s.told s.stands (does_own n k request WorksDue before after old new r (asked_is request WorksDue is) done))
 asked_stands n (event.Wait ticks) asked before after old new r lines t asks answers at told stands =
     waits lines ticks r before after old new t told stands (subst (λ z. Answers n z before after old new (Ok r)) asks answers)
 asked_stands n (event.Report tree) asked before after old new r lines t asks answers at told stands =

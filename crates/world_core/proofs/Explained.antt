@@ -13,7 +13,7 @@ use Rattle.event_text.specs.declared.event.Event.{Event}
 use Rattle.event_text.specs.declared.event.Event.TheVariants as event
 use Rattle.replay_meaning.specs.Standing.{Line}
 use Rattle.session_facts.specs.Facts.{session_at, CloudHolds}
-use Rattle.session_facts.proofs.CallKinds.{IsSettlersRow}
+use Rattle.session_facts.proofs.CallKinds.{IsSettlersRow, IsWorkersRow}
 use Rattle.session_facts.proofs.LineLemmas.{line_of}
 use Rattle.session_facts.proofs.SettlerLemmas.{settler_row}
 use Rattle.session_facts.proofs.Steps.{wish_holds}
@@ -21,15 +21,18 @@ use Rattle.reply_text.specs.declared.reply.Reply.{Reply}
 use Rattle.reply_text.specs.declared.reply.Reply.TheVariants as reply
 use Rattle.session_facts.specs.Sessions.Sessions.{Sessions, SessionsStand}
 use Rattle.session_facts.proofs.Sessions.Explaining.{session_explains}
+use Rattle.recover_run.specs.declared.home.Home.{Home}
+use Rattle.db_base.specs.declared.names.QueueName.{QueueName}
+use Rattle.world_core.proofs.Workers.{IsInside, HoldsWithin, IsBetween, holds_begun, holds_went, holds_works, open_rests, within_begun, within_works, worker, worker_begins, worker_rows}
 use Rattle.world_core.specs.declared.asked.Asked.{Asked}
 use Rattle.world_core.specs.declared.asked.Asked.TheVariants.{Session, Wait, Report, Settle}
 use Rattle.world_core.specs.declared.asked.Request.{Request}
-use Rattle.world_core.specs.declared.asked.Request.TheVariants.{Begin, Note, Abort, Step, Run, Crash}
+use Rattle.world_core.specs.declared.asked.Request.TheVariants.{Begin, Note, Abort, Policy, Work as WorksDue, Step, Run, Crash}
 use Rattle.world_core.specs.World.{World}
 use Rattle.world_core.specs.declared.world.WorldFault.{WorldFault}
-use Rattle.world_core.specs.EachStep.{EachWent, EachCome, EachTold, EachMade, EachRunTold, EachRun, EachCrashed, EachSettlingOn, EachSettling, EachDone, EachServed, EachAsked}
+use Rattle.world_core.specs.EachStep.{EachWent, EachCome, EachTold, EachMade, EachRunTold, EachRun, EachCrashed, EachSettlingOn, EachSettling, EachDone, EachServed, EachAsked, EachThrough, EachWork}
 use Rattle.world_core.specs.Explained.{StepExplains, ExplainsSteps}
-use Rattle.world_core.specs.Handled.{StepsLooked, StepsTo, MakesStep, Went, start, further, ComesTo, RunsTo, Runs, SettlesOn, Settles, Crashes, Does, Serves, Answers}
+use Rattle.world_core.specs.Handled.{StepsLooked, StepsTo, MakesStep, Went, start, further, ComesTo, RunsTo, Runs, SettlesOn, Settles, Crashes, Does, Serves, Answers, Checkpoints, Works, WorksThrough, checkpoint_more, no_checkpoint}
 use Rattle.world_core.proofs.Behind.{LinesStand}
 use Rattle.world_core.proofs.StandsLemmas.{IsUnderWay, changed_was, way_begins, told_under, went_on, SettlerGoes, settler, settler_went, settler_begins}
 
@@ -51,6 +54,41 @@ step_explains n lines who wish before after old new turn x holds p under s t tol
 
     stand : SessionsStand held.book held.order s (session_at old.sessions)
     stand = subst (λ y. SessionsStand held.book held.order y (session_at old.sessions)) (state_is (record x { wish = wish }) s (sym under ∙ told)) held.stand
+
+-- ---- a session's work
+
+-- each step of a checkpoint, within its own line
+module _ (n k : ℕ) (lines : List Line) (home : Home) (row : IsWorkersRow lines (worker k n)) (first : Sessions) where
+  worker_explains : (before after : Seen) (old new : World) (turn : Turn Answer) → HoldsWithin n lines old before → (p : StepsLooked (worker k n) Plain before after old new turn)
+      → StepExplains (worker k n) Plain before after old new turn p
+  worker_explains before after old new turn h p =
+      step_explains n lines (worker k n) Plain before after old new turn h.state h.holds p (p.wishes.set h.state (p.look_before.stays h.state h.told))
+
+  checkpoint_explains : (before : Seen) (old : World) (after : Seen) (new : World) → IsInside k home first old → HoldsWithin n lines old before → (went : Went (worker k n) before old after new)
+      → EachWent StepExplains (worker k n) before old after new went
+  checkpoint_explains before old after new w h start = tt
+  checkpoint_explains before old after new w h (further mid _ world _ went step) = (
+    checkpoint_explains before old mid world w h went,
+    worker_explains mid after world new More (holds_went n k lines home row first before old mid world w h went) step,
+  )
+
+  makes_explains : (queue : QueueName) (before after : Seen) (old new : World) (a : Answer) → IsBetween k home first old → HoldsWithin n lines old before
+      → (c : Checkpoints (worker k n) queue before after old new a) → EachCome StepExplains (worker k n) before after c.begun new a c.comes
+  makes_explains queue before after old new a w h c =
+      let begun = within_begun k home first queue old c.begun w c.begins in
+      let held = holds_begun n lines k queue before old c.begun h c.begins in (
+        checkpoint_explains before c.begun c.comes.mid c.comes.world begun held c.comes.went,
+        worker_explains c.comes.mid after c.comes.world new (Ended a) (holds_went n k lines home row first before c.begun c.comes.mid c.comes.world begun held c.comes.went) c.comes.steps,
+      )
+
+  works_explain : (before : Seen) (old : World) (queues : List QueueName) (done passed : ℕ) (after : Seen) (new : World) → IsBetween k home first old → HoldsWithin n lines old before
+      → (works : Works (worker k n) before old queues done passed after new) → EachWork StepExplains (worker k n) before old queues done passed after new works
+  works_explain before old queues done passed after new w h no_checkpoint = tt
+  works_explain before old queues done passed after new w h (checkpoint_more others kept left mid world queue a _ _ works makes passes) = (
+    works_explain before old others kept left mid world w h works,
+    makes_explains queue mid after world new a (within_works (worker k n) home first before old others kept left mid world w works)
+        (holds_works n k lines home row first before old others kept left mid world w h works) makes,
+  )
 
 -- ---- a session's steps
 
@@ -107,10 +145,22 @@ module _ (lines : List Line) where
     crash_explains k true (inr (inl dies)) = own_explains (who k) Plain before after old dies.world dies.turn (sym number) way dies.steps
     crash_explains k true (inr (inr memory)) = tt
 
+    -- its line is one of the lines, whatever is replied to that
+    through_explains : (k : ℕ) (h : WorksThrough n k before after old new result) → EachThrough StepExplains n k before after old new result h
+    through_explains k (inl refused) = tt
+    through_explains k (inr (inl down)) =
+        let rest = open_rests k old down.open in
+        let q : Reply = reply.Worked 0 0 in
+        works_explain n k (lines ++ line_of (event.Work k) q ∷ []) rest.0 (worker_rows lines k n before old t (sym number) told stands q) (session_at old.sessions) before old
+        down.queues down.done down.passed after new rest.2 (worker_begins lines k n before old t (sym number) told stands q tt) down.works
+    through_explains k (inr (inr memory)) = tt
+
     does_explains : (k : ℕ) (request : Request) (h : Does n k request before after old new result) → EachDone StepExplains n k request before after old new result h
     does_explains k (Step wish) h = made_explains k wish h
     does_explains k Run h = run_explains k h
     does_explains k (Crash done) h = crash_explains k done h
+    does_explains k WorksDue h = through_explains k h
+    does_explains k (Policy role number) h = tt
     does_explains k (Begin o) h = tt
     does_explains k (Note tree change) h = tt
     does_explains k Abort h = tt

@@ -2,6 +2,7 @@
 use Rattle.std.proofs.Common.{◌≡◌, ◌≤◌, ◌⊎◌, ℕ, List, [], Some, Result, Ok, Err, length, refl, sym, ap, subst, ◌∙◌, inl, inr, Bool, true, false, arith}
 use Rattle.client_work.specs.Session.{Acting, StepsSession, Begins, closed_session, settling_session}
 use Rattle.client_work.specs.declared.answer.Answer.{Answer}
+use Rattle.client_work.specs.declared.answer.Begun.TheVariants.{Working}
 use Rattle.client_work.specs.declared.op.Op.{Op}
 use Rattle.client_work.specs.declared.op.Op.TheVariants as op
 use Rattle.cloud_facts.proofs.Book.Names.{at_same}
@@ -33,16 +34,18 @@ use Rattle.session_facts.specs.Facts.{session_at, SettlerRests}
 use Rattle.session_facts.specs.Sessions.Sessions.{Sessions, SessionsStand, Goes as SessionGoes, IsRightOp}
 use Rattle.txn_buffer.specs.Noted.{Noted, noted_in}
 use Rattle.replay_meaning.specs.Standing.{session_of}
+use Rattle.db_base.specs.declared.names.QueueName.{QueueName}
+use Rattle.ckpt_policy.specs.declared.role.Role.{Role}
 use Rattle.world_core.proofs.StandsLemmas.{changed_at, changed_was, changed_rests, went_rests, has_at, no_memory}
 use Rattle.world_core.specs.Asked.{change_noted, tree_noted, bound_of, IsOpening, IsReading, IsScanning, IsPaging, IsFolding, IsMade, IsNoted, IsStep, OfSession, Asks}
-use Rattle.world_core.specs.Handled.{Declines, Has, BeginsOp, NotesChange, DropsChanges, MakesNoCall, StepsLooked, MakesStep, Went, start, further, Runs, SettlesOn, Settles, Dies, Crashes, Does, WaitsFor, WaitsTooLong, Reports, Answers, Handled}
+use Rattle.world_core.specs.Handled.{Declines, Has, BeginsOp, NotesChange, DropsChanges, MakesNoCall, StepsLooked, MakesStep, Went, start, further, Runs, SettlesOn, Settles, Dies, Crashes, Does, WaitsFor, WaitsTooLong, Reports, Answers, Handled, Policies, Works, WorksThrough, checkpoint_more, checkpoint_of, no_checkpoint}
 use Rattle.world_core.specs.Sessions.{Changes, NotesIn, AbortsIn}
 use Rattle.world_core.specs.Stands.{KeepsABook}
 use Rattle.world_core.specs.World.{World}
 use Rattle.world_core.specs.declared.asked.Asked.{Asked}
 use Rattle.world_core.specs.declared.asked.Asked.TheVariants.{Session, Wait, Report, Settle}
 use Rattle.world_core.specs.declared.asked.Request.{Request}
-use Rattle.world_core.specs.declared.asked.Request.TheVariants.{Begin, Note, Abort, Step, Run, Crash}
+use Rattle.world_core.specs.declared.asked.Request.TheVariants.{Begin, Note, Abort, Policy, Work as WorksDue, Step, Run, Crash}
 use Rattle.world_core.specs.declared.world.WorldFault.{WorldFault}
 
 -- ---- what a line asks is right
@@ -100,6 +103,8 @@ step_right wish (Err why) is = tt
 noted_right : (tree : ℕ) (Is : Result Change Refused → Type 0) → ((c : Change) → Is (Ok c) → IsChange c) → (request : Result Request Refused) → IsNoted tree Is request → IsRightIfAny request
 noted_right tree Is right (Ok (Note t change)) is = (subst IsTree (sym is.0) is.1, right change is.2)
 noted_right tree Is right (Ok (Begin o)) is = absurd is
+noted_right tree Is right (Ok (Policy role number)) is = absurd is
+noted_right tree Is right (Ok WorksDue) is = absurd is
 noted_right tree Is right (Ok Abort) is = absurd is
 noted_right tree Is right (Ok (Step wish)) is = absurd is
 noted_right tree Is right (Ok Run) is = absurd is
@@ -116,6 +121,8 @@ asks_right (event.Read k tree key) asked asks = of_session k (IsReading tree key
 asks_right (event.Scan k tree from to) asked asks = of_session k (IsScanning tree from to) (scanning_right tree from to) asked asks
 asks_right (event.Page k tree page) asked asks = of_session k (IsPaging tree page) (paging_right tree page) asked asks
 asks_right (event.Tree k tree) asked asks = of_session k (IsFolding tree) (folding_right tree) asked asks
+asks_right (event.Policy k role number) asked asks = of_session k (λ request. request ≡ Ok (Policy role number)) (same_right (Policy role number) tt) asked asks
+asks_right (event.Work k) asked asks = of_session k (λ request. request ≡ Ok WorksDue) (same_right WorksDue tt) asked asks
 asks_right (event.Run k) asked asks = of_session k (λ request. request ≡ Ok Run) (same_right Run tt) asked asks
 asks_right (event.Step k wish) asked asks = of_session k (IsStep wish) (step_right wish) asked asks
 asks_right (event.Crash k done) asked asks = of_session k (λ request. request ≡ Ok (Crash done)) (same_right (Crash done) tt) asked asks
@@ -284,10 +291,43 @@ module _ (n k : ℕ) (before after : Seen) (old new : World) (r : Reply) (some :
   )
   crash_still true (inr (inr memory)) = absurd (no_memory r memory.0)
 
+  policy_still : (role : Role) (number : ℕ) → Policies k role number before after old new (Ok r) → IsStill new after
+  policy_still role number (inl refuses) = declined_still _ before after old new (Ok r) still refuses.declines
+  policy_still role number (inr (inl refuses)) = declined_still _ before after old new (Ok r) still refuses.1.declines
+  policy_still role number (inr (inr gives)) = (
+    on_same new after still.0.state still.0.book still.0.order (session_at old.sessions) (ap (λ (s : Seen). s.state) gives.quiet.seen ∙ still.0.told)
+        (λ m. ap (λ (l : List Acting). session_at l m) gives.sessions) still.0.stand,
+    subst (λ (l : List Acting). SettlerRests (session_at l)) (sym gives.sessions) still.1,
+  )
+
+  -- each checkpoint that is due keeps it
+  works_still : (queues : List QueueName) (done passed : ℕ) (end : Seen) (world : World) → Works who before old queues done passed end world → IsStill world end
+  works_still queues done passed end world no_checkpoint = still
+  works_still queues done passed end world (checkpoint_more others kept left mid prior queue a _ _ works makes passes) =
+      let was = works_still others kept left mid prior works in
+      let b = makes.begins in
+      let c = makes.comes in
+      let begun : OnBook makes.begun mid =
+      on_same makes.begun mid was.0.state was.0.book was.0.order (at k b.session.after (session_at prior.sessions)) was.0.told
+      (changed_at k _ prior.sessions makes.begun.sessions b.session)
+      (begins_keeps (checkpoint_of queue) was.0.book was.0.order was.0.state (session_at prior.sessions) k b.session.after (Ok Working) b.right was.0.stand
+      (subst (λ (x : Acting). Begins (checkpoint_of queue) x b.session.after (Ok Working)) (sym (changed_was k _ prior.sessions makes.begun.sessions b.session)) b.session.does)) in
+      let rests : SettlerRests (session_at makes.begun.sessions) = changed_rests k _ prior.sessions makes.begun.sessions some b.session was.1 in (
+        step_on who Plain c.mid end c.world world (Ended a) (went_on who mid makes.begun c.mid c.world begun c.went) c.steps,
+        changed_rests k _ c.world.sessions world.sessions some c.steps.session (went_rests who mid makes.begun c.mid c.world some c.went rests),
+      )
+
+  through_still : WorksThrough n k before after old new (Ok r) → IsStill new after
+  through_still (inl refuses) = declined_still _ before after old new (Ok r) still refuses.declines
+  through_still (inr (inl down)) = works_still down.queues down.done down.passed after new down.works
+  through_still (inr (inr memory)) = absurd (no_memory r memory.0)
+
   does_still : (request : Request) → IsRight request → Does n k request before after old new (Ok r) → IsStill new after
   does_still (Begin o) right h = changed_still _ h.1 (begin_on k before after old new o r right still.0 h.0 h.1)
   does_still (Note tree change) right h = changed_still _ h.1 (note_on k tree change before after old new (Ok r) right still.0 h.0 h.1)
   does_still Abort right h = changed_still _ h.1 (abort_on k before after old new (Ok r) still.0 h.0 h.1)
+  does_still (Policy role number) right h = policy_still role number h
+  does_still WorksDue right h = through_still h
   does_still (Step wish) right h = step_still wish h
   does_still Run right h = run_still h
   does_still (Crash done) right h = crash_still done h

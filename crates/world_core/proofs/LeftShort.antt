@@ -42,13 +42,20 @@ use Rattle.client_work.specs.declared.work.Work.{Work}
 use Rattle.client_work.specs.declared.work.Work.TheVariants.{Closed, Idle, Opening, Committing, Reading, Scanning, Paging, Folding, Closing, Renewing, Settling, Broken}
 use Rattle.client_work.specs.BrokenOff.{broken_off, broken_work}
 use Rattle.client_work.specs.Session.{Acting, closed_session, Begins, BeginsWith, CommitsIn, CommitsNoted, CommitsOf, Follows, HasInHand, ReadsIn, ReadsOf, ScansIn, folding_begun_by, paging_begun_by, StepsAt, StepsSession, ask_of_work, committed_work, stopped_work}
+use Rattle.session_facts.proofs.CallKinds.{HasCheckpoint}
+use Rattle.db_base.specs.declared.names.QueueName.{QueueName}
+use Rattle.ckpt_policy.specs.declared.role.Role.{Role}
+use Rattle.session_facts.specs.Sessions.Sessions.{Sessions}
+use Rattle.session_facts.specs.Facts.{session_at}
+use Rattle.session_facts.proofs.Lists.{session_there}
+use Rattle.world_core.proofs.Workers.{IsBetween, IsInside, open_rests, within_begun, within_works}
 use Rattle.world_core.specs.declared.asked.Asked.{Asked}
 use Rattle.world_core.specs.declared.asked.Asked.TheVariants.{Session, Wait, Report, Settle}
 use Rattle.world_core.specs.declared.asked.Request.{Request}
-use Rattle.world_core.specs.declared.asked.Request.TheVariants.{Begin, Note, Abort, Step, Run, Crash}
+use Rattle.world_core.specs.declared.asked.Request.TheVariants.{Begin, Note, Abort, Policy, Work as WorksDue, Step, Run, Crash}
 use Rattle.world_core.specs.declared.put.Put.{Put}
 use Rattle.world_core.specs.declared.world.WorldFault.{WorldFault}
-use Rattle.world_core.specs.Handled.{Answers, BeginsOp, BreaksOff, ComesTo, Crashes, Does, DropsChanges, FallsShort, Handled, MakesStep, NotesChange, Runs, RunsShort, Settles, SettlesOn, StepsLooked, StopsShort, Went, further, start}
+use Rattle.world_core.specs.Handled.{Answers, BeginsOp, BreaksOff, ComesTo, Crashes, Does, DropsChanges, FallsShort, Handled, MakesStep, NotesChange, Runs, RunsShort, Settles, SettlesOn, StepsLooked, StopsShort, Went, further, start, CheckpointFails, Checkpoints, FailsAt, IsUndone, KnowsNoDue, Policies, Works, WorksThrough, checkpoint_more, is_done, no_checkpoint}
 use Rattle.world_core.specs.LeftShort.{AskedShort, IsBroken, IsLeftShort, LeavesShort, ServesShort}
 use Rattle.world_core.specs.Put.{put_of, put_of_ask}
 use Rattle.world_core.specs.Replying.{RepliesBegun, RepliesTurn, done_reply}
@@ -218,6 +225,17 @@ not_by_put : (who : Caller) (before after : Seen) (w v : Work) (turn : Turn Answ
 not_by_put who before after w v (Ended (answer.Opened epoch)) put is p = let none : put_of w ≡ None = opened_no_put who before after w v epoch p in absurd (cc (none, is))
 not_by_put who before after w v turn put is p = tt
 
+-- nor does the end of a checkpoint
+not_by_done : (turn : Turn Answer) → is_done turn ≡ true → IsNotOpened turn
+not_by_done (Ended (answer.Opened epoch)) e = absurd (cc (e))
+not_by_done turn e = tt
+
+not_by_undone : (who : Caller) (old : World) (before after : Seen) (a b : Acting) (turn : Turn Answer) → slice_get old.sessions who.session ≡ Some a → IsUndone who.session old turn
+    → StepsAt who before after a.work b.work turn → IsNotOpened turn
+not_by_undone who old before after a b turn there (inl (put, has)) p =
+    not_by_put who before after a.work b.work turn put (put_before who.session old.sessions (Some put) a has there) p
+not_by_undone who old before after a b turn there (inr done) p = not_by_done turn done
+
 -- and its reply is told
 not_untold : (turn : Turn Answer) (left : Acting) (why : WorldFault) → RepliesTurn turn left (Err why) → IsNotOpened turn
 not_untold (Ended (answer.Opened epoch)) left why replies = absurd (cc (replies))
@@ -283,8 +301,7 @@ module _ (who : Caller) where
           let hand : ask_of_work c.before.work ≡ Some s.works.ask = subst (λ (z : Acting). ask_of_work z.work ≡ Some s.works.ask) same s.works.hand in
           record { before = c.before; after = c.after; there = c.there; does = off_now c.before c.after (broken_now c.before.work s.works.ask hand) c.does; rest = c.rest }
       falls (inr p) =
-          let has : put_of p.session.before.work ≡ Some p.put = put_before who.session old.sessions (Some p.put) p.session.before p.puts p.session.there in
-          let not : IsNotOpened p.turn = not_by_put who p.under p.to p.session.before.work p.session.after.work p.turn p.put has p.session.does.work in
+          let not : IsNotOpened p.turn = not_by_undone who old p.under p.to p.session.before p.session.after p.turn p.session.there p.undone p.session.does.work in
           let steps = p.session in
           let off = s.breaks.session in
           let same : steps.after ≡ off.before = same_session s.left.sessions who.session steps.after off.before (after_there who.session _ old.sessions s.left.sessions steps) off.there in
@@ -302,6 +319,86 @@ module _ (who : Caller) where
   comes_short : (before after : Seen) (old left new : World) (a : Answer) → ComesTo who before after old left a → IsNotOpened (Ended a) → BreaksOff who.session left new
       → Changes who.session IsLeftShort old.sessions new.sessions
   comes_short before after old left new a c not off = went_short before old c.mid c.world new c.went (made_short Plain c.mid after c.world left new (Ended a) not c.steps off)
+
+-- ---- a session's work
+
+-- a session is left with its lease alone, whatever it was
+abbrev IsLeftOpen : Acting → Acting → Type 0
+IsLeftOpen a b = HasLease b.work × (b.shown ≡ Nothing)
+
+checkpoint_lease : (home : Home) (w u : Work) → HasCheckpoint home w → IsBroken w u → HasLease u
+checkpoint_lease home (Paging h m) u is broken = broken
+checkpoint_lease home (Folding h m) u is broken = broken
+checkpoint_lease home w u is broken = absurd is
+
+module _ (who : Caller) (new : World) where
+  abbrev LeftOpen : World → Type 0
+  LeftOpen world = Changes who.session IsLeftOpen world.sessions new.sessions
+
+  left_before : (Does : Acting → Acting → Type 0) (old world : World) → Changes who.session Does old.sessions world.sessions → LeftOpen world → LeftOpen old
+  left_before Does old world p q = changes_on who.session Does IsLeftOpen IsLeftOpen old.sessions world.sessions new.sessions (λ x y z s is. is) p q
+
+  left_went : (before : Seen) (old : World) (mid : Seen) (world : World) → Went who before old mid world → LeftOpen world → LeftOpen old
+  left_went before old mid world went c = went_changes who IsLeftOpen new.sessions (λ b a x y z s is. is) before old mid world went c
+
+  left_made : (queue : QueueName) (before after : Seen) (old world : World) (a : Answer) → Checkpoints who queue before after old world a → LeftOpen world → LeftOpen old
+  left_made queue before after old world a c left =
+      left_before _ old c.begun c.begins.session
+      (left_went before c.begun c.comes.mid c.comes.world c.comes.went (left_before _ c.comes.world world c.comes.steps.session left))
+
+  worked_left : (before : Seen) (old : World) (queues : List QueueName) (done passed : ℕ) (after : Seen) (world : World) → Works who before old queues done passed after world
+      → LeftOpen world → LeftOpen old
+  worked_left before old queues done passed after world no_checkpoint left = left
+  worked_left before old queues done passed after world (checkpoint_more others kept passes_by mid prior queue a _ _ works makes passes) left =
+      worked_left before old others kept passes_by mid prior works (left_made queue mid after prior world a makes left)
+
+module _ (who : Caller) (home : Home) (first : Sessions) (new : World) where
+  -- memory ran out in a checkpoint
+  fails_left : (before after : Seen) (begun : World) → IsInside who.session home first begun → CheckpointFails who before after begun new → LeftOpen who new begun
+  fails_left before after begun w fails = by (short fails)
+    where
+      short : CheckpointFails who before after begun new → Changes who.session IsLeftShort begun.sessions new.sessions
+      short (inl s) = stops_short who before after begun new s
+      short (inr (left, c, off)) = comes_short who before after begun left new (answer.Trouble trouble.Memory) c tt off
+
+      by : Changes who.session IsLeftShort begun.sessions new.sessions → LeftOpen who new begun
+      by c = record {
+        before = c.before;
+        after = c.after;
+        there = c.there;
+        does = (checkpoint_lease home c.before.work c.after.work (subst (λ (a : Acting). HasCheckpoint home a.work) (session_there begun.sessions who.session c.before c.there) w.works) c.does.work,
+          c.does.shown);
+        rest = c.rest;
+      }
+
+  falls_left : (before after : Seen) (old : World) → IsBetween who.session home first old → KnowsNoDue who.session before after old new ⊎ FailsAt who before after old new → LeftOpen who new old
+  falls_left before after old w (inl none) =
+      let c = none.breaks.session in
+      let idle : c.before.work ≡ Idle home = ap (λ (a : Acting). a.work) (sym (session_there old.sessions who.session c.before c.there)) ∙ w.works in
+      record {
+        before = c.before;
+        after = c.after;
+        there = c.there;
+        does = (subst (λ (a : Acting). HasLease a.work) (sym c.does) (with_lease c.before.work (Idle home) home.lease idle refl), ap (λ (a : Acting). a.shown) c.does);
+        rest = c.rest;
+      }
+  falls_left before after old w (inr fails) =
+      left_before who new _ old fails.begun fails.begins.session
+      (fails_left before after fails.begun (within_begun who.session home first fails.queue old fails.begun w fails.begins) fails.fails)
+
+-- a session that was open at its begin
+from_open : (who : Caller) (home : Home) (old new : World) → (session_at old.sessions who.session).work ≡ Idle home → LeftOpen who new old
+    → Changes who.session IsLeftShort old.sessions new.sessions
+from_open who home old new open c = record {
+  before = c.before;
+  after = c.after;
+  there = c.there;
+  does = record {
+    work = subst (λ w. IsBroken w c.after.work) (sym (ap (λ (a : Acting). a.work) (sym (session_there old.sessions who.session c.before c.there)) ∙ open)) c.does.0;
+    shown = c.does.1;
+  };
+  rest = c.rest;
+}
 
 -- ---- a settler
 
@@ -430,6 +527,23 @@ module _ (n : ℕ) (before after : Seen) (old new : World) (why : WorldFault) wh
   crash_short k true (inr (inl dies)) = absurd (cc (dies.replies))
   crash_short k true (inr (inr memory)) = runs_short (who k) Plain before after old new memory.1
 
+  -- a ledger takes no memory
+  policy_told : (k : ℕ) (role : Role) (kept : ℕ) → Policies k role kept before after old new No → ⊥
+  policy_told k role kept (inl refuses) = absurd (cc (refuses.declines.reply))
+  policy_told k role kept (inr (inl refuses)) = absurd (cc (refuses.1.declines.reply))
+  policy_told k role kept (inr (inr gives)) = absurd (cc (gives.replies))
+
+  work_short : (k : ℕ) → WorksThrough n k before after old new No → Short k
+  work_short k (inl refuses) = absurd (cc (refuses.declines.reply))
+  work_short k (inr (inl down)) = absurd (cc (down.replies))
+  work_short k (inr (inr memory)) =
+      let s = memory.1 in
+      let rest = open_rests k old s.open in
+      from_open (who k) rest.0 old new rest.2.works
+      (worked_left (who k) new before old s.queues s.done s.passed s.mid s.world s.works
+      (falls_left (who k) rest.0 (session_at old.sessions) new s.mid after s.world
+      (within_works (who k) rest.0 (session_at old.sessions) before old s.queues s.done s.passed s.mid s.world rest.2 s.works) s.falls))
+
   does_short : (k : ℕ) (request : Request) → Does n k request before after old new No → ServesShort k request old.sessions new.sessions
   does_short k (Begin o) h =
       let c = h.1 in
@@ -437,6 +551,8 @@ module _ (n : ℕ) (before after : Seen) (old new : World) (why : WorldFault) wh
   does_short k (Note tree change) h = noted_not tree k change why old.sessions new.sessions h.1
   does_short k Abort h = dropped_not k why old.sessions new.sessions h.1
   does_short k (Step wish) h = step_short k wish h
+  does_short k (Policy role kept) h = absurd (policy_told k role kept h)
+  does_short k WorksDue h = work_short k h
   does_short k Run h = run_short k h
   does_short k (Crash done) h = crash_short k done h
 

@@ -11,6 +11,8 @@ pub mod GrowthLemmas
 pub mod Marks
 pub mod Behind
 pub mod StandsLemmas
+pub mod Workers
+pub mod Checkpointing
 pub mod BeginLemmas
 pub mod EveryLine
 pub mod Keeping
@@ -26,6 +28,7 @@ pub mod Calm
 pub mod Settled
 pub mod Seeing
 pub mod AddedSteps
+pub mod WorkerRows
 pub mod AddedLines
 pub mod AddedShort
 pub mod BrokenOff

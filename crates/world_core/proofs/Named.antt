@@ -14,17 +14,26 @@ use Rattle.replay_meaning.specs.Standing.{Line}
 use Rattle.reply_text.specs.declared.reply.Reply.{Reply}
 use Rattle.session_facts.specs.Counted.{calls_told, CountsAll}
 use Rattle.session_facts.specs.Facts.{session_at}
-use Rattle.world_core.proofs.Counting.{state_is, names_of, begins_own, went_counts}
+use Rattle.recover_run.specs.declared.home.Home.{Home}
+use Rattle.session_facts.proofs.CallKinds.{IsWorkersRow}
+use Rattle.db_base.specs.declared.names.QueueName.{QueueName}
+use Rattle.session_facts.specs.Sessions.Sessions.{Sessions}
+use Rattle.cloud_facts.specs.Book.Tally.{at}
+use Rattle.session_facts.proofs.LineLemmas.{line_of}
+use Rattle.world_core.proofs.Workers.{HoldsWithin, IsBetween, holds_begun, holds_step, holds_went, holds_works, open_rests, within_begun, within_went, within_works, worker, worker_begins, worker_rows}
+use Rattle.world_core.proofs.Counting.{state_is, names_of, begins_own, went_counts, begun_none, worker_names, worker_went, works_none}
 use Rattle.world_core.proofs.StandsLemmas.{IsUnderWay, way_begins, went_on}
+use Rattle.event_text.specs.declared.event.Event.TheVariants as event
+use Rattle.reply_text.specs.declared.reply.Reply.TheVariants as reply
 use Rattle.world_core.specs.declared.asked.Asked.{Asked}
 use Rattle.world_core.specs.declared.asked.Asked.TheVariants.{Session, Wait, Report, Settle}
 use Rattle.world_core.specs.declared.asked.Request.{Request}
-use Rattle.world_core.specs.declared.asked.Request.TheVariants.{Begin, Note, Abort, Step, Run, Crash}
+use Rattle.world_core.specs.declared.asked.Request.TheVariants.{Begin, Note, Abort, Policy, Work as WorksDue, Step, Run, Crash}
 use Rattle.world_core.specs.World.{World}
 use Rattle.world_core.specs.declared.world.WorldFault.{WorldFault}
 use Rattle.world_core.specs.Bounded.{steps_of}
-use Rattle.world_core.specs.EachStep.{EachWent, EachCome, EachTold, EachMade, EachRunTold, EachRun, EachCrashed, EachDone, EachServed}
-use Rattle.world_core.specs.Handled.{StepsLooked, StepsTo, MakesStep, Went, start, further, ComesTo, RunsTo, Runs, Crashes, Does, Serves, Answers}
+use Rattle.world_core.specs.EachStep.{EachWent, EachCome, EachTold, EachMade, EachRunTold, EachRun, EachCrashed, EachDone, EachServed, EachThrough, EachWork}
+use Rattle.world_core.specs.Handled.{StepsLooked, StepsTo, MakesStep, Went, start, further, ComesTo, RunsTo, Runs, Crashes, Does, Serves, Answers, Checkpoints, Works, WorksThrough, checkpoint_more, no_checkpoint}
 use Rattle.world_core.specs.Named.{StepNames, NamesAt, NamesSteps}
 use Rattle.world_core.specs.Stands.{WorldStands}
 
@@ -87,10 +96,53 @@ module _ (lines : List Line) (n : ℕ) (before after : Seen) (old new : World) (
     crash_names true (inr (inl dies)) = one_names Plain dies.world dies.turn dies.steps
     crash_names true (inr (inr memory)) = tt
 
+    -- the last call of each checkpoint that is due
+    module _ (all_lines : List Line) (home : Home) (row : IsWorkersRow all_lines (worker k n)) (first : Sessions) where
+      made_names : (queue : QueueName) (from to : Seen) (world left : World) (a : Answer) → IsBetween k home first world → (h : HoldsWithin n all_lines world from) (mine : ℕ)
+          → CountsAll (at k mine (calls_told lines)) h.state (session_at world.sessions) → (c : Checkpoints (worker k n) queue from to world left a)
+          → EachCome StepNames (worker k n) from to c.begun left a c.comes
+      made_names queue from to world left a w h mine counts c =
+          let begun = within_begun k home first queue world c.begun w c.begins in
+          let held = holds_begun n all_lines k queue from world c.begun h c.begins in
+          let none = begun_none (calls_told lines) k mine home queue h.state world c.begun w.works c.begins counts in
+          let gone = holds_went n k all_lines home row first from c.begun c.comes.mid c.comes.world begun held c.comes.went in
+          let goes = within_went (worker k n) home first from c.begun c.comes.mid c.comes.world begun c.comes.went in
+          let end = holds_step n k all_lines home row first c.comes.mid to c.comes.world left (Ended a) goes gone c.comes.steps in (
+            went_names (worker k n) from c.begun c.comes.mid c.comes.world c.comes.went,
+            worker_names n k all_lines home row first (calls_told lines) c.comes.mid to c.comes.world left (Ended a) goes gone c.comes.steps
+                (steps_of (worker k n) from c.begun c.comes.mid c.comes.world c.comes.went)
+                (worker_went n k all_lines home row first (calls_told lines) from c.begun c.comes.mid c.comes.world begun held none c.comes.went gone.state gone.told) end.state end.told,
+          )
+
+      each_names : (from : Seen) (world : World) (queues : List QueueName) (done passed : ℕ) (to : Seen) (left : World) → IsBetween k home first world → (h : HoldsWithin n all_lines world from)
+          → (mine : ℕ) → CountsAll (at k mine (calls_told lines)) h.state (session_at world.sessions) → (works : Works (worker k n) from world queues done passed to left)
+          → EachWork StepNames (worker k n) from world queues done passed to left works
+      each_names from world queues done passed to left w h mine counts no_checkpoint = tt
+      each_names from world queues done passed to left w h mine counts (checkpoint_more others kept passes_by mid prior queue a _ _ works makes passes) =
+          let gone = holds_works n k all_lines home row first from world others kept passes_by mid prior w h works in
+          let was = works_none n k all_lines home row first (calls_told lines) from world others kept passes_by mid prior w h mine counts works gone.state gone.told in (
+            each_names from world others kept passes_by mid prior w h mine counts works,
+            made_names queue mid to prior left a (within_works (worker k n) home first from world others kept passes_by mid prior w works) gone was.0 was.1 makes,
+          )
+
+    works_names : (h : WorksThrough n k before after old new result) → EachThrough StepNames n k before after old new result h
+    works_names (inl refused) = tt
+    works_names (inr (inl down)) =
+        let rest = open_rests k old down.open in
+        let q : Reply = reply.Worked 0 0 in
+        let begins = worker_begins lines k n before old t (sym number) told stands.by_lines q tt in
+        each_names (lines ++ line_of (event.Work k) q ∷ []) rest.0 (worker_rows lines k n before old t (sym number) told stands.by_lines q) (session_at old.sessions) before old down.queues
+        down.done down.passed after new rest.2 begins (calls_told lines k)
+        (begins_own lines k old begins.state (subst (λ (z : CloudState). CountsAll (calls_told lines) z (session_at old.sessions)) (state_is t begins.state (sym told ∙ begins.told)) stands.counted))
+        down.works
+    works_names (inr (inr memory)) = tt
+
     does_names : (request : Request) (h : Does n k request before after old new result) → EachDone StepNames n k request before after old new result h
     does_names (Step wish) h = made_names wish h
     does_names Run h = run_names h
     does_names (Crash done) h = crash_names done h
+    does_names WorksDue h = works_names h
+    does_names (Policy role kept) h = tt
     does_names (Begin op) h = tt
     does_names (Note tree change) h = tt
     does_names Abort h = tt

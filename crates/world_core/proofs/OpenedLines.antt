@@ -37,21 +37,27 @@ use Rattle.session_facts.specs.Sessions.Sessions.{Sessions}
 use Rattle.session_facts.specs.Opened.{MayHaveOpened, TakesNumber, WorksFor, AddsApart, AddsNoneTwice}
 use Rattle.session_facts.proofs.CallKinds.{IsSettlersRow}
 use Rattle.session_facts.proofs.LineLemmas.{line_of}
-use Rattle.session_facts.proofs.OpenedCalls.{Leads, LeadsHome, scan_leads, stopped_leads, away_leads, closed_leads, apart_changes, apart_more, apart_same, apart_rows, apart_none_twice, opening_apart, session_apart, settler_apart}
+use Rattle.session_facts.proofs.OpenedCalls.{Leads, LeadsHome, scan_leads, stopped_leads, away_leads, closed_leads, apart_changes, apart_more, apart_same, apart_rows, apart_none_twice, opening_apart, session_apart, settler_apart, worker_apart}
 use Rattle.session_facts.proofs.OpenedRuns.{RunsFrom, run_begins_from}
 use Rattle.session_facts.proofs.RunSteps.{RunsFor, IsRefusal, run_begins}
 use Rattle.session_facts.proofs.SettlerLemmas.{settler_row}
 use Rattle.world_audit.specs.Look.{Looked}
+use Rattle.db_base.specs.declared.names.QueueName.TheVariants.{Atomic, PagePu, TreePu}
+use Rattle.ckpt_policy.specs.Notes.{IsPending}
+use Rattle.db_base.specs.declared.names.QueueName.{QueueName}
+use Rattle.ckpt_policy.specs.declared.role.Role.{Role}
+use Rattle.cloud_facts.specs.Book.Tally.{at}
+use Rattle.world_core.proofs.Workers.{IsBetween, open_rests, within_begun, within_went, within_works, worker, IsInside}
 use Rattle.world_core.specs.World.{World}
 use Rattle.world_core.specs.declared.asked.Request.{Request}
-use Rattle.world_core.specs.declared.asked.Request.TheVariants.{Begin, Note, Abort, Step, Run, Crash}
+use Rattle.world_core.specs.declared.asked.Request.TheVariants.{Begin, Note, Abort, Policy, Work as WorksDue, Step, Run, Crash}
 use Rattle.world_core.specs.declared.asked.Asked.{Asked}
 use Rattle.world_core.specs.declared.asked.Asked.TheVariants.{Session, Wait, Report, Settle}
 use Rattle.world_core.specs.declared.world.WorldFault.{WorldFault}
 use Rattle.world_core.specs.Asked.{Asks}
 use Rattle.world_core.specs.Replying.{RepliesBegun}
 use Rattle.world_core.specs.Sessions.{Changes, NotesIn, AbortsIn}
-use Rattle.world_core.specs.Handled.{Has, BeginsOp, BreaksOff, SetsWish, StepsLooked, StepsTo, FallsShort, RunsShort, MakesStep, Went, start, further, StopsShort, ComesTo, RunsTo, Runs, SettlesOn, Settles, Dies, Crashes, CrashesDone, Does, Answers, Handled}
+use Rattle.world_core.specs.Handled.{Has, BeginsOp, BreaksOff, SetsWish, StepsLooked, StepsTo, FallsShort, RunsShort, MakesStep, Went, start, further, StopsShort, ComesTo, RunsTo, Runs, SettlesOn, Settles, Dies, Crashes, CrashesDone, Does, Answers, Handled, BeginsCheckpoint, CheckpointFails, FailsAt, KnowsNoDue, Policies, Works, WorksThrough, checkpoint_more, checkpoint_of, no_checkpoint}
 use Rattle.world_core.specs.Added.{WorldAdds}
 use Rattle.world_core.specs.Opened.{Opens, IsOpenedIn, OpenEachOnce, WorldApart}
 use Rattle.world_core.proofs.AddedSteps.{IsAdding, SettlerAdds, adding_begins, begun_way, settler_went, went_adding}
@@ -96,6 +102,8 @@ begins_opening (event.Scan session tree from to) k client asks = absurd (cc (ask
 begins_opening (event.Page session tree page) k client asks = absurd (cc (asks.1.2))
 begins_opening (event.Tree session tree) k client asks = absurd (cc (asks.1.1))
 begins_opening (event.Run session) k client asks = absurd (cc (asks.1))
+begins_opening (event.Policy session role kept) k client asks = absurd (cc (asks.1))
+begins_opening (event.Work session) k client asks = absurd (cc (asks.1))
 begins_opening (event.Step session wish) k client asks = absurd (cc (asks.1))
 begins_opening (event.Crash session done) k client asks = absurd (cc (asks.1))
 begins_opening (event.Wait ticks) k client asks = absurd (cc)
@@ -330,6 +338,75 @@ module _ (events : List Event) (first : CloudState) where
     crashes_once true before after old new result way (inl idle) h = dies before after old new result idle.dies h
     crashes_once true before after old new result way (inr d) h = dies_done before after old new result way d h
 
+  -- ---- a session's work
+
+  module _ (n k : ℕ) (home : Home) (others : Sessions) where
+    worker_called : (before from under to after : Seen) (old new : World) (turn : Turn Answer) → IsInside k home others old → Looked before from → SetsWish Plain from under
+        → Changes k (λ a b. StepsSession (worker k n) under to a b (Ok turn)) old.sessions new.sessions → Looked to after → WorldApart events first old before
+        → WorldApart events first new after
+    worker_called before from under to after old new turn w look_before wishes session look_after h =
+        let f : Sessions = session_at old.sessions in
+        let own : StepsSession (worker k n) under to (f k) session.after (Ok turn) =
+        subst (λ a. StepsSession (worker k n) under to a session.after (Ok turn)) (sym (changed_was k _ old.sessions new.sessions session)) session.does in
+        apart_same Was first _ (session_at new.sessions) after (changed_at k _ old.sessions new.sessions session)
+        (seen_stays _ to after look_after.stays
+        (worker_apart Was (worker k n) home under to first f session.after turn w.works own.work
+        (wished f Plain from under wishes (seen_stays f before from look_before.stays h))))
+
+    worker_stepped : (before after : Seen) (old new : World) (turn : Turn Answer) → IsInside k home others old → StepsLooked (worker k n) Plain before after old new turn
+        → WorldApart events first old before → WorldApart events first new after
+    worker_stepped before after old new turn w p h = worker_called before p.from p.under p.to after old new turn w p.look_before p.wishes p.session p.look_after h
+
+    worker_on : (before : Seen) (old : World) (after : Seen) (new : World) → IsInside k home others old → Went (worker k n) before old after new → WorldApart events first old before
+        → WorldApart events first new after
+    worker_on before old after new w start h = h
+    worker_on before old after new w (further mid _ world _ went p) h =
+        worker_stepped mid after world new More (within_went (worker k n) home others before old mid world w went) p (worker_on before old mid world w went h)
+
+    within_op : (queue : QueueName) → IsPending queue → IsWithin (checkpoint_of queue)
+    within_op (TreePu tree) pending = tt
+    within_op (PagePu tree page) pending = tt
+    within_op (Atomic client) pending = absurd pending
+
+    worker_begun : (queue : QueueName) (seen : Seen) (old begun : World) → BeginsCheckpoint k queue old begun → WorldApart events first old seen → WorldApart events first begun seen
+    worker_begun queue seen old begun b h =
+        changes k seen old begun _ b.session
+        (begins_so (checkpoint_of queue) b.session.before b.session.after (Ok Working) (within_op queue b.pending) b.session.does) h
+
+    works_once : (before : Seen) (old : World) (queues : List QueueName) (done passed : ℕ) (after : Seen) (new : World) → IsBetween k home others old
+        → Works (worker k n) before old queues done passed after new → WorldApart events first old before → WorldApart events first new after
+    works_once before old queues done passed after new w no_checkpoint h = h
+    works_once before old queues done passed after new w (checkpoint_more earlier kept left mid world queue a _ _ works makes passes) h =
+        let was = within_works (worker k n) home others before old earlier kept left mid world w works in
+        let begun = within_begun k home others queue world makes.begun was makes.begins in
+        let c = makes.comes in
+        worker_stepped c.mid after c.world new (Ended a) (within_went (worker k n) home others mid makes.begun c.mid c.world begun c.went) c.steps
+        (worker_on mid makes.begun c.mid c.world begun c.went (worker_begun queue mid world makes.begun makes.begins (works_once before old earlier kept left mid world w works h)))
+
+    -- memory ran out
+    worker_short : (before after : Seen) (old new : World) → IsInside k home others old → RunsShort (worker k n) Plain before after old new → WorldApart events first old before
+        → WorldApart events first new after
+    worker_short before after old new w s h = breaks k after s.left new s.breaks (falls s.falls)
+      where
+        falls : FallsShort (worker k n) Plain before after old s.left → WorldApart events first s.left after
+        falls (inl un) =
+            apart_same Was first _ (session_at s.left.sessions) after (λ j. ap (λ (l : List Acting). session_at l j) un.sessions) (seen_stays _ before after un.looked.stays h)
+        falls (inr p) = worker_called before p.from p.under p.to after old s.left p.turn w p.look_before p.wishes p.session p.look_after h
+
+    works_fail : (before after : Seen) (begun new : World) → IsInside k home others begun → CheckpointFails (worker k n) before after begun new → WorldApart events first begun before
+        → WorldApart events first new after
+    works_fail before after begun new w (inl s) h =
+        worker_short s.mid after s.world new (within_went (worker k n) home others before begun s.mid s.world w s.went) s.short (worker_on before begun s.mid s.world w s.went h)
+    works_fail before after begun new w (inr (left, c, off)) h =
+        breaks k after left new off
+        (worker_stepped c.mid after c.world left _ (within_went (worker k n) home others before begun c.mid c.world w c.went) c.steps (worker_on before begun c.mid c.world w c.went h))
+
+    works_fall : (before after : Seen) (old new : World) → IsBetween k home others old → KnowsNoDue k before after old new ⊎ FailsAt (worker k n) before after old new
+        → WorldApart events first old before → WorldApart events first new after
+    works_fall before after old new w (inl none) h = subst (WorldApart events first new) (sym none.seen) (breaks k before old new none.breaks h)
+    works_fall before after old new w (inr fails) h =
+        works_fail before after fails.begun new (within_begun k home others fails.queue old fails.begun w fails.begins) fails.fails (worker_begun fails.queue before old fails.begun fails.begins h)
+
   -- ---- a settling
 
   module _ (lines : List Line) (n : ℕ) (at : length lines + 1 ≡ n) (others : Sessions) (closed : (standing lines 0).posture ≡ Closed) where
@@ -409,6 +486,25 @@ module _ (events : List Event) (first : CloudState) (n : ℕ) (before after : Se
   does_within : (k : ℕ) (o : Op) → IsWithin o → Does n k (Begin o) before after old new result → Apart
   does_within k o within done = quietly events first k before after old new _ done.0.seen done.1 (begun_within o result done.1.before done.1.after within done.1.does) h
 
+  policy_so : (k : ℕ) (role : Role) (kept : ℕ) → Policies k role kept before after old new result → Apart
+  policy_so k role kept (inl refuses) = nothing_done events first before after old new refuses.declines.world refuses.declines.seen h
+  policy_so k role kept (inr (inl refuses)) = nothing_done events first before after old new refuses.1.declines.world refuses.1.declines.seen h
+  policy_so k role kept (inr (inr gives)) =
+      subst (WorldApart events first new) (sym gives.quiet.seen)
+      (apart_same (IsOpenedIn events) first _ (session_at new.sessions) before (λ j. ap (λ (l : List Acting). session_at l j) gives.sessions) h)
+
+  works_so : (k : ℕ) → WorksThrough n k before after old new result → Apart
+  works_so k (inl refuses) = nothing_done events first before after old new refuses.declines.world refuses.declines.seen h
+  works_so k (inr (inl down)) =
+      let rest = open_rests k old down.open in
+      works_once events first n k rest.0 (session_at old.sessions) before old down.queues down.done down.passed after new rest.2 down.works h
+  works_so k (inr (inr memory)) =
+      let s = memory.1 in
+      let rest = open_rests k old s.open in
+      works_fall events first n k rest.0 (session_at old.sessions) s.mid after s.world new
+      (within_works (worker k n) rest.0 (session_at old.sessions) before old s.queues s.done s.passed s.mid s.world rest.2 s.works) s.falls
+      (works_once events first n k rest.0 (session_at old.sessions) before old s.queues s.done s.passed s.mid s.world rest.2 s.works h)
+
   waits_so : (ticks : ℕ) → Answers n (Wait ticks) before after old new result → Apart
   waits_so ticks (inl k) =
       let waited = k.0.waited h.rows.state h.rows.told in
@@ -464,6 +560,8 @@ module _ (events : List Event) (first : CloudState) (n : ℕ) (before after : Se
         with_more (quietly events first k before after old new _ done.0.seen done.1 (notes_so tree change done.1.before done.1.after done.1.does.noted done.1.does.notes) h)
     does_so k Abort own done =
         with_more (quietly events first k before after old new _ done.0.seen done.1 (aborts_so done.1.before done.1.after done.1.does.dropped done.1.does.drops) h)
+    does_so k (Policy role kept) own done = with_more (policy_so k role kept done)
+    does_so k WorksDue own done = with_more (works_so k done)
     does_so k (Step wish) own done = with_more (steps_once events first lines n at k wish before after old new result way done h)
     does_so k Run own done = with_more (runs_once events first lines n at k before after old new result way done h)
     does_so k (Crash d) own done = with_more (crashes_once events first lines n at k d before after old new result way done h)

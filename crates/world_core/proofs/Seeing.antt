@@ -16,13 +16,15 @@ use Rattle.report_types.specs.declared.report.Report.{Report as ReportShown}
 use Rattle.reply_text.specs.declared.reply.Reply.{Reply}
 use Rattle.reply_text.specs.declared.reply.Reply.TheVariants as reply
 use Rattle.session_facts.proofs.Steps.{made_call}
+use Rattle.db_base.specs.declared.names.QueueName.{QueueName}
+use Rattle.ckpt_policy.specs.declared.role.Role.{Role}
 use Rattle.world_core.specs.World.{World}
 use Rattle.world_core.specs.declared.asked.Asked.{Asked}
 use Rattle.world_core.specs.declared.asked.Asked.TheVariants.{Session, Wait, Report, Settle}
 use Rattle.world_core.specs.declared.asked.Request.{Request}
-use Rattle.world_core.specs.declared.asked.Request.TheVariants.{Begin, Note, Abort, Step, Run, Crash}
+use Rattle.world_core.specs.declared.asked.Request.TheVariants.{Begin, Note, Abort, Policy, Work as WorksDue, Step, Run, Crash}
 use Rattle.world_core.specs.declared.world.WorldFault.{WorldFault}
-use Rattle.world_core.specs.Handled.{Declines, MakesNoCall, Has, StepsLooked, MakesStep, Went, start, further, ComesTo, Runs, SettlesOn, Crashes, Does, Reports, Answers, Handled}
+use Rattle.world_core.specs.Handled.{Declines, MakesNoCall, Has, StepsLooked, MakesStep, Went, start, further, ComesTo, Runs, SettlesOn, Crashes, Does, Reports, Answers, Handled, BeginsCheckpoint, Policies, Works, WorksThrough, checkpoint_more, no_checkpoint}
 use Rattle.world_core.specs.Sound.{IsSoundReport}
 use Rattle.world_core.proofs.StandsLemmas.{no_memory}
 
@@ -96,7 +98,28 @@ comes_sees : (who : Caller) (before after : Seen) (old new : World) (answer : An
 comes_sees who before after old new answer c =
     sees_further before c.mid after old c.world new (went_sees who before old c.mid c.world c.went) (step_sees who _ c.mid after c.world new _ c.steps)
 
+-- the begin of a checkpoint looks at nothing
+begun_sees : (seen : Seen) (k : ℕ) (queue : QueueName) (old begun : World) → BeginsCheckpoint k queue old begun → SeesOn seen seen old begun
+begun_sees seen k queue old begun b = sees_same seen seen old begun refl b.blind
+
+works_sees : (who : Caller) (before : Seen) (old : World) (queues : List QueueName) (done passed : ℕ) (after : Seen) (new : World) → Works who before old queues done passed after new
+    → SeesOn before after old new
+works_sees who before old queues done passed after new no_checkpoint = sees_same before before old old refl refl
+works_sees who before old queues done passed after new (checkpoint_more others kept left mid world queue a _ _ works makes passes) =
+    sees_further before mid after old world new (works_sees who before old others kept left mid world works)
+    (sees_further mid mid after world makes.begun new (begun_sees mid who.session queue world makes.begun makes.begins) (comes_sees who mid after makes.begun new a makes.comes))
+
 module _ (n : ℕ) (before after : Seen) (old new : World) (r : Reply) where
+  policy_sees : (k : ℕ) (role : Role) (number : ℕ) → Policies k role number before after old new (Ok r) → SeesOn before after old new
+  policy_sees k role number (inl refuses) = declines_sees _ before after old new (Ok r) refuses.declines
+  policy_sees k role number (inr (inl refuses)) = declines_sees _ before after old new (Ok r) refuses.1.declines
+  policy_sees k role number (inr (inr gives)) = quiet_sees before after old new gives.quiet
+
+  through_sees : (k : ℕ) → WorksThrough n k before after old new (Ok r) → SeesOn before after old new
+  through_sees k (inl refuses) = declines_sees _ before after old new (Ok r) refuses.declines
+  through_sees k (inr (inl down)) = works_sees _ before old down.queues down.done down.passed after new down.works
+  through_sees k (inr (inr memory)) = absurd (no_memory r memory.0)
+
   made_sees : (k : ℕ) (wish : Wish) → MakesStep n k wish before after old new (Ok r) → SeesOn before after old new
   made_sees k wish (inl refuses) = declines_sees _ before after old new (Ok r) refuses.declines
   made_sees k wish (inr (inl step)) = step_sees _ wish before after old new step.turn step.steps
@@ -118,6 +141,8 @@ module _ (n : ℕ) (before after : Seen) (old new : World) (r : Reply) where
   does_sees k (Begin op) h = quiet_sees before after old new h.0
   does_sees k (Note tree change) h = quiet_sees before after old new h.0
   does_sees k Abort h = quiet_sees before after old new h.0
+  does_sees k (Policy role number) h = policy_sees k role number h
+  does_sees k WorksDue h = through_sees k h
   does_sees k (Step wish) h = made_sees k wish h
   does_sees k Run h = run_sees k h
   does_sees k (Crash done) h = crash_sees k done h

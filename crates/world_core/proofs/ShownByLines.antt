@@ -17,12 +17,17 @@ use Rattle.session_facts.specs.Facts.{session_at, CloudHolds}
 use Rattle.session_facts.specs.ShownByLines.{ShowsByLines}
 use Rattle.session_facts.proofs.ShownByLines.{IsSettler, shown_by_lines, settler_goes, settler_by_lines}
 use Rattle.session_facts.proofs.Steps.{wish_holds}
+use Rattle.session_facts.proofs.CallKinds.{HasCheckpoint}
+use Rattle.recover_run.specs.declared.home.Home.{Home}
+use Rattle.db_base.specs.declared.names.QueueName.{QueueName}
+use Rattle.session_facts.specs.Sessions.Sessions.{Sessions}
+use Rattle.world_core.proofs.Workers.{IsInside, IsBetween, open_rests, within_begun, within_went, within_works}
 use Rattle.world_core.specs.World.{World}
 use Rattle.world_core.specs.declared.world.WorldFault.{WorldFault}
 use Rattle.world_core.specs.declared.asked.Asked.{Asked}
 use Rattle.world_core.specs.declared.asked.Asked.TheVariants.{Session, Wait, Report, Settle}
-use Rattle.world_core.specs.EachStep.{EachWent, EachSettlingOn, EachSettling, EachAsked}
-use Rattle.world_core.specs.Handled.{StepsLooked, Went, start, further, SettlesOn, Settles, Answers}
+use Rattle.world_core.specs.EachStep.{EachWent, EachSettlingOn, EachSettling, EachAsked, EachThrough, EachWork}
+use Rattle.world_core.specs.Handled.{StepsLooked, Went, start, further, SettlesOn, Settles, Answers, Works, WorksThrough, checkpoint_more, no_checkpoint}
 use Rattle.world_core.specs.ShownByLines.{StepShowsBy, ShowsStepsBy}
 use Rattle.world_core.proofs.EachUnderWay.{each_step}
 use Rattle.world_core.proofs.StandsLemmas.{IsUnderWay, changed_at, changed_was, has_at, told_under, steps_own, settler}
@@ -90,11 +95,49 @@ module _ (lines : List Line) (n : ℕ) where
         step_shows Plain s.comes.mid after s.comes.world s.left (Ended s.answer) (went_goes before h.begun s.comes.mid s.comes.world begins s.comes.went) s.comes.steps,
       )
 
+-- ---- a session's work, whatever the cloud tells
+
+-- its session has a checkpoint in hand at each of its steps
+module _ (lines : List Line) (who : Caller) (home : Home) (first : Sessions) where
+  checkpoint_shows : (before after : Seen) (old new : World) (turn : Turn Answer) → IsInside who.session home first old → (p : StepsLooked who Plain before after old new turn)
+      → StepShowsBy lines who Plain before after old new turn p
+  checkpoint_shows before after old new turn w p s under =
+      checkpoint_by_lines lines s who p.under p.to home p.session.before p.session.after turn
+      (subst (λ (a : Acting). HasCheckpoint home a.work) (changed_was who.session _ old.sessions new.sessions p.session) w.works) p.session.does
+
+  checkpoints_show : (before : Seen) (old : World) (after : Seen) (new : World) → IsInside who.session home first old → (went : Went who before old after new)
+      → EachWent (StepShowsBy lines) who before old after new went
+  checkpoints_show before old after new w start = tt
+  checkpoints_show before old after new w (further mid _ world _ went step) = (
+    checkpoints_show before old mid world w went,
+    checkpoint_shows mid after world new More (within_went who home first before old mid world w went) step,
+  )
+
+  works_show : (before : Seen) (old : World) (queues : List QueueName) (done passed : ℕ) (after : Seen) (new : World) → IsBetween who.session home first old
+      → (works : Works who before old queues done passed after new) → EachWork (StepShowsBy lines) who before old queues done passed after new works
+  works_show before old queues done passed after new w no_checkpoint = tt
+  works_show before old queues done passed after new w (checkpoint_more others kept left mid world queue a _ _ works c passes) =
+      let begun = within_begun who.session home first queue world c.begun (within_works who home first before old others kept left mid world w works) c.begins in (
+        works_show before old others kept left mid world w works,
+        (
+          checkpoints_show mid c.begun c.comes.mid c.comes.world begun c.comes.went,
+          checkpoint_shows c.comes.mid after c.comes.world new (Ended a) (within_went who home first mid c.begun c.comes.mid c.comes.world begun c.comes.went) c.comes.steps,
+        ),
+      )
+
+working_shows : (lines : List Line) (n k : ℕ) (before after : Seen) (old new : World) (result : Result Reply WorldFault) (h : WorksThrough n k before after old new result)
+    → EachThrough (StepShowsBy lines) n k before after old new result h
+working_shows lines n k before after old new result (inl refused) = tt
+working_shows lines n k before after old new result (inr (inl down)) =
+    let rest = open_rests k old down.open in
+    works_show lines (record { session = k; event = n }) rest.0 (session_at old.sessions) before old down.queues down.done down.passed after new rest.2 down.works
+working_shows lines n k before after old new result (inr (inr memory)) = tt
+
 -- ---- every line
 
 pub shown_by : (n : ℕ) (event : Event) (before after : Seen) (old new : World) (result : Result Reply WorldFault) → ShowsStepsBy n event before after old new result
 shown_by n event before after old new result lines t number told stands handled =
-    each_step (StepShowsBy lines) lines (own_shows lines) (settling_shows lines) n before after old new result t number told stands handled.asked handled.answers
+    each_step (StepShowsBy lines) lines (own_shows lines) (settling_shows lines) (working_shows lines) n before after old new result t number told stands handled.asked handled.answers
 
 -- and one that settles, whatever lines led there
 pub settled_by : (lines : List Line) (n : ℕ) (asked : Asked) (before after : Seen) (old new : World) (result : Result Reply WorldFault) → asked ≡ Settle

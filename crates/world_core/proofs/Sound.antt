@@ -47,14 +47,15 @@ use Rattle.session_facts.proofs.Sessions.Stopping.{session_stops, session_ends}
 use Rattle.cloud_facts.specs.Book.Tally.{at}
 use Rattle.cloud_facts.specs.Tellings.Told.{store_of}
 use Rattle.cloud_facts.proofs.Audits.Whole.{only_slips}
+use Rattle.ckpt_policy.specs.declared.role.Role.{Role}
 use Rattle.world_core.specs.declared.asked.Asked.{Asked}
 use Rattle.world_core.specs.declared.asked.Asked.TheVariants.{Session, Wait, Report, Settle}
 use Rattle.world_core.specs.declared.asked.Request.{Request}
-use Rattle.world_core.specs.declared.asked.Request.TheVariants.{Begin, Note, Abort, Step, Run, Crash}
+use Rattle.world_core.specs.declared.asked.Request.TheVariants.{Begin, Note, Abort, Policy, Work as WorksDue, Step, Run, Crash}
 use Rattle.world_core.specs.World.{World}
 use Rattle.world_core.specs.declared.world.WorldFault.{WorldFault}
 use Rattle.world_core.specs.Asked.{change_noted, tree_noted, Asks, OfSession, IsOpening, IsReading, IsScanning, IsPaging, IsFolding, IsMade, IsNoted, IsStep, bound_of}
-use Rattle.world_core.specs.Handled.{Declines, BeginsOp, MakesNoCall, StepsLooked, MakesStep, Runs, SettlesOn, Settles, Crashes, Reports, Does, Answers, Handled}
+use Rattle.world_core.specs.Handled.{Declines, BeginsOp, MakesNoCall, StepsLooked, MakesStep, Runs, SettlesOn, Settles, Crashes, Reports, Does, Answers, Handled, Policies, WorksThrough}
 use Rattle.world_core.specs.Replying.{declined, done_reply, unsettled_reply, value_reply, RepliesTo, RepliesSettled, RepliesBegun, RepliesTurn}
 use Rattle.world_core.specs.Sessions.{Changes}
 use Rattle.world_core.specs.Sound.{IsSoundReport, IsSoundFor, AnswersSoundly}
@@ -213,6 +214,17 @@ module _ (lines : List Line) (n k : ℕ) (before after : Seen) (old new : World)
   crash_sound true (inr (inl h)) = plainly reply.Crashed h.replies tt
   crash_sound true (inr (inr memory)) = absurd (no_memory r memory.0)
 
+  policy_sound : (role : Role) (number : ℕ) → Policies k role number before after old new (Ok r) → Sounds r
+  policy_sound role number (inl refuses) = not_done _ refuses.declines
+  policy_sound role number (inr (inl refuses)) = not_done _ refuses.1.declines
+  policy_sound role number (inr (inr gives)) = plainly reply.Noted gives.replies tt
+
+  -- what was passed over is not told
+  through_sound : WorksThrough n k before after old new (Ok r) → Sounds r
+  through_sound (inl refuses) = not_done _ refuses.declines
+  through_sound (inr (inl down)) = plainly (reply.Worked down.done down.passed) down.replies tt
+  through_sound (inr (inr memory)) = absurd (no_memory r memory.0)
+
   -- an operation that begins is a right one
   abbrev IsRight : Request → Type 0
   IsRight (Begin o) = IsRightOp o
@@ -222,6 +234,8 @@ module _ (lines : List Line) (n k : ℕ) (before after : Seen) (old new : World)
   does_sound (Begin o) right h = begin_sound o right h.0 h.1
   does_sound (Note tree change) right h = done_sound reply.Noted tt h.1.does.noted h.1.does.replies
   does_sound Abort right h = done_sound reply.Aborted tt h.1.does.dropped h.1.does.replies
+  does_sound (Policy role number) right h = policy_sound role number h
+  does_sound WorksDue right h = through_sound h
   does_sound (Step wish) right h = makes_sound wish h
   does_sound Run right h = runs_sound h
   does_sound (Crash done) right h = crash_sound done h
@@ -242,6 +256,8 @@ module _ (lines : List Line) (n k : ℕ) (before after : Seen) (old new : World)
   noted_right : (tree : ℕ) (Is : Result Change Refused → Type 0) (request : Request) → IsNoted tree Is (Ok request) → IsRight request
   noted_right tree Is (Note j change) is = tt
   noted_right tree Is (Begin o) is = absurd is
+  noted_right tree Is (Policy role number) is = absurd is
+  noted_right tree Is WorksDue is = absurd is
   noted_right tree Is Abort is = absurd is
   noted_right tree Is (Step wish) is = absurd is
   noted_right tree Is Run is = absurd is
@@ -355,6 +371,12 @@ asked_sound n (event.Renew k) asked before after old new r lines t asks answers 
 asked_sound n (event.Commit k) asked before after old new r lines t asks answers at told stands =
     request_sound lines n k before after old new r t at told stands (λ request. request ≡ Ok (Begin op.Commit)) asked asks answers
     (λ request is. same_right lines n k before after old new r t at told stands request (Begin op.Commit) is tt)
+asked_sound n (event.Policy k role number) asked before after old new r lines t asks answers at told stands =
+    request_sound lines n k before after old new r t at told stands (λ request. request ≡ Ok (Policy role number)) asked asks answers
+    (λ request is. same_right lines n k before after old new r t at told stands request (Policy role number) is tt)
+asked_sound n (event.Work k) asked before after old new r lines t asks answers at told stands =
+    request_sound lines n k before after old new r t at told stands (λ request. request ≡ Ok WorksDue) asked asks answers
+    (λ request is. same_right lines n k before after old new r t at told stands request WorksDue is tt)
 asked_sound n (event.Abort k) asked before after old new r lines t asks answers at told stands =
     request_sound lines n k before after old new r t at told stands (λ request. request ≡ Ok Abort) asked asks answers
     (λ request is. same_right lines n k before after old new r t at told stands request Abort is tt)

@@ -22,6 +22,7 @@ use Rattle.cloud_trait.specs.Seen.{Seen}
 use Rattle.cloud_trait.specs.declared.turn.Turn.{Turn}
 use Rattle.cloud_trait.specs.declared.turn.Turn.TheVariants.{More, Ended, Stopped}
 use Rattle.cloud_trait.proofs.EffectLemmas.{begins_same}
+use Rattle.ckpt_policy.specs.declared.role.Role.{Role}
 use Rattle.client_work.specs.declared.answer.Answer.{Answer}
 use Rattle.client_work.specs.declared.answer.Answer.TheVariants as answer
 use Rattle.client_work.specs.Session.{Acting, closed_session, settling_session, StepsSession, items_of, noted_behind, value_of}
@@ -49,7 +50,7 @@ use Rattle.world_core.specs.declared.world.WorldFault.{WorldFault}
 use Rattle.world_core.specs.declared.world.WorldFault.TheVariants.{Memory}
 use Rattle.world_core.specs.Replying.{declined, trouble_reply, unsettled_reply, value_reply, RepliesTo, RepliesSettled, RepliesTurn}
 use Rattle.world_core.specs.Sessions.{Changes}
-use Rattle.world_core.specs.Handled.{Declines, Has, MakesNoCall, StepsLooked, RefusesStep, MakesStep, Went, start, further, RunsTo, Runs, SettlesTo, SettlesOn, Settles, Dies, DiesDone, Crashes, WaitsFor, WaitsTooLong, Shows, Reports}
+use Rattle.world_core.specs.Handled.{Declines, Has, MakesNoCall, StepsLooked, RefusesStep, MakesStep, Went, start, further, RunsTo, Runs, SettlesTo, SettlesOn, Settles, GivesLedger, Policies, Dies, DiesDone, Crashes, WaitsFor, WaitsTooLong, Shows, Reports}
 use Rattle.world_core.specs.Stands.{IsLeft, LeftIsRight}
 use Rattle.world_core.proofs.Behind.{LinesStand, LineLeaves}
 use Rattle.world_core.proofs.Texts.{commit_is}
@@ -60,15 +61,15 @@ abbrev pub IsNoReport : Reply → Type 0
 IsNoReport (reply.Report r) = ⊥
 IsNoReport r = Unit {0}
 
-no_report_right : (lines : List Line) (t : CloudState) (r : Reply) → IsNoReport r → ReportIsRight lines t r
+pub no_report_right : (lines : List Line) (t : CloudState) (r : Reply) → IsNoReport r → ReportIsRight lines t r
 no_report_right lines t (reply.Report r) h = absurd h
 no_report_right lines t r h = tt
 
-no_report_left : (t : CloudState) (r : Reply) → IsNoReport r → LeftIsRight t r
+pub no_report_left : (t : CloudState) (r : Reply) → IsNoReport r → LeftIsRight t r
 no_report_left t (reply.Report r) h = absurd h
 no_report_left t r h = tt
 
-no_report_front : (order : List Entry) (r : Reply) → IsNoReport r → IsFrontOf order r
+pub no_report_front : (order : List Entry) (r : Reply) → IsNoReport r → IsFrontOf order r
 no_report_front order (reply.Report r) h = absurd h
 no_report_front order r h = tt
 
@@ -632,6 +633,33 @@ pub settles : (lines : List Line) (n : ℕ) (r : Reply) (before after : Seen) (o
     → Settles n before after old new (Ok r) → LineLeaves (lines ++ line_of event.Settle r ∷ []) new after r
 settles lines n r before after old new t at told stands (inl h) = settler_on lines n before old h.begun t (sym at) told stands h.begins after new r h.settles
 settles lines n r before after old new t at told stands (inr memory) = absurd (no_memory r memory.0)
+
+-- ---- a session's ledger
+
+-- a world of which nothing changed but what is kept for the choice of checkpoints
+pub same_but_notes : (P : List Acting → Audited → Bool → Type 0) (old new : World) → new.sessions ≡ old.sessions → new.audit ≡ old.audit → new.blind ≡ old.blind
+    → P old.sessions old.audit old.blind → P new.sessions new.audit new.blind
+same_but_notes P old new s a b h =
+    subst (λ z. P z new.audit new.blind) (sym s) (subst (λ z. P old.sessions z new.blind) (sym a) (subst (P old.sessions old.audit) (sym b) h))
+
+gives_ledger : (lines : List Line) (k number : ℕ) (role : Role) (r : Reply) (before after : Seen) (old new : World) (t : CloudState)
+    → before.state ≡ Some t → LinesStand lines old t → GivesLedger k role number before after old new (Ok r) → LineLeaves (lines ++ line_of (event.Policy k role number) r ∷ []) new after r
+gives_ledger lines k number role r before after old new t told stands g =
+    let is : r ≡ reply.Noted = cc (g.replies) in
+    let P : Reply → Type 0 = λ z. LineLeaves (lines ++ line_of (event.Policy k role number) z ∷ []) new after z in
+    subst P (sym is) (through lines (event.Policy k role number) reply.Noted after new t (ap (λ (z : Seen). z.state) g.quiet.seen ∙ told)
+    (same_but_notes (λ s a b. CloudHolds (length lines + 1) lines (session_at s) a b t) old new g.sessions g.quiet.audit g.quiet.blind
+    (begins_line lines (session_at old.sessions) old.audit old.blind t stands).holds)
+    (still_line lines (event.Policy k role number) reply.Noted (session_at new.sessions) (λ s. refl) (subst (λ z. AllAct lines (session_at z)) (sym g.sessions) stands.acts))
+    (subst (λ z. SettlerRests (session_at z)) (sym g.sessions) stands.rests) tt)
+
+pub policies : (lines : List Line) (k number : ℕ) (role : Role) (r : Reply) (before after : Seen) (old new : World) (t : CloudState)
+    → before.state ≡ Some t → LinesStand lines old t → Policies k role number before after old new (Ok r) → LineLeaves (lines ++ line_of (event.Policy k role number) r ∷ []) new after r
+policies lines k number role r before after old new t told stands (inl refuses) =
+    declines lines (event.Policy k role number) r _ before after old new t refuses.declines told stands
+policies lines k number role r before after old new t told stands (inr (inl refuses)) =
+    declines lines (event.Policy k role number) r _ before after old new t refuses.1.declines told stands
+policies lines k number role r before after old new t told stands (inr (inr gives)) = gives_ledger lines k number role r before after old new t told stands gives
 
 -- ---- waits
 

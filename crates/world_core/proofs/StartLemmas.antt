@@ -7,6 +7,7 @@ use Rattle.history.specs.Audited.{Audited}
 use Rattle.session_facts.specs.Facts.{session_at, Stands}
 use Rattle.session_facts.proofs.StartLemmas.{closed_at, nothing_stands_yet}
 use Rattle.session_facts.specs.Counted.{calls_told, CountsWork, CountsAll}
+use Rattle.session_notes.specs.declared.notebook.Notebook.{Notebook}
 use Rattle.world_core.specs.Stands.{WorldStands}
 
 -- a world whose sessions are closed and that saw nothing stands for no lines over an empty cloud
@@ -24,10 +25,10 @@ none_counted sessions t closed n =
     subst (λ (l : List Acting). CountsWork (calls_told [] n) t (session_at l n).work) (sym closed)
     (subst (λ (a : Acting). CountsWork (calls_told [] n) t a.work) (sym (closed_at 17 n)) tt)
 
-pub new_stands : (sessions : List Acting) (audit : Audited) (blind : Bool) (t : CloudState)
+pub new_stands : (sessions : List Acting) (audit : Audited) (blind : Bool) (notes : List Notebook) (t : CloudState)
     → sessions ≡ replicate 17 closed_session → audit ≡ record { committed = []; order = [] } → blind ≡ false → IsEmptyCloud t
-    → WorldStands [] (record { sessions = sessions; audit = audit; blind = blind }) t
-new_stands sessions audit blind t closed nothing sees empty = record {
+    → WorldStands [] (record { sessions = sessions; audit = audit; blind = blind; notes = notes }) t
+new_stands sessions audit blind notes t closed nothing sees empty = record {
   by_lines = lines_stand sessions audit blind t closed nothing sees empty;
   counted = none_counted sessions t closed;
 }

@@ -21,13 +21,14 @@ use Rattle.client_work.specs.declared.answer.Begun.TheVariants.{Working, Answere
 use Rattle.reply_text.specs.Reply.{HasText, CommitHasText, ReplyHasText}
 use Rattle.reply_text.specs.declared.reply.Reply.{Reply}
 use Rattle.reply_text.specs.declared.reply.Reply.TheVariants as reply
+use Rattle.ckpt_policy.specs.declared.role.Role.{Role}
 use Rattle.world_core.specs.declared.asked.Asked.{Asked}
 use Rattle.world_core.specs.declared.asked.Asked.TheVariants.{Session, Wait, Report, Settle}
 use Rattle.world_core.specs.declared.asked.Request.{Request}
-use Rattle.world_core.specs.declared.asked.Request.TheVariants.{Begin, Note, Abort, Step, Run, Crash}
+use Rattle.world_core.specs.declared.asked.Request.TheVariants.{Begin, Note, Abort, Policy, Work as WorksDue, Step, Run, Crash}
 use Rattle.world_core.specs.declared.world.WorldFault.{WorldFault}
 use Rattle.world_core.specs.World.{World}
-use Rattle.world_core.specs.Handled.{Declines, FindsNoMemory, MakesStep, Runs, SettlesOn, Crashes, Does, ReportReply, Answers}
+use Rattle.world_core.specs.Handled.{Declines, FindsNoMemory, MakesStep, Runs, SettlesOn, Crashes, Does, ReportReply, Answers, Policies, WorksThrough}
 use Rattle.world_core.specs.Replying.{declined, done_reply, told, told_by, commit_reply, trouble_reply, value_reply, RepliesTo, RepliesBegun, RepliesSettled, RepliesTurn}
 
 -- the reply of a line
@@ -132,10 +133,22 @@ module _ (n : ℕ) (before after : Seen) (old new : World) (r : Reply) where
   crash_text k true (inr (inl h)) = plain_text r reply.Crashed h.replies tt
   crash_text k true (inr (inr memory)) = absurd (no_memory r memory.0)
 
+  policy_text : (k : ℕ) (role : Role) (number : ℕ) → Policies k role number before after old new (Ok r) → ReplyHasText r
+  policy_text k role number (inl refuses) = declines_text r _ before after old new refuses.declines
+  policy_text k role number (inr (inl refuses)) = declines_text r _ before after old new refuses.1.declines
+  policy_text k role number (inr (inr gives)) = plain_text r reply.Noted gives.replies tt
+
+  through_text : (k : ℕ) → WorksThrough n k before after old new (Ok r) → ReplyHasText r
+  through_text k (inl refuses) = declines_text r _ before after old new refuses.declines
+  through_text k (inr (inl down)) = plain_text r (reply.Worked down.done down.passed) down.replies tt
+  through_text k (inr (inr memory)) = absurd (no_memory r memory.0)
+
   does_text : (k : ℕ) (request : Request) → Does n k request before after old new (Ok r) → ReplyHasText r
   does_text k (Begin op) h = begun_text h.1.does.begun h.1.after r h.1.does.replies
   does_text k (Note tree change) h = done_text r reply.Noted h.1.does.noted h.1.does.replies tt
   does_text k Abort h = done_text r reply.Aborted h.1.does.dropped h.1.does.replies tt
+  does_text k (Policy role number) h = policy_text k role number h
+  does_text k WorksDue h = through_text k h
   does_text k (Step wish) h = step_text k wish h
   does_text k Run h = run_text k h
   does_text k (Crash done) h = crash_text k done h

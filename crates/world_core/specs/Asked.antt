@@ -14,7 +14,7 @@ use Rattle.event_text.specs.declared.event.Event.TheVariants as event
 use Rattle.client_work.specs.declared.op.Op.TheVariants as op
 use Rattle.replay_meaning.specs.Standing.{session_of}
 use Rattle.world_core.specs.declared.asked.Request.{Request}
-use Rattle.world_core.specs.declared.asked.Request.TheVariants.{Begin, Note, Abort, Step, Run, Crash}
+use Rattle.world_core.specs.declared.asked.Request.TheVariants.{Begin, Note, Abort, Policy, Work, Step, Run, Crash}
 use Rattle.world_core.specs.declared.asked.Asked.{Asked}
 use Rattle.world_core.specs.declared.asked.Asked.TheVariants.{Session, Wait, Report, Settle}
 use Rattle.db_base.specs.declared.wish.Wish.{Wish}
@@ -151,6 +151,8 @@ Asks (event.Read session tree key) asked = OfSession session (IsReading tree key
 Asks (event.Scan session tree from to) asked = OfSession session (IsScanning tree from to) asked
 Asks (event.Page session tree page) asked = OfSession session (IsPaging tree page) asked
 Asks (event.Tree session tree) asked = OfSession session (IsFolding tree) asked
+Asks (event.Policy session role k) asked = OfSession session (λ request. request ≡ Ok (Policy role k)) asked
+Asks (event.Work session) asked = OfSession session (λ request. request ≡ Ok Work) asked
 Asks (event.Run session) asked = OfSession session (λ request. request ≡ Ok Run) asked
 Asks (event.Step session wish) asked = OfSession session (IsStep wish) asked
 Asks (event.Crash session done) asked = OfSession session (λ request. request ≡ Ok (Crash done)) asked

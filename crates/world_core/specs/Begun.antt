@@ -30,7 +30,7 @@ use Rattle.reply_text.specs.declared.reply.Reply.{Reply}
 use Rattle.world_core.specs.declared.asked.Asked.{Asked}
 use Rattle.world_core.specs.declared.asked.Asked.TheVariants.{Session, Wait, Report, Settle}
 use Rattle.world_core.specs.declared.asked.Request.{Request}
-use Rattle.world_core.specs.declared.asked.Request.TheVariants.{Begin, Note, Abort, Step, Run as RunsOn, Crash}
+use Rattle.world_core.specs.declared.asked.Request.TheVariants.{Begin, Note, Abort, Policy, Work, Step, Run as RunsOn, Crash}
 use Rattle.world_core.specs.World.{World}
 use Rattle.world_core.specs.declared.world.WorldFault.{WorldFault}
 use Rattle.world_core.specs.Handled.{BeginsOp, Does, Serves, Answers, Handled}
@@ -74,6 +74,8 @@ DoesShow n number (Step wish) before after old new result does = Unit {0}
 DoesShow n number RunsOn before after old new result does = Unit {0}
 DoesShow n number (Crash done) before after old new result does = Unit {0}
 DoesShow n number (Note tree change) before after old new result does = Unit {0}
+DoesShow n number (Policy role k) before after old new result does = Unit {0}
+DoesShow n number Work before after old new result does = Unit {0}
 DoesShow n number Abort before after old new result does = Unit {0}
 
 abbrev pub ServesShow : (n number : ℕ) (request : Result Request Refused) (before after : Seen) (old new : World) (result : Result Reply WorldFault) → Serves n number request before after old new result → Type 0

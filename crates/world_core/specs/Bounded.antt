@@ -5,6 +5,7 @@ use Rattle.client_work.specs.declared.answer.Answer.{Answer}
 use Rattle.cloud_trait.specs.Caller.{Caller}
 use Rattle.cloud_trait.specs.Seen.{Seen}
 use Rattle.cloud_trait.specs.State.{CloudState}
+use Rattle.db_base.specs.declared.names.QueueName.{QueueName}
 use Rattle.db_base.specs.declared.refusal.Refused.{Refused}
 use Rattle.cloud_trait.specs.declared.turn.Turn.{Turn}
 use Rattle.cloud_trait.specs.declared.turn.Turn.TheVariants.{Ended}
@@ -17,10 +18,10 @@ use Rattle.session_facts.specs.Counted.{calls_told, FewFor}
 use Rattle.world_core.specs.declared.asked.Asked.{Asked}
 use Rattle.world_core.specs.declared.asked.Asked.TheVariants.{Session}
 use Rattle.world_core.specs.declared.asked.Request.{Request}
-use Rattle.world_core.specs.declared.asked.Request.TheVariants.{Step, Run, Crash}
+use Rattle.world_core.specs.declared.asked.Request.TheVariants.{Work, Step, Run, Crash}
 use Rattle.world_core.specs.World.{World}
 use Rattle.world_core.specs.declared.world.WorldFault.{WorldFault}
-use Rattle.world_core.specs.Handled.{StepsLooked, StepsTo, MakesStep, Went, start, further, ComesTo, RunsTo, Runs, Crashes, Does, Serves, Answers, Handled}
+use Rattle.world_core.specs.Handled.{StepsLooked, StepsTo, MakesStep, Went, start, further, ComesTo, RunsTo, Runs, Works, no_checkpoint, checkpoint_more, WorksThrough, Crashes, Does, Serves, Answers, Handled}
 use Rattle.world_core.specs.Stands.{WorldStands}
 
 -- ---- how many calls
@@ -68,6 +69,20 @@ RunsSoon lines n number before after old new result (inl refused) = Unit {0}
 RunsSoon lines n number before after old new result (inr (inl run)) = RanSoon lines n number before after old new result run
 RunsSoon lines n number before after old new result (inr (inr memory)) = Unit {0}
 
+-- each checkpoint that is due makes its own
+abbrev pub EachSoon : (who : Caller) (before : Seen) (old : World) (queues : List QueueName) (done passed : ℕ) (after : Seen) (new : World)
+    → Works who before old queues done passed after new → Type 0
+EachSoon who before old queues done passed after new no_checkpoint = Unit {0}
+EachSoon who before old queues done passed after new (checkpoint_more others kept left mid world queue answer _ _ works makes passes) =
+    EachSoon who before old others kept left mid world works
+    × WereFew (calls_of who mid after makes.begun new answer makes.comes) who Plain makes.comes.mid after makes.comes.world new (Ended answer) makes.comes.steps
+
+abbrev pub WorksSoon : (n number : ℕ) (before after : Seen) (old new : World) (result : Result Reply WorldFault) → WorksThrough n number before after old new result → Type 0
+WorksSoon n number before after old new result (inl refused) = Unit {0}
+WorksSoon n number before after old new result (inr (inl work)) =
+    EachSoon (record { session = number; event = n }) before old work.queues work.done work.passed after new work.works
+WorksSoon n number before after old new result (inr (inr memory)) = Unit {0}
+
 -- a session that dies with its call in hand made one more
 abbrev pub CrashesSoon : List Line → (n number : ℕ) (done : Bool) (before after : Seen) (old new : World) (result : Result Reply WorldFault) → Crashes n number done before after old new result → Type 0
 CrashesSoon lines n number false before after old new result dies = Unit {0}
@@ -80,6 +95,7 @@ CrashesSoon lines n number true before after old new result (inr (inr memory)) =
 abbrev pub DoesSoon : List Line → (n number : ℕ) (request : Request) (before after : Seen) (old new : World) (result : Result Reply WorldFault) → Does n number request before after old new result → Type 0
 DoesSoon lines n number (Step wish) before after old new result does = StepsSoon lines n number wish before after old new result does
 DoesSoon lines n number Run before after old new result does = RunsSoon lines n number before after old new result does
+DoesSoon lines n number Work before after old new result does = WorksSoon n number before after old new result does
 DoesSoon lines n number (Crash done) before after old new result does = CrashesSoon lines n number done before after old new result does
 DoesSoon lines n number request before after old new result does = Unit {0}
 

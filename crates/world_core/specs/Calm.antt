@@ -77,6 +77,12 @@ SettlesWell u (reply.Settled calls) = Unit {0}
 SettlesWell u (reply.NotSettled k) = IsSpent IsSpentToSettle u k
 SettlesWell u reply = ⊥
 
+-- the checkpoints that are due are made, or a rule refuses the line
+abbrev pub WorksWell : Reply → Type 0
+WorksWell (reply.Worked done passed) = Unit {0}
+WorksWell (reply.Refused rule) = Unit {0}
+WorksWell reply = ⊥
+
 -- the reply to a line whose session stood so; other lines make no call, and a report has its own clause
 abbrev pub RepliesWell : CloudState → Event → Posture → Reply → Type 0
 RepliesWell u (event.Open session client) posture reply = BeginsWell u Opening reply
@@ -89,6 +95,7 @@ RepliesWell u (event.Page session tree page) posture reply = BeginsWell u (Pagin
 RepliesWell u (event.Tree session tree) posture reply = BeginsWell u (Folding tree) reply
 RepliesWell u (event.Step session wish) posture reply = StepsWell u posture reply
 RepliesWell u (event.Run session) posture reply = RunsWell u posture reply
+RepliesWell u (event.Work session) posture reply = WorksWell reply
 RepliesWell u event.Settle posture reply = SettlesWell u reply
 RepliesWell u event posture reply = Unit {0}
 

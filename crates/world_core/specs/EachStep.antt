@@ -1,11 +1,12 @@
 -- What holds of each step that a line made.
-use Rattle.std.specs.Prelude.{ℕ, Bool, true, false, Result, Ok, Err}
+use Rattle.std.specs.Prelude.{ℕ, Bool, true, false, List, Result, Ok, Err}
 use Rattle.std.proofs.Common.{inl, inr}
 use Rattle.client_work.specs.declared.answer.Answer.{Answer}
 use Rattle.cloud_trait.specs.Caller.{Caller}
 use Rattle.cloud_trait.specs.Seen.{Seen}
 use Rattle.cloud_trait.specs.declared.turn.Turn.{Turn}
 use Rattle.cloud_trait.specs.declared.turn.Turn.TheVariants.{More, Ended}
+use Rattle.db_base.specs.declared.names.QueueName.{QueueName}
 use Rattle.db_base.specs.declared.refusal.Refused.{Refused}
 use Rattle.db_base.specs.declared.wish.Wish.{Wish}
 use Rattle.db_base.specs.declared.wish.Wish.TheVariants.{Plain}
@@ -14,10 +15,10 @@ use Rattle.reply_text.specs.declared.reply.Reply.{Reply}
 use Rattle.world_core.specs.declared.asked.Asked.{Asked}
 use Rattle.world_core.specs.declared.asked.Asked.TheVariants.{Session, Wait, Report, Settle}
 use Rattle.world_core.specs.declared.asked.Request.{Request}
-use Rattle.world_core.specs.declared.asked.Request.TheVariants.{Begin, Note, Abort, Step, Run, Crash}
+use Rattle.world_core.specs.declared.asked.Request.TheVariants.{Begin, Note, Abort, Policy, Work, Step, Run, Crash}
 use Rattle.world_core.specs.World.{World}
 use Rattle.world_core.specs.declared.world.WorldFault.{WorldFault}
-use Rattle.world_core.specs.Handled.{StepsLooked, StepsTo, MakesStep, Went, start, further, ComesTo, RunsTo, Runs, SettlesOn, Settles, Crashes, Does, Serves, Answers, Handled}
+use Rattle.world_core.specs.Handled.{StepsLooked, StepsTo, MakesStep, Went, start, further, ComesTo, RunsTo, Runs, SettlesOn, Settles, Works, no_checkpoint, checkpoint_more, WorksThrough, Crashes, Does, Serves, Answers, Handled}
 
 -- what may be said of a step
 abbrev pub StepFact : Type 1
@@ -71,11 +72,26 @@ abbrev pub EachSettling : StepFact → (n : ℕ) (before after : Seen) (old new 
 EachSettling Holds n before after old new result (inl settles) = EachSettlingOn Holds (record { session = 0; event = n }) before after settles.begun new result settles.settles
 EachSettling Holds n before after old new result (inr memory) = Unit {0}
 
+-- of each step of the checkpoints that a session made
+abbrev pub EachWork : StepFact → (who : Caller) (before : Seen) (old : World) (queues : List QueueName) (done passed : ℕ) (after : Seen) (new : World)
+    → Works who before old queues done passed after new → Type 0
+EachWork Holds who before old queues done passed after new no_checkpoint = Unit {0}
+EachWork Holds who before old queues done passed after new (checkpoint_more others kept left mid world queue answer _ _ works makes passes) =
+    EachWork Holds who before old others kept left mid world works × EachCome Holds who mid after makes.begun new answer makes.comes
+
+abbrev pub EachThrough : StepFact → (n number : ℕ) (before after : Seen) (old new : World) (result : Result Reply WorldFault) → WorksThrough n number before after old new result → Type 0
+EachThrough Holds n number before after old new result (inl refused) = Unit {0}
+EachThrough Holds n number before after old new result (inr (inl work)) =
+    EachWork Holds (record { session = number; event = n }) before old work.queues work.done work.passed after new work.works
+EachThrough Holds n number before after old new result (inr (inr memory)) = Unit {0}
+
 -- of each step that a request made
 abbrev pub EachDone : StepFact → (n number : ℕ) (request : Request) (before after : Seen) (old new : World) (result : Result Reply WorldFault) → Does n number request before after old new result → Type 0
 EachDone Holds n number (Step wish) before after old new result does = EachMade Holds n number wish before after old new result does
 EachDone Holds n number Run before after old new result does = EachRun Holds n number before after old new result does
 EachDone Holds n number (Crash done) before after old new result does = EachCrashed Holds n number done before after old new result does
+EachDone Holds n number Work before after old new result does = EachThrough Holds n number before after old new result does
+EachDone Holds n number (Policy role k) before after old new result does = Unit {0}
 EachDone Holds n number (Begin op) before after old new result does = Unit {0}
 EachDone Holds n number (Note tree change) before after old new result does = Unit {0}
 EachDone Holds n number Abort before after old new result does = Unit {0}

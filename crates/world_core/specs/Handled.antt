@@ -1,7 +1,10 @@
 -- What a line does to the world, and its reply.
-use Rattle.std.specs.Prelude.{ℕ, ◌≡◌, ◌≤◌, ◌<◌, Bool, true, false, ◌⊎◌, Option, Some, Result, Ok, Err, IfOk}
+use Rattle.std.specs.Prelude.{ℕ, ◌≡◌, ◌≤◌, ◌<◌, ◌+◌, Bool, true, false, not, ◌⊎◌, List, [], ◌∷◌, ◌++◌, slice_get, Option, Some, None, Result, Ok, Err, IfOk}
 use Rattle.db_base.specs.Ids.{IsTree, IsSession}
 use Rattle.db_base.specs.declared.change.Change.{Change}
+use Rattle.db_base.specs.declared.names.QueueName.{QueueName}
+use Rattle.db_base.specs.declared.names.QueueName.TheVariants.{Atomic, TreePu, PagePu}
+use Rattle.db_base.specs.declared.refusal.Refusal.{Refusal}
 use Rattle.db_base.specs.declared.refusal.Refusal.TheVariants as rule
 use Rattle.db_base.specs.declared.refusal.Refused.{Refused}
 use Rattle.db_base.specs.declared.refusal.Refused.TheVariants as refused
@@ -21,11 +24,22 @@ use Rattle.cloud_trait.specs.Seen.{Seen}
 use Rattle.cloud_trait.specs.Weather.{Rose}
 use Rattle.cloud_trait.specs.declared.turn.Turn.{Turn}
 use Rattle.cloud_trait.specs.declared.turn.Turn.TheVariants.{More, Ended}
+use Rattle.ckpt_policy.specs.declared.note.Note.{Note as Noted}
+use Rattle.ckpt_policy.specs.declared.role.Role.{Role}
+use Rattle.ckpt_policy.specs.Ledger.{IsNumber}
+use Rattle.ckpt_policy.specs.Notes.{IsPending}
+use Rattle.session_notes.specs.declared.notebook.Notebook.{Notebook}
+use Rattle.session_notes.specs.Notebook.{blank, note_of_ask, ChangesBook, GoesOnBy, GoesOnEnded, IsDueAt}
+use Rattle.cloud_trait.specs.Ask.{Ask}
 use Rattle.client_work.specs.declared.answer.Answer.{Answer}
+use Rattle.client_work.specs.declared.answer.Answer.TheVariants as answer
 use Rattle.client_work.specs.declared.answer.Begun.{Begun}
+use Rattle.client_work.specs.declared.answer.Begun.TheVariants.{Working}
 use Rattle.client_work.specs.declared.op.Op.{Op}
+use Rattle.client_work.specs.declared.op.Op.TheVariants as op
+use Rattle.client_work.specs.declared.work.Work.{Work}
 use Rattle.client_work.specs.BrokenOff.{broken_off}
-use Rattle.client_work.specs.Session.{Acting, closed_session, settling_session, Begins, StepsSession}
+use Rattle.client_work.specs.Session.{Acting, closed_session, settling_session, ask_of_work, open_client, Begins, StepsSession}
 use Rattle.history.specs.Fold.{of_tree}
 use Rattle.history.specs.Audited.{Audited}
 use Rattle.world_audit.specs.Look.{Looked}
@@ -33,8 +47,9 @@ use Rattle.world_audit.specs.Finding.{Finds}
 use Rattle.tree_meaning.specs.Chain.{Walked}
 use Rattle.world_audit.specs.Counts.{heads_upto, AreWaiting}
 use Rattle.session_facts.specs.Sessions.Noting.{audited}
+use Rattle.session_facts.specs.Sessions.Sessions.{IsRightOp}
 use Rattle.world_core.specs.declared.asked.Request.{Request}
-use Rattle.world_core.specs.declared.asked.Request.TheVariants.{Begin, Note, Abort, Step, Run, Crash}
+use Rattle.world_core.specs.declared.asked.Request.TheVariants.{Begin, Note, Abort, Policy, Work as WorksDue, Step, Run, Crash}
 use Rattle.world_core.specs.declared.asked.Asked.{Asked}
 use Rattle.world_core.specs.declared.asked.Asked.TheVariants.{Session, Wait, Report, Settle}
 use Rattle.world_core.specs.World.{World}
@@ -60,6 +75,31 @@ pub record MakesNoCall (before after : Seen) (old new : World) : Type 0 where
   pub seen : after ≡ before
   pub audit : new.audit ≡ old.audit
   pub blind : new.blind ≡ old.blind
+
+-- what is kept of a session that is open, behind the begin of an operation: a close takes its ledger away, and else the queue of a checkpoint is known
+abbrev pub book_begun : Op → Notebook → Notebook
+book_begun (op.Page tree page) book = record book { queue = Some (PagePu tree page) }
+book_begun (op.Tree tree) book = record book { queue = Some (TreePu tree) }
+book_begun op.Close book = blank
+book_begun op book = record book { queue = None }
+
+-- it is so where the session was open with nothing at work, and else all stays
+abbrev pub BookBegins : ℕ → Op → Result ℕ Refusal → List Notebook → List Notebook → Type 0
+BookBegins number op (Ok client) old new = ChangesBook number (λ a b. b ≡ book_begun op a) old new
+BookBegins number op (Err rule) old new = new ≡ old
+
+pub record BeginsBook (number : ℕ) (op : Op) (old new : World) : Type 0 where
+  pub session : Acting
+  pub there : slice_get old.sessions number ≡ Some session
+  pub does : BookBegins number op (open_client session.work) old.notes new.notes
+
+-- what is kept of all sessions stays
+abbrev pub KeepsNotes : World → World → Type 0
+KeepsNotes old new = new.notes ≡ old.notes
+
+-- what is kept of one session is blank then
+abbrev pub ClearsNotes : ℕ → World → World → Type 0
+ClearsNotes number old new = ChangesBook number (λ a b. b ≡ blank) old.notes new.notes
 
 pub record BeginsTold (op : Op) (reply : Reply) (old new : Acting) : Type 0 where
   pub begun : Result Begun Refused
@@ -88,7 +128,7 @@ pub record DropsChanges (result : Result Reply WorldFault) (old new : Acting) : 
   pub drops : AbortsIn old new dropped
   pub replies : result ≡ done_reply reply.Aborted dropped
 
--- one session is this one then, and nothing else of the world changes
+-- one session is this one then, and what was seen stays
 pub record Has (number : ℕ) (session : Acting) (old new : World) : Type 0 where
   pub session_is : Changes number (λ a b. b ≡ session) old.sessions new.sessions
   pub audit : new.audit ≡ old.audit
@@ -99,6 +139,7 @@ pub record BreaksOff (number : ℕ) (old new : World) : Type 0 where
   pub session : Changes number (λ a b. b ≡ broken_off a) old.sessions new.sessions
   pub audit : new.audit ≡ old.audit
   pub blind : new.blind ≡ old.blind
+  pub notes : KeepsNotes old new
 
 -- behind a reply the world stays; where it found no memory, the session is broken off
 abbrev pub LeavesReplied : ℕ → Result Reply WorldFault → World → World → Type 0
@@ -117,6 +158,41 @@ abbrev pub IsNewestCall : Caller → Wish → Seen → Seen → Type 0
 IsNewestCall who wish before after =
     (x : CloudState) → before.state ≡ Some x → (y : CloudState) × (after.state ≡ Some y) × (y.last ≡ Some (who, wish)) × (y.waits ≡ x.waits)
 
+-- ---- what is kept of a session by its steps
+
+abbrev pub note_of_hand : Option Ask → Option Noted
+note_of_hand None = None
+note_of_hand (Some ask) = note_of_ask ask
+
+-- a checkpoint was done
+abbrev pub is_done : Turn Answer → Bool
+is_done (Ended (answer.Done n)) = true
+is_done turn = false
+
+-- the call in hand is noted before it is made, whatever it is answered, and a checkpoint that is done behind it
+pub record NotesStep (w : Work) (turn : Turn Answer) (old new : Notebook) : Type 0 where
+  pub called : Notebook
+  pub call : GoesOnBy (note_of_hand (ask_of_work w)) old called
+  pub end : GoesOnEnded (is_done turn) called new
+
+-- the call in hand of a session is noted
+pub record NotesCall (number : ℕ) (old new : World) : Type 0 where
+  pub session : Acting
+  pub there : slice_get old.sessions number ≡ Some session
+  pub notes : ChangesBook number (GoesOnBy (note_of_hand (ask_of_work session.work))) old.notes new.notes
+  pub sessions : new.sessions ≡ old.sessions
+  pub audit : new.audit ≡ old.audit
+  pub blind : new.blind ≡ old.blind
+
+-- what came of it behind it
+pub record NotesEnd (number : ℕ) (done : Bool) (old new : World) : Type 0 where
+  pub notes : ChangesBook number (GoesOnEnded done) old.notes new.notes
+  pub sessions : new.sessions ≡ old.sessions
+  pub audit : new.audit ≡ old.audit
+  pub blind : new.blind ≡ old.blind
+
+-- ---- each step
+
 -- one step of a session under a wish, between two looks where it is a put: the audit takes what the put in hand commits or applies where it
 -- was seen to land, and a look that failed blinds it
 pub record StepsLooked (who : Caller) (wish : Wish) (before after : Seen) (old new : World) (turn : Turn Answer) : Type 0 where
@@ -131,6 +207,7 @@ pub record StepsLooked (who : Caller) (wish : Wish) (before after : Seen) (old n
   pub saw : new.blind ≡ false → old.blind ≡ false
   pub blinded : new.blind ≡ true → (old.blind ≡ true) ⊎ (Rose before.counts.dark from.counts.dark ⊎ Rose to.counts.dark after.counts.dark)
   pub audit : new.blind ≡ false → (x y : CloudState) → before.state ≡ Some x → to.state ≡ Some y → new.audit ≡ audited (newest x) (newest y) session.before.work old.audit
+  pub notes : ChangesBook who.session (NotesStep session.before.work turn) old.notes new.notes
 
 pub record RefusesStep (number : ℕ) (before after : Seen) (old new : World) (result : Result Reply WorldFault) : Type 0 where
   pub idle : IsNotWorking number old.sessions
@@ -163,22 +240,26 @@ pub record IsUncalled (before after : Seen) (old new : World) : Type 0 where
   pub looked : Looked before after
   pub sessions : new.sessions ≡ old.sessions
   pub blind : new.blind ≡ old.blind
+  pub notes : KeepsNotes old new
 
--- its call, a put, was made, and the look behind it was not
+-- what was not done behind a call: the look at a put, or the note of a checkpoint that was done
+abbrev pub IsUndone : ℕ → World → Turn Answer → Type 0
+IsUndone number old turn = ((put : Put) × HasPut number old.sessions (Some put)) ⊎ (is_done turn ≡ true)
+
+-- its call was made, and what comes behind it was not done
 pub record IsUnlooked (who : Caller) (wish : Wish) (before after : Seen) (old new : World) : Type 0 where
-  pub put : Put
-  pub puts : HasPut who.session old.sessions (Some put)
   pub from : Seen
   pub under : Seen
   pub to : Seen
   pub turn : Turn Answer
   pub look_before : Looked before from
   pub wishes : SetsWish wish from under
+  pub undone : IsUndone who.session old turn
   pub session : Changes who.session (λ a b. StepsSession who under to a b (Ok turn)) old.sessions new.sessions
   pub look_after : Looked to after
   pub blind : new.blind ≡ old.blind
 
--- memory ran out beside a step: before its call, or at the look behind it
+-- memory ran out beside a step: before its call, or behind it
 abbrev pub FallsShort : Caller → Wish → Seen → Seen → World → World → Type 0
 FallsShort who wish before after old new = IsUncalled before after old new ⊎ IsUnlooked who wish before after old new
 
@@ -246,6 +327,7 @@ pub record SettlesTo (who : Caller) (before after : Seen) (old new : World) (res
   pub answer : Answer
   pub comes : ComesTo who before after old left answer
   pub closes : Has who.session closed_session left new
+  pub notes : KeepsNotes left new
   pub replies : RepliesSettled answer result
 
 -- memory ran out on the way, and it is closed then
@@ -253,6 +335,7 @@ pub record SettlesShort (who : Caller) (before after : Seen) (old new : World) :
   pub left : World
   pub stops : StopsShort who before after old left
   pub closes : Has who.session closed_session left new
+  pub notes : KeepsNotes left new
 
 abbrev pub SettlesOn : Caller → Seen → Seen → World → World → Result Reply WorldFault → Type 0
 SettlesOn who before after old new result = SettlesTo who before after old new result ⊎ (FindsNoMemory result × SettlesShort who before after old new)
@@ -261,6 +344,7 @@ SettlesOn who before after old new result = SettlesTo who before after old new r
 pub record SettlerSettles (n : ℕ) (before after : Seen) (old new : World) (result : Result Reply WorldFault) : Type 0 where
   pub begun : World
   pub begins : Has 0 settling_session old begun
+  pub notes : KeepsNotes old begun
   pub settles : SettlesOn (record { session = 0; event = n }) before after begun new result
 
 -- nothing was done
@@ -272,12 +356,160 @@ pub record DoesNothing (before after : Seen) (old new : World) : Type 0 where
 abbrev pub Settles : ℕ → Seen → Seen → World → World → Result Reply WorldFault → Type 0
 Settles n before after old new result = SettlerSettles n before after old new result ⊎ (FindsNoMemory result × DoesNothing before after old new)
 
+-- ---- the work of a session
+
+-- the checkpoint of a queue
+abbrev pub checkpoint_of : QueueName → Op
+checkpoint_of (TreePu tree) = op.Tree tree
+checkpoint_of (PagePu tree page) = op.Page tree page
+checkpoint_of (Atomic client) = op.Renew
+
+-- it begins, of a session that is open with nothing at work
+pub record BeginsCheckpoint (number : ℕ) (queue : QueueName) (old new : World) : Type 0 where
+  pub pending : IsPending queue
+  pub right : IsRightOp (checkpoint_of queue)
+  pub session : Changes number (λ a b. Begins (checkpoint_of queue) a b (Ok Working)) old.sessions new.sessions
+  pub audit : new.audit ≡ old.audit
+  pub blind : new.blind ≡ old.blind
+  pub notes : ChangesBook number (λ a b. b ≡ record a { queue = Some queue }) old.notes new.notes
+
+-- and comes to its answer
+pub record Checkpoints (who : Caller) (queue : QueueName) (before after : Seen) (old new : World) (answer : Answer) : Type 0 where
+  pub begun : World
+  pub begins : BeginsCheckpoint who.session queue old begun
+  pub comes : ComesTo who before after begun new answer
+
+-- one, where it is so
+abbrev pub as_one : Bool → ℕ
+as_one true = 1
+as_one false = 0
+
+-- it is done, or passed over where a trouble stopped it that is not want of memory
+abbrev pub IsPassable : Answer → Type 0
+IsPassable (answer.Done n) = Unit {0}
+IsPassable (answer.Trouble t) = HasText t
+IsPassable answer = ⊥
+
+abbrev pub done_by : Answer → ℕ
+done_by (answer.Done n) = 1
+done_by answer = 0
+
+abbrev pub passed_by : Answer → ℕ
+passed_by (answer.Trouble t) = 1
+passed_by answer = 0
+
+-- a checkpoint of the queue was made, and done or passed over
+pub record MakesOne (who : Caller) (queue : QueueName) (done : Bool) (before after : Seen) (old new : World) : Type 0 where
+  pub answer : Answer
+  pub makes : Checkpoints who queue before after old new answer
+  pub passes : IsPassable answer
+  pub kept : done_by answer ≡ as_one done
+  pub passed : passed_by answer ≡ as_one (not done)
+
+-- one checkpoint for each of these queues, in their order: how many were done, and how many passed over
+pub data Works (who : Caller) (before : Seen) (old : World) : List QueueName → ℕ → ℕ → Seen → World → Type 0 where
+  no_checkpoint : Works who before old [] 0 0 before old
+  checkpoint_more : (queues : List QueueName) (done passed : ℕ) (mid : Seen) (world : World) (queue : QueueName) (answer : Answer) (after : Seen) (new : World)
+      → Works who before old queues done passed mid world → Checkpoints who queue mid after world new answer → IsPassable answer
+      → Works who before old (queues ++ queue ∷ []) (done + done_by answer) (passed + passed_by answer) after new
+
+-- a session of a number is open with nothing at work
+pub record IsOpen (number : ℕ) (sessions : List Acting) : Type 0 where
+  pub session : Acting
+  pub there : slice_get sessions number ≡ Some session
+  pub client : ℕ
+  pub open : open_client session.work ≡ Ok client
+
+-- or a rule refuses an operation of it
+pub record IsShut (number : ℕ) (sessions : List Acting) (rule : Refusal) : Type 0 where
+  pub session : Acting
+  pub there : slice_get sessions number ≡ Some session
+  pub shut : open_client session.work ≡ Err rule
+
+-- a line of a session that is not open, or has something at work, is refused
+pub record RefusesWork (number : ℕ) (before after : Seen) (old new : World) (result : Result Reply WorldFault) : Type 0 where
+  pub rule : Refusal
+  pub shut : IsShut number old.sessions rule
+  pub declines : Declines (refused.Rule rule) before after old new result
+
+-- these queues were gone through, and the reply counts
+pub record WorksOff (who : Caller) (queues : List QueueName) (before after : Seen) (old new : World) (r : Reply) : Type 0 where
+  pub done : ℕ
+  pub passed : ℕ
+  pub works : Works who before old queues done passed after new
+  pub replies : r ≡ reply.Worked done passed
+
+-- a session that is open makes the checkpoints that are due to it
+pub record WorksDown (n number : ℕ) (before after : Seen) (old new : World) (result : Result Reply WorldFault) : Type 0 where
+  pub open : IsOpen number old.sessions
+  pub queues : List QueueName
+  pub due : IsDueAt number old.notes queues
+  pub done : ℕ
+  pub passed : ℕ
+  pub works : Works (record { session = number; event = n }) before old queues done passed after new
+  pub replies : result ≡ Ok (reply.Worked done passed)
+
+-- memory ran out in a checkpoint: on the way, or it was the answer
+abbrev pub CheckpointFails : Caller → Seen → Seen → World → World → Type 0
+CheckpointFails who before after begun new =
+    StopsShort who before after begun new ⊎ ((left : World) × ComesTo who before after begun left (answer.Trouble trouble.Memory) × BreaksOff who.session left new)
+
+-- the checkpoint of a queue began, and memory ran out in it
+pub record FailsAt (who : Caller) (before after : Seen) (old new : World) : Type 0 where
+  pub queue : QueueName
+  pub begun : World
+  pub begins : BeginsCheckpoint who.session queue old begun
+  pub fails : CheckpointFails who before after begun new
+
+-- there was none to tell what is due
+pub record KnowsNoDue (number : ℕ) (before after : Seen) (old new : World) : Type 0 where
+  pub seen : after ≡ before
+  pub breaks : BreaksOff number old new
+
+-- memory ran out behind some checkpoints, or before the first
+pub record WorksShort (who : Caller) (before after : Seen) (old new : World) : Type 0 where
+  pub open : IsOpen who.session old.sessions
+  pub queues : List QueueName
+  pub done : ℕ
+  pub passed : ℕ
+  pub mid : Seen
+  pub world : World
+  pub works : Works who before old queues done passed mid world
+  pub falls : KnowsNoDue who.session mid after world new ⊎ FailsAt who mid after world new
+
+abbrev pub WorksThrough : ℕ → ℕ → Seen → Seen → World → World → Result Reply WorldFault → Type 0
+WorksThrough n number before after old new result =
+    RefusesWork number before after old new result
+    ⊎ (WorksDown n number before after old new result ⊎ (FindsNoMemory result × WorksShort (record { session = number; event = n }) before after old new))
+
+-- ---- a session's ledger
+
+-- it has one of this role and number, without notes
+pub record GivesLedger (number : ℕ) (role : Role) (k : ℕ) (before after : Seen) (old new : World) (result : Result Reply WorldFault) : Type 0 where
+  pub number_is : IsNumber k
+  pub open : IsOpen number old.sessions
+  pub quiet : MakesNoCall before after old new
+  pub sessions : new.sessions ≡ old.sessions
+  pub notes : ChangesBook number (λ a b. b ≡ record a { ledger = Some (record { role = role; k = k; client = open.client; counts = [] }) }) old.notes new.notes
+  pub replies : result ≡ Ok reply.Noted
+
+-- the number is none of a ledger's
+pub record RefusesNumber (k : ℕ) (before after : Seen) (old new : World) (result : Result Reply WorldFault) : Type 0 where
+  pub none : IsNumber k → ⊥
+  pub declines : Declines (refused.Rule rule.BadNumber) before after old new result
+
+abbrev pub Policies : ℕ → Role → ℕ → Seen → Seen → World → World → Result Reply WorldFault → Type 0
+Policies number role k before after old new result =
+    RefusesNumber k before after old new result
+    ⊎ ((IsNumber k × RefusesWork number before after old new result) ⊎ GivesLedger number role k before after old new result)
+
 -- ---- a session that dies
 
 -- it is closed, and no call is made
 pub record Dies (number : ℕ) (before after : Seen) (old new : World) (result : Result Reply WorldFault) : Type 0 where
   pub quiet : MakesNoCall before after old new
   pub closed : Changes number (λ a b. b ≡ closed_session) old.sessions new.sessions
+  pub notes : ClearsNotes number old new
   pub replies : result ≡ Ok reply.Crashed
 
 -- the call in hand is made plainly, and then it is closed, unanswered
@@ -286,6 +518,7 @@ pub record DiesDone (n number : ℕ) (before after : Seen) (old new : World) (re
   pub turn : Turn Answer
   pub steps : StepsLooked (record { session = number; event = n }) Plain before after old world turn
   pub closes : Has number closed_session world new
+  pub notes : ClearsNotes number world new
   pub replies : result ≡ Ok reply.Crashed
 
 -- where it has no call in hand it dies at once
@@ -306,9 +539,11 @@ Crashes n number true before after old new result =
 -- ---- what a session does that a line asks of it
 
 abbrev pub Does : ℕ → ℕ → Request → Seen → Seen → World → World → Result Reply WorldFault → Type 0
-Does n number (Begin op) before after old new result = MakesNoCall before after old new × Changes number (BeginsOp op result) old.sessions new.sessions
-Does n number (Note tree change) before after old new result = MakesNoCall before after old new × Changes number (NotesChange tree change result) old.sessions new.sessions
-Does n number Abort before after old new result = MakesNoCall before after old new × Changes number (DropsChanges result) old.sessions new.sessions
+Does n number (Begin op) before after old new result = MakesNoCall before after old new × Changes number (BeginsOp op result) old.sessions new.sessions × BeginsBook number op old new
+Does n number (Note tree change) before after old new result = MakesNoCall before after old new × Changes number (NotesChange tree change result) old.sessions new.sessions × KeepsNotes old new
+Does n number Abort before after old new result = MakesNoCall before after old new × Changes number (DropsChanges result) old.sessions new.sessions × KeepsNotes old new
+Does n number (Policy role k) before after old new result = Policies number role k before after old new result
+Does n number WorksDue before after old new result = WorksThrough n number before after old new result
 Does n number (Step wish) before after old new result = MakesStep n number wish before after old new result
 Does n number Run before after old new result = Runs n number before after old new result
 Does n number (Crash done) before after old new result = Crashes n number done before after old new result

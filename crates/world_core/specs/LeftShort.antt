@@ -10,7 +10,7 @@ use Rattle.client_work.specs.Session.{Acting, closed_session}
 use Rattle.world_core.specs.declared.asked.Asked.{Asked}
 use Rattle.world_core.specs.declared.asked.Asked.TheVariants.{Session, Wait, Report, Settle}
 use Rattle.world_core.specs.declared.asked.Request.{Request}
-use Rattle.world_core.specs.declared.asked.Request.TheVariants.{Begin, Note, Abort, Step, Run, Crash}
+use Rattle.world_core.specs.declared.asked.Request.TheVariants.{Begin, Note, Abort, Policy, Work as WorksDue, Step, Run, Crash}
 use Rattle.world_core.specs.World.{World}
 use Rattle.world_core.specs.declared.world.WorldFault.{WorldFault}
 use Rattle.world_core.specs.Asked.{Asks}
@@ -29,10 +29,12 @@ pub record IsLeftShort (old new : Acting) : Type 0 where
   pub shown : new.shown ≡ Nothing
 
 -- the session of an operation is left so, by what it had in hand at the line's begin, and the others stay; where a change could not be noted they all
--- stay, and to drop changes takes no memory
+-- stay, and to drop changes takes no memory, nor does a ledger without notes
 abbrev pub ServesShort : ℕ → Request → List Acting → List Acting → Type 0
 ServesShort number (Begin op) old new = Changes number IsLeftShort old new
 ServesShort number (Step wish) old new = Changes number IsLeftShort old new
+ServesShort number WorksDue old new = Changes number IsLeftShort old new
+ServesShort number (Policy role k) old new = ⊥
 ServesShort number Run old new = Changes number IsLeftShort old new
 ServesShort number (Crash done) old new = Changes number IsLeftShort old new
 ServesShort number (Note tree change) old new = new ≡ old

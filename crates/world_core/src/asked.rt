@@ -4,6 +4,7 @@ ghost use Rattle.std.specs.Prelude.{◌≡◌};
 ghost use Rattle.world_core.specs.Asked.{Asks, IsBound, IsMade, IsMaybeAttr, IsOpening, IsReading, IsScanning, IsPaging, IsFolding, IsNoted, IsStep};
 ghost use Rattle.db_base.specs.declared.change.Change.TheVariants.{Insert, Update, Delete, Add};
 
+use ckpt_policy::Role;
 use client_work::op::Op;
 use db_base::attr::Attr;
 use db_base::blob::Blob;
@@ -24,6 +25,10 @@ pub enum Request {
     Note(TreeId, Change),
     /// To drop the changes that it noted.
     Abort,
+    /// To have a ledger of a role and a number.
+    Policy(Role, u64),
+    /// To make one checkpoint of each queue that is due.
+    Work,
     /// To make one step under a wish.
     Step(Wish),
     /// To make plain steps until the answer.
@@ -93,6 +98,10 @@ impl Asked {
                 page,
             } => Asked::Session(*session, paging_of(*tree, *page)),
             Event::Tree { session, tree } => Asked::Session(*session, folding_of(*tree)),
+            Event::Policy { session, role, k } => {
+                Asked::Session(*session, Ok(Request::Policy(*role, *k)))
+            }
+            Event::Work { session } => Asked::Session(*session, Ok(Request::Work)),
             Event::Run { session } => Asked::Session(*session, Ok(Request::Run)),
             Event::Step { session, wish } => Asked::Session(*session, step_of(alloc, wish)),
             Event::Crash { session, done } => Asked::Session(*session, Ok(Request::Crash(*done))),

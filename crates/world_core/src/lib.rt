@@ -2,6 +2,7 @@
 #![tactic(auto)]
 
 pub mod asked;
+mod checkpoint;
 mod noting;
 mod put;
 mod replying;

@@ -2,6 +2,7 @@
 
 ghost use Rattle.std.specs.Prelude.{◌≡◌, IfOk};
 ghost use Rattle.client_work.specs.Session.{items_of, value_of};
+ghost use Rattle.world_core.specs.Handled.{is_done};
 ghost use Rattle.world_core.specs.Replying.{commit_reply, declined, done_reply, told, trouble_reply, unsettled_reply, IsOfSettling, ShowsItems, ShowsValue, RepliesTo, RepliesBegun, RepliesSettled, RepliesTurn};
 
 use crate::world::WorldFault;
@@ -23,6 +24,25 @@ pub(crate) fn declined(why: Refused) -> Result<Reply, WorldFault>
     match why {
         Refused::Rule(rule) => Ok(Reply::Refused(rule)),
         Refused::Memory => Err(WorldFault::Memory),
+    }
+}
+
+/// Whether a step is the last of a checkpoint that was done.
+pub(crate) fn is_done(turn: &Turn<Answer>) -> bool
+    ensures { result ≡ is_done turn.now }
+{
+    match turn {
+        Turn::Ended(Answer::Done(_)) => true,
+        Turn::Ended(Answer::Opened { .. }) => false,
+        Turn::Ended(Answer::Closed) => false,
+        Turn::Ended(Answer::Renewed { .. }) => false,
+        Turn::Ended(Answer::Commit(_)) => false,
+        Turn::Ended(Answer::Value) => false,
+        Turn::Ended(Answer::Scan) => false,
+        Turn::Ended(Answer::Settled(_)) => false,
+        Turn::Ended(Answer::Trouble(_)) => false,
+        Turn::More => false,
+        Turn::Stopped(_) => false,
     }
 }
 
@@ -180,7 +200,7 @@ fn unsettled_reply(trouble: Trouble) -> Result<Reply, WorldFault>
 }
 
 /// The trouble, where a reply can tell it: want of memory is a fault.
-fn told(trouble: Trouble) -> Result<Trouble, WorldFault>
+pub(crate) fn told(trouble: Trouble) -> Result<Trouble, WorldFault>
     ensures { result ≡ told trouble }
 {
     match trouble {

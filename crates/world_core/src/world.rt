@@ -1,15 +1,21 @@
-ghost use Rattle.std.specs.Prelude.{◌≡◌, ℕ, ◌≤◌, ◌<◌, ◌⊎◌, true, false, [], replicate, slice_get, Some, None, Ok, IfOk, IfErr, OnErr, OnOk};
+ghost use Rattle.std.specs.Prelude.{◌≡◌, ℕ, ◌≤◌, ◌<◌, ◌⊎◌, true, false, [], replicate, slice_get, All, Some, None, Ok, IfOk, IfErr, OnErr, OnOk};
 ghost use Rattle.world_core.specs.Put.{is_blind};
 ghost use Rattle.world_core.specs.Stands.{Grows};
 ghost use Rattle.world_core.specs.Handled.{WaitsFor};
+ghost use Rattle.ckpt_policy.specs.Ledger.{IsNumber};
+ghost use Rattle.ckpt_policy.specs.Notes.{IsPending};
+ghost use Rattle.reply_text.specs.Reply.{HasText};
+ghost use Rattle.session_notes.specs.Notebook.{blank, ChangesBook};
 
 use crate::asked::{Asked, Request};
+use crate::checkpoint::{begin_notes, checkpoint_of, count_if, forget};
 use crate::noting::{keep_landed, note_put};
 use crate::put::{Put, is_newest, put_in_hand};
 use crate::replying::{
-    begun_reply, declined, done, reply_of, settled_reply, trouble_reply, turn_reply,
+    begun_reply, declined, done, is_done, reply_of, settled_reply, told, trouble_reply, turn_reply,
 };
 use crate::sessions::Sessions;
+use ckpt_policy::{Ledger, Role, is_number};
 use client_work::answer::Answer;
 use client_work::calls::SessionCalls;
 use client_work::op::Op;
@@ -17,12 +23,15 @@ use cloud_trait::cloud::Bench;
 use cloud_trait::turn::Turn;
 use cloud_trait::who::Who;
 use db_base::change::Change;
-use db_base::ids::{SessionNo, TreeId};
+use db_base::ids::{ClientId, SessionNo, TreeId};
+use db_base::names::QueueName;
 use db_base::refusal::{Refusal, Refused};
 use db_base::trouble::Trouble;
 use db_base::wish::Wish;
 use event_text::event::Event;
 use reply_text::reply::Reply;
+use session_notes::note_of_call::note_of_call;
+use session_notes::notebooks::Notebooks;
 use std::alloc::Global;
 use std::marker::Model;
 use world_audit::audit::Audit;
@@ -45,6 +54,8 @@ pub struct World<S: SessionCalls> {
     audit: Audit,
     // Whether a look at the object of a put failed: the audit does not know then whether the put landed.
     blind: bool,
+    // What is kept of each session for the choice of its checkpoints.
+    notes: Notebooks,
 }
 
 // Written out, so that what holds a world need not look into it to let it go.
@@ -54,6 +65,7 @@ impl<S: SessionCalls> Drop for World<S> {
             sessions: _,
             audit: _,
             blind: _,
+            notes: _,
         } = self;
     }
 }
@@ -63,7 +75,7 @@ impl<S: SessionCalls> Model for World<S> {
 
     ghost Value = { World };
 
-    ghost view = { λ w. record { sessions = w.sessions; audit = w.audit; blind = w.blind } };
+    ghost view = { λ w. record { sessions = w.sessions; audit = w.audit; blind = w.blind; notes = w.notes } };
 }
 
 impl<S: SessionCalls> World<S> {
@@ -84,7 +96,7 @@ impl<S: SessionCalls> World<S> {
     ghost use Rattle.world_core.specs.Settled.{SettlingEnds, SettlingIsRight, SettlingLeaves};
     ghost use Rattle.world_core.specs.Stands.{KeepsABook, WorldStands, StandsOn};
     ghost use Rattle.world_core.specs.Sessions.{Changes, IsNotWorking, IsAtWork, HasPut};
-    ghost use Rattle.world_core.specs.Handled.{Handled, Answers, Does, BeginsOp, NotesChange, DropsChanges, MakesStep, ComesTo, Runs, Settles, SettlesOn, Has, Crashes, CrashesDone, StepsLooked, StopsShort, FallsShort, RunsShort, Reports, BreaksOff, LeavesReplied};
+    ghost use Rattle.world_core.specs.Handled.{BeginsBook, BeginsCheckpoint, FailsAt, IsOpen, KeepsNotes, MakesOne, NotesCall, NotesEnd, Policies, WorksOff, WorksShort, WorksThrough, Handled, Answers, Does, BeginsOp, NotesChange, DropsChanges, MakesStep, ComesTo, Runs, Settles, SettlesOn, Has, Crashes, CrashesDone, StepsLooked, StopsShort, FallsShort, RunsShort, Reports, BreaksOff, LeavesReplied};
 
     /// A world whose sessions are closed, and that saw nothing: over an empty cloud it stands for no lines. Refused for memory
     /// alone.
@@ -93,6 +105,7 @@ impl<S: SessionCalls> World<S> {
         ensures sessions { IfOk result (λ w. w.sessions ≡ replicate 17 closed_session) }
         ensures audit { IfOk result (λ w. w.audit ≡ record { committed = []; order = [] }) }
         ensures sees { IfOk result (λ w. w.blind ≡ false) }
+        ensures notes { IfOk result (λ w. w.notes ≡ replicate 17 blank) }
         ensures memory { IfErr result (λ e. e ≡ Refused.Memory) }
         ensures stands { (t : CloudState) → IsEmptyCloud t → IfOk result (λ w. WorldStands [] w t) }
     {
@@ -100,6 +113,7 @@ impl<S: SessionCalls> World<S> {
             sessions: Sessions::new(alloc)?,
             audit: Audit::new(alloc),
             blind: false,
+            notes: Notebooks::new(alloc)?,
         })
     }
 
@@ -195,6 +209,8 @@ impl<S: SessionCalls> World<S> {
             Request::Begin(op) => self.begin(alloc, who.session, op),
             Request::Note(tree, change) => self.note(who.session, tree, change),
             Request::Abort => self.abort(who.session),
+            Request::Policy(role, k) => self.policy(alloc, cloud, who, role, k),
+            Request::Work => self.work(alloc, cloud, who),
             Request::Step(wish) => self.step(alloc, cloud, who, wish),
             Request::Run => self.run(alloc, cloud, who),
             Request::Crash(done) => self.crash(alloc, cloud, who, done),
@@ -205,7 +221,9 @@ impl<S: SessionCalls> World<S> {
         ensures session { Changes number (BeginsOp op result) self.old.sessions self.new.sessions }
         ensures audit { self.new.audit ≡ self.old.audit }
         ensures blind { self.new.blind ≡ self.old.blind }
+        ensures notes { BeginsBook number op self.old self.new }
     {
+        self.begin_book(number, &op);
         let begun = self.sessions.begin(alloc, number, op);
         let reply = begun_reply(alloc, self.sessions.get(number), begun);
         self.replied(number, reply)
@@ -215,6 +233,7 @@ impl<S: SessionCalls> World<S> {
         ensures session { Changes number (NotesChange tree change result) self.old.sessions self.new.sessions }
         ensures audit { self.new.audit ≡ self.old.audit }
         ensures blind { self.new.blind ≡ self.old.blind }
+        ensures notes { KeepsNotes self.old self.new }
     {
         done(Reply::Noted, self.sessions.note(number, tree, change))
     }
@@ -223,6 +242,7 @@ impl<S: SessionCalls> World<S> {
         ensures session { Changes number (DropsChanges result) self.old.sessions self.new.sessions }
         ensures audit { self.new.audit ≡ self.old.audit }
         ensures blind { self.new.blind ≡ self.old.blind }
+        ensures notes { KeepsNotes self.old self.new }
     {
         done(Reply::Aborted, self.sessions.abort(number))
     }
@@ -237,6 +257,7 @@ impl<S: SessionCalls> World<S> {
     /// Has the session settle from now on. Refused for memory alone.
     fn begin_settling(&mut self, alloc: Global, number: SessionNo) -> Result<(), Refused>
         ensures ok { OnOk result (Has number settling_session self.old self.new) }
+        ensures notes { KeepsNotes self.old self.new }
         ensures err { OnErr result (self.new ≡ self.old) }
     {
         self.sessions.settle(alloc, number)
@@ -244,7 +265,8 @@ impl<S: SessionCalls> World<S> {
 
     /// Closes the session at once.
     fn close(&mut self, number: SessionNo)
-        ensures { Has number closed_session self.old self.new }
+        ensures closes { Has number closed_session self.old self.new }
+        ensures notes { KeepsNotes self.old self.new }
     {
         self.sessions.crash(number);
     }
@@ -266,6 +288,7 @@ impl<S: SessionCalls> World<S> {
         ensures leaves { LeavesReplied number reply self.old self.new }
         ensures audit { self.new.audit ≡ self.old.audit }
         ensures blind { self.new.blind ≡ self.old.blind }
+        ensures notes { KeepsNotes self.old self.new }
     {
         match reply {
             Ok(reply) => Ok(reply),
@@ -282,6 +305,7 @@ impl<S: SessionCalls> World<S> {
         ensures session { Changes who.session (λ a b. StepsSession who (C.seen cloud.old) (C.seen cloud.new) a b (Ok result)) self.old.sessions self.new.sessions }
         ensures audit { self.new.audit ≡ self.old.audit }
         ensures blind { self.new.blind ≡ self.old.blind }
+        ensures notes { KeepsNotes self.old self.new }
     {
         self.sessions.step(alloc, cloud, who)
     }
@@ -356,6 +380,174 @@ impl<S: SessionCalls> World<S> {
         }
     }
 
+    /// Gives an open session a ledger.
+    #[tactic(auto, using(crate::proofs::GrowthLemmas::grows_not))]
+    fn policy<C: Bench>(
+        &mut self,
+        alloc: Global,
+        cloud: &mut C,
+        who: Who,
+        role: Role,
+        k: u64,
+    ) -> Result<Reply, WorldFault>
+        ensures policies { Policies who.session role k (C.seen cloud.old) (C.seen cloud.new) self.old self.new result }
+        ensures grows { Grows who.event (C.seen cloud.old) (C.seen cloud.new) }
+    {
+        if !is_number(k) {
+            return Ok(Reply::Refused(Refusal::BadNumber));
+        }
+        match self.session(who.session).client() {
+            Ok(client) => self.give_ledger(alloc, who.session, role, k, client),
+            Err(rule) => Ok(Reply::Refused(rule)),
+        }
+    }
+
+    /// Gives a session a ledger for the client.
+    fn give_ledger(
+        &mut self,
+        alloc: Global,
+        number: SessionNo,
+        role: Role,
+        k: u64,
+        client: ClientId,
+    ) -> Result<Reply, WorldFault>
+        requires { IsNumber k }
+        ensures replies { result ≡ Ok Reply.Noted }
+        ensures sessions { self.new.sessions ≡ self.old.sessions }
+        ensures audit { self.new.audit ≡ self.old.audit }
+        ensures blind { self.new.blind ≡ self.old.blind }
+        ensures notes { ChangesBook number (λ a b. b ≡ record a { ledger = Some (record { role = role; k = k; client = client; counts = [] }) }) self.old.notes self.new.notes }
+    {
+        match Ledger::new(alloc, role, k, client) {
+            Ok(ledger) => {
+                self.notes.give(number, ledger);
+                Ok(Reply::Noted)
+            }
+            Err(_) => unreachable!(),
+        }
+    }
+
+    /// Makes one checkpoint of each queue that is due to the session.
+    fn work<C: Bench>(&mut self, alloc: Global, cloud: &mut C, who: Who) -> Result<Reply, WorldFault>
+        ensures works { WorksThrough who.event who.session (C.seen cloud.old) (C.seen cloud.new) self.old self.new result }
+        ensures grows { Grows who.event (C.seen cloud.old) (C.seen cloud.new) }
+    {
+        match self.session(who.session).client() {
+            Ok(_) => self.work_open(alloc, cloud, who),
+            Err(rule) => Ok(Reply::Refused(rule)),
+        }
+    }
+
+    /// Makes those of a session that is open.
+    fn work_open<C: Bench>(
+        &mut self,
+        alloc: Global,
+        cloud: &mut C,
+        who: Who,
+    ) -> Result<Reply, WorldFault>
+        requires { IsOpen who.session self.old.sessions }
+        ensures works { WorksThrough who.event who.session (C.seen cloud.old) (C.seen cloud.new) self.old self.new result }
+        ensures grows { Grows who.event (C.seen cloud.old) (C.seen cloud.new) }
+    {
+        match self.notes.due(alloc, who.session) {
+            Ok(queues) => self.work_down(alloc, cloud, who, queues.as_slice()),
+            Err(_) => {
+                self.break_off(who.session);
+                Err(WorldFault::Memory)
+            }
+        }
+    }
+
+    /// Makes the checkpoints of these queues, one after the other.
+    fn work_down<C: Bench>(
+        &mut self,
+        alloc: Global,
+        cloud: &mut C,
+        who: Who,
+        queues: &[QueueName],
+    ) -> Result<Reply, WorldFault>
+        requires open { IsOpen who.session self.old.sessions }
+        requires pending { All IsPending queues.now }
+        ensures ok { IfOk result (λ reply. WorksOff who queues.now (C.seen cloud.old) (C.seen cloud.new) self.old self.new reply) }
+        ensures short { OnErr result (WorksShort who (C.seen cloud.old) (C.seen cloud.new) self.old self.new) }
+        ensures grows { Grows who.event (C.seen cloud.old) (C.seen cloud.new) }
+    {
+        // Read for the bound on both counts.
+        let most = queues.len() as u64;
+        let mut done = 0u64;
+        let mut passed = 0u64;
+        let mut left = queues;
+        'checkpoints: while let Some((queue, rest)) = left.split_first() {
+            let is_done = self.checkpoint(alloc, cloud, who, *queue)?;
+            done = count_if(done, most, is_done);
+            passed = count_if(passed, most, !is_done);
+            left = rest;
+        }
+        Ok(Reply::Worked { done, passed })
+    }
+
+    /// Makes the checkpoint of a queue: whether it was done, and else a trouble is passed over. Where memory ran out in it the
+    /// session is broken off.
+    fn checkpoint<C: Bench>(
+        &mut self,
+        alloc: Global,
+        cloud: &mut C,
+        who: Who,
+        queue: QueueName,
+    ) -> Result<bool, WorldFault>
+        requires open { IsOpen who.session self.old.sessions }
+        requires pending { IsPending queue }
+        ensures ok { IfOk result (λ done. MakesOne who queue done (C.seen cloud.old) (C.seen cloud.new) self.old self.new) }
+        ensures short { OnErr result (FailsAt who (C.seen cloud.old) (C.seen cloud.new) self.old self.new) }
+        ensures grows { Grows who.event (C.seen cloud.old) (C.seen cloud.new) }
+    {
+        self.begin_checkpoint(alloc, who.session, queue);
+        match self.run_on(alloc, cloud, who)? {
+            Answer::Done(_) => Ok(true),
+            Answer::Trouble(trouble) => self.pass_over(who.session, trouble),
+            _ => unreachable!(),
+        }
+    }
+
+    /// Passes over the trouble of a checkpoint; want of memory breaks the session off.
+    fn pass_over(&mut self, session: SessionNo, trouble: Trouble) -> Result<bool, WorldFault>
+        ensures ok { OnOk result ((self.new ≡ self.old) × HasText trouble) }
+        ensures passed { IfOk result (λ done. done ≡ false) }
+        ensures short { OnErr result (BreaksOff session self.old self.new × (trouble ≡ Trouble.Memory)) }
+    {
+        match told(trouble) {
+            Ok(_) => Ok(false),
+            Err(fault) => {
+                self.break_off(session);
+                Err(fault)
+            }
+        }
+    }
+
+    /// Begins the checkpoint of a queue.
+    fn begin_checkpoint(&mut self, alloc: Global, number: SessionNo, queue: QueueName)
+        requires open { IsOpen number self.old.sessions }
+        requires pending { IsPending queue }
+        ensures begins { BeginsCheckpoint number queue self.old self.new }
+        ensures works { IsAtWork number self.new.sessions }
+    {
+        let begun = self.sessions.begin(alloc, number, checkpoint_of(queue));
+        forget(begun);
+        self.notes.begin(number, Some(queue));
+    }
+
+    /// What is kept of a session behind the begin of an operation.
+    fn begin_book(&mut self, number: SessionNo, op: &Op)
+        ensures notes { BeginsBook number op.now self.old self.new }
+        ensures sessions { self.new.sessions ≡ self.old.sessions }
+        ensures audit { self.new.audit ≡ self.old.audit }
+        ensures blind { self.new.blind ≡ self.old.blind }
+    {
+        if self.session(number).client().is_ok() {
+            begin_notes(&mut self.notes, number, op);
+        }
+    }
+
     /// Has the settler settle.
     #[tactic(auto, using(crate::proofs::GrowthLemmas::grows_not))]
     fn settle<C: Bench>(
@@ -409,6 +601,7 @@ impl<S: SessionCalls> World<S> {
             return self.crash_done(alloc, cloud, who);
         }
         self.close(who.session);
+        self.notes.clear(who.session);
         Ok(Reply::Crashed)
     }
 
@@ -425,6 +618,7 @@ impl<S: SessionCalls> World<S> {
     {
         let turn = self.step_under(alloc, cloud, who, Wish::Plain)?;
         self.close(who.session);
+        self.notes.clear(who.session);
         unanswered(turn);
         Ok(Reply::Crashed)
     }
@@ -485,8 +679,38 @@ impl<S: SessionCalls> World<S> {
         ensures short { OnErr result (FallsShort who wish (C.seen cloud.old) (C.seen cloud.new) self.old self.new) }
         ensures grows { Grows who.event (C.seen cloud.old) (C.seen cloud.new) }
     {
+        match self.note_call(who.session) {
+            Ok(()) => {}
+            Err(_) => return Err(WorldFault::Memory),
+        }
         cloud.wish(wish);
-        Ok(self.call(alloc, cloud, who))
+        let turn = self.call(alloc, cloud, who);
+        match self.note_end(who.session, is_done(&turn)) {
+            Ok(()) => Ok(turn),
+            Err(_) => Err(WorldFault::Memory),
+        }
+    }
+
+    /// Notes that what the session had in hand came to its end; done where that is a checkpoint that was done. Refused for memory
+    /// alone, and then nothing changes.
+    fn note_end(&mut self, number: SessionNo, done: bool) -> Result<(), Refused>
+        ensures ok { OnOk result (NotesEnd number done self.old self.new) }
+        ensures err { OnErr result (self.new ≡ self.old) }
+    {
+        self.notes.end(number, done)
+    }
+
+    /// Notes the call in hand of the session, where it counts. Refused for memory alone, and then nothing changes.
+    fn note_call(&mut self, number: SessionNo) -> Result<(), Refused>
+        requires { IsAtWork number self.old.sessions }
+        ensures ok { OnOk result (NotesCall number self.old self.new) }
+        ensures err { OnErr result (self.new ≡ self.old) }
+    {
+        let note = match self.session(number).in_hand() {
+            Some(call) => note_of_call(&call),
+            None => None,
+        };
+        self.notes.take(number, note)
     }
 
     /// Makes a step that is a put, and notes what it commits or applies where it is seen to land.
@@ -518,6 +742,10 @@ impl<S: SessionCalls> World<S> {
         }
         cloud.wish(wish);
         let turn = self.sessions.step(alloc, cloud, who);
+        match self.notes.end(who.session, is_done(&turn)) {
+            Ok(()) => {}
+            Err(_) => return Err(WorldFault::Memory),
+        }
         let after = is_newest(cloud, put)?;
         keep_landed(&mut self.audit, mark, before, after);
         self.blind = is_blinded(self.blind, before, after);

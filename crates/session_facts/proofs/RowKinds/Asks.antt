@@ -210,8 +210,8 @@ module _ (lines : List Line) (row : Landing) where
       → ((client : ℕ) (bytes : List ℕ) (one : Claim) (two : Option Claim) → part_ask at ≡ PutHeld (object.Head client) bytes one two → MayAsk lines row (PutHeld (object.Head client) bytes one two))
       → MayAsk lines row (part_ask at)
   part_may st now (Client client m) part k own heads = may_ask lines row (recovery_ask m) heads (recovery_asks m (inr (inr own)))
-  part_may st now (Tree tree m) part k own heads = making_asks st now m k.knows (inr own)
-  part_may st now (Page tree page m) part k own heads = paging_asks m (inr (inr own))
+  part_may st now (Tree tree m) part k own heads = making_asks st now m k.knows (inr (inl own))
+  part_may st now (Page tree page m) part k own heads = paging_asks m (inr (inr (inl own)))
 
   pub settling_asks : (st : Store) (now : ℕ) (m : Settling) (part : Part) → KnowsSettling st now m part → IsOfSettler lines row
       → ((client : ℕ) (bytes : List ℕ) (one : Claim) (two : Option Claim) → settle_ask m ≡ PutHeld (object.Head client) bytes one two → MayAsk lines row (PutHeld (object.Head client) bytes one two))

@@ -8,7 +8,7 @@ use Rattle.world_core.proofs.world.World.report.Goals as goal
 
 pub returns-in-Err-report : goal.returns-in-Err-report
 returns-in-Err-report g c =
-    let world : World = record { sessions = c.self.inside.sessions; audit = c.self.inside.audit; blind = c.self.inside.blind } in rw (← c.self.view_is) (record {
+    let world : World = record { sessions = c.self.inside.sessions; audit = c.self.inside.audit; blind = c.self.inside.blind; notes = c.self.inside.notes } in rw (← c.self.view_is) (record {
       world = refl;
       looked = c.in-Err-report.ensures.looked;
       reply = subst (λ r. ReportReply c.args.tree (g.C.Cloud.seen c.args.cloud.now) (g.C.Cloud.seen c.report.new.cloud) world r) (sym c.trouble_reply.ensures) (report_stops c.args.tree (g.C.Cloud.seen c.args.cloud.now) (g.C.Cloud.seen c.report.new.cloud) world c.in-Err-report.trouble (c.in-Ok.ensures.valid.0 refl) (record {

@@ -1,0 +1,295 @@
+-- The checkpoints of a session's work, as the world makes them; and what its steps leave of the session's notes.
+use Rattle.std.proofs.Common.{◌≡◌, ◌≤◌, ◌<◌, ◌+◌, ◌⊎◌, inl, inr, ℕ, Bool, true, false, List, [], ◌∷◌, ◌++◌, length, Option, Some, None, Result, Ok, Err, refl, sym, ap, subst, ◌∙◌, arith, append_assoc, append-nil}
+use Rattle.std.specs.Prelude.{All, not, slice_get, slice_set, option_map}
+use Rattle.std.proofs.lemmas.List.Elements.{All-tail}
+use Rattle.db_base.specs.declared.wish.Wish.TheVariants.{Plain}
+use Rattle.std.proofs.lemmas.List.{get_or-set_same, length-set, set-set}
+use Rattle.std.proofs.lemmas.Option.{slice_get_within, slice_get-get_or}
+use Rattle.ckpt_policy.specs.Notes.{IsPending}
+use Rattle.ckpt_policy.specs.declared.note.Note.{Note}
+use Rattle.client_work.specs.declared.answer.Answer.{Answer}
+use Rattle.client_work.specs.declared.answer.Answer.TheVariants as answer
+use Rattle.client_work.specs.declared.answer.Begun.{Begun}
+use Rattle.client_work.specs.declared.answer.Begun.TheVariants.{Working}
+use Rattle.client_work.specs.declared.work.Work.{Work}
+use Rattle.client_work.specs.declared.work.Work.TheVariants.{Idle, Paging, Folding}
+use Rattle.client_work.specs.Session.{Acting, Begins, BeginsWith, StepsAt, ask_of_work, open_client, rule_of}
+use Rattle.ckpt_policy.specs.Ledger.{Account}
+use Rattle.cloud_trait.specs.Ask.{Ask, PutHeld}
+use Rattle.cloud_trait.specs.Caller.{Caller}
+use Rattle.cloud_trait.specs.Seen.{Seen}
+use Rattle.cloud_trait.specs.declared.turn.Turn.{Turn}
+use Rattle.cloud_trait.specs.declared.turn.Turn.TheVariants.{More, Ended}
+use Rattle.db_base.specs.declared.names.QueueName.{QueueName}
+use Rattle.db_base.specs.declared.names.QueueName.TheVariants.{Atomic, TreePu, PagePu}
+use Rattle.db_base.specs.declared.refusal.Refusal.{Refusal}
+use Rattle.db_base.specs.declared.refusal.Refused.{Refused}
+use Rattle.db_base.specs.declared.refusal.Refused.TheVariants as refused
+use Rattle.db_base.specs.declared.trouble.Trouble.{Trouble}
+use Rattle.recover_run.specs.declared.home.Home.{Home}
+use Rattle.reply_text.specs.Reply.{HasText}
+use Rattle.reply_text.specs.declared.reply.Reply.{Reply}
+use Rattle.reply_text.specs.declared.reply.Reply.TheVariants as reply
+use Rattle.session_facts.specs.Facts.{session_at}
+use Rattle.session_facts.specs.Sessions.Sessions.{Sessions}
+use Rattle.session_facts.proofs.CallKinds.{HasCheckpoint}
+use Rattle.session_facts.proofs.Lists.{session_there}
+use Rattle.session_notes.specs.declared.notebook.Notebook.{Notebook}
+use Rattle.session_notes.specs.Notebook.{ChangesBook, GoesOnBy, GoesOnEnded, LedgerTakes}
+use Rattle.world_core.specs.World.{World}
+use Rattle.world_core.specs.declared.world.WorldFault.{WorldFault}
+use Rattle.world_core.specs.declared.put.Put.{Put}
+use Rattle.world_core.specs.Put.{put_of, put_of_hand}
+use Rattle.world_core.specs.Sessions.{Changes, IsAtWork}
+use Rattle.world_core.specs.Handled.{BeginsCheckpoint, Checkpoints, ComesTo, FailsAt, IsOpen, IsPassable, IsShut, KnowsNoDue, MakesOne, NotesCall, NotesStep, StepsLooked, Works, no_checkpoint, checkpoint_more, WorksOff, WorksShort, as_one, checkpoint_of, done_by, is_done, note_of_hand, passed_by}
+use Rattle.world_core.proofs.Going.{after_there, same_session}
+use Rattle.world_core.proofs.StandsLemmas.{changed_at, changed_was}
+use Rattle.world_core.proofs.Workers.{IsBetween, IsIdle, IsInside, begun_has, open_home, open_rests, within_begun, within_made, within_went}
+
+-- ---- what a session has
+
+pub is_open : (number client : ℕ) (sessions : List Acting) (a : Acting) → slice_get sessions number ≡ Some a → open_client a.work ≡ Ok client → IsOpen number sessions
+is_open number client sessions a there open = record { session = a; there = there; client = client; open = open }
+
+pub is_shut : (number : ℕ) (sessions : List Acting) (a : Acting) (rule : Refusal) → slice_get sessions number ≡ Some a → open_client a.work ≡ Err rule → IsShut number sessions rule
+is_shut number sessions a rule there shut = record { session = a; there = there; shut = shut }
+
+-- the session of a number is open, where it is between two checkpoints
+pub between_open : (number : ℕ) (home : Home) (first : Sessions) (world : World) (a : Acting) → slice_get world.sessions number ≡ Some a → IsBetween number home first world
+    → IsOpen number world.sessions
+between_open number home first world a there w = record {
+  session = a;
+  there = there;
+  client = home.client;
+  open = ap open_client (ap (λ (x : Acting). x.work) (sym (session_there world.sessions number a there)) ∙ w.works);
+}
+
+-- ---- a begin
+
+-- the begin of a checkpoint of an open session is not refused
+begins_open : (queue : QueueName) (a b : Acting) (home : Home) (result : Result Begun Refused) → IsPending queue → IsIdle home a.work → Begins (checkpoint_of queue) a b result
+    → result ≡ Ok Working
+begins_open (TreePu tree) a b home (Ok begun) pending idle begins = ap (λ (x : Begun). Ok x) begins.2.0
+begins_open (PagePu tree page) a b home (Ok begun) pending idle begins = ap (λ (x : Begun). Ok x) begins.2.0
+begins_open (TreePu tree) a b home (Err (refused.Rule rule)) pending idle begins = absurd (let e : rule_of (Idle home) ≡ Some rule = subst (λ w. rule_of w ≡ Some rule) idle begins.0 in cc)
+begins_open (PagePu tree page) a b home (Err (refused.Rule rule)) pending idle begins = absurd (let e : rule_of (Idle home) ≡ Some rule = subst (λ w. rule_of w ≡ Some rule) idle begins.0 in cc)
+begins_open (TreePu tree) a b home (Err refused.Memory) pending idle begins = absurd begins
+begins_open (PagePu tree page) a b home (Err refused.Memory) pending idle begins = absurd begins
+begins_open (Atomic client) a b home result pending idle begins = absurd pending
+
+checkpoint_hand : (home : Home) (w : Work) → HasCheckpoint home w → (ask : Ask) × (ask_of_work w ≡ Some ask)
+checkpoint_hand home (Paging h m) is = (_, refl)
+checkpoint_hand home (Folding h f) is = (_, refl)
+checkpoint_hand home w is = absurd is
+
+-- an open session whose checkpoint begins has it in hand
+module _ (number : ℕ) (queue : QueueName) (old new : List Acting) (result : Result Begun Refused) (open : IsOpen number old) (pending : IsPending queue)
+    (c : Changes number (λ a b. Begins (checkpoint_of queue) a b result) old new) where
+  home_before : (home : Home) × IsIdle home c.before.work
+  home_before =
+      let h = open_home open.session.work open.client open.open in
+      (h.0, subst (λ (a : Acting). IsIdle h.0 a.work) (same_session old number open.session c.before open.there c.there) h.1)
+
+  pub begins_working : Changes number (λ a b. Begins (checkpoint_of queue) a b (Ok Working)) old new
+  begins_working = record {
+    before = c.before;
+    after = c.after;
+    there = c.there;
+    does = subst (λ (x : Result Begun Refused). Begins (checkpoint_of queue) c.before c.after x)
+        (begins_open queue c.before c.after home_before.0 result pending home_before.1 c.does) c.does;
+    rest = c.rest;
+  }
+
+  pub begun_works : IsAtWork number new
+  begun_works =
+      let b = begins_working in
+      let hand = checkpoint_hand home_before.0 b.after.work (begun_has home_before.0 queue b.before b.after pending b.does home_before.1).0 in
+      record { session = b.after; there = after_there number _ old new b; ask = hand.0; hand = hand.1 }
+
+-- ---- an answer
+
+-- the answer of a checkpoint
+abbrev pub IsOfCheckpoint : Answer → Type 0
+IsOfCheckpoint (answer.Done n) = Unit {0}
+IsOfCheckpoint (answer.Trouble t) = Unit {0}
+IsOfCheckpoint a = ⊥
+
+checkpoint_answers : (who : Caller) (before after : Seen) (home : Home) (w new : Work) (a : Answer) → StepsAt who before after w new (Ended a) → HasCheckpoint home w → IsOfCheckpoint a
+checkpoint_answers who before after home (Paging h m) new (answer.Done n) p is = tt
+checkpoint_answers who before after home (Paging h m) new (answer.Trouble t) p is = tt
+checkpoint_answers who before after home (Paging h m) new a p is = absurd p
+checkpoint_answers who before after home (Folding h f) new (answer.Done n) p is = tt
+checkpoint_answers who before after home (Folding h f) new (answer.Trouble t) p is = tt
+checkpoint_answers who before after home (Folding h f) new a p is = absurd p
+checkpoint_answers who before after home w new a p is = absurd is
+
+pub answers_checkpoint : (who : Caller) (queue : QueueName) (before after : Seen) (old begun new : World) (a : Answer) → IsOpen who.session old.sessions
+    → BeginsCheckpoint who.session queue old begun → ComesTo who before after begun new a → IsOfCheckpoint a
+answers_checkpoint who queue before after old begun new a open b c =
+    checkpoint_answers who p.under p.to rest.0 p.session.before.work p.session.after.work a p.session.does.work
+    (subst (λ (x : Acting). HasCheckpoint rest.0 x.work) (changed_was who.session _ c.world.sessions new.sessions p.session) inside.works)
+  where
+    p : StepsLooked who Plain c.mid after c.world new (Ended a)
+    p = c.steps
+
+    rest : (home : Home) × (home.client ≡ open.client) × IsBetween who.session home (session_at old.sessions) old
+    rest = open_rests who.session old open
+
+    inside : IsInside who.session rest.0 (session_at old.sessions) c.world
+    inside =
+        within_went who rest.0 (session_at old.sessions) before begun c.mid c.world (within_begun who.session rest.0 (session_at old.sessions) queue old begun rest.2 b) c.went
+
+-- one was made, and the session is open behind it
+pub stays_open : (who : Caller) (queue : QueueName) (done : Bool) (before after : Seen) (old new : World) → IsOpen who.session old.sessions → MakesOne who queue done before after old new
+    → IsOpen who.session new.sessions
+stays_open who queue done before after old new open m =
+    between_open who.session rest.0 (session_at old.sessions) new p.session.after (after_there who.session _ m.makes.comes.world.sessions new.sessions p.session)
+    (within_made who rest.0 (session_at old.sessions) queue before after old new m.answer m.passes rest.2 m.makes)
+  where
+    p : StepsLooked who Plain m.makes.comes.mid after m.makes.comes.world new (Ended m.answer)
+    p = m.makes.comes.steps
+
+    rest : (home : Home) × (home.client ≡ open.client) × IsBetween who.session home (session_at old.sessions) old
+    rest = open_rests who.session old open
+
+pub makes_done : (who : Caller) (queue : QueueName) (before after : Seen) (old begun new : World) (a : Answer) → BeginsCheckpoint who.session queue old begun
+    → ComesTo who before after begun new a → (done : Bool) → IsPassable a → done_by a ≡ as_one done → passed_by a ≡ as_one (not done) → MakesOne who queue done before after old new
+makes_done who queue before after old begun new a b c done passes kept passed =
+    record { answer = a; makes = record { begun = begun; begins = b; comes = c }; passes = passes; kept = kept; passed = passed }
+
+-- ---- one after another
+
+-- some checkpoints are made, and these queues are left
+pub record IsGoing (who : Caller) (queues left : List QueueName) (most done passed : ℕ) (before after : Seen) (old new : World) : Type 0 where
+  pub gone : List QueueName
+  pub whole : queues ≡ gone ++ left
+  pub works : Works who before old gone done passed after new
+  pub open : IsOpen who.session new.sessions
+  pub pending : All IsPending left
+  pub done_most : done + length left ≤ most
+  pub passed_most : passed + length left ≤ most
+
+pub going_first : (who : Caller) (queues : List QueueName) (most : ℕ) (before : Seen) (old : World) → most ≡ length queues → IsOpen who.session old.sessions → All IsPending queues
+    → IsGoing who queues queues most 0 0 before before old old
+going_first who queues most before old is open pending = record {
+  gone = [];
+  whole = refl;
+  works = no_checkpoint;
+  open = open;
+  pending = pending;
+  done_most = omega (arith, is);
+  passed_most = omega (arith, is);
+}
+
+pub going_more : (who : Caller) (queues left rest : List QueueName) (queue : QueueName) (most done passed done_after passed_after : ℕ) (kept : Bool) (before mid after : Seen) (old world new : World)
+    → left ≡ queue ∷ rest → IsGoing who queues left most done passed before mid old world → MakesOne who queue kept mid after world new
+    → done_after ≡ done + as_one kept → passed_after ≡ passed + as_one (not kept) → IsGoing who queues rest most done_after passed_after before after old new
+going_more who queues left rest queue most done passed done_after passed_after kept before mid after old world new is g m d p = record {
+  gone = g.gone ++ queue ∷ [];
+  whole = g.whole ∙ ap (λ l. g.gone ++ l) is ∙ sym (append_assoc g.gone (queue ∷ []) rest);
+  works = subst (λ j. Works who before old (g.gone ++ queue ∷ []) j passed_after after new) (sym (d ∙ ap (λ i. done + i) (sym m.kept)))
+      (subst (λ j. Works who before old (g.gone ++ queue ∷ []) (done + done_by m.answer) j after new) (sym (p ∙ ap (λ i. passed + i) (sym m.passed)))
+      (checkpoint_more g.gone done passed mid world queue m.answer after new g.works m.makes m.passes));
+  open = stays_open who queue kept mid after world new g.open m;
+  pending = All-tail IsPending queue rest (subst (All IsPending) is g.pending);
+  done_most = less done done_after (as_one kept) d (one_at_most kept) (subst (λ l. done + length l ≤ most) is g.done_most);
+  passed_most = less passed passed_after (as_one (not kept)) p (one_at_most (not kept)) (subst (λ l. passed + length l ≤ most) is g.passed_most);
+}
+  where
+    one_at_most : (b : Bool) → as_one b ≤ 1
+    one_at_most true = omega arith
+    one_at_most false = omega arith
+
+    less : (n m i : ℕ) → m ≡ n + i → i ≤ 1 → n + length (queue ∷ rest) ≤ most → m + length rest ≤ most
+    less n m i e one within = omega (arith, e, one, within)
+
+pub going_below : (who : Caller) (queues left rest : List QueueName) (queue : QueueName) (most done passed : ℕ) (before after : Seen) (old new : World) → left ≡ queue ∷ rest
+    → IsGoing who queues left most done passed before after old new → (done < most) × (passed < most)
+going_below who queues left rest queue most done passed before after old new is g =
+    let d = subst (λ l. done + length l ≤ most) is g.done_most in
+    let p = subst (λ l. passed + length l ≤ most) is g.passed_most in
+    (omega (arith, d), omega (arith, p))
+
+pub going_all : (who : Caller) (queues left : List QueueName) (most done passed : ℕ) (before after : Seen) (old new : World) → left ≡ [] → IsGoing who queues left most done passed before after old new
+    → WorksOff who queues before after old new (reply.Worked done passed)
+going_all who queues left most done passed before after old new is g = record {
+  done = done;
+  passed = passed;
+  works = subst (λ l. Works who before old l done passed after new) (sym (g.whole ∙ ap (λ l. g.gone ++ l) is ∙ append-nil g.gone)) g.works;
+  replies = refl;
+}
+
+pub going_short : (who : Caller) (queues left : List QueueName) (most done passed : ℕ) (before mid after : Seen) (old world new : World) → IsOpen who.session old.sessions
+    → IsGoing who queues left most done passed before mid old world → FailsAt who mid after world new → WorksShort who before after old new
+going_short who queues left most done passed before mid after old world new open g fails = record {
+  open = open;
+  queues = g.gone;
+  done = done;
+  passed = passed;
+  mid = mid;
+  world = world;
+  works = g.works;
+  falls = inr fails;
+}
+
+-- ---- notes
+
+set_there : {X : Type 0} (items : List X) (place : ℕ) (before after : X) → slice_get items place ≡ Some before → slice_get (slice_set items place after) place ≡ Some after
+set_there items place before after there =
+    let within : place < length items = slice_get_within items place before there in
+    let more : place < length (slice_set items place after) = subst (λ n. place < n) (sym (length-set items place after)) within in
+    slice_get-get_or (slice_set items place after) place after more ∙ ap Some (get_or-set_same items place after after within)
+
+same_book : (books : List Notebook) (place : ℕ) (a b : Notebook) → slice_get books place ≡ Some a → slice_get books place ≡ Some b → a ≡ b
+same_book books place a b e f = let g : Some a ≡ Some b = sym e ∙ f in cc
+
+-- a call noted before it was made, and what came of it behind it
+pub notes_step : (number : ℕ) (old : World) (w : Work) (mid new : List Notebook) (noted : World) (turn : Turn Answer) (done : Bool) (a : Acting) → NotesCall number old noted → noted.notes ≡ mid
+    → slice_get old.sessions number ≡ Some a → a.work ≡ w → done ≡ is_done turn → ChangesBook number (GoesOnEnded done) mid new → ChangesBook number (NotesStep w turn) old.notes new
+notes_step number old w mid new noted turn done a n is there work same c = record {
+  before = n.notes.before;
+  after = c.after;
+  there = n.notes.there;
+  does = record {
+    called = n.notes.after;
+    call = subst (λ (x : Work). GoesOnBy (note_of_hand (ask_of_work x)) n.notes.before n.notes.after) own n.notes.does;
+    end = subst (λ b. GoesOnEnded b n.notes.after c.after) same (subst (λ x. GoesOnEnded done x c.after) matched c.does);
+  };
+  rest = c.rest ∙ ap (λ l. slice_set l number c.after) middle ∙ set-set old.notes number n.notes.after c.after;
+}
+  where
+    own : n.session.work ≡ w
+    own = ap (λ (x : Acting). x.work) (same_session old.sessions number n.session a n.there there) ∙ work
+
+    middle : mid ≡ slice_set old.notes number n.notes.after
+    middle = sym is ∙ n.notes.rest
+
+    matched : c.before ≡ n.notes.after
+    matched = same_book mid number c.before n.notes.after c.there (ap (λ l. slice_get l number) middle ∙ set_there old.notes number n.notes.before n.notes.after n.notes.there)
+
+-- a put is not noted
+goes_nothing : (b : Notebook) → GoesOnBy None b b
+goes_nothing b = record { ledger = on b.ledger; queue = refl }
+  where
+    on : (ledger : Option Account) → LedgerTakes None ledger ledger
+    on None = refl
+    on (Some a) = record { rule = record { role = refl; k = refl; client = refl }; stands = λ notes h. h }
+
+put_unnoted : (ask : Option Ask) (put : Put) → put_of_hand ask ≡ Some put → note_of_hand ask ≡ None
+put_unnoted (Some (PutHeld name bytes one two)) put e = refl
+put_unnoted (Some ask) put e = absurd (cc)
+put_unnoted None put e = absurd (cc)
+
+pub notes_put : (number : ℕ) (books new : List Notebook) (w : Work) (put : Put) (turn : Turn Answer) (done : Bool) → put_of w ≡ Some put → done ≡ is_done turn
+    → ChangesBook number (GoesOnEnded done) books new → ChangesBook number (NotesStep w turn) books new
+notes_put number books new w put turn done is same c = record {
+  before = c.before;
+  after = c.after;
+  there = c.there;
+  does = record {
+    called = c.before;
+    call = subst (λ n. GoesOnBy n c.before c.before) (sym (put_unnoted (ask_of_work w) put is)) (goes_nothing c.before);
+    end = subst (λ b. GoesOnEnded b c.before c.after) same c.does;
+  };
+  rest = c.rest;
+}

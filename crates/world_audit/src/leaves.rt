@@ -75,7 +75,7 @@ fn check_low(alloc: Global, page: PageId, expected: &[u8], low: &[u8]) -> Result
 
 /// A copy of the bytes, where there are some. Fails for memory alone.
 fn copy_of_some(alloc: Global, bytes: Option<&[u8]>) -> Result<Option<Blob>, Trouble>
-    ensures ok { IfOk result (λ b. b ≡ option_copied bytes) }
+    ensures ok { IfOk result (λ b. b ≡ option_copied bytes.entry) }
     ensures memory { IfErr result (λ e. e ≡ Trouble.Memory) }
 {
     match bytes {
@@ -92,7 +92,7 @@ fn add_record(
     payload: &[u8],
     attr: Option<&[u8]>,
 ) -> Result<(), Trouble>
-    ensures ok { OnOk result (contents.new ≡ contents.old ++ (record { key = key.now; payload = payload.now; attr = option_copied attr }) ∷ []) }
+    ensures ok { OnOk result (contents.new ≡ contents.old ++ (record { key = key.now; payload = payload.now; attr = option_copied attr.entry }) ∷ []) }
     ensures memory { IfErr result (λ e. e ≡ Trouble.Memory) }
 {
     let stored = Stored {

@@ -13,11 +13,8 @@ use Rattle.cloud_trait.specs.declared.answer.Answer.{Answer}
 use Rattle.cloud_trait.specs.declared.answer.Answer.TheVariants as answer
 use Rattle.cloud_trait.specs.declared.turn.Turn.{Turn}
 use Rattle.cloud_trait.specs.declared.turn.Turn.TheVariants.{More, Ended, Stopped}
-use Rattle.cloud_trait.specs.Caller.{Caller}
 use Rattle.cloud_trait.specs.Machine.{Next, Goes, Ends, Stops, LeadsBy, Took}
-use Rattle.cloud_trait.specs.Seen.{Seen}
 use Rattle.cloud_trait.specs.Views.{got_of}
-use Rattle.cloud_trait.specs.Weather.{Makes}
 use Rattle.page_cache.specs.Cache.{Cache, IsCache, accepts, kept_at}
 use Rattle.page_cache.specs.Held.{leaf_at, inner_at, as_leaf}
 use Rattle.page_cache.specs.Refused.{IsDamaged}
@@ -30,7 +27,7 @@ use Rattle.tree_walk.proofs.Leaves.{Unended, through_unended}
 use Rattle.tree_walk.proofs.Refusing.{old_refused, damaged_refused}
 use Rattle.tree_walk.proofs.Meeting.{brought_meets, ready_meets}
 use Rattle.tree_walk.proofs.Serving.{memory_or, answer_stops}
-use Rattle.range_scan.specs.Scan.{Scan, scan_object, scan_asks, right_in, scan_came_to, right_behind, ended_at, leaf_ended, first_in, scan_beside, walked_by, right_read_in, right_accepted, right_got, scan_ready, next_at, scan_next, KeepsServed}
+use Rattle.range_scan.specs.Scan.{Scan, scan_object, right_in, scan_came_to, right_behind, ended_at, leaf_ended, first_in, scan_beside, walked_by, right_read_in, right_accepted, right_got, scan_ready, next_at, scan_next, KeepsServed}
 use Rattle.range_scan.specs.Listing.{Range, Move, Scanned, scan_of}
 use Rattle.range_scan.specs.Causing.{BreaksFence, CausesReady, FirstLeadsBack, LeadsBack, IsExactWalk, IsExactRight, Exact}
 use Rattle.range_scan.proofs.Served.{IsServed, end_served}

@@ -1,22 +1,19 @@
 -- While its walk is in hand, all calls of a scan are those of the walk.
-use Rattle.std.proofs.Common.{◌≡◌, ℕ, Bool, true, false, List, [], ◌∷◌, Option, Some, None, Result, Ok, Err, refl, ap, sym, subst, ◌∙◌}
+use Rattle.std.proofs.Common.{◌≡◌, ℕ, Bool, true, false, List, [], ◌∷◌, Option, Some, None, refl, ap, sym, ◌∙◌}
 use Rattle.std.specs.Prelude.{◌&&◌, if◌then◌else◌}
 use Rattle.byte_format.specs.Order.{below_bound}
-use Rattle.db_base.specs.declared.trouble.Trouble.{Trouble}
 use Rattle.db_base.specs.declared.trouble.Trouble.TheVariants as trouble
 use Rattle.leaf_view.specs.Leaf.{Leaf}
 use Rattle.leaf_view.specs.Lookup.{page_at}
 use Rattle.cloud_trait.specs.declared.answer.Answer.{Answer}
-use Rattle.cloud_trait.specs.Ask.{Ask, Get}
-use Rattle.cloud_trait.specs.Machine.{Next, Goes, Ends, Stops, Deed}
+use Rattle.cloud_trait.specs.Ask.{Get}
+use Rattle.cloud_trait.specs.Machine.{Next, Goes, Ends, Stops}
 use Rattle.cloud_trait.specs.Views.{got_of}
 use Rattle.page_cache.specs.Cache.{Cache}
 use Rattle.page_cache.specs.Held.{leaf_at}
 use Rattle.tree_walk.specs.Walk.{Spot, Walk, asks, object_of, walk_ready, walk_next}
-use Rattle.tree_walk.specs.Led.{Walked}
-use Rattle.tree_walk.specs.Within.{IsBegun}
-use Rattle.range_scan.specs.Scan.{Scan, scan_object_at, scan_came_to, right_behind, ended_at, leaf_ended, is_wanted, goes_on, moved_on, first_in, scan_beside, walked_by, right_got, scan_ready, next_at, scan_next}
-use Rattle.range_scan.specs.Listing.{Range, scan_of, Move, LedTo, Scanned, IsWalked, deeds_of}
+use Rattle.range_scan.specs.Scan.{Scan, scan_object_at, scan_came_to, right_behind, ended_at, is_wanted, goes_on, moved_on, first_in, scan_beside, walked_by, right_got, next_at, scan_next}
+use Rattle.range_scan.specs.Listing.{Range, scan_of, Move, LedTo, Scanned, IsWalked}
 use Rattle.range_scan.proofs.Ending.{EndsAt, got_end, with_right}
 
 -- where a scan goes on with its walk in hand, the walk did

@@ -54,7 +54,7 @@ impl<'a> Items<'a> {
         key: &'a [u8],
         value: Value<'a>,
     ) -> Result<(), AllocError>
-        ensures { OnOk result (self.new ≡ with_record sight.now self.old (record { key = key.now; value = value })) }
+        ensures { OnOk result (self.new ≡ with_record sight.now self.old (record { key = key.now; value = value.entry })) }
     {
         if sight.is_listed(key) {
             self.pairs.insert(key, value)?;

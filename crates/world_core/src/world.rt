@@ -428,7 +428,12 @@ impl<S: SessionCalls> World<S> {
     }
 
     /// Makes one checkpoint of each queue that is due to the session.
-    fn work<C: Bench>(&mut self, alloc: Global, cloud: &mut C, who: Who) -> Result<Reply, WorldFault>
+    fn work<C: Bench>(
+        &mut self,
+        alloc: Global,
+        cloud: &mut C,
+        who: Who,
+    ) -> Result<Reply, WorldFault>
         ensures works { WorksThrough who.event who.session (C.seen cloud.old) (C.seen cloud.new) self.old self.new result }
         ensures grows { Grows who.event (C.seen cloud.old) (C.seen cloud.new) }
     {

@@ -1,9 +1,9 @@
 -- What was read fits, whatever the bytes are.
-use Rattle.std.proofs.Common.{◌≡◌, ◌-◌, ℕ, zero, suc, Bool, true, false, cond, List, [], ◌∷◌, length, Option, Some, None, Result, Ok, Err, refl, sym, ap, subst, ◌∙◌}
+use Rattle.std.proofs.Common.{◌≡◌, ◌-◌, ℕ, zero, suc, Bool, true, false, cond, List, [], ◌∷◌, length, Option, Some, None, Result, Ok, Err, refl, sym, ap, subst, ◌∙◌, arith}
 use Rattle.std.specs.Prelude.{◌==◌, ◌&&◌, nat_le, take, drop}
 use Rattle.std.specs.Int.{Width, w8, w64}
 use Rattle.std.specs.Result.{result_ok}
-use Rattle.std.proofs.lemmas.Bool.{and_from, leb-true}
+use Rattle.std.proofs.lemmas.Bool.{and_from, and_parts, leb-true}
 use Rattle.std.proofs.lemmas.List.{length-take-le}
 use Rattle.byte_format.specs.Format.{Format, ◌>>=◌, greatest, guarded, in_range, number, number_at, unsigned_at, text, text_at, ruled, behind, ◌then◌, seen_as, list_of, list_from, list_at, list_fits, more_at, only_where, option_fits, flagged, maybe}
 use Rattle.byte_format.specs.Whole.{whole}
@@ -63,7 +63,10 @@ flagged_again f (zero, None) h = refl
 flagged_again f (zero, Some v) h = absurd cc
 flagged_again f (suc zero, None) h = absurd cc
 flagged_again f (suc zero, Some v) h = refl
-flagged_again f (suc (suc n), x) h = absurd cc
+flagged_again f (suc (suc n), x) h =
+    let p = and_parts (in_range 0 1 (suc (suc n))) (option_fits (suc (suc n) == 1) f x) h in
+    let q = and_parts (nat_le 0 (suc (suc n))) (nat_le (suc (suc n)) 1) p.0 in
+    absurd (omega (arith, leb-true (suc (suc n)) 1 q.1))
 
 -- a field that may be there
 pub maybe_fits : {A : Type 0} (f : Format A) → ReadsFit f → ReadsFit (maybe f)

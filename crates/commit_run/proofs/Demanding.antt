@@ -1,5 +1,5 @@
--- Where the cache demands a trouble on the way of a commit's first walk, the commit ends with it before its first call.
-use Rattle.std.proofs.Common.{◌≡◌, ℕ, Bool, true, false, List, [], ◌∷◌, length, Option, Some, None, refl, ap, sym, subst, ◌∙◌, ◌⊎◌, inl, inr}
+-- Where the cache demands a trouble on the way of a commit's next walk, the commit ends with it, before its first call or behind a walk.
+use Rattle.std.proofs.Common.{◌≡◌, ◌≢◌, ℕ, Bool, true, false, List, [], ◌∷◌, length, Option, Some, None, refl, ap, sym, subst, ◌∙◌, ◌⊎◌, inl, inr}
 use Rattle.std.specs.Prelude.{slice_get, find, if◌then◌else◌}
 use Rattle.std.specs.Option.{option_map, option_map_or}
 use Rattle.db_base.specs.Change.{key_of}
@@ -7,19 +7,22 @@ use Rattle.db_base.specs.declared.trouble.Trouble.{Trouble}
 use Rattle.db_base.specs.declared.trouble.Trouble.TheVariants as trouble
 use Rattle.db_base.specs.declared.trouble.Counter.TheVariants as counter
 use Rattle.db_base.specs.declared.trouble.CommitAnswer.{CommitAnswer}
+use Rattle.db_base.specs.declared.trouble.CommitAnswer.TheVariants.{NotCommitted}
 use Rattle.head_codec.specs.declared.lists.Pending.{Pending}
 use Rattle.txn_buffer.specs.Noted.{Noted}
+use Rattle.cloud_trait.specs.declared.answer.Answer.{Answer}
 use Rattle.cloud_trait.specs.declared.turn.Turn.{Turn}
-use Rattle.cloud_trait.specs.Machine.{Next, Stops}
+use Rattle.cloud_trait.specs.declared.turn.Turn.TheVariants.{More, Ended, Stopped}
+use Rattle.cloud_trait.specs.Machine.{Next, Stops, LeadsBy, Took}
 use Rattle.recover_run.specs.declared.home.Home.{Home}
 use Rattle.page_cache.specs.Cache.{Cache, IsCache}
-use Rattle.tree_walk.specs.Walk.{Walk, new_walk, walk_ready}
+use Rattle.tree_walk.specs.Walk.{Walk, new_walk, walk_ready, walk_next, KeepsServed}
 use Rattle.tree_walk.proofs.Meeting.{ready_meets}
 use Rattle.commit_plan.specs.Plan.{seeks, pages_of}
 use Rattle.commit_writes.specs.Writing.{Writing, waiting, is_spent, with_attempt, with_home, routed_of, passes, not_committed, begun, first_leaves}
-use Rattle.commit_run.specs.Demanding.{MeetsFirst, PassesFirst, DemandsReady}
-use Rattle.commit_run.specs.Draft.{Draft, new_draft, planned, pruned_behind}
-use Rattle.commit_run.specs.Run.{Run, Led, begin_walks, begun_turn, by_turn, long_target, long_walk, new_run, plan_on, refused, run_ready, seek, target_of, walk_to, wrote}
+use Rattle.commit_run.specs.Demanding.{MeetsFirst, PassesFirst, DemandsReady, behind_stop, behind_turn, MeetsNext, PassesNext, DemandsNext}
+use Rattle.commit_run.specs.Draft.{Draft, new_draft, planned, pruned_behind, leaf_noted, paged}
+use Rattle.commit_run.specs.Run.{Run, Led, held, next_target, is_stale, stale_at, troubled, walk_turned, begin_walks, begun_turn, by_turn, long_target, long_walk, new_run, plan_on, refused, run_ready, seek, target_of, walk_to, wrote}
 use Rattle.commit_run.proofs.Exacting.{EndsBy, troubled_by, led_by}
 
 -- behind the pages that are known without a walk stands the first change that seeks a leaf
@@ -89,3 +92,64 @@ pub ready_demands : (home : Home) (changes : List Noted) (c : Cache) (old : Run)
     → DemandsReady home changes c turn
 ready_demands home changes c old n turn ok new led =
     λ t left m. led_by t (run_ready (new_run home changes, c)) n turn (ready_ends home changes c t ok left m) (subst (λ (r : Run). Led (run_ready (r, c)) n turn) new led)
+
+-- ---- behind a walk
+
+plan_ends : (d : Draft) (c : Cache) (t : Trouble) → IsCache c → MeetsNext d c t ⊎ PassesNext d t → EndsBy t (plan_on d c)
+plan_ends d c t ok (inl (to, next, meets)) =
+    let stops = ready_meets to.0 (Some to.1) c t ok meets in
+    subst (λ (o : Option (ℕ × List ℕ)). EndsBy t (seek (planned d) c o)) (sym next) (walk_ends (planned d) c to t stops.0 stops.1)
+plan_ends d c t ok (inr (none, full, is)) =
+    subst (λ (u : Trouble). EndsBy u (plan_on d c)) (sym is)
+    (subst (λ (o : Option (ℕ × List ℕ)). EndsBy (trouble.Exhausted counter.Number) (seek (planned d) c o)) (sym none) (number_ends (planned d) c full))
+
+-- the step ends with what is demanded where planning goes on so
+DemandsBehind : Option (Draft × Cache) → Turn CommitAnswer → Type 0
+DemandsBehind o turn =
+    (d : Draft) (c : Cache) (t : Trouble) → o ≡ Some (d, c) → MeetsNext d c t ⊎ PassesNext d t → (turn ≡ Ended (NotCommitted t)) ⊎ (turn ≡ Stopped trouble.Memory)
+
+none_demands : (turn : Turn CommitAnswer) → DemandsBehind None turn
+unfolding DemandsBehind
+none_demands turn d c t none = absurd (cc (none))
+
+plan_demands : (e : Draft) (k : Cache) (n : Run × Cache) (turn : Turn CommitAnswer) → IsCache k → Led (plan_on e k) n turn → DemandsBehind (Some (e, k)) turn
+unfolding DemandsBehind
+plan_demands e k n turn ok led d c t is shows =
+    let same : (e, k) ≡ (d, c) = cc (is) in
+    led_by t (plan_on e k) n turn (plan_ends e k t ok (subst (λ (x : Draft × Cache). MeetsNext x.0 x.1 t ⊎ PassesNext x.0 t) (sym same) shows)) led
+
+stop_demands : (stale first : Bool) (e : Draft) (k : Cache) (u : Trouble) (n : Run × Cache) (turn : Turn CommitAnswer) → IsCache k
+    → Led (if stale then stale_at first e k else troubled e k u) n turn → DemandsBehind (behind_stop stale first e k) turn
+stop_demands true true e k u n turn ok led = plan_demands e k n turn ok led
+stop_demands true false e k u n turn ok led = plan_demands (paged e 1) k n turn ok led
+stop_demands false first e k u n turn ok led = none_demands turn
+
+memory_demands : (o : Option (Draft × Cache)) (turn : Turn CommitAnswer) → turn ≡ Stopped trouble.Memory → DemandsBehind o turn
+unfolding DemandsBehind
+memory_demands o turn e d c t is shows = inr e
+
+or_memory : (u : Trouble) → (u ≡ trouble.Memory) ⊎ (u ≢ trouble.Memory)
+or_memory trouble.Memory = inl refl
+or_memory u = inr (λ e. cc)
+
+turn_demands : (first : Bool) (d : Draft) (w : Walk) (c : Cache) (a : Answer) (k : Walk × Cache) (x : Turn ℕ) (n : Run × Cache) (turn : Turn CommitAnswer)
+    → Took (LeadsBy walk_next) KeepsServed (w, c) a k x → IsCache k.1 → (x ≡ Stopped trouble.Memory → turn ≡ Stopped trouble.Memory) → Led (walk_turned first d k.0 k.1 x) n turn
+    → DemandsBehind (behind_turn first d (walk_next (w, c) a)) turn
+turn_demands first d w c a k More n turn took ok memory led =
+    subst (λ (y : Next (Walk × Cache) ℕ). DemandsBehind (behind_turn first d y) turn) (sym took) (none_demands turn)
+turn_demands first d w c a k (Ended page) n turn took ok memory led =
+    subst (λ (y : Next (Walk × Cache) ℕ). DemandsBehind (behind_turn first d y) turn) (sym took)
+    (plan_demands (leaf_noted (pruned_behind d k.0 k.1) k.0 k.1 page) k.1 n turn ok led)
+turn_demands first d w c a k (Stopped u) n turn took ok memory led = on (or_memory u) where
+  on : (u ≡ trouble.Memory) ⊎ (u ≢ trouble.Memory) → DemandsBehind (behind_turn first d (walk_next (w, c) a)) turn
+  on (inl e) = memory_demands (behind_turn first d (walk_next (w, c) a)) turn (memory (ap Stopped e))
+  on (inr other) =
+      subst (λ (y : Next (Walk × Cache) ℕ). DemandsBehind (behind_turn first d y) turn) (sym (took.0 other))
+      (stop_demands (is_stale u) first (pruned_behind d k.0 k.1) k.1 u n turn ok led)
+
+pub walk_demands : (first : Bool) (d : Draft) (w : Walk) (c : Cache) (a : Answer) (k : Walk × Cache) (x : Turn ℕ) (n : Run × Cache) (turn : Turn CommitAnswer)
+    → Took (LeadsBy walk_next) KeepsServed (w, c) a k x → IsCache k.1 → (x ≡ Stopped trouble.Memory → turn ≡ Stopped trouble.Memory) → Led (walk_turned first d k.0 k.1 x) n turn
+    → DemandsNext (record { draft = d; hand = held first w }, c) a turn
+unfolding DemandsBehind
+walk_demands true d w c a k x n turn took ok memory led = turn_demands true d w c a k x n turn took ok memory led
+walk_demands false d w c a k x n turn took ok memory led = turn_demands false d w c a k x n turn took ok memory led

@@ -18,7 +18,7 @@ use Rattle.cloud_trait.specs.declared.turn.Turn.TheVariants.{More, Ended, Stoppe
 use Rattle.cloud_trait.specs.Ask.{Ask, Get, PutHeld, Send, Delete, PutsNothing}
 use Rattle.cloud_trait.specs.Caller.{Caller}
 use Rattle.cloud_trait.specs.Seen.{Seen}
-use Rattle.cloud_trait.specs.Machine.{Next, Goes, Ends, Stops, LeadsBy, Took, Steps, Deed}
+use Rattle.cloud_trait.specs.Machine.{Next, Goes, Ends, Stops, LeadsBy, Took, Deed}
 use Rattle.cloud_trait.specs.Weather.{Fits, Makes}
 use Rattle.calm_calls.specs.Calm.{GoesWell, IsCalm, AreCalm, ComesNext, AreAlone}
 use Rattle.calm_calls.proofs.CalmLemmas.{goes_well}
@@ -50,6 +50,7 @@ use Rattle.commit_run.specs.declared.hand.Hand.TheVariants.{Writes, First, Chang
 use Rattle.commit_run.specs.Draft.{Draft, new_draft, planned, pruned_behind, leaf_noted, paged}
 use Rattle.commit_run.specs.Run.{Run, held, new_run, home_of, asks, ask_at, target_of, next_target, written, wrote, refused, troubled, by_turn, begun_turn, walk_to, seek, plan_on, is_stale, stale_at, walk_turned, walked, begin_walks, run_ready, run_next, Led, KeepsHome}
 use Rattle.commit_run.specs.Causing.{TellsOf, ShowsReady, CausesReady}
+use Rattle.commit_run.specs.Demanding.{DemandsNext}
 use Rattle.commit_run.specs.Exact.{IsOfCalls, StopsIn, Exact, IsRefusing, ExactReady}
 use Rattle.commit_run.specs.Meaning.{walked_home, Refuses, MeansWalks}
 use Rattle.commit_run.specs.Names.{Names}
@@ -454,21 +455,21 @@ walk_gets : (first : Bool) (d : Draft) (w : Walk) (c : Cache) → GetsNothing (a
 walk_gets true d w c gets = gets
 walk_gets false d w c gets = gets
 
-pub walk_stepped : (first : Bool) (d : Draft) (w : Walk) (c : Cache) (who : Caller) (before after : Seen) (n : Run × Cache) (turn : Turn CommitAnswer)
-    → Steps asks (LeadsBy run_next) KeepsHome who before after (record { draft = d; hand = held first w }, c) n turn → Stepped who before after (record { draft = d; hand = held first w }, c) n turn
-walk_stepped first d w c who before after n turn steps = record {
-  answer = steps.answer;
-  made = steps.made;
-  took = steps.took;
-  causes = walk_causes first d w c steps.answer n turn made.fits steps.took;
-  refused = walk_refuses first d w c steps.answer n turn steps.took;
+pub walk_stepped : (first : Bool) (d : Draft) (w : Walk) (c : Cache) (who : Caller) (before after : Seen) (a : Answer) (n : Run × Cache) (turn : Turn CommitAnswer) → Makes who (walk_ask w) a before after
+    → Took (LeadsBy run_next) KeepsHome (record { draft = d; hand = held first w }, c) a n turn → DemandsNext (record { draft = d; hand = held first w }, c) a turn
+    → Stepped who before after (record { draft = d; hand = held first w }, c) n turn
+walk_stepped first d w c who before after a n turn made took demands = record {
+  answer = a;
+  made = subst (λ (q : Ask). Makes who q a before after) (walk_asks_get first d w c) made;
+  took = took;
+  causes = walk_causes first d w c a n turn made.fits took;
+  refused = walk_refuses first d w c a n turn took;
+  demands = demands;
   ample = λ gets. absurd (walk_gets first d w c gets);
   whole = λ home changes begin h went.
-      walk_whole home changes begin h first d w c who before after steps.answer n turn made steps.took (went_held home changes begin h first d w c went)
+      walk_whole home changes begin h first d w c who before after a n turn made took (went_held home changes begin h first d w c went)
       (λ plain. plain_walks home changes begin h first d w c plain went);
-} where
-  made : Makes who (walk_ask w) steps.answer before after
-  made = subst (λ (q : Ask). Makes who q steps.answer before after) (sym (walk_asks_get first d w c)) steps.made
+}
 
 -- of what is written
 write_whole : (home : Home) (changes : List Noted) (begin : Cache) (h : List Deed) (d : Draft) (c : Cache) (who : Caller) (before after : Seen) (w : Writing) (turn : Turn CommitAnswer)
@@ -516,6 +517,7 @@ write_stepped d c who before after w turn s = record {
   took = took;
   causes = write_causes d c s.answer (written d w, c) turn took;
   refused = λ t never. absurd never;
+  demands = λ e k t none. absurd (cc (none));
   ample = λ gets. s.ample;
   whole = λ home changes begin h went. write_whole home changes begin h d c who before after w turn s went;
 } where

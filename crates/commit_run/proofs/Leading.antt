@@ -11,8 +11,7 @@ use Rattle.cloud_trait.specs.Machine.{Next, LeadsBy, Took, Steps}
 use Rattle.recover_run.specs.declared.home.Home.{Home}
 use Rattle.page_cache.specs.Cache.{Cache}
 use Rattle.tree_walk.specs.Moves.{Moves}
-use Rattle.tree_walk.specs.Walk.{Walk, walk_next}
-use Rattle.tree_walk.specs.Walk.{asks as walk_asks, KeepsServed}
+use Rattle.tree_walk.specs.Walk.{Walk, walk_next, KeepsServed}
 use Rattle.commit_writes.specs.Writing.{Writing, with_head, writing_ask, writing_next}
 use Rattle.commit_writes.specs.Writing.{KeepsHome as KeepsWritten}
 use Rattle.commit_run.specs.declared.hand.Hand.TheVariants.{Writes, First, Change}
@@ -54,23 +53,17 @@ led_took m a n More led kept = led
 led_took m a n (Ended x) led kept = led
 led_took m a n (Stopped t) led kept = (led, λ memory. kept)
 
--- a step of the walk in hand is one of the commit
-pub walk_steps : (first : Bool) (d : Draft) (who : Caller) (before after : Seen) (from : Walk) (c : Cache) (w : Walk) (e : Cache) (turn : Turn ℕ) (n : Run × Cache) (result : Turn CommitAnswer)
-    → Steps walk_asks (LeadsBy walk_next) KeepsServed who before after (from, c) (w, e) turn
+-- a step of the walk in hand is one of the commit, by the same answer
+pub walk_leads : (first : Bool) (d : Draft) (from : Walk) (c : Cache) (a : Answer) (w : Walk) (e : Cache) (turn : Turn ℕ) (n : Run × Cache) (result : Turn CommitAnswer)
+    → Took (LeadsBy walk_next) KeepsServed (from, c) a (w, e) turn
     → (turn ≡ Stopped trouble.Memory → result ≡ Stopped trouble.Memory) → Led (walk_turned first d w e turn) n result → Keeps d.writes.home (home_of n.0)
-    → Steps asks (LeadsBy run_next) KeepsHome who before after (record { draft = d; hand = held first from }, c) n result
-walk_steps true d who before after from c w e turn n result steps memory led kept = record {
-  answer = steps.answer;
-  made = steps.made;
-  took = led_took (record { draft = d; hand = First from }, c) steps.answer n result
-      (by_turn_led (walk_turned true d) (walk_next (from, c) steps.answer) w e turn n result (took_moves (from, c) steps.answer (w, e) turn steps.took) memory led) kept;
-}
-walk_steps false d who before after from c w e turn n result steps memory led kept = record {
-  answer = steps.answer;
-  made = steps.made;
-  took = led_took (record { draft = d; hand = Change from }, c) steps.answer n result
-      (by_turn_led (walk_turned false d) (walk_next (from, c) steps.answer) w e turn n result (took_moves (from, c) steps.answer (w, e) turn steps.took) memory led) kept;
-}
+    → Took (LeadsBy run_next) KeepsHome (record { draft = d; hand = held first from }, c) a n result
+walk_leads true d from c a w e turn n result took memory led kept =
+    led_took (record { draft = d; hand = First from }, c) a n result
+    (by_turn_led (walk_turned true d) (walk_next (from, c) a) w e turn n result (took_moves (from, c) a (w, e) turn took) memory led) kept
+walk_leads false d from c a w e turn n result took memory led kept =
+    led_took (record { draft = d; hand = Change from }, c) a n result
+    (by_turn_led (walk_turned false d) (walk_next (from, c) a) w e turn n result (took_moves (from, c) a (w, e) turn took) memory led) kept
 
 pub wrote_took : (d : Draft) (c : Cache) (a : Answer) (w : Writing) (turn : Turn CommitAnswer) → Took (LeadsBy writing_next) KeepsWritten d.writes a w turn
     → Took (LeadsBy run_next) KeepsHome (record { draft = d; hand = Writes }, c) a (written d w, c) turn

@@ -23,6 +23,7 @@ use Rattle.commit_writes.specs.Well.{AreMarked, RaisesNoFault, AreGone}
 use Rattle.commit_run.specs.declared.hand.Hand.{Hand}
 use Rattle.commit_run.specs.declared.hand.Hand.TheVariants.{Writes, First, Change}
 use Rattle.commit_run.specs.Causing.{Causes}
+use Rattle.commit_run.specs.Demanding.{DemandsNext}
 use Rattle.commit_run.specs.Exact.{Exact, IsRefusing, IsAmple}
 use Rattle.commit_run.specs.Meaning.{IsWriting, home_in, MeansWalks}
 use Rattle.commit_run.specs.Plain.{IsPlain, GoesPlainly}
@@ -62,6 +63,7 @@ pub record Stepped (who : Caller) (before after : Seen) (old new : Run × Cache)
   pub took : Took (LeadsBy run_next) KeepsHome old answer new turn
   pub causes : Causes old answer new turn
   pub refused : IsRefusing old answer turn
+  pub demands : DemandsNext old answer turn
   pub ample : IsAmple (asks old) answer turn
   pub whole : (home : Home) (changes : List Noted) (c : Cache) (h : List Deed) → Went home changes c h old
       → Whole home changes c h (deed_of who (asks old) answer before after) old new turn

@@ -421,6 +421,8 @@ impl Draft {
     {
         let mut walk = walk;
         let turn = walk.step(alloc, cloud, who, cache);
+        // Read for the clause `demands`: what the cache keeps is in the spelling of its kind.
+        let _ = cache.len();
         self.walked(alloc, cache, first, walk, turn)
     }
 

@@ -1,6 +1,7 @@
 use Rattle.tree_walk.specs.Stepped.{steps_of}
 use Rattle.commit_run.proofs.Holding.{steps_held}
-use Rattle.commit_run.proofs.Leading.{walk_steps, keeps_head}
+use Rattle.commit_run.proofs.Leading.{walk_leads, keeps_head}
+use Rattle.commit_run.proofs.Demanding.{walk_demands}
 use Rattle.commit_run.proofs.Exacting.{walk_stepped}
 use Rattle.commit_run.proofs.Ending.{walk_less}
 use Rattle.commit_run.proofs.draft.Draft.step_walk.Goals as goal
@@ -11,9 +12,15 @@ walked-requires-clause-aimed g c =
 
 pub returns-clause-stepped : goal.returns-clause-stepped
 returns-clause-stepped g c =
-    walk_stepped c.args.first c.args.self.now c.args.walk c.args.cache.now c.args.who _ _ _ _
-    (walk_steps c.args.first c.args.self.now c.args.who _ _ c.args.walk c.args.cache.now c.step-turn.new.self c.step-turn.new.cache c.step-turn.result _ _ (steps_of c.step-turn.ensures.stepped)
-    c.walked.ensures.memory c.walked.ensures.led (keeps_head c.args.self.now.writes.home c.walked.new.self.writes.home c.walked.ensures.home))
+    let first = c.args.first in
+    let old = c.args.self.now in
+    let stepped = c.step-turn.ensures.stepped in
+    let memory = c.walked.ensures.memory in
+    let led = c.walked.ensures.led in
+    walk_stepped first old c.args.walk c.args.cache.now c.args.who _ _ stepped.answer _ _ stepped.made
+    (walk_leads first old c.args.walk c.args.cache.now stepped.answer c.step-turn.new.self c.step-turn.new.cache c.step-turn.result _ _ stepped.took memory led
+    (keeps_head old.writes.home c.walked.new.self.writes.home c.walked.ensures.home))
+    (walk_demands first old c.args.walk c.args.cache.now stepped.answer (c.step-turn.new.self, c.step-turn.new.cache) c.step-turn.result _ _ stepped.took c.len.ensures.whole memory led)
 
 pub returns-clause-less : goal.returns-clause-less
 returns-clause-less g c =

@@ -22,7 +22,7 @@ use Rattle.commit_plan.specs.Plan.{seeks, pages_of}
 use Rattle.commit_writes.specs.Writing.{Writing, waiting, is_spent, with_attempt, with_home, routed_of, passes, not_committed, begun, first_leaves}
 use Rattle.commit_run.specs.Demanding.{MeetsFirst, PassesFirst, DemandsReady, behind_stop, behind_turn, MeetsNext, PassesNext, DemandsNext}
 use Rattle.commit_run.specs.Draft.{Draft, new_draft, planned, pruned_behind, leaf_noted, paged}
-use Rattle.commit_run.specs.Run.{Run, Led, held, next_target, is_stale, stale_at, troubled, walk_turned, begin_walks, begun_turn, by_turn, long_target, long_walk, new_run, plan_on, refused, run_ready, seek, target_of, walk_to, wrote}
+use Rattle.commit_run.specs.Run.{Run, Led, held, is_stale, stale_at, troubled, walk_turned, begin_walks, begun_turn, by_turn, long_target, long_walk, new_run, plan_on, refused, run_ready, seek, target_of, walk_to, wrote}
 use Rattle.commit_run.proofs.Exacting.{EndsBy, troubled_by, led_by}
 
 -- behind the pages that are known without a walk stands the first change that seeks a leaf

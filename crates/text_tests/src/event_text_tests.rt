@@ -193,7 +193,7 @@ fn each_line_is_read_and_written_back(rt: HostRuntime) {
 /// Whether a line is read as an insert with this attribute, or without one.
 fn is_insert_with(alloc: Global, line: &str, wanted: Option<&[u8]>) -> bool {
     match Event::read(alloc, line.as_bytes()) {
-        Ok(Event::Insert { attr, .. }) => match (attr, wanted) {
+        Ok(Event::Insert { ref attr, .. }) => match (attr, wanted) {
             (Some(attr), Some(wanted)) => attr.as_slice() == wanted,
             (None, None) => true,
             _ => false,

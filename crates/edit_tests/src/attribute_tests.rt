@@ -37,11 +37,12 @@ struct Row {
 
 // No record; k with the payload v, without an attribute and with a; k with 255 in eight bytes and the attribute a.
 const NONE: &[u8] = &[0];
+
 const PLAIN: &[u8] = &[1, 1, b'k', 0, 1, b'v', 0, 0];
+
 const WITH_A: &[u8] = &[1, 1, b'k', 0, 1, b'v', 1, 1, b'a', 0];
-const NUMBER: &[u8] = &[
-    1, 1, b'k', 0, 8, 0, 0, 0, 0, 0, 0, 0, 255, 1, 1, b'a', 0,
-];
+
+const NUMBER: &[u8] = &[1, 1, b'k', 0, 8, 0, 0, 0, 0, 0, 0, 0, 255, 1, 1, b'a', 0];
 
 static ROWS: [Row; 14] = [
     // An insert sets an attribute, and an update keeps it.
@@ -100,9 +101,7 @@ static ROWS: [Row; 14] = [
         before: NUMBER,
         first: Step::Add(1),
         second: Step::Add(255),
-        after: &[
-            1, 1, b'k', 0, 8, 0, 0, 0, 0, 0, 0, 1, 255, 1, 1, b'a', 0,
-        ],
+        after: &[1, 1, b'k', 0, 8, 0, 0, 0, 0, 0, 0, 1, 255, 1, 1, b'a', 0],
     },
     Row {
         before: PLAIN,

@@ -168,8 +168,7 @@ const TWO_RECORDS: [u8; 50] = [
 /// The page in format 2 with these records and their attributes.
 const TWO_ATTRIBUTES: [u8; 57] = [
     0x4c, 2, 0, 0, 0, 0, 0, 0, 0, 1, 0, 0, 0, 0, 0, 0, 0, 0, 0, 1, 0, 0, 0, 0, 0, 0, 0, 0, 1, 0, 0,
-    0, 0, 0, 0, 0, 1, 0, 1, 1, b'a', 0, 1, b'v', 1, 2, b'x', b'y', 1, 1, b'b', 0, 0, 1, 1, b'z',
-    0,
+    0, 0, 0, 0, 0, 1, 0, 1, 1, b'a', 0, 1, b'v', 1, 2, b'x', b'y', 1, 1, b'b', 0, 0, 1, 1, b'z', 0,
 ];
 
 /// What stands behind the table of the two parts, without attributes and with them.
@@ -177,6 +176,7 @@ const BARE: (&[u8], &[u8]) = (
     &[0, 1, 1, b'a', 0, 1, b'v', 0, 0],
     &[0, 1, 1, b'b', 0, 0, 0, 0],
 );
+
 const ADORNED: (&[u8], &[u8]) = (
     &[0, 1, 1, b'a', 0, 1, b'v', 1, 2, b'x', b'y', 0],
     &[0, 1, 1, b'b', 0, 0, 1, 1, b'z', 0],
@@ -230,7 +230,10 @@ fn is_cut(alloc: Global, page: LeafBuf, ends: (&[u8], &[u8])) -> bool {
 
 #[test]
 fn a_leaf_is_cut(rt: HostRuntime) {
-    for (bytes, ends) in [(TWO_RECORDS.as_slice(), BARE), (TWO_ATTRIBUTES.as_slice(), ADORNED)] {
+    for (bytes, ends) in [
+        (TWO_RECORDS.as_slice(), BARE),
+        (TWO_ATTRIBUTES.as_slice(), ADORNED),
+    ] {
         match leaf_of(rt.alloc(), bytes) {
             Some(page) => assert!(rt; is_cut(rt.alloc(), page, ends)),
             None => rt.panic("no leaf"),

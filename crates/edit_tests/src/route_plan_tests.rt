@@ -1,3 +1,4 @@
+use db_base::attr::Attr;
 use db_base::change::Change;
 use db_base::ids::{ClientId, PageId, TreeId};
 use db_base::key::{Key, Payload};
@@ -18,7 +19,7 @@ use std::alloc::Global;
 use std::process::Abort;
 use txn_buffer::buffer::TxnBuffer;
 
-// Version 1, no fence; up to number 3 of client 1 of the queue of page 7 applied; the record of key "a" and payload "x".
+// Version 1 in format 1, no fence; up to number 3 of client 1 of the queue of page 7 applied; the record of key "a" and payload "x".
 const LEAF: [u8; 45] = [
     76, 1, 0, 0, 0, 0, 0, 0, 0, 1, 0, 0, 0, 0, 0, 0, 0, 0, 0, 1, 0, 0, 0, 0, 0, 0, 0, 7, 1, 0, 0,
     0, 0, 0, 0, 0, 3, 0, 1, 1, 97, 0, 1, 120, 0,
@@ -30,7 +31,7 @@ const ROOT: [u8; 41] = [
     0, 0, 0, 0, 0, 0, 0, 0, 1, 0,
 ];
 
-/// An insert of the payload p.
+/// An insert of the payload p and the attribute t.
 fn insert(alloc: Global, key: &str) -> Option<Change> {
     match Key::new(alloc, key.as_bytes()) {
         Ok(key) => insert_under(alloc, key),
@@ -39,9 +40,13 @@ fn insert(alloc: Global, key: &str) -> Option<Change> {
 }
 
 fn insert_under(alloc: Global, key: Key) -> Option<Change> {
-    match Payload::new(alloc, b"p") {
-        Ok(payload) => Some(Change::Insert { key, payload }),
-        Err(_) => None,
+    match (Payload::new(alloc, b"p"), Attr::new(alloc, b"t")) {
+        (Ok(payload), Ok(attr)) => Some(Change::Insert {
+            key,
+            payload,
+            attr: Some(attr),
+        }),
+        _ => None,
     }
 }
 
@@ -213,18 +218,20 @@ fn add_four(alloc: Global, head: &mut Head, tree: TreeId) -> bool {
         && add_pending(head, tree, 0, 7, insert(alloc, "d"))
 }
 
-/// A key, and the record that a read finds by what is applied, pending and noted.
-const SEEN: [(&str, Option<&str>); 4] = [
-    ("a", Some("x")),
-    ("b", Some("q")),
-    ("d", Some("p")),
+/// A key, and the payload and attribute that a read finds by what is applied, pending and noted.
+const SEEN: [(&str, Option<(&str, Option<&[u8]>)>); 4] = [
+    ("a", Some(("x", None))),
+    ("b", Some(("q", Some(b"t")))),
+    ("d", Some(("p", Some(b"t")))),
     ("e", None),
 ];
 
-/// Whether a record is of this payload, or there is none.
-fn is_payload(record: Option<Value<'_>>, payload: Option<&str>) -> bool {
-    match (record, payload) {
-        (Some(record), Some(payload)) => record.bytes() == payload.as_bytes(),
+/// Whether a record is of this value, or there is none.
+fn is_value(record: Option<Value<'_>>, value: Option<(&str, Option<&[u8]>)>) -> bool {
+    match (record, value) {
+        (Some(record), Some((payload, attr))) => {
+            record.payload() == payload.as_bytes() && record.attr() == attr
+        }
         (None, None) => true,
         _ => false,
     }
@@ -238,11 +245,11 @@ fn is_seen(
     head: &Head,
     buffer: &TxnBuffer,
     key: &str,
-    payload: Option<&str>,
+    value: Option<(&str, Option<&[u8]>)>,
 ) -> bool {
-    is_payload(
+    is_value(
         seen(leaf, tree, key.as_bytes(), client, head, buffer),
-        payload,
+        value,
     )
 }
 
@@ -260,8 +267,8 @@ fn what_is_lacked_is_seen(rt: HostRuntime) {
     let mut head = Head::empty(rt.alloc());
     assert!(rt; add_four(rt.alloc(), &mut head, tree));
     assert!(rt; note(&mut buffer, tree, update(rt.alloc(), "b")));
-    for (key, payload) in SEEN {
-        assert!(rt; is_seen(&leaf, tree, client, &head, &buffer, key, payload));
+    for (key, value) in SEEN {
+        assert!(rt; is_seen(&leaf, tree, client, &head, &buffer, key, value));
     }
 }
 

@@ -195,7 +195,7 @@ fn refuses_stale_leaves(rt: HostRuntime) -> Result<(), Fail> {
 const BYTES: &[Step<'static>] = &[
     Step::Takes(0, Some(ROOT), false),
     Step::Takes(7, Some(NODE_7), false),
-    Step::Takes(2, Some(b"L\x02"), true),
+    Step::Takes(2, Some(b"L\x03"), true),
     Step::Takes(2, Some(LEAF), false),
     Step::Takes(0, Some(LEAF), false),
     Step::Takes(0, None, false),

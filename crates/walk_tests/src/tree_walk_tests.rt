@@ -133,7 +133,7 @@ const TROUBLES: [(u64, &[u8], &[u8], &str); 5] = [
     ),
     (
         3,
-        b"L\x02",
+        b"L\x03",
         b"p",
         "get tree:1\nget page:1:8\nget page:1:3\ndamaged page:1:3 1\n",
     ),

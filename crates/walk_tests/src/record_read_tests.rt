@@ -67,10 +67,5 @@ leaf 3
 
 #[test]
 fn reads_attributes(rt: HostRuntime) -> Result<(), Fail> {
-    play(
-        rt.alloc(),
-        THREE_LEVELS,
-        READS_OF_ATTRIBUTES,
-        ATTRIBUTES,
-    )
+    play(rt.alloc(), THREE_LEVELS, READS_OF_ATTRIBUTES, ATTRIBUTES)
 }

@@ -52,7 +52,7 @@ use Rattle.client_work.specs.Session.{Acting, closed_session, opening_of, Follow
 use Rattle.recover_run.specs.declared.stage.RecoverAnswer.TheVariants as opening
 use Rattle.session_facts.specs.RowKinds.Asks.{MayAsk}
 use Rattle.session_facts.specs.Sessions.Puts.{IsSoundWork}
-use Rattle.replay_meaning.specs.Standing.{Line, Closed as NotOpen, Standing, standing, standing_of_row}
+use Rattle.replay_meaning.specs.Standing.{Line, Closed as NotOpen, Working as Busy, Committing as Noting, Standing, standing, standing_of_row}
 use Rattle.replay_meaning.specs.Committed.{Versions}
 use Rattle.replay_meaning.specs.Kinds.{IsCommitting, CommitsFor, CommitsCount, IsOfWork, MayPutHead, MayPutPhase, LandsOpen}
 use Rattle.session_facts.specs.Facts.{IsPlaced, WorksAs}
@@ -727,7 +727,7 @@ opens_none home w ask client head is hand puts = never (commits_to lines row ask
     own = record { place = 0; event = refl; line = record { event = event.Work 0; reply = reply.Called }; there = refl; works = refl }
 
     never : CommitsFor client (standing_of_row lines row) → ⊥
-    never c = let commits = c.commits.1 in absurd (cc)
+    never c = let commits : NotOpen ≡ Busy (Noting c.commits.0) = c.commits.1 in absurd (cc)
 
 -- a step of a checkpoint
 pub worker_apart : (Was : ℕ → Type 0) (who : Caller) (home : Home) (before after : Seen) (start : CloudState) (f : Sessions) (b : Acting) (turn : Turn Answer)

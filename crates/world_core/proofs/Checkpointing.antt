@@ -11,6 +11,7 @@ use Rattle.client_work.specs.declared.answer.Answer.{Answer}
 use Rattle.client_work.specs.declared.answer.Answer.TheVariants as answer
 use Rattle.client_work.specs.declared.answer.Begun.{Begun}
 use Rattle.client_work.specs.declared.answer.Begun.TheVariants.{Working}
+use Rattle.client_work.specs.declared.op.Op.{Op}
 use Rattle.client_work.specs.declared.work.Work.{Work}
 use Rattle.client_work.specs.declared.work.Work.TheVariants.{Idle, Paging, Folding}
 use Rattle.client_work.specs.Session.{Acting, Begins, BeginsWith, StepsAt, ask_of_work, open_client, rule_of}
@@ -41,7 +42,7 @@ use Rattle.world_core.specs.declared.world.WorldFault.{WorldFault}
 use Rattle.world_core.specs.declared.put.Put.{Put}
 use Rattle.world_core.specs.Put.{put_of, put_of_hand}
 use Rattle.world_core.specs.Sessions.{Changes, IsAtWork}
-use Rattle.world_core.specs.Handled.{BeginsCheckpoint, Checkpoints, ComesTo, FailsAt, IsOpen, IsPassable, IsShut, KnowsNoDue, MakesOne, NotesCall, NotesStep, StepsLooked, Works, no_checkpoint, checkpoint_more, WorksOff, WorksShort, as_one, checkpoint_of, done_by, is_done, note_of_hand, passed_by}
+use Rattle.world_core.specs.Handled.{BeginsBook, BookBegins, BeginsCheckpoint, book_begun, Checkpoints, ComesTo, FailsAt, IsOpen, IsPassable, IsShut, KnowsNoDue, MakesOne, NotesCall, NotesStep, StepsLooked, Works, no_checkpoint, checkpoint_more, WorksOff, WorksShort, as_one, checkpoint_of, done_by, is_done, note_of_hand, passed_by}
 use Rattle.world_core.proofs.Going.{after_there, same_session}
 use Rattle.world_core.proofs.StandsLemmas.{changed_at, changed_was}
 use Rattle.world_core.proofs.Workers.{IsBetween, IsIdle, IsInside, begun_has, open_home, open_rests, within_begun, within_made, within_went}
@@ -293,3 +294,19 @@ notes_put number books new w put turn done is same c = record {
   };
   rest = c.rest;
 }
+
+-- ---- a begin, whatever it is of
+
+pub book_on : (number : ℕ) (o : Op) (old mid new : World) → BeginsBook number o old mid → new.notes ≡ mid.notes → BeginsBook number o old new
+book_on number o old mid new b same = record { session = b.session; there = b.there; does = subst (BookBegins number o (open_client b.session.work) old.notes) (sym same) b.does }
+
+pub book_begins : (number : ℕ) (o : Op) (old new : World) (a : Acting) → slice_get old.sessions number ≡ Some a → BookBegins number o (open_client a.work) old.notes new.notes
+    → BeginsBook number o old new
+book_begins number o old new a there does = record { session = a; there = there; does = does }
+
+pub book_open : (number client : ℕ) (o : Op) (w : Work) (old new : List Notebook) → open_client w ≡ Ok client → ChangesBook number (λ a b. b ≡ book_begun o a) old new
+    → BookBegins number o (open_client w) old new
+book_open number client o w old new is c = subst (λ x. BookBegins number o x old new) (sym is) c
+
+pub book_shut : (number : ℕ) (rule : Refusal) (o : Op) (w : Work) (old : List Notebook) → open_client w ≡ Err rule → BookBegins number o (open_client w) old old
+book_shut number rule o w old is = subst (λ x. BookBegins number o x old old) (sym is) refl

@@ -224,6 +224,21 @@ impl<S: SessionCalls> World<S> {
         ensures notes { BeginsBook number op self.old self.new }
     {
         self.begin_book(number, &op);
+        self.begin_op(alloc, number, op)
+    }
+
+    /// Begins an operation of the session.
+    fn begin_op(
+        &mut self,
+        alloc: Global,
+        number: SessionNo,
+        op: Op,
+    ) -> Result<Reply, WorldFault>
+        ensures session { Changes number (BeginsOp op result) self.old.sessions self.new.sessions }
+        ensures audit { self.new.audit ≡ self.old.audit }
+        ensures blind { self.new.blind ≡ self.old.blind }
+        ensures notes { KeepsNotes self.old self.new }
+    {
         let begun = self.sessions.begin(alloc, number, op);
         let reply = begun_reply(alloc, self.sessions.get(number), begun);
         self.replied(number, reply)
@@ -548,8 +563,9 @@ impl<S: SessionCalls> World<S> {
         ensures audit { self.new.audit ≡ self.old.audit }
         ensures blind { self.new.blind ≡ self.old.blind }
     {
-        if self.session(number).client().is_ok() {
-            begin_notes(&mut self.notes, number, op);
+        match self.session(number).client() {
+            Ok(_) => begin_notes(&mut self.notes, number, op),
+            Err(_) => {}
         }
     }
 

@@ -2,7 +2,7 @@ use Rattle.std.proofs.Common.{subst, sym}
 use Rattle.world_core.specs.Handled.{BeginsOp}
 use Rattle.world_core.specs.Sessions.{Changes}
 use Rattle.world_core.proofs.ReplyLemmas.{begins_to}
-use Rattle.world_core.proofs.world.World.begin.Goals as goal
+use Rattle.world_core.proofs.world.World.begin_op.Goals as goal
 
 pub returns-clause-session : goal.returns-clause-session
 returns-clause-session g c =

@@ -96,7 +96,7 @@ impl<S: SessionCalls> World<S> {
     ghost use Rattle.world_core.specs.Settled.{SettlingEnds, SettlingIsRight, SettlingLeaves};
     ghost use Rattle.world_core.specs.Stands.{KeepsABook, WorldStands, StandsOn};
     ghost use Rattle.world_core.specs.Sessions.{Changes, IsNotWorking, IsAtWork, HasPut};
-    ghost use Rattle.world_core.specs.Handled.{BeginsBook, BeginsCheckpoint, FailsAt, IsOpen, KeepsNotes, MakesOne, NotesCall, NotesEnd, Policies, WorksOff, WorksShort, WorksThrough, Handled, Answers, Does, BeginsOp, NotesChange, DropsChanges, MakesStep, ComesTo, Runs, Settles, SettlesOn, Has, Crashes, CrashesDone, StepsLooked, StopsShort, FallsShort, RunsShort, Reports, BreaksOff, LeavesReplied};
+    ghost use Rattle.world_core.specs.Handled.{BeginsBook, BeginsCheckpoint, ClearsNotes, FailsAt, IsOpen, KeepsNotes, MakesOne, NotesCall, NotesEnd, Policies, WorksOff, WorksShort, WorksThrough, Handled, Answers, Does, BeginsOp, NotesChange, DropsChanges, MakesStep, ComesTo, Runs, Settles, SettlesOn, Has, Crashes, CrashesDone, StepsLooked, StopsShort, FallsShort, RunsShort, Reports, BreaksOff, LeavesReplied};
 
     /// A world whose sessions are closed, and that saw nothing: over an empty cloud it stands for no lines. Refused for memory
     /// alone.
@@ -284,6 +284,15 @@ impl<S: SessionCalls> World<S> {
         ensures notes { KeepsNotes self.old self.new }
     {
         self.sessions.crash(number);
+    }
+
+    /// Closes the session at once, and forgets what is kept of it.
+    fn die(&mut self, number: SessionNo)
+        ensures closes { Has number closed_session self.old self.new }
+        ensures notes { ClearsNotes number self.old self.new }
+    {
+        self.sessions.crash(number);
+        self.notes.clear(number);
     }
 
     /// Breaks the session off: of an open client its lease is left.
@@ -621,8 +630,7 @@ impl<S: SessionCalls> World<S> {
         if done && self.works(who.session) {
             return self.crash_done(alloc, cloud, who);
         }
-        self.close(who.session);
-        self.notes.clear(who.session);
+        self.die(who.session);
         Ok(Reply::Crashed)
     }
 
@@ -638,8 +646,7 @@ impl<S: SessionCalls> World<S> {
         ensures grows { Grows who.event (C.seen cloud.old) (C.seen cloud.new) }
     {
         let turn = self.step_under(alloc, cloud, who, Wish::Plain)?;
-        self.close(who.session);
-        self.notes.clear(who.session);
+        self.die(who.session);
         unanswered(turn);
         Ok(Reply::Crashed)
     }

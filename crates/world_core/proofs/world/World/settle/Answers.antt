@@ -10,4 +10,4 @@ returns-in-Ok-clause-settles g c =
     × SettlesOn (record { session = k; event = c.args.n }) (g.C.Cloud.seen c.args.cloud.now) (g.C.Cloud.seen c.settle_on.new.cloud) c.begin_settling.new.self c.settle_on.new.self c.settle_on.result
     in
     let h : Own 0 = subst Own c.settler-session.ensures (c.in-Ok.ensures.ok, c.settle_on.ensures.settles) in
-    inl (record { begun = c.begin_settling.new.self; begins = h.0; settles = h.1 })
+    inl (record { begun = c.begin_settling.new.self; begins = h.0; notes = c.begin_settling.ensures.notes; settles = h.1 })

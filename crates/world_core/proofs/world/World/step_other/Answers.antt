@@ -7,8 +7,8 @@ use Rattle.world_core.proofs.Landing.{audited_none}
 use Rattle.world_core.proofs.Marks.{newest_call}
 use Rattle.world_core.proofs.world.World.step_other.Goals as goal
 
-pub returns-clause-looked : goal.returns-clause-looked
-returns-clause-looked g c = record {
+pub returns-in-Ok-in-Ok-clause-looked : goal.returns-in-Ok-in-Ok-clause-looked
+returns-in-Ok-in-Ok-clause-looked g c = record {
   from = g.C.Cloud.seen c.args.cloud.now;
   under = g.C.Cloud.seen c.wish.new.self;
   to = g.C.Cloud.seen c.call.new.cloud;

@@ -1,0 +1,17 @@
+use Rattle.std.specs.Prelude.{length}
+use Rattle.world_core.specs.Stands.{Grows}
+use Rattle.world_core.proofs.Checkpointing.{IsGoing}
+use Rattle.world_core.proofs.world.World.work_down.Given as goal
+
+-- the checkpoints so far, and what they leave of earlier lines
+abbrev pub invariant-checkpoints : goal.invariant-checkpoints
+invariant-checkpoints g l =
+    let seen = g.C.Cloud.seen in
+    record {
+      going : IsGoing l.fn.who l.fn.queues l.left l.most l.done l.passed (seen l.fn.cloud) (seen l.cloud) l.fn.self l.self;
+      grows : Grows l.fn.who.event (seen l.fn.cloud) (seen l.cloud);
+    }
+
+-- the queues that are left
+abbrev pub decreases-checkpoints : goal.decreases-checkpoints
+decreases-checkpoints g l = length l.left

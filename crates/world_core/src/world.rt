@@ -80,6 +80,7 @@ impl<S: SessionCalls> Model for World<S> {
 
 impl<S: SessionCalls> World<S> {
     ghost use Rattle.cloud_trait.specs.State.{CloudState, IsEmptyCloud};
+    ghost use Rattle.cloud_trait.specs.Seen.{Seen};
     ghost use Rattle.client_work.specs.Session.{closed_session, settling_session, StepsSession};
     ghost use Rattle.reply_text.specs.Reply.{ReplyHasText};
     ghost use Rattle.world_core.specs.Sound.{AnswersSoundly};
@@ -209,7 +210,7 @@ impl<S: SessionCalls> World<S> {
             Request::Begin(op) => self.begin(alloc, who.session, op),
             Request::Note(tree, change) => self.note(who.session, tree, change),
             Request::Abort => self.abort(who.session),
-            Request::Policy(role, k) => self.policy(alloc, cloud, who, role, k),
+            Request::Policy(role, k) => self.policy(alloc, who.session, role, k),
             Request::Work => self.work(alloc, cloud, who),
             Request::Step(wish) => self.step(alloc, cloud, who, wish),
             Request::Run => self.run(alloc, cloud, who),
@@ -405,23 +406,21 @@ impl<S: SessionCalls> World<S> {
     }
 
     /// Gives an open session a ledger.
-    #[tactic(auto, using(crate::proofs::GrowthLemmas::grows_not))]
-    fn policy<C: Bench>(
+    fn policy(
         &mut self,
         alloc: Global,
-        cloud: &mut C,
-        who: Who,
+        number: SessionNo,
         role: Role,
         k: u64,
     ) -> Result<Reply, WorldFault>
-        ensures policies { Policies who.session role k (C.seen cloud.old) (C.seen cloud.new) self.old self.new result }
-        ensures grows { Grows who.event (C.seen cloud.old) (C.seen cloud.new) }
+        // Whatever the cloud is seen to be, no call is made.
+        ensures { (seen : Seen) → Policies number role k seen seen self.old self.new result }
     {
         if !is_number(k) {
             return Ok(Reply::Refused(Refusal::BadNumber));
         }
-        match self.session(who.session).client() {
-            Ok(client) => self.give_ledger(alloc, who.session, role, k, client),
+        match self.session(number).client() {
+            Ok(client) => self.give_ledger(alloc, number, role, k, client),
             Err(rule) => Ok(Reply::Refused(rule)),
         }
     }

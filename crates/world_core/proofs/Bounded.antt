@@ -115,7 +115,7 @@ module _ (lines : List Line) (n : ℕ) (before after : Seen) (old new : World) (
     works_soon : (h : WorksThrough n k before after old new result) → WorksSoon n k before after old new result h
     works_soon (inl refused) = tt
     works_soon (inr (inl down)) =
-        let rest = open_rests k old down.open in
+        let rest = open_rests k old down.opened in
         let q : Reply = reply.Worked 0 0 in
         let begins = worker_begins lines k n before old t (sym number) told stands.by_lines q tt in
         each_soon (lines ++ line_of (event.Work k) q ∷ []) rest.0 (worker_rows lines k n before old t (sym number) told stands.by_lines q) (session_at old.sessions) before old down.queues

@@ -463,7 +463,7 @@ module _ (lines : List Line) (n k : ℕ) (before after : Seen) (old new : World)
   through_well : WorksThrough n k before after old new (Ok r) → Behind × WorksWell r
   through_well (inl refuses) = let is = not_done _ refuses.declines in (is.0, subst WorksWell (sym is.1.1) tt)
   through_well (inr (inl down)) =
-      let rest = open_rests k old down.open in
+      let rest = open_rests k old down.opened in
       let last = within_works who rest.0 (session_at old.sessions) before old down.queues down.done down.passed after new rest.2 down.works in
       let is : r ≡ reply.Worked down.done down.passed = cc (down.replies) in
       (rests_in k after new (subst IsAtRest (sym last.works) (at_rest (work.Idle rest.0) refl refl)), subst WorksWell (sym is) tt)

@@ -50,7 +50,7 @@ use Rattle.world_core.proofs.Workers.{IsBetween, IsIdle, IsInside, begun_has, op
 -- ---- what a session has
 
 pub is_open : (number client : ℕ) (sessions : List Acting) (a : Acting) → slice_get sessions number ≡ Some a → open_client a.work ≡ Ok client → IsOpen number sessions
-is_open number client sessions a there open = record { session = a; there = there; client = client; open = open }
+is_open number client sessions a there opened = record { session = a; there = there; client = client; opened = opened }
 
 pub is_shut : (number : ℕ) (sessions : List Acting) (a : Acting) (rule : Refusal) → slice_get sessions number ≡ Some a → open_client a.work ≡ Err rule → IsShut number sessions rule
 is_shut number sessions a rule there shut = record { session = a; there = there; shut = shut }
@@ -62,7 +62,7 @@ between_open number home first world a there w = record {
   session = a;
   there = there;
   client = home.client;
-  open = ap open_client (ap (λ (x : Acting). x.work) (sym (session_there world.sessions number a there)) ∙ w.works);
+  opened = ap open_client (ap (λ (x : Acting). x.work) (sym (session_there world.sessions number a there)) ∙ w.works);
 }
 
 -- ---- a begin
@@ -84,12 +84,12 @@ checkpoint_hand home (Folding h f) is = (_, refl)
 checkpoint_hand home w is = absurd is
 
 -- an open session whose checkpoint begins has it in hand
-module _ (number : ℕ) (queue : QueueName) (old new : List Acting) (result : Result Begun Refused) (open : IsOpen number old) (pending : IsPending queue)
+module _ (number : ℕ) (queue : QueueName) (old new : List Acting) (result : Result Begun Refused) (opened : IsOpen number old) (pending : IsPending queue)
     (c : Changes number (λ a b. Begins (checkpoint_of queue) a b result) old new) where
   home_before : (home : Home) × IsIdle home c.before.work
   home_before =
-      let h = open_home open.session.work open.client open.open in
-      (h.0, subst (λ (a : Acting). IsIdle h.0 a.work) (same_session old number open.session c.before open.there c.there) h.1)
+      let h = open_home opened.session.work opened.client opened.opened in
+      (h.0, subst (λ (a : Acting). IsIdle h.0 a.work) (same_session old number opened.session c.before opened.there c.there) h.1)
 
   pub begins_working : Changes number (λ a b. Begins (checkpoint_of queue) a b (Ok Working)) old new
   begins_working = record {
@@ -126,15 +126,15 @@ checkpoint_answers who before after home w new a p is = absurd is
 
 pub answers_checkpoint : (who : Caller) (queue : QueueName) (before after : Seen) (old begun new : World) (a : Answer) → IsOpen who.session old.sessions
     → BeginsCheckpoint who.session queue old begun → ComesTo who before after begun new a → IsOfCheckpoint a
-answers_checkpoint who queue before after old begun new a open b c =
+answers_checkpoint who queue before after old begun new a opened b c =
     checkpoint_answers who p.under p.to rest.0 p.session.before.work p.session.after.work a p.session.does.work
     (subst (λ (x : Acting). HasCheckpoint rest.0 x.work) (changed_was who.session _ c.world.sessions new.sessions p.session) inside.works)
   where
     p : StepsLooked who Plain c.mid after c.world new (Ended a)
     p = c.steps
 
-    rest : (home : Home) × (home.client ≡ open.client) × IsBetween who.session home (session_at old.sessions) old
-    rest = open_rests who.session old open
+    rest : (home : Home) × (home.client ≡ opened.client) × IsBetween who.session home (session_at old.sessions) old
+    rest = open_rests who.session old opened
 
     inside : IsInside who.session rest.0 (session_at old.sessions) c.world
     inside =
@@ -143,15 +143,15 @@ answers_checkpoint who queue before after old begun new a open b c =
 -- one was made, and the session is open behind it
 pub stays_open : (who : Caller) (queue : QueueName) (done : Bool) (before after : Seen) (old new : World) → IsOpen who.session old.sessions → MakesOne who queue done before after old new
     → IsOpen who.session new.sessions
-stays_open who queue done before after old new open m =
+stays_open who queue done before after old new opened m =
     between_open who.session rest.0 (session_at old.sessions) new p.session.after (after_there who.session _ m.makes.comes.world.sessions new.sessions p.session)
     (within_made who rest.0 (session_at old.sessions) queue before after old new m.answer m.passes rest.2 m.makes)
   where
     p : StepsLooked who Plain m.makes.comes.mid after m.makes.comes.world new (Ended m.answer)
     p = m.makes.comes.steps
 
-    rest : (home : Home) × (home.client ≡ open.client) × IsBetween who.session home (session_at old.sessions) old
-    rest = open_rests who.session old open
+    rest : (home : Home) × (home.client ≡ opened.client) × IsBetween who.session home (session_at old.sessions) old
+    rest = open_rests who.session old opened
 
 pub makes_done : (who : Caller) (queue : QueueName) (before after : Seen) (old begun new : World) (a : Answer) → BeginsCheckpoint who.session queue old begun
     → ComesTo who before after begun new a → (done : Bool) → IsPassable a → done_by a ≡ as_one done → passed_by a ≡ as_one (not done) → MakesOne who queue done before after old new
@@ -165,18 +165,18 @@ pub record IsGoing (who : Caller) (queues left : List QueueName) (most done pass
   pub gone : List QueueName
   pub whole : queues ≡ gone ++ left
   pub works : Works who before old gone done passed after new
-  pub open : IsOpen who.session new.sessions
+  pub opened : IsOpen who.session new.sessions
   pub pending : All IsPending left
   pub done_most : done + length left ≤ most
   pub passed_most : passed + length left ≤ most
 
 pub going_first : (who : Caller) (queues : List QueueName) (most : ℕ) (before : Seen) (old : World) → most ≡ length queues → IsOpen who.session old.sessions → All IsPending queues
     → IsGoing who queues queues most 0 0 before before old old
-going_first who queues most before old is open pending = record {
+going_first who queues most before old is opened pending = record {
   gone = [];
   whole = refl;
   works = no_checkpoint;
-  open = open;
+  opened = opened;
   pending = pending;
   done_most = omega (arith, is);
   passed_most = omega (arith, is);
@@ -191,7 +191,7 @@ going_more who queues left rest queue most done passed done_after passed_after k
   works = subst (λ j. Works who before old (g.gone ++ queue ∷ []) j passed_after after new) (sym (d ∙ ap (λ i. done + i) (sym m.kept)))
       (subst (λ j. Works who before old (g.gone ++ queue ∷ []) (done + done_by m.answer) j after new) (sym (p ∙ ap (λ i. passed + i) (sym m.passed)))
       (checkpoint_more g.gone done passed mid world queue m.answer after new g.works m.makes m.passes));
-  open = stays_open who queue kept mid after world new g.open m;
+  opened = stays_open who queue kept mid after world new g.opened m;
   pending = All-tail IsPending queue rest (subst (All IsPending) is g.pending);
   done_most = less done done_after (as_one kept) d (one_at_most kept) (subst (λ l. done + length l ≤ most) is g.done_most);
   passed_most = less passed passed_after (as_one (not kept)) p (one_at_most (not kept)) (subst (λ l. passed + length l ≤ most) is g.passed_most);
@@ -222,8 +222,8 @@ going_all who queues left most done passed before after old new is g = record {
 
 pub going_short : (who : Caller) (queues left : List QueueName) (most done passed : ℕ) (before mid after : Seen) (old world new : World) → IsOpen who.session old.sessions
     → IsGoing who queues left most done passed before mid old world → FailsAt who mid after world new → WorksShort who before after old new
-going_short who queues left most done passed before mid after old world new open g fails = record {
-  open = open;
+going_short who queues left most done passed before mid after old world new opened g fails = record {
+  opened = opened;
   queues = g.gone;
   done = done;
   passed = passed;

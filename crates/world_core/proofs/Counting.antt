@@ -635,8 +635,8 @@ module _ (lines : List Line) (n : ℕ) (number : length lines + 1 ≡ n) (before
     worked (inl refuses) = declined_counts _ refuses.declines
     worked (inr (inl down)) = λ m. on m (cases_eq m k)
       where
-        rest : (home : Home) × (home.client ≡ down.open.client) × IsBetween k home (session_at old.sessions) old
-        rest = open_rests k old down.open
+        rest : (home : Home) × (home.client ≡ down.opened.client) × IsBetween k home (session_at old.sessions) old
+        rest = open_rests k old down.opened
 
         q : Reply
         q = reply.Worked down.done down.passed

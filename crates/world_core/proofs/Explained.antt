@@ -149,7 +149,7 @@ module _ (lines : List Line) where
     through_explains : (k : ℕ) (h : WorksThrough n k before after old new result) → EachThrough StepExplains n k before after old new result h
     through_explains k (inl refused) = tt
     through_explains k (inr (inl down)) =
-        let rest = open_rests k old down.open in
+        let rest = open_rests k old down.opened in
         let q : Reply = reply.Worked 0 0 in
         works_explain n k (lines ++ line_of (event.Work k) q ∷ []) rest.0 (worker_rows lines k n before old t (sym number) told stands q) (session_at old.sessions) before old
         down.queues down.done down.passed after new rest.2 (worker_begins lines k n before old t (sym number) told stands q tt) down.works

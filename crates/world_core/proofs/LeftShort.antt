@@ -389,12 +389,12 @@ module _ (who : Caller) (home : Home) (first : Sessions) (new : World) where
 -- a session that was open at its begin
 from_open : (who : Caller) (home : Home) (old new : World) → (session_at old.sessions who.session).work ≡ Idle home → LeftOpen who new old
     → Changes who.session IsLeftShort old.sessions new.sessions
-from_open who home old new open c = record {
+from_open who home old new opened c = record {
   before = c.before;
   after = c.after;
   there = c.there;
   does = record {
-    work = subst (λ w. IsBroken w c.after.work) (sym (ap (λ (a : Acting). a.work) (sym (session_there old.sessions who.session c.before c.there)) ∙ open)) c.does.0;
+    work = subst (λ w. IsBroken w c.after.work) (sym (ap (λ (a : Acting). a.work) (sym (session_there old.sessions who.session c.before c.there)) ∙ opened)) c.does.0;
     shown = c.does.1;
   };
   rest = c.rest;
@@ -538,7 +538,7 @@ module _ (n : ℕ) (before after : Seen) (old new : World) (why : WorldFault) wh
   work_short k (inr (inl down)) = absurd (cc (down.replies))
   work_short k (inr (inr memory)) =
       let s = memory.1 in
-      let rest = open_rests k old s.open in
+      let rest = open_rests k old s.opened in
       from_open (who k) rest.0 old new rest.2.works
       (worked_left (who k) new before old s.queues s.done s.passed s.mid s.world s.works
       (falls_left (who k) rest.0 (session_at old.sessions) new s.mid after s.world

@@ -128,7 +128,7 @@ module _ (lines : List Line) (n : ℕ) (before after : Seen) (old new : World) (
     works_names : (h : WorksThrough n k before after old new result) → EachThrough StepNames n k before after old new result h
     works_names (inl refused) = tt
     works_names (inr (inl down)) =
-        let rest = open_rests k old down.open in
+        let rest = open_rests k old down.opened in
         let q : Reply = reply.Worked 0 0 in
         let begins = worker_begins lines k n before old t (sym number) told stands.by_lines q tt in
         each_names (lines ++ line_of (event.Work k) q ∷ []) rest.0 (worker_rows lines k n before old t (sym number) told stands.by_lines q) (session_at old.sessions) before old down.queues

@@ -496,11 +496,11 @@ module _ (events : List Event) (first : CloudState) (n : ℕ) (before after : Se
   works_so : (k : ℕ) → WorksThrough n k before after old new result → Apart
   works_so k (inl refuses) = nothing_done events first before after old new refuses.declines.world refuses.declines.seen h
   works_so k (inr (inl down)) =
-      let rest = open_rests k old down.open in
+      let rest = open_rests k old down.opened in
       works_once events first n k rest.0 (session_at old.sessions) before old down.queues down.done down.passed after new rest.2 down.works h
   works_so k (inr (inr memory)) =
       let s = memory.1 in
-      let rest = open_rests k old s.open in
+      let rest = open_rests k old s.opened in
       works_fall events first n k rest.0 (session_at old.sessions) s.mid after s.world new
       (within_works (worker k n) rest.0 (session_at old.sessions) before old s.queues s.done s.passed s.mid s.world rest.2 s.works) s.falls
       (works_once events first n k rest.0 (session_at old.sessions) before old s.queues s.done s.passed s.mid s.world rest.2 s.works h)

@@ -129,7 +129,7 @@ working_shows : (lines : List Line) (n k : ℕ) (before after : Seen) (old new :
     → EachThrough (StepShowsBy lines) n k before after old new result h
 working_shows lines n k before after old new result (inl refused) = tt
 working_shows lines n k before after old new result (inr (inl down)) =
-    let rest = open_rests k old down.open in
+    let rest = open_rests k old down.opened in
     works_show lines (record { session = k; event = n }) rest.0 (session_at old.sessions) before old down.queues down.done down.passed after new rest.2 down.works
 working_shows lines n k before after old new result (inr (inr memory)) = tt
 

@@ -121,8 +121,8 @@ works_adding lines first k n r before after old new number some w d = record {
     whole : n ≡ length all
     whole = omega (arith, number, length-append lines (line_of (event.Work k) r ∷ []))
 
-    rest : (home : Home) × (home.client ≡ d.open.client) × IsBetween k home (session_at old.sessions) old
-    rest = open_rests k old d.open
+    rest : (home : Home) × (home.client ≡ d.opened.client) × IsBetween k home (session_at old.sessions) old
+    rest = open_rests k old d.opened
 
     last : IsBetween k rest.0 (session_at old.sessions) new
     last = within_works (worker k n) rest.0 (session_at old.sessions) before old d.queues d.done d.passed after new rest.2 d.works
@@ -139,12 +139,12 @@ pub work_rows : (lines : List Line) (first : CloudState) (k n : ℕ) (r : Reply)
 work_rows lines first k n r before after old new result number w (inl refuses) =
     rows_seen n (lines ++ line_of (event.Work k) r ∷ []) first before after refuses.declines.seen (worker_rows_begin lines first k n r before number w.rows)
 work_rows lines first k n r before after old new result number w (inr (inl d)) =
-    let rest = open_rests k old d.open in
+    let rest = open_rests k old d.opened in
     worker_works n k (lines ++ line_of (event.Work k) r ∷ []) first rest.0 (session_at old.sessions) (worker_row lines r (worker k n) (sym number)) before old d.queues d.done d.passed after new
     rest.2 d.works (worker_rows_begin lines first k n r before number w.rows)
 work_rows lines first k n r before after old new result number w (inr (inr memory)) =
     let s : WorksShort (worker k n) before after old new = memory.1 in
-    let rest = open_rests k old s.open in
+    let rest = open_rests k old s.opened in
     let row = worker_row lines r (worker k n) (sym number) in
     worker_falls n k (lines ++ line_of (event.Work k) r ∷ []) first rest.0 (session_at old.sessions) row s.mid after s.world new
     (within_works (worker k n) rest.0 (session_at old.sessions) before old s.queues s.done s.passed s.mid s.world rest.2 s.works) s.falls

@@ -160,14 +160,14 @@ module _ (who : Caller) (home : Home) (first : Sessions) where
       within_made queue mid after world new a passes (within_works before old others kept left mid world w works) makes
 
 -- a session that is open, before its work
-pub open_rests : (k : ℕ) (world : World) → (open : IsOpen k world.sessions) → (home : Home) × (home.client ≡ open.client) × IsBetween k home (session_at world.sessions) world
-open_rests k world open = (h.0, h.2, record { works = subst (λ (a : Acting). IsIdle h.0 a.work) (sym there) h.1; buffer = refl; others = λ m ne. refl })
+pub open_rests : (k : ℕ) (world : World) → (opened : IsOpen k world.sessions) → (home : Home) × (home.client ≡ opened.client) × IsBetween k home (session_at world.sessions) world
+open_rests k world opened = (h.0, h.2, record { works = subst (λ (a : Acting). IsIdle h.0 a.work) (sym there) h.1; buffer = refl; others = λ m ne. refl })
   where
-    h : (home : Home) × IsIdle home open.session.work × (home.client ≡ open.client)
-    h = open_home open.session.work open.client open.open
+    h : (home : Home) × IsIdle home opened.session.work × (home.client ≡ opened.client)
+    h = open_home opened.session.work opened.client opened.opened
 
-    there : session_at world.sessions k ≡ open.session
-    there = session_there world.sessions k open.session open.there
+    there : session_at world.sessions k ≡ opened.session
+    there = session_there world.sessions k opened.session opened.there
 
 -- ---- what holds within the line
 
@@ -315,10 +315,10 @@ works_down lines k n r before after old new t at some told stands d = record {
     first = session_at old.sessions
 
     home : Home
-    home = (open_rests k old d.open).0
+    home = (open_rests k old d.opened).0
 
     rest : IsBetween k home first old
-    rest = (open_rests k old d.open).2
+    rest = (open_rests k old d.opened).2
 
     last : IsBetween k home first new
     last = within_works (worker k n) home first before old d.queues d.done d.passed after new rest d.works

@@ -418,7 +418,7 @@ pub record IsOpen (number : ℕ) (sessions : List Acting) : Type 0 where
   pub session : Acting
   pub there : slice_get sessions number ≡ Some session
   pub client : ℕ
-  pub open : open_client session.work ≡ Ok client
+  pub opened : open_client session.work ≡ Ok client
 
 -- or a rule refuses an operation of it
 pub record IsShut (number : ℕ) (sessions : List Acting) (rule : Refusal) : Type 0 where
@@ -441,7 +441,7 @@ pub record WorksOff (who : Caller) (queues : List QueueName) (before after : See
 
 -- a session that is open makes the checkpoints that are due to it
 pub record WorksDown (n number : ℕ) (before after : Seen) (old new : World) (result : Result Reply WorldFault) : Type 0 where
-  pub open : IsOpen number old.sessions
+  pub opened : IsOpen number old.sessions
   pub queues : List QueueName
   pub due : IsDueAt number old.notes queues
   pub done : ℕ
@@ -468,7 +468,7 @@ pub record KnowsNoDue (number : ℕ) (before after : Seen) (old new : World) : T
 
 -- memory ran out behind some checkpoints, or before the first
 pub record WorksShort (who : Caller) (before after : Seen) (old new : World) : Type 0 where
-  pub open : IsOpen who.session old.sessions
+  pub opened : IsOpen who.session old.sessions
   pub queues : List QueueName
   pub done : ℕ
   pub passed : ℕ
@@ -487,10 +487,10 @@ WorksThrough n number before after old new result =
 -- it has one of this role and number, without notes
 pub record GivesLedger (number : ℕ) (role : Role) (k : ℕ) (before after : Seen) (old new : World) (result : Result Reply WorldFault) : Type 0 where
   pub number_is : IsNumber k
-  pub open : IsOpen number old.sessions
+  pub opened : IsOpen number old.sessions
   pub quiet : MakesNoCall before after old new
   pub sessions : new.sessions ≡ old.sessions
-  pub notes : ChangesBook number (λ a b. b ≡ record a { ledger = Some (record { role = role; k = k; client = open.client; counts = [] }) }) old.notes new.notes
+  pub notes : ChangesBook number (λ a b. b ≡ record a { ledger = Some (record { role = role; k = k; client = opened.client; counts = [] }) }) old.notes new.notes
   pub replies : result ≡ Ok reply.Noted
 
 -- the number is none of a ledger's

@@ -494,7 +494,7 @@ impl<S: SessionCalls> World<S> {
         who: Who,
         queues: &[QueueName],
     ) -> Result<Reply, WorldFault>
-        requires open { IsOpen who.session self.old.sessions }
+        requires opened { IsOpen who.session self.old.sessions }
         requires pending { All IsPending queues.now }
         ensures ok { IfOk result (λ reply. WorksOff who queues.now (C.seen cloud.old) (C.seen cloud.new) self.old self.new reply) }
         ensures short { OnErr result (WorksShort who (C.seen cloud.old) (C.seen cloud.new) self.old self.new) }
@@ -523,7 +523,7 @@ impl<S: SessionCalls> World<S> {
         who: Who,
         queue: QueueName,
     ) -> Result<bool, WorldFault>
-        requires open { IsOpen who.session self.old.sessions }
+        requires opened { IsOpen who.session self.old.sessions }
         requires pending { IsPending queue }
         ensures ok { IfOk result (λ done. MakesOne who queue done (C.seen cloud.old) (C.seen cloud.new) self.old self.new) }
         ensures short { OnErr result (FailsAt who (C.seen cloud.old) (C.seen cloud.new) self.old self.new) }
@@ -554,14 +554,14 @@ impl<S: SessionCalls> World<S> {
 
     /// Begins the checkpoint of a queue.
     fn begin_checkpoint(&mut self, alloc: Global, number: SessionNo, queue: QueueName)
-        requires open { IsOpen number self.old.sessions }
+        requires opened { IsOpen number self.old.sessions }
         requires pending { IsPending queue }
         ensures begins { BeginsCheckpoint number queue self.old self.new }
         ensures works { IsAtWork number self.new.sessions }
     {
+        self.notes.begin(number, Some(queue));
         let begun = self.sessions.begin(alloc, number, checkpoint_of(queue));
         forget(begun);
-        self.notes.begin(number, Some(queue));
     }
 
     /// What is kept of a session behind the begin of an operation.

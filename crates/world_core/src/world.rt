@@ -529,7 +529,7 @@ impl<S: SessionCalls> World<S> {
         ensures short { OnErr result (FailsAt who (C.seen cloud.old) (C.seen cloud.new) self.old self.new) }
         ensures grows { Grows who.event (C.seen cloud.old) (C.seen cloud.new) }
     {
-        self.begin_checkpoint(alloc, who.session, queue);
+        self.begin_checkpoint(alloc, who.session, &queue);
         match self.run_on(alloc, cloud, who)? {
             Answer::Done(_) => Ok(true),
             Answer::Trouble(trouble) => self.pass_over(who.session, trouble),
@@ -553,14 +553,14 @@ impl<S: SessionCalls> World<S> {
     }
 
     /// Begins the checkpoint of a queue.
-    fn begin_checkpoint(&mut self, alloc: Global, number: SessionNo, queue: QueueName)
+    fn begin_checkpoint(&mut self, alloc: Global, number: SessionNo, queue: &QueueName)
         requires opened { IsOpen number self.old.sessions }
-        requires pending { IsPending queue }
-        ensures begins { BeginsCheckpoint number queue self.old self.new }
+        requires pending { IsPending queue.now }
+        ensures begins { BeginsCheckpoint number queue.now self.old self.new }
         ensures works { IsAtWork number self.new.sessions }
     {
-        self.notes.begin(number, Some(queue));
-        let begun = self.sessions.begin(alloc, number, checkpoint_of(queue));
+        self.notes.begin(number, Some(*queue));
+        let begun = self.sessions.begin(alloc, number, checkpoint_of(*queue));
         forget(begun);
     }
 

@@ -1,5 +1,5 @@
 -- The calls of a tree checkpoint are few, whichever lines make them.
-use Rattle.std.proofs.Common.{◌≡◌, ◌+◌, inl, inr, ℕ, Bool, true, false, List, length, Some, Result, Ok, Err, sym, subst, ◌∙◌, arith}
+use Rattle.std.proofs.Common.{◌≡◌, ◌+◌, inl, inr, ℕ, Bool, true, false, List, length, Some, Result, Ok, Err, sym, subst, ◌∙◌, arith, ◌++◌, ◌∷◌, []}
 use Rattle.cloud_trait.specs.Caller.{Caller}
 use Rattle.cloud_trait.specs.Seen.{Seen}
 use Rattle.cloud_trait.specs.State.{CloudState}
@@ -95,7 +95,9 @@ module _ (lines : List Line) (n : ℕ) (before after : Seen) (old new : World) (
       made_soon queue from to world left a w h mine counts c = λ last seen.
           let begun = within_begun k home first queue world c.begun w c.begins in
           let held = holds_begun n all_lines k queue from world c.begun h c.begins in
-          let none = begun_none (calls_told lines) k mine home queue h.state world c.begun w.works c.begins counts in
+          let none =
+          subst (λ (z : CloudState). CountsAll (at k 0 (calls_told lines)) z (session_at c.begun.sessions)) (state_is h.state held.state (sym h.told ∙ held.told))
+          (begun_none (calls_told lines) k mine home queue h.state world c.begun w.works c.begins counts) in
           let gone = holds_went n k all_lines home row first from c.begun c.comes.mid c.comes.world begun held c.comes.went in
           worker_few n k all_lines home row first (calls_told lines) c.comes.mid to c.comes.world left (Ended a)
           (within_went (worker k n) home first from c.begun c.comes.mid c.comes.world begun c.comes.went) gone c.comes.steps (steps_of (worker k n) from c.begun c.comes.mid c.comes.world c.comes.went)

@@ -65,7 +65,7 @@ use Rattle.world_core.specs.declared.asked.Request.TheVariants.{Begin, Note, Abo
 use Rattle.world_core.specs.World.{World}
 use Rattle.world_core.specs.declared.world.WorldFault.{WorldFault}
 use Rattle.world_core.specs.Asked.{change_noted, tree_noted, Asks, OfSession, IsOpening, IsReading, IsScanning, IsPaging, IsFolding, IsMade, IsNoted, IsStep, bound_of}
-use Rattle.world_core.specs.Calm.{StepIsCalm, spent_by, work_at, DoesWell, BeginsWell, RunsWell, StepsWell, SettlesWell, RepliesWell, AnswersWell}
+use Rattle.world_core.specs.Calm.{StepIsCalm, spent_by, work_at, DoesWell, BeginsWell, RunsWell, StepsWell, SettlesWell, RepliesWell, AnswersWell, WorksWell}
 use Rattle.world_core.specs.EachStep.{EachWent, EachMade, EachRun, EachSettlingOn, EachSettling, EachDone, EachAsked}
 use Rattle.world_core.specs.Explained.{StepExplains}
 use Rattle.world_core.specs.Handled.{Declines, Has, BeginsOp, NotesChange, DropsChanges, StepsLooked, MakesStep, Went, start, further, Runs, SettlesOn, Settles, Crashes, Does, Answers, Policies, WorksThrough}

@@ -102,6 +102,7 @@ module _ (number : ℕ) (queue : QueueName) (old new : List Acting) (result : Re
   }
 
   pub begun_works : IsAtWork number new
+  unfolding begins_working home_before
   begun_works =
       let b = begins_working in
       let hand = checkpoint_hand home_before.0 b.after.work (begun_has home_before.0 queue b.before b.after pending b.does home_before.1).0 in

@@ -398,41 +398,41 @@ module _ (n k : ℕ) (lines : List Line) (home : Home) (row : IsWorkersRow lines
 
   module _ (before after : Seen) (old new : World) (turn : Turn Answer) (w : IsInside k home first old) (h : HoldsWithin n lines old before)
       (p : StepsLooked (worker k n) Plain before after old new turn) (mine : ℕ) (all : Mine mine h.state old) (last : CloudState) (seen : after.state ≡ Some last) where
-    held : CloudHolds n lines (session_at old.sessions) old.audit old.blind (record h.state { wish = Plain })
-    held = wish_holds n lines (session_at old.sessions) old.audit old.blind h.state Plain h.holds
+    held_in : CloudHolds n lines (session_at old.sessions) old.audit old.blind (record h.state { wish = Plain })
+    held_in = wish_holds n lines (session_at old.sessions) old.audit old.blind h.state Plain h.holds
 
-    leaves : CallLeavesUpto n lines p.to (session_at old.sessions) k p.session.after new.audit new.blind
-    leaves = worker_call n k lines home row first before after old new turn w h p
+    left_in : CallLeavesUpto n lines p.to (session_at old.sessions) k p.session.after new.audit new.blind
+    left_in = worker_call n k lines home row first before after old new turn w h p
 
-    steps : StepsSession (worker k n) p.under p.to (session_at old.sessions k) p.session.after (Ok turn)
-    steps = worker_own n k lines home row first before after old new turn w h p
+    steps_in : StepsSession (worker k n) p.under p.to (session_at old.sessions k) p.session.after (Ok turn)
+    steps_in = worker_own n k lines home row first before after old new turn w h p
 
-    mine_is : at k mine calls k ≡ mine
-    mine_is = at_same k mine calls k refl
+    own_mine : at k mine calls k ≡ mine
+    own_mine = at_same k mine calls k refl
 
     pub worker_few : FewFor (mine + 1) last p.session.before.work
     worker_few =
-        subst (λ (j : ℕ). FewFor (j + 1) last p.session.before.work) mine_is
-        (step_few (worker k n) Plain before after old new turn p h.state h.told held.book held.order held.stand steps leaves.state leaves.told (at k mine calls) all last seen)
+        subst (λ (j : ℕ). FewFor (j + 1) last p.session.before.work) own_mine
+        (step_few (worker k n) Plain before after old new turn p h.state h.told held_in.book held_in.order held_in.stand steps_in left_in.state left_in.told (at k mine calls) all last seen)
 
     pub worker_names : StepNames (worker k n) Plain before after old new turn p
     worker_names =
-        step_names (worker k n) Plain before after old new turn p h.state h.told held.book held.order held.stand steps leaves.state leaves.told (at k mine calls) all last seen
+        step_names (worker k n) Plain before after old new turn p h.state h.told held_in.book held_in.order held_in.stand steps_in left_in.state left_in.told (at k mine calls) all last seen
 
     pub worker_more : turn ≡ More → Mine (mine + 1) last new
     worker_more more =
         counts_like (at k (at k mine calls k + 1) (at k mine calls)) (at k (mine + 1) calls) last (session_at new.sessions) (session_at new.sessions)
-        (λ m. sym (own_twice k mine (mine + 1) calls m) ∙ ap (λ (j : ℕ). at k (j + 1) (at k mine calls) m) (sym mine_is)) (λ m. refl)
-        (step_more (worker k n) Plain before after old new turn p h.state h.told held.book held.order held.stand steps leaves.state leaves.told (at k mine calls) all last seen
-        leaves.holds.book leaves.holds.order leaves.holds.stand more)
+        (λ m. sym (own_twice k mine (mine + 1) calls m) ∙ ap (λ (j : ℕ). at k (j + 1) (at k mine calls) m) (sym own_mine)) (λ m. refl)
+        (step_more (worker k n) Plain before after old new turn p h.state h.told held_in.book held_in.order held_in.stand steps_in left_in.state left_in.told (at k mine calls) all last seen
+        left_in.holds.book left_in.holds.order left_in.holds.stand more)
 
     pub worker_end : (a : Answer) (j : ℕ) → turn ≡ Ended a → Mine j last new
     worker_end a j ends =
         counts_like (at k j (at k mine calls)) (at k j calls) last (session_at new.sessions) (session_at new.sessions)
         (λ m. sym (own_twice k mine j calls m)) (λ m. refl)
-        (step_end (worker k n) Plain before after old new turn p h.state h.told held.book held.order held.stand steps leaves.state leaves.told (at k mine calls) all last seen a j ends)
+        (step_end (worker k n) Plain before after old new turn p h.state h.told held_in.book held_in.order held_in.stand steps_in left_in.state left_in.told (at k mine calls) all last seen a j ends)
 
-  -- behind some steps of a checkpoint
+  -- behind some steps_in of a checkpoint
   pub worker_went : (before : Seen) (old : World) (after : Seen) (new : World) → IsInside k home first old → (h : HoldsWithin n lines old before) → Mine 0 h.state old
       → (went : Went (worker k n) before old after new) (s : CloudState) → after.state ≡ Some s → Mine (steps_of (worker k n) before old after new went) s new
   worker_went before old after new w h all start s seen = subst (λ (z : CloudState). Mine 0 z old) (state_is h.state s (sym h.told ∙ seen)) all
@@ -446,12 +446,12 @@ module _ (n k : ℕ) (lines : List Line) (home : Home) (row : IsWorkersRow lines
       → Checkpoints (worker k n) queue before after old new a → (s : CloudState) → after.state ≡ Some s → Mine 0 s new
   made_none queue before after old new a w h mine all c s seen =
       let begun = within_begun k home first queue old c.begun w c.begins in
-      let held = holds_begun n lines k queue before old c.begun h c.begins in
-      let none = begun_none calls k mine home queue h.state old c.begun w.works c.begins all in
-      let gone = holds_went n k lines home row first before c.begun c.comes.mid c.comes.world begun held c.comes.went in
+      let held_in = holds_begun n lines k queue before old c.begun h c.begins in
+      let none = subst (λ (z : CloudState). Mine 0 z c.begun) (state_is h.state held.state (sym h.told ∙ held.told)) (begun_none calls k mine home queue h.state old c.begun w.works c.begins all) in
+      let gone = holds_went n k lines home row first before c.begun c.comes.mid c.comes.world begun held_in c.comes.went in
       worker_end c.comes.mid after c.comes.world new (Ended a) (within_went (worker k n) home first before c.begun c.comes.mid c.comes.world begun c.comes.went) gone c.comes.steps
       (steps_of (worker k n) before c.begun c.comes.mid c.comes.world c.comes.went)
-      (worker_went before c.begun c.comes.mid c.comes.world begun held none c.comes.went gone.state gone.told) s seen a 0 refl
+      (worker_went before c.begun c.comes.mid c.comes.world begun held_in none c.comes.went gone.state gone.told) s seen a 0 refl
 
   pub works_none : (before : Seen) (old : World) (queues : List QueueName) (done passed : ℕ) (after : Seen) (new : World) → IsBetween k home first old → (h : HoldsWithin n lines old before)
       → (mine : ℕ) → Mine mine h.state old → Works (worker k n) before old queues done passed after new → (s : CloudState) → after.state ≡ Some s → (own : ℕ) × Mine own s new

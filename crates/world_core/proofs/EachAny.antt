@@ -1,5 +1,5 @@
 -- What holds of every step, whatever led to it, holds of each step of a line.
-use Rattle.std.proofs.Common.{inl, inr, ℕ, Bool, true, false, Result, Ok, Err}
+use Rattle.std.proofs.Common.{inl, inr, ℕ, Bool, true, false, Result, Ok, Err, List}
 use Rattle.client_work.specs.declared.answer.Answer.{Answer}
 use Rattle.cloud_trait.specs.Caller.{Caller}
 use Rattle.cloud_trait.specs.Seen.{Seen}

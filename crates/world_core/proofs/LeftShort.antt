@@ -1,5 +1,5 @@
 -- What a line leaves of the sessions for which memory ran out.
-use Rattle.std.proofs.Common.{◌≡◌, ℕ, List, [], Bool, true, false, Some, None, Option, Result, Ok, Err, refl, sym, ap, subst, ◌∙◌, inl, inr}
+use Rattle.std.proofs.Common.{◌≡◌, ℕ, List, [], Bool, true, false, Some, None, Option, Result, Ok, Err, refl, sym, ap, subst, ◌∙◌, inl, inr, ◌⊎◌}
 use Rattle.std.specs.Prelude.{get_or, slice_get, slice_set}
 use Rattle.std.proofs.lemmas.List.{set-get_or, set-set}
 use Rattle.std.proofs.lemmas.Option.{slice_get_within, slice_get-get_or}
@@ -48,6 +48,7 @@ use Rattle.ckpt_policy.specs.declared.role.Role.{Role}
 use Rattle.session_facts.specs.Sessions.Sessions.{Sessions}
 use Rattle.session_facts.specs.Facts.{session_at}
 use Rattle.session_facts.proofs.Lists.{session_there}
+use Rattle.client_work.specs.declared.shown.Shown.TheVariants.{Nothing}
 use Rattle.world_core.proofs.Workers.{IsBetween, IsInside, open_rests, within_begun, within_works}
 use Rattle.world_core.specs.declared.asked.Asked.{Asked}
 use Rattle.world_core.specs.declared.asked.Asked.TheVariants.{Session, Wait, Report, Settle}
@@ -335,8 +336,8 @@ module _ (who : Caller) (new : World) where
   abbrev LeftOpen : World → Type 0
   LeftOpen world = Changes who.session IsLeftOpen world.sessions new.sessions
 
-  left_before : (Does : Acting → Acting → Type 0) (old world : World) → Changes who.session Does old.sessions world.sessions → LeftOpen world → LeftOpen old
-  left_before Does old world p q = changes_on who.session Does IsLeftOpen IsLeftOpen old.sessions world.sessions new.sessions (λ x y z s is. is) p q
+  left_before : (Did : Acting → Acting → Type 0) (old world : World) → Changes who.session Did old.sessions world.sessions → LeftOpen world → LeftOpen old
+  left_before Did old world p q = changes_on who.session Did IsLeftOpen IsLeftOpen old.sessions world.sessions new.sessions (λ x y z s is. is) p q
 
   left_went : (before : Seen) (old : World) (mid : Seen) (world : World) → Went who before old mid world → LeftOpen world → LeftOpen old
   left_went before old mid world went c = went_changes who IsLeftOpen new.sessions (λ b a x y z s is. is) before old mid world went c

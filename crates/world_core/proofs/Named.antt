@@ -1,5 +1,5 @@
 -- A tree checkpoint that a line brings to its end names its new pieces, whichever lines made its calls.
-use Rattle.std.proofs.Common.{◌≡◌, ◌+◌, inl, inr, ℕ, Bool, true, false, List, length, Some, Result, Ok, Err, sym, subst, ◌∙◌}
+use Rattle.std.proofs.Common.{◌≡◌, ◌+◌, inl, inr, ℕ, Bool, true, false, List, length, Some, Result, Ok, Err, sym, subst, ◌∙◌, ◌++◌, ◌∷◌, []}
 use Rattle.client_work.specs.declared.answer.Answer.{Answer}
 use Rattle.cloud_trait.specs.Caller.{Caller}
 use Rattle.cloud_trait.specs.Seen.{Seen}
@@ -98,13 +98,15 @@ module _ (lines : List Line) (n : ℕ) (before after : Seen) (old new : World) (
 
     -- the last call of each checkpoint that is due
     module _ (all_lines : List Line) (home : Home) (row : IsWorkersRow all_lines (worker k n)) (first : Sessions) where
-      made_names : (queue : QueueName) (from to : Seen) (world left : World) (a : Answer) → IsBetween k home first world → (h : HoldsWithin n all_lines world from) (mine : ℕ)
+      checkpoint_names : (queue : QueueName) (from to : Seen) (world left : World) (a : Answer) → IsBetween k home first world → (h : HoldsWithin n all_lines world from) (mine : ℕ)
           → CountsAll (at k mine (calls_told lines)) h.state (session_at world.sessions) → (c : Checkpoints (worker k n) queue from to world left a)
           → EachCome StepNames (worker k n) from to c.begun left a c.comes
-      made_names queue from to world left a w h mine counts c =
+      checkpoint_names queue from to world left a w h mine counts c =
           let begun = within_begun k home first queue world c.begun w c.begins in
           let held = holds_begun n all_lines k queue from world c.begun h c.begins in
-          let none = begun_none (calls_told lines) k mine home queue h.state world c.begun w.works c.begins counts in
+          let none =
+          subst (λ (z : CloudState). CountsAll (at k 0 (calls_told lines)) z (session_at c.begun.sessions)) (state_is h.state held.state (sym h.told ∙ held.told))
+          (begun_none (calls_told lines) k mine home queue h.state world c.begun w.works c.begins counts) in
           let gone = holds_went n k all_lines home row first from c.begun c.comes.mid c.comes.world begun held c.comes.went in
           let goes = within_went (worker k n) home first from c.begun c.comes.mid c.comes.world begun c.comes.went in
           let end = holds_step n k all_lines home row first c.comes.mid to c.comes.world left (Ended a) goes gone c.comes.steps in (
@@ -122,7 +124,7 @@ module _ (lines : List Line) (n : ℕ) (before after : Seen) (old new : World) (
           let gone = holds_works n k all_lines home row first from world others kept passes_by mid prior w h works in
           let was = works_none n k all_lines home row first (calls_told lines) from world others kept passes_by mid prior w h mine counts works gone.state gone.told in (
             each_names from world others kept passes_by mid prior w h mine counts works,
-            made_names queue mid to prior left a (within_works (worker k n) home first from world others kept passes_by mid prior w works) gone was.0 was.1 makes,
+            checkpoint_names queue mid to prior left a (within_works (worker k n) home first from world others kept passes_by mid prior w works) gone was.0 was.1 makes,
           )
 
     works_names : (h : WorksThrough n k before after old new result) → EachThrough StepNames n k before after old new result h

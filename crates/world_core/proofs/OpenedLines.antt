@@ -16,7 +16,7 @@ use Rattle.cloud_trait.specs.Machine.{Goes, Ends}
 use Rattle.cloud_trait.specs.State.{CloudState}
 use Rattle.cloud_trait.specs.Seen.{Seen}
 use Rattle.cloud_trait.specs.declared.turn.Turn.{Turn}
-use Rattle.cloud_trait.specs.declared.turn.Turn.TheVariants.{More}
+use Rattle.cloud_trait.specs.declared.turn.Turn.TheVariants.{More, Ended}
 use Rattle.recover_run.specs.declared.home.Home.{Home}
 use Rattle.tree_walk.specs.Walk.{new_walk}
 use Rattle.commit_run.specs.Run.{home_of}

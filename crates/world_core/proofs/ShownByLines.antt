@@ -15,7 +15,7 @@ use Rattle.replay_meaning.specs.Standing.{Line}
 use Rattle.reply_text.specs.declared.reply.Reply.{Reply}
 use Rattle.session_facts.specs.Facts.{session_at, CloudHolds}
 use Rattle.session_facts.specs.ShownByLines.{ShowsByLines}
-use Rattle.session_facts.proofs.ShownByLines.{IsSettler, shown_by_lines, settler_goes, settler_by_lines}
+use Rattle.session_facts.proofs.ShownByLines.{IsSettler, shown_by_lines, settler_goes, settler_by_lines, checkpoint_by_lines}
 use Rattle.session_facts.proofs.Steps.{wish_holds}
 use Rattle.session_facts.proofs.CallKinds.{HasCheckpoint}
 use Rattle.recover_run.specs.declared.home.Home.{Home}

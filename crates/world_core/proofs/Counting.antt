@@ -447,7 +447,7 @@ module _ (n k : ℕ) (lines : List Line) (home : Home) (row : IsWorkersRow lines
   made_none queue before after old new a w h mine all c s seen =
       let begun = within_begun k home first queue old c.begun w c.begins in
       let held_in = holds_begun n lines k queue before old c.begun h c.begins in
-      let none = subst (λ (z : CloudState). Mine 0 z c.begun) (state_is h.state held.state (sym h.told ∙ held.told)) (begun_none calls k mine home queue h.state old c.begun w.works c.begins all) in
+      let none = subst (λ (z : CloudState). Mine 0 z c.begun) (state_is h.state held_in.state (sym h.told ∙ held_in.told)) (begun_none calls k mine home queue h.state old c.begun w.works c.begins all) in
       let gone = holds_went n k lines home row first before c.begun c.comes.mid c.comes.world begun held_in c.comes.went in
       worker_end c.comes.mid after c.comes.world new (Ended a) (within_went (worker k n) home first before c.begun c.comes.mid c.comes.world begun c.comes.went) gone c.comes.steps
       (steps_of (worker k n) before c.begun c.comes.mid c.comes.world c.comes.went)

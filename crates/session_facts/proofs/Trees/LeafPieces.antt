@@ -1,5 +1,5 @@
 -- The pieces of a leaf that takes a run: they have spellings, and each lands as what it is.
-use Rattle.std.proofs.Common.{◌≡◌, ◌+◌, ◌<◌, ◌≤◌, ◌==◌, ℕ, zero, suc, Bool, true, false, cond, List, [], ◌∷◌, ◌++◌, length, max, Option, refl, sym, ap, subst, arith}
+use Rattle.std.proofs.Common.{◌≡◌, ◌+◌, ◌<◌, ◌≤◌, ◌==◌, ℕ, zero, suc, Bool, true, false, cond, List, [], ◌∷◌, ◌++◌, length, max, Option, refl, sym, ap, subst, arith, inl}
 use Rattle.std.specs.Prelude.{◌&&◌}
 use Rattle.std.specs.List.{AllByRecursion}
 use Rattle.std.proofs.lemmas.Bool.{and_from, eq-eqb}
@@ -55,10 +55,23 @@ use Rattle.session_facts.proofs.Trees.PlacingLemmas.{on_range}
 
 -- ---- spellings
 
+-- a leaf is put in format 2, whatever it was read in
+pub put-formed : (l : Leaf) → IsWellFormed l → IsWellFormed (record l { format = 2 })
+put-formed l formed = record {
+  format = inl refl;
+  low = formed.low;
+  right = formed.right;
+  high = formed.high;
+  done = formed.done;
+  done_ascends = formed.done_ascends;
+  records = formed.records;
+  records_ascend = formed.records_ascend;
+}
+
 -- the pieces of a leaf that is well formed have spellings
 pub leaf_parts_fit : (sizes : List ℕ) (last free : ℕ) (l : Leaf) → CanCut sizes last (length l.records) → 1 ≤ free → free + length sizes ≤ greatest → IsVersion l.version
     → IsWellFormed l → AllByRecursion IsLeafPart (cut_by record_key sizes free (part_of_leaf l))
-leaf_parts_fit [] last free l can some room version formed = (record { fits = fits_leaf l version formed }, tt)
+leaf_parts_fit [] last free l can some room version formed = (record { fits = fits_leaf (record l { format = 2 }) version (put-formed l formed) }, tt)
 leaf_parts_fit (n ∷ sizes) last free l can some room version formed = (
   subst IsLeafPart (left-leaf n free l) (record { fits = fits_leaf (left_part n free l) version (left-formed n free l can.0 can.1 some (omega (arith, room)) formed) }),
   subst (λ (p : LeafPart). AllByRecursion IsLeafPart (cut_by record_key sizes (free + 1) p)) (right-leaf n l)

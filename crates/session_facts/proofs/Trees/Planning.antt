@@ -24,7 +24,7 @@ use Rattle.cloud_facts.specs.Book.Premises.{IsItemOf}
 use Rattle.cloud_facts.specs.Book.Records.{IsIn}
 use Rattle.cloud_facts.specs.Book.Tally.{Store}
 use Rattle.session_facts.specs.Trees.Placings.{IsPlacing}
-use Rattle.session_facts.proofs.Trees.LeafPieces.{leaf_parts_fit}
+use Rattle.session_facts.proofs.Trees.LeafPieces.{put-formed, leaf_parts_fit}
 
 -- ---- the run's items
 
@@ -63,7 +63,7 @@ pieces_fit first l numbers version formed = on (count_of (length l.records) - 1 
     on true e =
         let none : length (cuts_of (length l.records)) ≡ 0 = let is = eqb-true (count_of (length l.records) - 1) 0 e in omega (arith, lengths, is) in
         subst (λ (sizes : List ℕ). AllByRecursion IsLeafPart (cut_by record_key sizes first (part_of_leaf l))) (sym (none_left (cuts_of (length l.records)) none))
-        (record { fits = fits_leaf l version formed }, tt)
+        (record { fits = fits_leaf (record l { format = 2 }) version (put-formed l formed) }, tt)
     on false e =
         let n = numbers (eqb-false (count_of (length l.records) - 1) 0 e) in
         let low = n.0 in

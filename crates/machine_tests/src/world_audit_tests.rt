@@ -220,10 +220,14 @@ fn reports_a_page(rt: HostRuntime) {
 }
 
 #[test]
-fn reports_attributes_and_pages_of_both_formats(rt: HostRuntime) {
+fn reports_a_page_of_format_1(rt: HostRuntime) {
+    let script = [Step::Puts(1, OLD_PAGE), Step::Reports(0, b"k", b"v", None)];
+    assert!(rt; play(rt.alloc(), &script));
+}
+
+#[test]
+fn reports_an_attribute(rt: HostRuntime) {
     let script = [
-        Step::Puts(1, OLD_PAGE),
-        Step::Reports(0, b"k", b"v", None),
         Step::Puts(1, PAGE_WITH_ATTRIBUTE),
         Step::Reports(0, b"k", b"v", Some(b"a")),
     ];

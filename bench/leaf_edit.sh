@@ -33,7 +33,7 @@ fn item_of(alloc: Global, n: u8, is_new: bool) -> Option<PuItem> {
     let key = Key::new(alloc, &[n]).ok()?;
     let payload = Payload::new(alloc, &[n; 1024]).ok()?;
     let change = if is_new {
-        Change::Insert { key, payload }
+        Change::Insert { key, payload, attr: None }
     } else {
         Change::Update { key, payload }
     };

@@ -1,5 +1,5 @@
 #!/bin/bash
-# Times the reading of a leaf of 64 records of 1 KB, and look-ups of its keys, in nanoseconds of the processor.
+# Times the reading of leaves of both formats of 64 records of 1 KB, and look-ups of their keys, in nanoseconds of the processor.
 # usage: bench/leaf_view.sh [ROUNDS]   (100000 if none is given)
 # It makes a program beside copies of the crates in a folder of its own under /tmp, proves and builds it, and runs it.
 # A read is to take a few microseconds at most, whatever the payloads' lengths, and a look-up less than one.
@@ -17,17 +17,21 @@ use std::time::{CpuClock, Duration};
 
 const ROUNDS: u64 = $rounds;
 
-const HEAD: [u8; 20] = [0x4c, 1, 0, 0, 0, 0, 0, 0, 0, 1, 0, 0, 0, 0, 0, 0, 0, 0, 0, 0];
+const FIELDS: [u8; 18] = [0, 0, 0, 0, 0, 0, 0, 1, 0, 0, 0, 0, 0, 0, 0, 0, 0, 0];
 
 const PAYLOAD: [u8; 1024] = [7; 1024];
 
-/// Version 1, no fence, nothing done, and 64 records of 1 KB each.
-fn leaf(alloc: Global) -> Result<Vec<u8>, AllocError> {
+/// Version 1, no fence, nothing done, and 64 records of 1 KB each, in format 2 with no attribute.
+fn leaf(alloc: Global, format: u8) -> Result<Vec<u8>, AllocError> {
     let mut bytes = Vec::new(alloc);
-    bytes.extend_from_slice(&HEAD)?;
+    bytes.extend_from_slice(&[0x4c, format])?;
+    bytes.extend_from_slice(&FIELDS)?;
     for last in 0..64u8 {
         bytes.extend_from_slice(&[1, 8, b'r', b'e', b'c', b'o', b'r', b'd', 0, last, 4, 0])?;
         bytes.extend_from_slice(&PAYLOAD)?;
+        if format == 2 {
+            bytes.push(0)?;
+        }
     }
     bytes.push(0)?;
     Ok(bytes)
@@ -55,8 +59,8 @@ fn finds(view: &LeafView<'_>, spread: u8) -> u64 {
     let mut found = 0u64;
     let mut last = 63u8;
     for _ in 0..ROUNDS {
-        if let Some(payload) = view.find(&[b'r', b'e', b'c', b'o', b'r', b'd', 0, last]) {
-            if payload.len() == 1024 {
+        if let Some(value) = view.value(&[b'r', b'e', b'c', b'o', b'r', b'd', 0, last]) {
+            if value.payload().len() == 1024 {
                 found = found.saturating_add(1);
             }
         }
@@ -70,13 +74,14 @@ fn each(time: Duration) -> u64 {
     u64::try_from(time.as_nanos()).unwrap_or(u64::MAX) / ROUNDS
 }
 
-fn main(rt: HostRuntime) -> io::Result<()> {
-    let mut bytes = leaf(rt.alloc())?;
+/// Times a leaf of this format.
+fn times(rt: &HostRuntime, format: u8) -> io::Result<()> {
+    let mut bytes = leaf(rt.alloc(), format)?;
     let length = bytes.len();
     let before = rt.thread_cpu_time()?;
     let read = reads(&mut bytes);
     let time = rt.thread_cpu_time()?.saturating_sub(before);
-    println!(rt; "read of {length} bytes: {} ns ({read} rounds)", each(time))?;
+    println!(rt; "format {format}: read of {length} bytes: {} ns ({read} rounds)", each(time))?;
     if let Ok(view) = LeafView::read(bytes.as_slice()) {
         let before = rt.thread_cpu_time()?;
         let found = finds(&view, 64);
@@ -88,6 +93,11 @@ fn main(rt: HostRuntime) -> io::Result<()> {
         println!(rt; "find of the last key: {} ns ({found} rounds)", each(time))?;
     }
     Ok(())
+}
+
+fn main(rt: HostRuntime) -> io::Result<()> {
+    times(&rt, 1)?;
+    times(&rt, 2)
 }
 END
 rt run

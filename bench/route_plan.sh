@@ -34,7 +34,7 @@ fn change_of(alloc: Global, mark: u8, n: u16) -> Option<Change> {
     let [high, low] = n.to_be_bytes();
     let key = Key::new(alloc, &[b'k', b'e', b'y', mark, high, low]).ok()?;
     let payload = Payload::new(alloc, &[7; 100]).ok()?;
-    Some(Change::Insert { key, payload })
+    Some(Change::Insert { key, payload, attr: None })
 }
 
 fn head_of(alloc: Global, tree: TreeId) -> Option<Head> {

@@ -29,7 +29,7 @@ fn item_of(alloc: Global, n: u8) -> Option<PuItem> {
     let payload = Payload::new(alloc, &[n; 100]).ok()?;
     let client = ClientId::new(u64::from(n % 8) + 1).ok()?;
     let number = u64::from(n / 8) + 1;
-    let rec = PuRec { client, epoch: 1, txn: 1, number, change: Change::Insert { key, payload } };
+    let rec = PuRec { client, epoch: 1, txn: 1, number, change: Change::Insert { key, payload, attr: None } };
     Some(PuItem { id: MsgId::new(u64::from(n)), rec })
 }
 

@@ -27,6 +27,7 @@ pub mod TreeReceives
 pub mod TreeTurns
 pub mod TreeDrains
 pub mod TreeRuns
+pub mod Emptied
 pub mod Locks
 pub mod TreeLeases
 pub mod PageLeases
@@ -37,5 +38,6 @@ pub mod PageRights
 pub mod PageCalls
 pub mod PageStories
 pub mod PageDrains
+pub mod PageEmptied
 pub mod PageVisits
 pub mod PageRuns

@@ -42,7 +42,7 @@ use Rattle.session_facts.specs.Settlings.Settling.{MakesPage}
 use Rattle.settle_run.specs.declared.part.Part.{Part}
 use Rattle.settle_run.specs.declared.part.Part.TheVariants.{Page}
 
-delivered_part : (xs ys : List Deed) → AreDelivered (xs ++ ys) → AreDelivered ys
+pub delivered_part : (xs ys : List Deed) → AreDelivered (xs ++ ys) → AreDelivered ys
 delivered_part [] ys well = well
 delivered_part (d ∷ xs) ys well = delivered_part xs ys well.1
 

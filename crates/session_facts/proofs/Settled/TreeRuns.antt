@@ -187,7 +187,7 @@ story_grows tree first (d ∷ h) w now (from, (before, (story, turn, leads))) =
 
 -- ---- its calls, as they led from state to state
 
-delivers_of : (who : Caller) (ask : Ask) (a : Answer) (c e : Counts) (s : CloudState) (new : Option CloudState) → Leaves who ask a c e s new
+pub delivers_of : (who : Caller) (ask : Ask) (a : Answer) (c e : Counts) (s : CloudState) (new : Option CloudState) → Leaves who ask a c e s new
     → e.withheld ≡ c.withheld → Delivers ask a s
 delivers_of who (Receive q most) (Received ms) c e s new l same = on l.row.2
   where
@@ -216,7 +216,7 @@ touch_sends tree (work.Receiving l root) is = tt
 touch_sends tree (work.Deleting h applied) is = delete_sends tree (next_id h.deletions.ids)
 touch_sends tree w is = absurd is
 
-work_sends : (tree : ℕ) (w : Work) → SendsNothing (work_ask tree w)
+pub work_sends : (tree : ℕ) (w : Work) → SendsNothing (work_ask tree w)
 work_sends tree w = on (work_quiet tree w)
   where
     on : TouchesQueue w ⊎ IsQuiet (work_ask tree w) → SendsNothing (work_ask tree w)

@@ -1,6 +1,6 @@
 //! What is kept of one session.
 
-ghost use Rattle.std.specs.Prelude.{◌≡◌, All, List, Some, OnOk, OnErr, IfOk, IfErr};
+ghost use Rattle.std.specs.Prelude.{◌≡◌, All, List, Some, None, true, OnOk, OnErr, IfOk, IfErr};
 ghost use Rattle.ckpt_policy.specs.declared.note.Note.{Note as Noted};
 ghost use Rattle.ckpt_policy.specs.Notes.{IsPending};
 ghost use Rattle.session_notes.specs.Notebook.{blank, GoesOnBy, GoesOnEnded, GoesOnKept, IsDue};
@@ -66,6 +66,7 @@ impl Notebook {
     pub fn take(&mut self, note: Option<Note>) -> Result<(), Refused>
         ensures ok { OnOk result (GoesOnBy note self.old self.new) }
         ensures err { OnErr result (self.new ≡ self.old) }
+        ensures some { OnErr result (note ≡ None → ⊥) }
         ensures memory { IfErr result (λ e. e ≡ Refused.Memory) }
     {
         match note {
@@ -79,6 +80,7 @@ impl Notebook {
     pub fn end(&mut self, done: bool) -> Result<(), Refused>
         ensures ok { OnOk result (GoesOnEnded done self.old self.new) }
         ensures err { OnErr result (self.new ≡ self.old) }
+        ensures done { OnErr result (done ≡ true) }
         ensures memory { IfErr result (λ e. e ≡ Refused.Memory) }
     {
         if done { self.keep() } else { self.take(None) }

@@ -34,7 +34,7 @@ impl Model for Notebooks {
 }
 
 impl Notebooks {
-    ghost use Rattle.std.specs.Prelude.{replicate, All, IfOk, IfErr, OnOk, OnErr, Some, None};
+    ghost use Rattle.std.specs.Prelude.{replicate, All, IfOk, IfErr, OnOk, OnErr, Some, None, true};
     ghost use Rattle.ckpt_policy.specs.Notes.{IsPending};
     ghost use Rattle.session_notes.specs.Notebook.{blank, ChangesBook, GoesOnBy, GoesOnEnded, IsDueAt};
 
@@ -86,6 +86,7 @@ impl Notebooks {
     pub fn end(&mut self, number: SessionNo, done: bool) -> Result<(), Refused>
         ensures ok { OnOk result (ChangesBook number (GoesOnEnded done) self.old self.new) }
         ensures err { OnErr result (self.new ≡ self.old) }
+        ensures done { OnErr result (done ≡ true) }
         ensures memory { IfErr result (λ e. e ≡ Refused.Memory) }
     {
         self.list[place_of(number)].end(done)

@@ -2,6 +2,7 @@
 use Rattle.std.proofs.Common.{◌≡◌, ◌≤◌, ◌<◌, ◌+◌, ◌⊎◌, inl, inr, ℕ, Bool, true, false, List, [], ◌∷◌, ◌++◌, length, Option, Some, None, Result, Ok, Err, refl, sym, ap, subst, ◌∙◌, arith, append_assoc, append-nil}
 use Rattle.std.specs.Prelude.{All, not, slice_get, slice_set, option_map}
 use Rattle.std.proofs.lemmas.List.Elements.{All-tail}
+use Rattle.db_base.specs.declared.wish.Wish.{Wish}
 use Rattle.db_base.specs.declared.wish.Wish.TheVariants.{Plain}
 use Rattle.std.proofs.lemmas.List.{get_or-set_same, length-set, set-set}
 use Rattle.std.proofs.lemmas.Option.{slice_get_within, slice_get-get_or}
@@ -14,11 +15,13 @@ use Rattle.client_work.specs.declared.answer.Begun.TheVariants.{Working}
 use Rattle.client_work.specs.declared.op.Op.{Op}
 use Rattle.client_work.specs.declared.work.Work.{Work}
 use Rattle.client_work.specs.declared.work.Work.TheVariants.{Idle, Paging, Folding}
-use Rattle.client_work.specs.Session.{Acting, Begins, BeginsWith, StepsAt, ask_of_work, open_client, rule_of}
+use Rattle.client_work.specs.Session.{Acting, Begins, BeginsWith, StepsAt, StepsSession, ask_of_work, open_client, rule_of}
+use Rattle.cloud_trait.specs.State.{newest}
 use Rattle.ckpt_policy.specs.Ledger.{Account}
 use Rattle.cloud_trait.specs.Ask.{Ask, PutHeld}
 use Rattle.cloud_trait.specs.Caller.{Caller}
 use Rattle.cloud_trait.specs.Seen.{Seen}
+use Rattle.cloud_trait.specs.declared.turn.CkptAnswer.{CkptAnswer}
 use Rattle.cloud_trait.specs.declared.turn.Turn.{Turn}
 use Rattle.cloud_trait.specs.declared.turn.Turn.TheVariants.{More, Ended}
 use Rattle.db_base.specs.declared.names.QueueName.{QueueName}
@@ -41,9 +44,14 @@ use Rattle.world_core.specs.World.{World}
 use Rattle.world_core.specs.declared.world.WorldFault.{WorldFault}
 use Rattle.world_core.specs.declared.put.Put.{Put}
 use Rattle.world_core.specs.Put.{put_of, put_of_hand}
-use Rattle.world_core.specs.Sessions.{Changes, IsAtWork}
-use Rattle.world_core.specs.Handled.{BeginsBook, BookBegins, BeginsCheckpoint, book_begun, Checkpoints, ComesTo, FailsAt, IsOpen, IsPassable, IsShut, KnowsNoDue, MakesOne, NotesCall, NotesStep, StepsLooked, Works, no_checkpoint, checkpoint_more, WorksOff, WorksShort, as_one, checkpoint_of, done_by, is_done, note_of_hand, passed_by}
-use Rattle.world_core.proofs.Going.{after_there, same_session}
+use Rattle.world_core.specs.Sessions.{Changes, HasPut, IsAtWork}
+use Rattle.world_core.specs.Stands.{Grows}
+use Rattle.world_core.specs.Handled.{BeginsBook, BookBegins, BeginsCheckpoint, book_begun, Checkpoints, ComesTo, FailsAt, IsOpen, FallsShort, IsPassable, IsShut, KnowsNoDue, MakesOne, NotesCall, NotesEnd, NotesStep, SetsWish, StepsLooked, Works, no_checkpoint, checkpoint_more, WorksOff, WorksShort, as_one, checkpoint_of, done_by, is_done, note_of_hand, passed_by}
+use Rattle.world_core.proofs.Going.{after_there, put_before, same_session}
+use Rattle.world_core.proofs.GrowthLemmas.{grows_between}
+use Rattle.world_core.proofs.Landing.{audited_none}
+use Rattle.world_core.proofs.Marks.{newest_call}
+use Rattle.world_audit.proofs.Looks.{looked_not}
 use Rattle.world_core.proofs.StandsLemmas.{changed_at, changed_was}
 use Rattle.world_core.proofs.Workers.{IsBetween, IsIdle, IsInside, begun_has, open_home, open_rests, within_begun, within_made, within_went}
 
@@ -311,3 +319,67 @@ book_open number client o w old new is c = subst (λ x. BookBegins number o x ol
 
 pub book_shut : (number : ℕ) (rule : Refusal) (o : Op) (w : Work) (old : List Notebook) → open_client w ≡ Err rule → BookBegins number o (open_client w) old old
 book_shut number rule o w old is = subst (λ x. BookBegins number o x old old) (sym is) refl
+
+-- no other answer ends a checkpoint
+pub answers_none : (a : Answer) → ((n : CkptAnswer) → a ≡ answer.Done n → ⊥) → ((t : Trouble) → a ≡ answer.Trouble t → ⊥) → IsOfCheckpoint a → ⊥
+answers_none (answer.Done n) done troubled is = done n refl
+answers_none (answer.Trouble t) done troubled is = troubled t refl
+answers_none a done troubled is = absurd is
+
+-- ---- a step that is noted
+
+-- what a step does to the sessions, where notes are taken before it and behind it
+step_moves : (who : Caller) (under to : Seen) (old noted called new : List Acting) (turn : Turn Answer) → noted ≡ old → Changes who.session (λ a b. StepsSession who under to a b (Ok turn)) noted called
+    → new ≡ called → Changes who.session (λ a b. StepsSession who under to a b (Ok turn)) old new
+step_moves who under to old noted called new turn first s last = record {
+  before = s.before;
+  after = s.after;
+  there = ap (λ l. slice_get l who.session) (sym first) ∙ s.there;
+  does = s.does;
+  rest = last ∙ s.rest ∙ ap (λ l. slice_set l who.session s.after) first;
+}
+
+pub step_noted : (who : Caller) (wish : Wish) (before under to : Seen) (old noted called new : World) (turn : Turn Answer) (done : Bool) → HasPut who.session old.sessions None
+    → NotesCall who.session old noted → SetsWish wish before under → Changes who.session (λ a b. StepsSession who under to a b (Ok turn)) noted.sessions called.sessions → called.audit ≡ noted.audit
+    → called.blind ≡ noted.blind → called.notes ≡ noted.notes → done ≡ is_done turn → NotesEnd who.session done called new → StepsLooked who wish before to old new turn
+step_noted who wish before under to old noted called new turn done no_put n sets s audit blind notes same e =
+    let m : Changes who.session (λ a b. StepsSession who under to a b (Ok turn)) old.sessions new.sessions =
+    step_moves who under to old.sessions noted.sessions called.sessions new.sessions turn n.sessions s e.sessions in
+    let sees : new.blind ≡ old.blind = e.blind ∙ blind ∙ n.blind in
+    record {
+      from = before;
+      under = under;
+      to = to;
+      look_before = looked_not before;
+      wishes = sets;
+      session = m;
+      look_after = looked_not to;
+      newest_call = newest_call who wish before before under to to who.session old.sessions new.sessions turn (looked_not before) sets m (looked_not to);
+      saw = λ b. sym sees ∙ b;
+      blinded = λ b. inl (sym sees ∙ b);
+      audit = λ b x y first second. e.audit ∙ audit ∙ n.audit ∙ audited_none (newest x) (newest y) m.before.work old.audit (put_before who.session old.sessions None m.before no_put m.there);
+      notes = notes_step who.session old m.before.work called.notes new.notes noted turn done m.before n (sym notes) m.there refl same e.notes;
+    }
+
+-- where there was no memory for the note behind it
+pub step_unnoted : (who : Caller) (wish : Wish) (before under to : Seen) (old noted called new : World) (turn : Turn Answer) (done : Bool) → NotesCall who.session old noted → SetsWish wish before under
+    → Changes who.session (λ a b. StepsSession who under to a b (Ok turn)) noted.sessions called.sessions → called.blind ≡ noted.blind → done ≡ is_done turn → done ≡ true → new ≡ called
+    → FallsShort who wish before to old new
+step_unnoted who wish before under to old noted called new turn done n sets s blind same was e = inr (record {
+  from = before;
+  under = under;
+  to = to;
+  turn = turn;
+  look_before = looked_not before;
+  wishes = sets;
+  undone = inr (sym same ∙ was);
+  session = step_moves who under to old.sessions noted.sessions called.sessions new.sessions turn n.sessions s (ap (λ (w : World). w.sessions) e);
+  look_after = looked_not to;
+  blind = ap (λ (w : World). w.blind) e ∙ blind ∙ n.blind;
+})
+
+-- whatever was noted, the cloud grows by the step
+pub step_grows : (who : Caller) (wish : Wish) (before under to : Seen) (noted called : World) (turn : Turn Answer) → SetsWish wish before under
+    → Changes who.session (λ a b. StepsSession who under to a b (Ok turn)) noted.sessions called.sessions → Grows who.event before to
+step_grows who wish before under to noted called turn sets s =
+    grows_between who wish before before under to to who.session noted.sessions called.sessions turn (looked_not before) sets s (looked_not to)

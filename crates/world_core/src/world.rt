@@ -723,6 +723,7 @@ impl<S: SessionCalls> World<S> {
     fn note_end(&mut self, number: SessionNo, done: bool) -> Result<(), Refused>
         ensures ok { OnOk result (NotesEnd number done self.old self.new) }
         ensures err { OnErr result (self.new ≡ self.old) }
+        ensures done { OnErr result (done ≡ true) }
     {
         self.notes.end(number, done)
     }

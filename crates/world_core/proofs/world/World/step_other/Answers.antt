@@ -1,30 +1,30 @@
-use Rattle.std.proofs.Common.{inl, sym, ◌∙◌}
-use Rattle.cloud_trait.specs.State.{newest}
-use Rattle.world_audit.proofs.Looks.{looked_not}
-use Rattle.world_core.proofs.Going.{put_before}
-use Rattle.world_core.proofs.GrowthLemmas.{grows_between}
-use Rattle.world_core.proofs.Landing.{audited_none}
-use Rattle.world_core.proofs.Marks.{newest_call}
+use Rattle.std.proofs.Common.{Ok, ap, subst}
+use Rattle.cloud_trait.specs.Caller.{Caller}
+use Rattle.world_core.specs.Handled.{NotesCall, NotesEnd}
+use Rattle.world_core.proofs.Checkpointing.{step_grows, step_noted, step_unnoted}
 use Rattle.world_core.proofs.world.World.step_other.Goals as goal
 
-pub returns-in-Ok-in-Ok-clause-looked : goal.returns-in-Ok-in-Ok-clause-looked
-returns-in-Ok-in-Ok-clause-looked g c = record {
-  from = g.C.Cloud.seen c.args.cloud.now;
-  under = g.C.Cloud.seen c.wish.new.self;
-  to = g.C.Cloud.seen c.call.new.cloud;
-  look_before = looked_not _;
-  wishes = record { no_call = c.wish.ensures.no_call; set = c.wish.ensures.set };
-  session = c.call.ensures.session;
-  look_after = looked_not _;
-  newest_call = newest_call c.args.who c.args.wish (g.C.Cloud.seen c.args.cloud.now) (g.C.Cloud.seen c.args.cloud.now) (g.C.Cloud.seen c.wish.new.self) (g.C.Cloud.seen c.call.new.cloud) _ c.args.who.session _ _ c.call.result
-      (looked_not _) (record { no_call = c.wish.ensures.no_call; set = c.wish.ensures.set }) c.call.ensures.session (looked_not _);
-  saw = λ e. sym c.call.ensures.blind ∙ e;
-  blinded = λ e. inl (sym c.call.ensures.blind ∙ e);
-  audit = λ e x y first second. c.call.ensures.audit ∙ audited_none (newest x) (newest y) c.call.ensures.session.before.work c.args.self.now.audit
-      (put_before c.args.who.session c.args.self.now.sessions _ c.call.ensures.session.before c.requires.no_put c.call.ensures.session.there);
-}
+pub returns-in-Ok-note_end-clause-looked : goal.returns-in-Ok-note_end-clause-looked
+returns-in-Ok-note_end-clause-looked g c =
+    step_noted c.args.who c.args.wish (g.C.Cloud.seen c.args.cloud.now) (g.C.Cloud.seen c.wish.new.self) (g.C.Cloud.seen c.call-turn.new.cloud)
+    c.args.self.now c.note_call.new.self c.call-turn.new.self c.note_end.new.self c.call-turn.result c.is_done.result c.requires.no_put
+    (subst (λ n. NotesCall n c.args.self.now c.note_call.new.self) (ap (λ (w : Caller). w.session) c.who.view_is) c.in-Ok.ensures.ok)
+    (record { no_call = c.wish.ensures.no_call; set = c.wish.ensures.set }) c.call-turn.ensures.session c.call-turn.ensures.audit c.call-turn.ensures.blind c.call-turn.ensures.notes c.is_done.ensures
+    (subst (λ n. NotesEnd n c.is_done.result c.call-turn.new.self c.note_end.new.self) (ap (λ (w : Caller). w.session) c.who-2.view_is) c.in-Ok-note_end.ensures.ok)
 
-pub returns-clause-grows : goal.returns-clause-grows
-returns-clause-grows g c =
-    grows_between c.args.who c.args.wish _ (g.C.Cloud.seen c.args.cloud.now) (g.C.Cloud.seen c.wish.new.self) (g.C.Cloud.seen c.call.new.cloud) _ c.args.who.session _ _ c.call.result
-    (looked_not _) (record { no_call = c.wish.ensures.no_call; set = c.wish.ensures.set }) c.call.ensures.session (looked_not _)
+pub returns-in-Ok-note_end-clause-grows : goal.returns-in-Ok-note_end-clause-grows
+returns-in-Ok-note_end-clause-grows g c =
+    step_grows c.args.who c.args.wish (g.C.Cloud.seen c.args.cloud.now) (g.C.Cloud.seen c.wish.new.self) (g.C.Cloud.seen c.call-turn.new.cloud) c.note_call.new.self c.call-turn.new.self c.call-turn.result
+    (record { no_call = c.wish.ensures.no_call; set = c.wish.ensures.set }) c.call-turn.ensures.session
+
+pub returns-in-Err-note_end-clause-short : goal.returns-in-Err-note_end-clause-short
+returns-in-Err-note_end-clause-short g c =
+    step_unnoted c.args.who c.args.wish (g.C.Cloud.seen c.args.cloud.now) (g.C.Cloud.seen c.wish.new.self) (g.C.Cloud.seen c.call-turn.new.cloud)
+    c.args.self.now c.note_call.new.self c.call-turn.new.self c.note_end.new.self c.call-turn.result c.is_done.result
+    (subst (λ n. NotesCall n c.args.self.now c.note_call.new.self) (ap (λ (w : Caller). w.session) c.who.view_is) c.in-Ok.ensures.ok)
+    (record { no_call = c.wish.ensures.no_call; set = c.wish.ensures.set }) c.call-turn.ensures.session c.call-turn.ensures.blind c.is_done.ensures c.in-Err-note_end.ensures.done c.in-Err-note_end.ensures.err
+
+pub returns-in-Err-note_end-clause-grows : goal.returns-in-Err-note_end-clause-grows
+returns-in-Err-note_end-clause-grows g c =
+    step_grows c.args.who c.args.wish (g.C.Cloud.seen c.args.cloud.now) (g.C.Cloud.seen c.wish.new.self) (g.C.Cloud.seen c.call-turn.new.cloud) c.note_call.new.self c.call-turn.new.self c.call-turn.result
+    (record { no_call = c.wish.ensures.no_call; set = c.wish.ensures.set }) c.call-turn.ensures.session

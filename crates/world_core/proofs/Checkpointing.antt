@@ -1,6 +1,6 @@
 -- The checkpoints of a session's work, as the world makes them; and what its steps leave of the session's notes.
 use Rattle.std.proofs.Common.{◌≡◌, ◌≤◌, ◌<◌, ◌+◌, ◌⊎◌, inl, inr, ℕ, Bool, true, false, List, [], ◌∷◌, ◌++◌, length, Option, Some, None, Result, Ok, Err, refl, sym, ap, subst, ◌∙◌, arith, append_assoc, append-nil}
-use Rattle.std.specs.Prelude.{All, not, slice_get, slice_set, option_map}
+use Rattle.std.specs.Prelude.{All, OnErr, not, slice_get, slice_set, option_map}
 use Rattle.std.proofs.lemmas.List.Elements.{All-tail}
 use Rattle.db_base.specs.declared.wish.Wish.{Wish}
 use Rattle.db_base.specs.declared.wish.Wish.TheVariants.{Plain}
@@ -383,3 +383,8 @@ pub step_grows : (who : Caller) (wish : Wish) (before under to : Seen) (noted ca
     → Changes who.session (λ a b. StepsSession who under to a b (Ok turn)) noted.sessions called.sessions → Grows who.event before to
 step_grows who wish before under to noted called turn sets s =
     grows_between who wish before before under to to who.session noted.sessions called.sessions turn (looked_not before) sets s (looked_not to)
+
+-- what holds anyway holds of an error
+pub on_err_all : {T E P : Type 0} → (r : Result T E) → P → OnErr r P
+on_err_all (Ok t) p = tt
+on_err_all (Err e) p = p

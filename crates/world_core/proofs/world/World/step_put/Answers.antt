@@ -1,7 +1,7 @@
 use Rattle.std.proofs.Common.{ap, inl, inr, refl, sym, subst, Some}
 use Rattle.session_notes.specs.Notebook.{ChangesBook, GoesOnEnded}
 use Rattle.world_audit.proofs.Looks.{looked_not}
-use Rattle.world_core.proofs.Checkpointing.{notes_put}
+use Rattle.world_core.proofs.Checkpointing.{notes_put, on_err_all}
 use Rattle.cloud_trait.specs.Caller.{Caller}
 use Rattle.cloud_trait.specs.State.{newest}
 use Rattle.world_core.specs.Sessions.{HasPut}

@@ -1,4 +1,4 @@
-//! What changes make of payloads and attributes, and what two of them come to: tables of all pairs of kinds.
+//! What changes make of payloads and attributes, and what two of them come to: all pairs of kinds.
 
 use db_base::attr::{Attr, attr_bytes};
 use db_base::change::{Change, act};
@@ -31,130 +31,76 @@ const A: Option<&[u8]> = Some(b"a");
 
 const B: Option<&[u8]> = Some(b"bc");
 
-/// Two changes, and the one that they come to.
-const JOINED: [(Edit<'static>, Edit<'static>, Edit<'static>); 29] = [
-    (
-        Edit::Insert(SEVEN, None),
-        Edit::Insert(b"q", None),
-        Edit::Insert(b"q", None),
-    ),
-    (
-        Edit::Insert(SEVEN, None),
-        Edit::Insert(b"q", B),
-        Edit::Insert(b"q", B),
-    ),
-    (
-        Edit::Insert(SEVEN, None),
-        Edit::Update(b"w"),
-        Edit::Insert(b"w", None),
-    ),
-    (Edit::Insert(SEVEN, None), Edit::Delete, Edit::Delete),
-    (
-        Edit::Insert(SEVEN, None),
-        Edit::Add(2),
-        Edit::Insert(NINE, None),
-    ),
-    (
-        Edit::Insert(SEVEN, A),
-        Edit::Insert(b"q", None),
-        Edit::Insert(b"q", None),
-    ),
-    (
-        Edit::Insert(SEVEN, A),
-        Edit::Insert(b"q", B),
-        Edit::Insert(b"q", B),
-    ),
-    (
-        Edit::Insert(SEVEN, A),
-        Edit::Update(b"w"),
-        Edit::Insert(b"w", A),
-    ),
-    (Edit::Insert(SEVEN, A), Edit::Delete, Edit::Delete),
-    (Edit::Insert(SEVEN, A), Edit::Add(2), Edit::Insert(NINE, A)),
-    (
-        Edit::Insert(WORD, None),
-        Edit::Add(2),
-        Edit::Insert(WORD, None),
-    ),
-    (Edit::Insert(WORD, A), Edit::Add(2), Edit::Insert(WORD, A)),
-    (
-        Edit::Update(SEVEN),
-        Edit::Insert(b"q", None),
-        Edit::Insert(b"q", None),
-    ),
-    (
-        Edit::Update(SEVEN),
-        Edit::Insert(b"q", B),
-        Edit::Insert(b"q", B),
-    ),
-    (Edit::Update(SEVEN), Edit::Update(b"w"), Edit::Update(b"w")),
-    (Edit::Update(SEVEN), Edit::Delete, Edit::Delete),
-    (Edit::Update(SEVEN), Edit::Add(2), Edit::Update(NINE)),
-    (Edit::Update(WORD), Edit::Add(2), Edit::Update(WORD)),
-    (
-        Edit::Delete,
-        Edit::Insert(b"q", None),
-        Edit::Insert(b"q", None),
-    ),
-    (Edit::Delete, Edit::Insert(b"q", B), Edit::Insert(b"q", B)),
-    (Edit::Delete, Edit::Update(b"w"), Edit::Delete),
-    (Edit::Delete, Edit::Delete, Edit::Delete),
-    (Edit::Delete, Edit::Add(2), Edit::Delete),
-    (
-        Edit::Add(3),
-        Edit::Insert(b"q", None),
-        Edit::Insert(b"q", None),
-    ),
-    (Edit::Add(3), Edit::Insert(b"q", B), Edit::Insert(b"q", B)),
-    (Edit::Add(3), Edit::Update(b"w"), Edit::Update(b"w")),
-    (Edit::Add(3), Edit::Delete, Edit::Delete),
-    (Edit::Add(3), Edit::Add(2), Edit::Add(5)),
-    (Edit::Add(u64::MAX), Edit::Add(2), Edit::Add(1)),
+/// What an insert without attribute and a change behind it come to.
+const BEHIND_INSERT: [(Edit<'static>, Edit<'static>); 5] = [
+    (Edit::Insert(b"q", None), Edit::Insert(b"q", None)),
+    (Edit::Insert(b"q", B), Edit::Insert(b"q", B)),
+    (Edit::Update(b"w"), Edit::Insert(b"w", None)),
+    (Edit::Delete, Edit::Delete),
+    (Edit::Add(2), Edit::Insert(NINE, None)),
 ];
 
-/// What a record holds, a change, and what it holds then.
-const MADE: [(Option<Held<'static>>, Edit<'static>, Option<Held<'static>>); 25] = [
-    (None, Edit::Insert(b"q", None), Some((b"q", None))),
-    (None, Edit::Insert(b"q", B), Some((b"q", B))),
-    (None, Edit::Update(b"w"), None),
-    (None, Edit::Delete, None),
-    (None, Edit::Add(2), None),
-    (
-        Some((SEVEN, None)),
-        Edit::Insert(b"q", None),
-        Some((b"q", None)),
-    ),
-    (Some((SEVEN, None)), Edit::Insert(b"q", B), Some((b"q", B))),
-    (Some((SEVEN, None)), Edit::Update(b"w"), Some((b"w", None))),
-    (Some((SEVEN, None)), Edit::Delete, None),
-    (Some((SEVEN, None)), Edit::Add(2), Some((NINE, None))),
-    (
-        Some((SEVEN, A)),
-        Edit::Insert(b"q", None),
-        Some((b"q", None)),
-    ),
-    (Some((SEVEN, A)), Edit::Insert(b"q", B), Some((b"q", B))),
-    (Some((SEVEN, A)), Edit::Update(b"w"), Some((b"w", A))),
-    (Some((SEVEN, A)), Edit::Delete, None),
-    (Some((SEVEN, A)), Edit::Add(2), Some((NINE, A))),
-    (
-        Some((WORD, None)),
-        Edit::Insert(b"q", None),
-        Some((b"q", None)),
-    ),
-    (Some((WORD, None)), Edit::Insert(b"q", B), Some((b"q", B))),
-    (Some((WORD, None)), Edit::Update(b"w"), Some((b"w", None))),
-    (Some((WORD, None)), Edit::Delete, None),
-    (Some((WORD, None)), Edit::Add(2), Some((WORD, None))),
-    (
-        Some((WORD, A)),
-        Edit::Insert(b"q", None),
-        Some((b"q", None)),
-    ),
-    (Some((WORD, A)), Edit::Insert(b"q", B), Some((b"q", B))),
-    (Some((WORD, A)), Edit::Update(b"w"), Some((b"w", A))),
-    (Some((WORD, A)), Edit::Delete, None),
-    (Some((WORD, A)), Edit::Add(2), Some((WORD, A))),
+/// The same of an insert with an attribute.
+const BEHIND_INSERT_WITH: [(Edit<'static>, Edit<'static>); 5] = [
+    (Edit::Insert(b"q", None), Edit::Insert(b"q", None)),
+    (Edit::Insert(b"q", B), Edit::Insert(b"q", B)),
+    (Edit::Update(b"w"), Edit::Insert(b"w", A)),
+    (Edit::Delete, Edit::Delete),
+    (Edit::Add(2), Edit::Insert(NINE, A)),
+];
+
+/// The same of an update.
+const BEHIND_UPDATE: [(Edit<'static>, Edit<'static>); 5] = [
+    (Edit::Insert(b"q", None), Edit::Insert(b"q", None)),
+    (Edit::Insert(b"q", B), Edit::Insert(b"q", B)),
+    (Edit::Update(b"w"), Edit::Update(b"w")),
+    (Edit::Delete, Edit::Delete),
+    (Edit::Add(2), Edit::Update(NINE)),
+];
+
+/// The same of a deletion.
+const BEHIND_DELETE: [(Edit<'static>, Edit<'static>); 5] = [
+    (Edit::Insert(b"q", None), Edit::Insert(b"q", None)),
+    (Edit::Insert(b"q", B), Edit::Insert(b"q", B)),
+    (Edit::Update(b"w"), Edit::Delete),
+    (Edit::Delete, Edit::Delete),
+    (Edit::Add(2), Edit::Delete),
+];
+
+/// The same of an addition.
+const BEHIND_ADD: [(Edit<'static>, Edit<'static>); 5] = [
+    (Edit::Insert(b"q", None), Edit::Insert(b"q", None)),
+    (Edit::Insert(b"q", B), Edit::Insert(b"q", B)),
+    (Edit::Update(b"w"), Edit::Update(b"w")),
+    (Edit::Delete, Edit::Delete),
+    (Edit::Add(2), Edit::Add(1)),
+];
+
+/// What changes make of no record.
+const MADE_OF_NONE: [(Edit<'static>, Option<Held<'static>>); 5] = [
+    (Edit::Insert(b"q", None), Some((b"q", None))),
+    (Edit::Insert(b"q", B), Some((b"q", B))),
+    (Edit::Update(b"w"), None),
+    (Edit::Delete, None),
+    (Edit::Add(2), None),
+];
+
+/// What they make of SEVEN without attribute.
+const MADE_OF_SEVEN: [(Edit<'static>, Option<Held<'static>>); 5] = [
+    (Edit::Insert(b"q", None), Some((b"q", None))),
+    (Edit::Insert(b"q", B), Some((b"q", B))),
+    (Edit::Update(b"w"), Some((b"w", None))),
+    (Edit::Delete, None),
+    (Edit::Add(2), Some((NINE, None))),
+];
+
+/// What they make of SEVEN with the attribute A.
+const MADE_OF_SEVEN_WITH: [(Edit<'static>, Option<Held<'static>>); 5] = [
+    (Edit::Insert(b"q", None), Some((b"q", None))),
+    (Edit::Insert(b"q", B), Some((b"q", B))),
+    (Edit::Update(b"w"), Some((b"w", A))),
+    (Edit::Delete, None),
+    (Edit::Add(2), Some((NINE, A))),
 ];
 
 fn attribute(alloc: Global, bytes: Option<&[u8]>) -> Result<Option<Attr>, Refused> {
@@ -208,8 +154,8 @@ fn joined(alloc: Global, first: &Edit<'_>, second: &Edit<'_>) -> Result<Change, 
     Ok(both)
 }
 
-fn are_joined(alloc: Global, rows: &[(Edit<'_>, Edit<'_>, Edit<'_>)]) -> bool {
-    for (first, second, both) in rows {
+fn are_joined(alloc: Global, first: &Edit<'_>, rows: &[(Edit<'_>, Edit<'_>)]) -> bool {
+    for (second, both) in rows {
         match joined(alloc, first, second) {
             Ok(made) if is_edit(&made, both) => {}
             _ => return false,
@@ -219,8 +165,43 @@ fn are_joined(alloc: Global, rows: &[(Edit<'_>, Edit<'_>, Edit<'_>)]) -> bool {
 }
 
 #[test]
-fn two_changes_join(rt: HostRuntime) {
-    assert!(rt; are_joined(rt.alloc(), &JOINED));
+fn changes_join_an_insert(rt: HostRuntime) {
+    assert!(rt; are_joined(rt.alloc(), &Edit::Insert(SEVEN, None), &BEHIND_INSERT));
+}
+
+#[test]
+fn changes_join_an_insert_with_an_attribute(rt: HostRuntime) {
+    assert!(rt; are_joined(rt.alloc(), &Edit::Insert(SEVEN, A), &BEHIND_INSERT_WITH));
+}
+
+#[test]
+fn changes_join_an_update(rt: HostRuntime) {
+    assert!(rt; are_joined(rt.alloc(), &Edit::Update(SEVEN), &BEHIND_UPDATE));
+}
+
+#[test]
+fn changes_join_a_deletion(rt: HostRuntime) {
+    assert!(rt; are_joined(rt.alloc(), &Edit::Delete, &BEHIND_DELETE));
+}
+
+#[test]
+fn changes_join_an_addition(rt: HostRuntime) {
+    assert!(rt; are_joined(rt.alloc(), &Edit::Add(u64::MAX), &BEHIND_ADD));
+}
+
+/// Whether an addition behind a change leaves it.
+fn is_left(alloc: Global, edit: &Edit<'_>) -> bool {
+    match joined(alloc, edit, &Edit::Add(2)) {
+        Ok(both) => is_edit(&both, edit),
+        Err(_) => false,
+    }
+}
+
+#[test]
+fn an_addition_leaves_a_word(rt: HostRuntime) {
+    assert!(rt; is_left(rt.alloc(), &Edit::Insert(WORD, None)));
+    assert!(rt; is_left(rt.alloc(), &Edit::Insert(WORD, A)));
+    assert!(rt; is_left(rt.alloc(), &Edit::Update(WORD)));
 }
 
 /// Whether a record that holds this holds that after a change.
@@ -238,8 +219,8 @@ fn makes(old: &Option<Held<'_>>, change: &Change, new: &Option<Held<'_>>) -> boo
     }
 }
 
-fn are_made(alloc: Global, rows: &[(Option<Held<'_>>, Edit<'_>, Option<Held<'_>>)]) -> bool {
-    for (old, edit, new) in rows {
+fn are_made(alloc: Global, old: &Option<Held<'_>>, rows: &[(Edit<'_>, Option<Held<'_>>)]) -> bool {
+    for (edit, new) in rows {
         match change(alloc, edit) {
             Ok(change) if makes(old, &change, new) => {}
             _ => return false,
@@ -249,6 +230,40 @@ fn are_made(alloc: Global, rows: &[(Option<Held<'_>>, Edit<'_>, Option<Held<'_>>
 }
 
 #[test]
-fn changes_make_records(rt: HostRuntime) {
-    assert!(rt; are_made(rt.alloc(), &MADE));
+fn changes_act_on_no_record(rt: HostRuntime) {
+    assert!(rt; are_made(rt.alloc(), &None, &MADE_OF_NONE));
+}
+
+#[test]
+fn changes_act_on_a_number(rt: HostRuntime) {
+    assert!(rt; are_made(rt.alloc(), &Some((SEVEN, None)), &MADE_OF_SEVEN));
+}
+
+#[test]
+fn changes_act_on_a_number_with_an_attribute(rt: HostRuntime) {
+    assert!(rt; are_made(rt.alloc(), &Some((SEVEN, A)), &MADE_OF_SEVEN_WITH));
+}
+
+/// The same of what one change makes.
+fn is_made(alloc: Global, old: Held<'_>, edit: &Edit<'_>, new: Held<'_>) -> bool {
+    match change(alloc, edit) {
+        Ok(change) => makes(&Some(old), &change, &Some(new)),
+        Err(_) => false,
+    }
+}
+
+#[test]
+fn changes_act_on_a_word(rt: HostRuntime) {
+    assert!(rt; is_made(rt.alloc(), (WORD, None), &Edit::Add(2), (WORD, None)));
+    assert!(rt; is_made(rt.alloc(), (WORD, A), &Edit::Add(2), (WORD, A)));
+    assert!(rt; is_made(rt.alloc(), (WORD, A), &Edit::Update(b"w"), (b"w", A)));
+    assert!(rt; is_made(rt.alloc(), (WORD, A), &Edit::Insert(b"q", B), (b"q", B)));
+    assert!(rt;
+        is_made(
+            rt.alloc(),
+            (WORD, A),
+            &Edit::Insert(b"q", None),
+            (b"q", None)
+        )
+    );
 }

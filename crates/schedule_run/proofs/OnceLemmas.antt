@@ -119,7 +119,7 @@ module _ (lines : List Line) (event : Event) (fault : WorldFault) (s t z : Seen)
 -- where nothing ran nothing was opened
 pub once_nothing : (s z : Seen) → z ≡ s → OpensNoneTwice s z
 once_nothing s z same x told =
-    subst (AddsNoneTwice x) (sym same) (none_twice [] x (record { sessions = []; audit = record { committed = []; order = [] }; blind = false }) s
+    subst (AddsNoneTwice x) (sym same) (none_twice [] x (record { sessions = []; audit = record { committed = []; order = [] }; blind = false; notes = [] }) s
     (apart_nothing _ x _ s told (λ j. refl)))
 
 -- where memory ran out behind lines

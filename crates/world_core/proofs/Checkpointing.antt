@@ -57,12 +57,6 @@ use Rattle.world_core.proofs.Workers.{IsBetween, IsIdle, IsInside, begun_has, op
 
 -- ---- what a session has
 
-pub is_open : (number client : ℕ) (sessions : List Acting) (a : Acting) → slice_get sessions number ≡ Some a → open_client a.work ≡ Ok client → IsOpen number sessions
-is_open number client sessions a there opened = record { session = a; there = there; client = client; opened = opened }
-
-pub is_shut : (number : ℕ) (sessions : List Acting) (a : Acting) (rule : Refusal) → slice_get sessions number ≡ Some a → open_client a.work ≡ Err rule → IsShut number sessions rule
-is_shut number sessions a rule there shut = record { session = a; there = there; shut = shut }
-
 -- the session of a number is open, where it is between two checkpoints
 pub between_open : (number : ℕ) (home : Home) (first : Sessions) (world : World) (a : Acting) → slice_get world.sessions number ≡ Some a → IsBetween number home first world
     → IsOpen number world.sessions

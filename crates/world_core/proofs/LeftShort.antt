@@ -367,8 +367,10 @@ module _ (who : Caller) (home : Home) (first : Sessions) (new : World) where
         before = c.before;
         after = c.after;
         there = c.there;
-        does = (checkpoint_lease home c.before.work c.after.work (subst (λ (a : Acting). HasCheckpoint home a.work) (session_there begun.sessions who.session c.before c.there) w.works) c.does.work,
-          c.does.shown);
+        does = (
+          checkpoint_lease home c.before.work c.after.work (subst (λ (a : Acting). HasCheckpoint home a.work) (session_there begun.sessions who.session c.before c.there) w.works) c.does.work,
+          c.does.shown,
+        );
         rest = c.rest;
       }
 

@@ -133,15 +133,19 @@ module _ (who : Caller) (home : Home) (first : Sessions) where
   pub within_more : (before after : Seen) (old new : World) → IsInside who.session home first old → StepsLooked who Plain before after old new More → IsInside who.session home first new
   within_more before after old new w p =
       within_changed (HasCheckpoint home) (HasCheckpoint home) who.session first _ old new p.session w
-      (λ has. (checkpoint_goes who p.under p.to home p.session.before.work p.session.after.work p.session.does.work has,
-      p.session.does.buffer ∙ checkpoint_noted home p.session.before.work p.session.before.buffer has))
+      (λ has. (
+        checkpoint_goes who p.under p.to home p.session.before.work p.session.after.work p.session.does.work has,
+        p.session.does.buffer ∙ checkpoint_noted home p.session.before.work p.session.before.buffer has,
+      ))
 
   pub within_ended : (before after : Seen) (old new : World) (a : Answer) → IsNoWant a → IsInside who.session home first old → StepsLooked who Plain before after old new (Ended a)
       → IsBetween who.session home first new
   within_ended before after old new a some w p =
       within_changed (HasCheckpoint home) (IsIdle home) who.session first _ old new p.session w
-      (λ has. (checkpoint_ends who p.under p.to home p.session.before.work p.session.after.work a p.session.does.work has some,
-      p.session.does.buffer ∙ checkpoint_noted home p.session.before.work p.session.before.buffer has))
+      (λ has. (
+        checkpoint_ends who p.under p.to home p.session.before.work p.session.after.work a p.session.does.work has some,
+        p.session.does.buffer ∙ checkpoint_noted home p.session.before.work p.session.before.buffer has,
+      ))
 
   pub within_went : (before : Seen) (old : World) (after : Seen) (new : World) → IsInside who.session home first old → Went who before old after new → IsInside who.session home first new
   within_went before old after new w start = w

@@ -229,12 +229,7 @@ impl<S: SessionCalls> World<S> {
     }
 
     /// Begins an operation of the session.
-    fn begin_op(
-        &mut self,
-        alloc: Global,
-        number: SessionNo,
-        op: Op,
-    ) -> Result<Reply, WorldFault>
+    fn begin_op(&mut self, alloc: Global, number: SessionNo, op: Op) -> Result<Reply, WorldFault>
         ensures session { Changes number (BeginsOp op result) self.old.sessions self.new.sessions }
         ensures audit { self.new.audit ≡ self.old.audit }
         ensures blind { self.new.blind ≡ self.old.blind }

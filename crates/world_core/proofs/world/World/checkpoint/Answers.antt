@@ -24,6 +24,6 @@ returns-in-Trouble-clause-short g c = on_err_weaker c.pass_over.result (λ p. re
     c.run_on.new.self,
     subst (λ t. ComesTo c.args.who (g.C.Cloud.seen c.args.cloud.now) (g.C.Cloud.seen c.run_on.new.cloud) c.begin_checkpoint.new.self c.run_on.new.self (answer.Trouble t)) p.1
         (subst (λ a. ComesTo c.args.who (g.C.Cloud.seen c.args.cloud.now) (g.C.Cloud.seen c.run_on.new.cloud) c.begin_checkpoint.new.self c.run_on.new.self a) c.in-Trouble.is c.in_ok-run_on.ensures.comes),
-    subst (λ n. BreaksOff n c.run_on.new.self c.pass_over.new.self) (ap (λ (w : Caller). w.session) c.who-2.view_is) p.0
+    subst (λ n. BreaksOff n c.run_on.new.self c.pass_over.new.self) (ap (λ (w : Caller). w.session) c.who-2.view_is) p.0,
   );
 }) c.pass_over.ensures.short

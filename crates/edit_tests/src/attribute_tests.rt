@@ -15,6 +15,11 @@ const LEAF: [u8; 20] = [
     0x4c, 2, 0, 0, 0, 0, 0, 0, 0, 1, 0, 0, 0, 0, 0, 0, 0, 0, 0, 0,
 ];
 
+/// The same at version 2.
+const NEXT: [u8; 20] = [
+    0x4c, 2, 0, 0, 0, 0, 0, 0, 0, 2, 0, 0, 0, 0, 0, 0, 0, 0, 0, 0,
+];
+
 /// How many bytes stand before the records, where one entry says what is done.
 const FRONT: usize = 38;
 
@@ -258,34 +263,39 @@ fn add_greatest(bytes: &mut Vec<u8>) -> Result<(), AllocError> {
     bytes.extend_from_slice(&[0])
 }
 
-/// The leaf of that record.
-fn greatest(alloc: Global) -> Option<Vec<u8>> {
-    let mut bytes = LEAF.to_vec(alloc).ok()?;
+/// The leaf of that record, behind the front of a leaf.
+fn greatest(alloc: Global, front: &[u8]) -> Option<Vec<u8>> {
+    let mut bytes = front.to_vec(alloc).ok()?;
     match add_greatest(&mut bytes) {
         Ok(()) => Some(bytes),
         Err(_) => None,
     }
 }
 
-/// Whether the next version of the leaf of these bytes, with nothing applied, has so many, the same behind the version.
-fn is_kept(alloc: Global, bytes: &[u8], length: usize) -> bool {
-    let Ok(leaf) = LeafView::read(bytes) else {
-        return false;
-    };
-    match apply(alloc, &leaf, 0, &[]) {
+/// Whether the next version of a leaf, with nothing applied, has these bytes, and needs so many.
+fn is_next(alloc: Global, leaf: &LeafView<'_>, bytes: &[u8]) -> bool {
+    match apply(alloc, leaf, 0, &[]) {
         Ok(made) => {
-            need(&leaf, 0, &[]) == Some(length)
-                && made.view().version() == 2
-                && made.into_blob().as_slice().ends_with(&bytes[10..])
+            need(leaf, 0, &[]) == Some(bytes.len()) && made.into_blob().as_slice() == bytes
         }
+        Err(_) => false,
+    }
+}
+
+/// Whether the leaf of some bytes becomes that of others so.
+fn becomes(alloc: Global, bytes: &[u8], next: &[u8]) -> bool {
+    match LeafView::read(bytes) {
+        Ok(leaf) => is_next(alloc, &leaf, next),
         Err(_) => false,
     }
 }
 
 #[test]
 fn the_greatest_record_is_kept(rt: HostRuntime) {
-    match greatest(rt.alloc()) {
-        Some(bytes) => assert!(rt; is_kept(rt.alloc(), &bytes, 1147)),
-        None => rt.panic("no leaf"),
+    match (greatest(rt.alloc(), &LEAF), greatest(rt.alloc(), &NEXT)) {
+        (Some(bytes), Some(next)) => {
+            assert!(rt; next.len() == 1147 && becomes(rt.alloc(), &bytes, &next))
+        }
+        _ => rt.panic("no leaf"),
     }
 }

@@ -1,12 +1,11 @@
 -- A writer's ledger, as the steps and lines of its session leave it.
-use Rattle.std.proofs.Common.{◌≡◌, ◌<◌, ℕ, Bool, true, false, List, [], ◌∷◌, ◌++◌, length, Option, Some, None, Result, Ok, Err, refl, sym, ap, subst, ◌∙◌}
+use Rattle.std.proofs.Common.{◌≡◌, ◌<◌, ℕ, Bool, true, false, List, [], ◌∷◌, ◌++◌, length, Option, Some, None, refl, sym, ap, subst, ◌∙◌}
 use Rattle.std.specs.Prelude.{slice_get, slice_set}
 use Rattle.std.proofs.lemmas.List.{get_or-set_same, length-set}
 use Rattle.std.proofs.lemmas.Option.{slice_get_within, slice_get-get_or}
 use Rattle.ckpt_policy.specs.declared.note.Note.{Note}
 use Rattle.ckpt_policy.specs.declared.note.Note.TheVariants.{Kept}
-use Rattle.ckpt_policy.specs.declared.role.Role.TheVariants.{Writer}
-use Rattle.ckpt_policy.specs.Ledger.{Account, StandsFor}
+use Rattle.ckpt_policy.specs.Ledger.{Account}
 use Rattle.client_work.specs.declared.answer.Answer.{Answer}
 use Rattle.client_work.specs.declared.work.Work.{Work}
 use Rattle.client_work.specs.Session.{ask_of_work}

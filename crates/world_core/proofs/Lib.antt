@@ -39,6 +39,7 @@ pub mod Ledgers
 pub mod MeteredSteps
 pub mod MeteredCheckpoints
 pub mod MeteredWork
+pub mod MeteredLines
 pub mod EachAny
 pub mod Begun
 pub mod Caused

@@ -1,11 +1,11 @@
 -- A checkpoint that a line makes whole keeps what the notes of its session meter, where each of its calls went through: it empties its queue.
-use Rattle.std.proofs.Common.{◌≡◌, ◌≢◌, ◌≤◌, ◌+◌, ◌==◌, inl, inr, ℕ, Bool, true, false, cond, List, [], ◌∷◌, ◌++◌, length, Option, Some, None, Result, Ok, Err, refl, sym, ap, subst, ◌∙◌, arith}
+use Rattle.std.proofs.Common.{◌≡◌, ◌≢◌, ◌≤◌, ℕ, List, [], ◌∷◌, ◌++◌, length, Option, Some, refl, sym, ap, subst, ◌∙◌, arith}
 use Rattle.std.specs.Prelude.{slice_get}
 use Rattle.ckpt_policy.specs.declared.note.Note.{Note}
 use Rattle.ckpt_policy.specs.declared.note.Note.TheVariants.{Kept}
 use Rattle.ckpt_policy.specs.declared.place.Place.{Place}
 use Rattle.ckpt_policy.specs.Notes.{queue_at}
-use Rattle.client_work.specs.Causing.{CausesAt, FoldingCauses, PagingCauses}
+use Rattle.client_work.specs.Causing.{CausesAt}
 use Rattle.client_work.specs.declared.answer.Answer.{Answer as Told}
 use Rattle.client_work.specs.declared.answer.Answer.TheVariants as told
 use Rattle.client_work.specs.declared.work.Work.{Work}
@@ -16,10 +16,10 @@ use Rattle.cloud_trait.specs.declared.answer.Answer.{Answer}
 use Rattle.cloud_trait.specs.declared.answer.Answer.TheVariants.{Failed, Memory}
 use Rattle.cloud_trait.specs.declared.turn.CkptAnswer.{CkptAnswer}
 use Rattle.cloud_trait.specs.declared.turn.Turn.{Turn}
-use Rattle.cloud_trait.specs.declared.turn.Turn.TheVariants.{More, Ended, Stopped}
+use Rattle.cloud_trait.specs.declared.turn.Turn.TheVariants.{More, Ended}
 use Rattle.cloud_trait.specs.Ask.{Ask}
 use Rattle.cloud_trait.specs.Caller.{Caller}
-use Rattle.cloud_trait.specs.Machine.{Next, Goes, Ends, Stops, Deed}
+use Rattle.cloud_trait.specs.Machine.{Next, Goes, Ends, Deed}
 use Rattle.cloud_trait.specs.Seen.{Seen}
 use Rattle.cloud_trait.specs.State.{CloudState, called}
 use Rattle.cloud_trait.specs.Weather.{Leaves, Makes, Rose}
@@ -36,14 +36,14 @@ use Rattle.session_facts.specs.Settled.Story.{Moment}
 use Rattle.session_notes.proofs.MeterLemmas.{adds_none, call_metered, kept_metered}
 use Rattle.session_notes.specs.declared.notebook.Notebook.{Notebook}
 use Rattle.session_notes.specs.Metered.{IsMetered, SendNoMore}
-use Rattle.session_notes.specs.Notebook.{ChangesBook, note_of_ask, with_note}
+use Rattle.session_notes.specs.Notebook.{note_of_ask, with_note}
 use Rattle.tree_ckpt.specs.Making.{Making, making_ask, MakingLeads}
-use Rattle.writer_bound.proofs.Coming.{Comes, comes_first, comes_on}
+use Rattle.writer_bound.proofs.Coming.{Comes, comes_on}
 use Rattle.writer_bound.proofs.Emptying.{is_no_send}
-use Rattle.world_core.proofs.Ledgers.{book_after, book_before, queue_stays, writer_keeps, writer_same, writer_steps}
+use Rattle.world_core.proofs.Ledgers.{book_after, book_before, queue_stays, writer_keeps, writer_steps}
 use Rattle.world_core.proofs.MeteredSteps.{own_is, own_was, told_wished}
 use Rattle.world_core.specs.EachStep.{EachCome, EachWent}
-use Rattle.world_core.specs.Handled.{ComesTo, NotesStep, StepsLooked, Went, further, note_of_hand, start}
+use Rattle.world_core.specs.Handled.{ComesTo, StepsLooked, Went, further, note_of_hand, start}
 use Rattle.world_core.specs.Metered.{IsWriters, HasLedger, StepGoesThrough}
 use Rattle.world_core.specs.World.{World}
 
@@ -112,7 +112,7 @@ pub record AtItsEnd (queue : QueueName) (session k : ℕ) (earlier : List Note) 
 no_rise : (a b : ℕ) → b ≡ a → Rose a b → ⊥
 no_rise a b same rose = omega (arith, same, rose)
 
-more_less : (a b c : List Note) → SendNoMore a b → SendNoMore b c → SendNoMore a c
+pub more_less : (a b c : List Note) → SendNoMore a b → SendNoMore b c → SendNoMore a c
 more_less a b c one two place =
     let x = one place in
     let y = two place in

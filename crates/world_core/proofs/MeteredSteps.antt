@@ -1,5 +1,5 @@
 -- The steps of a session that has no checkpoint in hand keep what its notes meter.
-use Rattle.std.proofs.Common.{◌≡◌, ◌≤◌, ◌+◌, inl, inr, ℕ, Bool, true, false, List, [], ◌∷◌, Option, Some, None, Result, Ok, Err, refl, sym, ap, subst, ◌∙◌, arith}
+use Rattle.std.proofs.Common.{◌≡◌, ◌≤◌, ◌+◌, ℕ, false, List, [], ◌∷◌, Option, Some, refl, sym, ap, subst, ◌∙◌, arith}
 use Rattle.ckpt_policy.specs.declared.note.Note.{Note}
 use Rattle.ckpt_policy.specs.declared.place.Place.{Place}
 use Rattle.client_work.specs.declared.answer.Answer.{Answer}
@@ -13,7 +13,7 @@ use Rattle.cloud_trait.specs.Seen.{Seen}
 use Rattle.cloud_trait.specs.State.{CloudState, called}
 use Rattle.cloud_trait.specs.Weather.{Leaves}
 use Rattle.cloud_trait.specs.declared.turn.Turn.{Turn}
-use Rattle.cloud_trait.specs.declared.turn.Turn.TheVariants.{More, Ended, Stopped}
+use Rattle.cloud_trait.specs.declared.turn.Turn.TheVariants.{More, Ended}
 use Rattle.db_base.specs.declared.wish.Wish.{Wish}
 use Rattle.db_base.specs.declared.wish.Wish.TheVariants.{Plain}
 use Rattle.session_facts.proofs.Steps.{MadeCall, made_call}
@@ -26,7 +26,7 @@ use Rattle.writer_bound.specs.Sending.{SendsAtMost, ask_sends, hand_sends}
 use Rattle.world_core.proofs.Ledgers.{ledger_changed, writer_steps}
 use Rattle.world_core.proofs.StandsLemmas.{changed_at, changed_was}
 use Rattle.world_core.specs.Handled.{ComesTo, NotesStep, StepsLooked, Went, further, is_done, note_of_hand, start}
-use Rattle.world_core.specs.Metered.{HasLedger, Meters}
+use Rattle.world_core.specs.Metered.{Meters}
 use Rattle.world_core.specs.World.{World}
 
 -- a told cloud is metered so
@@ -71,7 +71,7 @@ module _ (who : Caller) (k bound : ℕ) (wish : Wish) (before after : Seen) (old
     spends =
         step_spends m.left who p.under p.to work p.session.after.work turn p.session.does.work (subst (λ (a : Acting). SendsAtMost m.left a.work) own_was m.sends)
 
-    later : List Note
+    abbrev later : List Note
     later = with_note m.notes (note_of_hand (ask_of_work work))
 
     later_is : later ≡ with_note m.notes (note_of_hand (Some made.ask))

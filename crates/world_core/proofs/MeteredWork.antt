@@ -1,5 +1,5 @@
 -- A line that works off what is due to a writer, and passes nothing over, leaves few messages.
-use Rattle.std.proofs.Common.{◌≡◌, ◌≢◌, ◌≤◌, ◌<◌, ◌+◌, ◌-◌, ◌==◌, inl, inr, ℕ, zero, suc, Bool, true, false, cond, List, [], ◌∷◌, ◌++◌, length, Option, Some, None, Result, Ok, Err, refl, sym, ap, subst, ◌∙◌, arith, ne_eqb}
+use Rattle.std.proofs.Common.{◌≡◌, ◌≤◌, ◌+◌, ◌-◌, ℕ, Bool, cond, List, [], ◌∷◌, ◌++◌, length, Option, Some, refl, sym, ap, subst, ◌∙◌, arith, ne_eqb}
 use Rattle.std.specs.Prelude.{slice_get}
 use Rattle.ckpt_policy.specs.declared.note.Note.{Note}
 use Rattle.ckpt_policy.specs.declared.note.Note.TheVariants.{Kept}
@@ -7,14 +7,13 @@ use Rattle.ckpt_policy.specs.declared.place.Place.{Place}
 use Rattle.ckpt_policy.specs.declared.role.Role.{Role}
 use Rattle.ckpt_policy.specs.declared.role.Role.TheVariants.{Writer}
 use Rattle.ckpt_policy.specs.Due.{due}
-use Rattle.ckpt_policy.specs.Ledger.{Account, IsNumber, most_changes}
+use Rattle.ckpt_policy.specs.Ledger.{Account, most_changes}
 use Rattle.ckpt_policy.specs.Notes.{IsPending, queue_at}
 use Rattle.client_work.specs.declared.answer.Answer.{Answer}
 use Rattle.client_work.specs.declared.answer.Answer.TheVariants as answer
-use Rattle.client_work.specs.declared.answer.Begun.TheVariants.{Working}
 use Rattle.client_work.specs.declared.work.Work.{Work}
-use Rattle.client_work.specs.declared.work.Work.TheVariants.{Folding, Idle, Paging}
-use Rattle.client_work.specs.Session.{Acting, Begins}
+use Rattle.client_work.specs.declared.work.Work.TheVariants.{Folding, Paging}
+use Rattle.client_work.specs.Session.{Acting}
 use Rattle.cloud_facts.proofs.Book.Names.{at_same}
 use Rattle.cloud_trait.specs.declared.turn.CkptAnswer.{CkptAnswer}
 use Rattle.cloud_trait.specs.Caller.{Caller}
@@ -24,7 +23,7 @@ use Rattle.cloud_trait.specs.State.{CloudState}
 use Rattle.db_base.specs.declared.names.QueueName.{QueueName}
 use Rattle.db_base.specs.declared.names.QueueName.TheVariants.{Atomic, TreePu, PagePu}
 use Rattle.db_base.specs.declared.wish.Wish.TheVariants.{Plain}
-use Rattle.page_ckpt.specs.Paging.{Paging as Page, new_paging, paging_ask, PagingLeads}
+use Rattle.page_ckpt.specs.Paging.{new_paging, paging_ask, PagingLeads}
 use Rattle.recover_run.specs.declared.home.Home.{Home}
 use Rattle.replay_meaning.specs.Standing.{Line}
 use Rattle.session_facts.proofs.CallKinds.{IsWorkersRow}
@@ -32,11 +31,11 @@ use Rattle.session_facts.proofs.Steps.{wish_holds}
 use Rattle.session_facts.specs.Facts.{session_at, CloudHolds}
 use Rattle.session_facts.specs.Sessions.Sessions.{Sessions, IsRightOp}
 use Rattle.session_facts.specs.Settled.Story.{Moment}
-use Rattle.session_notes.proofs.MeterLemmas.{all_less, kept_less, works_below}
+use Rattle.session_notes.proofs.MeterLemmas.{all_less, works_below}
 use Rattle.session_notes.specs.declared.notebook.Notebook.{Notebook}
 use Rattle.session_notes.specs.Metered.{AllKept, IsMetered, SendNoMore, sent_since, waiting_at}
 use Rattle.session_notes.specs.Notebook.{AreDue, IsDue}
-use Rattle.tree_ckpt.specs.Making.{Making, new_making, making_ask, MakingLeads}
+use Rattle.tree_ckpt.specs.Making.{new_making, making_ask, MakingLeads}
 use Rattle.writer_bound.proofs.Coming.{comes_first}
 use Rattle.writer_bound.proofs.Emptying.{page_empties, page_sends, tree_empties, tree_sends}
 use Rattle.writer_bound.specs.Sending.{SendsAtMost}
@@ -44,9 +43,9 @@ use Rattle.world_core.proofs.Ledgers.{book_after, book_before, writer_same}
 use Rattle.world_core.proofs.MeteredCheckpoints.{AtItsEnd, OnCheckpoint, comes_through, folding_ends, folding_more, more_less, paging_ends, paging_more}
 use Rattle.world_core.proofs.MeteredSteps.{MetersSeen}
 use Rattle.world_core.proofs.StandsLemmas.{changed_at}
-use Rattle.world_core.proofs.Workers.{HoldsWithin, IsBetween, holds_works, open_rests, within_works, worker}
+use Rattle.world_core.proofs.Workers.{HoldsWithin, IsBetween, holds_works, within_works, worker}
 use Rattle.world_core.specs.EachStep.{EachCome, EachWork}
-use Rattle.world_core.specs.Handled.{BeginsCheckpoint, Checkpoints, IsPassable, Works, WorksDown, checkpoint_more, checkpoint_of, no_checkpoint, passed_by}
+use Rattle.world_core.specs.Handled.{BeginsCheckpoint, Checkpoints, IsPassable, Works, checkpoint_more, checkpoint_of, no_checkpoint, passed_by}
 use Rattle.world_core.specs.Metered.{HasLedger, IsWriters, Meters, StepGoesThrough}
 use Rattle.world_core.specs.World.{World}
 
@@ -81,7 +80,7 @@ module _ (n k session : ℕ) (lines : List Line) where
   who = worker session n
 
   -- the moment at which it begins, once the wish for its first call is set
-  first_moment : (world : World) (seen : Seen) → HoldsWithin n lines world seen → Moment
+  abbrev first_moment : (world : World) (seen : Seen) → HoldsWithin n lines world seen → Moment
   first_moment world seen h =
       let w : CloudHolds n lines (session_at world.sessions) world.audit world.blind (record h.state { wish = Plain }) =
       wish_holds n lines (session_at world.sessions) world.audit world.blind h.state Plain h.holds in
@@ -195,29 +194,19 @@ module _ (n k session : ℕ) (lines : List Line) where
 
   module _ (home : Home) (row : IsWorkersRow lines who) (first : Sessions) (before : Seen) (old : World) (rest : IsBetween session home first old) (h : HoldsWithin n lines old before)
       (earlier : List Note) (ledger : HasLedger session k earlier old.notes) (metered : IsMetered earlier h.state) (short : (place : Place) → sent_since earlier place ≤ 255) where
-    pub works_off : (queues : List QueueName) (done passed : ℕ) (after : Seen) (new : World) (works : Works who before old queues done passed after new) → passed ≡ 0
-        → EachWork StepGoesThrough who before old queues done passed after new works → HasWorked queues earlier new after
-    works_off queues done passed after new no_checkpoint none each =
-        record { notes = earlier; kept = λ place. omega arith; ledger = ledger; state = h.state; told = h.told; metered = metered }
-    works_off queues done passed after new (checkpoint_more others kept left mid world queue a _ _ works makes passes) none each =
-        record {
-          notes = end.notes ++ Kept queue ∷ [];
-          kept = one_kept others queue earlier was.notes end.notes was.kept end.less;
-          ledger = end.ledger;
-          state = end.state;
-          told = end.told;
-          metered = end.metered;
-        }
+    -- one more
+    one_off : (others : List QueueName) (kept left : ℕ) (mid : Seen) (world : World) (queue : QueueName) (a : Answer) (after : Seen) (new : World)
+        → Works who before old others kept left mid world → (makes : Checkpoints who queue mid after world new a) → IsPassable a → passed_by a ≡ 0
+        → EachCome StepGoesThrough who mid after makes.begun new a makes.comes → HasWorked others earlier world mid → HasWorked (others ++ queue ∷ []) earlier new after
+    one_off others kept left mid world queue a after new works makes passes none each was = record {
+      notes = end.notes ++ Kept queue ∷ [];
+      kept = one_kept others queue earlier was.notes end.notes was.kept end.less;
+      ledger = end.ledger;
+      state = end.state;
+      told = end.told;
+      metered = end.metered;
+    }
       where
-        none_left : left ≡ 0
-        none_left = omega (arith, none)
-
-        none_own : passed_by a ≡ 0
-        none_own = omega (arith, none)
-
-        was : HasWorked others earlier world mid
-        was = works_off others kept left mid world works none_left each.0
-
         here : HoldsWithin n lines world mid
         here = holds_works n session lines home row first before old others kept left mid world rest h works
 
@@ -225,7 +214,7 @@ module _ (n k session : ℕ) (lines : List Line) where
         same = let e : Some was.state ≡ Some here.state = sym was.told ∙ here.told in cc (e)
 
         done_is : (x : CkptAnswer) × (a ≡ answer.Done x)
-        done_is = done_of a passes none_own
+        done_is = done_of a passes none
 
         shorter : (place : Place) → sent_since was.notes place ≤ 255
         shorter place =
@@ -236,10 +225,26 @@ module _ (n k session : ℕ) (lines : List Line) where
         Ends : Answer → Type 0
         Ends z = (c : Checkpoints who queue mid after world new z) → EachCome StepGoesThrough who mid after c.begun new z c.comes → AtItsEnd queue session k was.notes new after
 
+        done_ends : Ends (answer.Done done_is.0)
+        done_ends c steps = checkpoint_keeps mid after world new here was.notes was.ledger (subst (IsMetered was.notes) same was.metered) done_is.0 queue c shorter steps
+
         end : AtItsEnd queue session k was.notes new after
-        end =
-            subst Ends (sym done_is.1)
-            (λ c steps. checkpoint_keeps mid after world new here was.notes was.ledger (subst (IsMetered was.notes) same was.metered) done_is.0 queue c shorter steps) makes each.1
+        end = subst Ends (sym done_is.1) done_ends makes each
+
+    -- what is not passed over leaves none
+    none_first : (left own : ℕ) → left + own ≡ 0 → left ≡ 0
+    none_first left own none = omega (arith, none)
+
+    none_last : (left own : ℕ) → left + own ≡ 0 → own ≡ 0
+    none_last left own none = omega (arith, none)
+
+    pub works_off : (queues : List QueueName) (done passed : ℕ) (after : Seen) (new : World) (works : Works who before old queues done passed after new) → passed ≡ 0
+        → EachWork StepGoesThrough who before old queues done passed after new works → HasWorked queues earlier new after
+    works_off queues done passed after new no_checkpoint none each =
+        record { notes = earlier; kept = λ place. omega arith; ledger = ledger; state = h.state; told = h.told; metered = metered }
+    works_off queues done passed after new (checkpoint_more others kept left mid world queue a _ _ works makes passes) none each =
+        one_off others kept left mid world queue a after new works makes passes (none_last left (passed_by a) none) each.1
+        (works_off others kept left mid world works (none_first left (passed_by a) none) each.0)
 
 -- ---- the line
 

@@ -1,8 +1,6 @@
 -- Behind lines of no commit nothing was committed, and no message is in a pending update queue; a session that is still to be bound as a writer has no others.
-use Rattle.std.proofs.Common.{◌≡◌, ◌≢◌, ◌-◌, ◌==◌, ℕ, zero, suc, Bool, true, false, cond, List, [], ◌∷◌, ◌++◌, length, take, Option, Some, None, refl, sym, ap, subst, ◌∙◌}
+use Rattle.std.proofs.Common.{◌≡◌, ◌≢◌, ◌-◌, ◌==◌, ℕ, zero, suc, Bool, true, false, cond, List, [], ◌∷◌, ◌++◌, length, take, Option, Some, None, refl, ap, ◌∙◌, arith, ne_eqb}
 use Rattle.ckpt_policy.specs.declared.place.Place.{Place}
-use Rattle.ckpt_policy.specs.declared.role.Role.{Role}
-use Rattle.ckpt_policy.specs.declared.role.Role.TheVariants.{Writer, Reader, Watchdog, Owner}
 use Rattle.cloud_facts.specs.Book.Records.{IsIn, entries_of}
 use Rattle.cloud_facts.specs.Book.Telling.{queue_of}
 use Rattle.cloud_trait.specs.Delivery.{unmarked}
@@ -13,6 +11,7 @@ use Rattle.cloud_trait.specs.declared.state.Site.{Site}
 use Rattle.cloud_trait.specs.declared.state.Site.TheVariants.{Object, Queue}
 use Rattle.db_base.specs.declared.change.Change.{Change}
 use Rattle.db_base.specs.declared.names.ObjName.TheVariants as object
+use Rattle.db_base.specs.declared.names.QueueName.TheVariants.{TreePu, PagePu}
 use Rattle.db_base.specs.declared.trouble.CommitAnswer.TheVariants.{InDoubt, CommittedOpen}
 use Rattle.event_text.specs.declared.event.Event.{Event}
 use Rattle.event_text.specs.declared.event.Event.TheVariants as event
@@ -21,17 +20,16 @@ use Rattle.head_codec.specs.declared.head.Phase.{Phase}
 use Rattle.head_codec.specs.declared.head.Phase.TheVariants as phase
 use Rattle.head_codec.specs.Spelling.{head_of}
 use Rattle.log_codec.specs.declared.record.AtomicRec.{AtomicRec}
-use Rattle.replay_meaning.specs.Committed.{Versions, changes_at, task_changes, entries_of_bytes, entries_of_head, entries_of_phase, site_entries, row_entries, committed, committed_by}
+use Rattle.replay_meaning.specs.Committed.{Versions, changes_at, task_changes, entries_of_bytes, entries_of_head, entries_of_phase, site_entries, row_entries, committed_by}
 use Rattle.replay_meaning.specs.Standing.{Line, Task, Opening, Closing, Renewing, Committing, Reading, Scanning, Paging, Folding, Posture, Closed, Idle, Broken, Working, Standing, aborts, after_line, after_own, answered, begins, begins_opening, commit_answered, crashes, notes, opening_answered, session_of, standing, standing_from, steps, task_answered, unnamed}
 use Rattle.reply_text.specs.declared.reply.Reply.{Reply}
 use Rattle.reply_text.specs.declared.reply.Reply.TheVariants as reply
 use Rattle.report_types.specs.declared.entry.Entry.{Entry}
-use Rattle.session_facts.specs.Facts.{session_at}
 use Rattle.session_notes.specs.Metered.{waiting_at}
 use Rattle.txn_buffer.specs.Noted.{Noted}
 use Rattle.world_core.proofs.Behind.{LinesStand}
 use Rattle.world_core.specs.World.{World}
-use Rattle.world_core.specs.Writers.{Stage, Unbound, Even, Owing, Astray, bound_line, by_line, commits, given, own_line, stage_from, stage_of, unbound_line, works}
+use Rattle.world_core.specs.Writers.{Stage, Unbound, Even, Owing, Astray, bound_line, by_line, commits, own_line, stage_from, stage_of, unbound_line, works}
 
 -- ---- lines of no commit
 
@@ -98,10 +96,19 @@ from_unbound session k [] stage is = (is, tt)
 from_unbound session k (line ∷ lines) stage is =
     let rest = from_unbound session k lines (by_line session k line.event line.reply stage) is in
     let own = by_unbound session k line.event line.reply stage rest.0 in
-    (own.0, own.1, rest.1)
+    (own.0, (own.1, rest.1))
 
 pub unbound_none : (session k : ℕ) (lines : List Line) → stage_of session k lines ≡ Unbound → NoCommits lines
 unbound_none session k lines is = (from_unbound session k lines Unbound is).1
+
+-- one line more
+from_push : (session k : ℕ) (stage : Stage) (lines : List Line) (line : Line)
+    → stage_from session k stage (lines ++ line ∷ []) ≡ by_line session k line.event line.reply (stage_from session k stage lines)
+from_push session k stage [] line = refl
+from_push session k stage (first ∷ lines) line = from_push session k (by_line session k first.event first.reply stage) lines line
+
+pub stage_line : (session k : ℕ) (lines : List Line) (line : Line) → stage_of session k (lines ++ line ∷ []) ≡ by_line session k line.event line.reply (stage_of session k lines)
+stage_line session k lines line = from_push session k Unbound lines line
 
 -- ---- no session stands as committing
 
@@ -236,7 +243,12 @@ no_posts (m ∷ posts) never = absurd (never m (0, refl))
 
 at_place : (t : CloudState) (tree page : ℕ) → t.messages (queue_of tree page) ≡ [] → waiting_at t (record { tree = tree; page = page }) ≡ 0
 at_place t tree zero none = ap (λ (ms : List Posted). length (unmarked ms)) none
-at_place t tree (suc page) none = ap (λ (ms : List Posted). length (unmarked ms)) none
+at_place t tree (suc page) none =
+    ap (λ (b : Bool). length (unmarked (t.messages (cond b (TreePu tree) (PagePu tree (suc page)))))) (ne_eqb (suc page) 0 (λ e. never e))
+    ∙ ap (λ (ms : List Posted). length (unmarked ms)) none
+  where
+    never : suc page ≡ 0 → ⊥
+    never e = omega (arith, e)
 
 module _ (lines : List Line) (world : World) (t : CloudState) (stands : LinesStand lines world t) (none : NoCommits lines) where
   empty_log : stands.holds.book.log ≡ []

@@ -11,5 +11,10 @@ pub mod ShellOnce
 pub mod ShellLemmas
 pub mod GeneratedLemmas
 pub mod SettlingLemmas
+pub mod LoadLemmas
+pub mod LoadRuns
+pub mod LoadCalm
+pub mod LoadCalls
+pub mod LoadEnds
 pub mod RunLemmas
 pub mod CompleteLemmas

@@ -5,6 +5,9 @@ pub mod Settling
 pub mod Shell
 pub mod Generated
 pub mod InPlay
+pub mod PlainCalls
+pub mod LoadCalm
+pub mod Load
 pub mod Status
 pub mod Arguments
 pub mod Run

@@ -1,8 +1,9 @@
-//! What each command of the program does over a cloud: a replay, a generated schedule, a shell and a settling.
+//! What each command of the program does over a cloud: a replay, a generated schedule, a shell, a settling and a load.
 #![tactic(auto)]
 
 pub mod arguments;
 pub mod generated;
+pub mod load;
 mod play;
 pub mod replay;
 pub mod run;

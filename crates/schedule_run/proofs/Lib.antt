@@ -13,6 +13,8 @@ pub mod GeneratedLemmas
 pub mod SettlingLemmas
 pub mod LoadLemmas
 pub mod LoadRuns
+pub mod LoadCalm
+pub mod LoadCalls
 pub mod LoadEnds
 pub mod RunLemmas
 pub mod CompleteLemmas

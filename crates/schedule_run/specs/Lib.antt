@@ -5,6 +5,8 @@ pub mod Settling
 pub mod Shell
 pub mod Generated
 pub mod InPlay
+pub mod PlainCalls
+pub mod LoadCalm
 pub mod Load
 pub mod Status
 pub mod Arguments

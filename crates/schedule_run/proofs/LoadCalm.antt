@@ -93,7 +93,7 @@ lines_last (x ∷ xs) y ones = lines_last xs y ones.1
 
 it_one : (e : Event) (of_it : List Line) (r : Reply) → IsWhole e of_it r → session_of e ≡ 1 → LinesOne of_it
 it_one e _ r (alone _ other) one = (one, tt)
-it_one e _ r (with_run _) one = (one, refl, tt)
+it_one e _ r (with_run _) one = (one, (refl, tt))
 
 whole_one : (events : List Event) (lines : List Line) (replies : List Reply) → AreWhole events lines replies → Ones events → LinesOne lines
 whole_one _ _ _ no_events ones = tt

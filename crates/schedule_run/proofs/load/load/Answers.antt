@@ -8,4 +8,8 @@ returns-in-Ok-unseeing-clause-went g c =
 
 pub returns-in-Ok-unseeing-clause-calls : goal.returns-in-Ok-unseeing-clause-calls
 returns-in-Ok-unseeing-clause-calls g c =
-    plain_both _ _ _ (plain_first _ _ _ c.look_first.ensures) (load_calls c.args.dump.now.trees c.load_in.result _ _ _ _ c.load_in.ensures)
+    let start = g.C.Cloud.seen c.args.cloud.now in
+    let mid = g.C.Cloud.seen c.look_first.new.cloud in
+    let now = g.C.Cloud.seen c.load_in.new.cloud in
+    plain_both start mid now (plain_first c.look_first.result start mid c.look_first.ensures)
+    (load_calls c.args.dump.now.trees c.load_in.result mid now c.in-Ok-unseeing.play c.load_in.new.play c.load_in.ensures)

@@ -18,3 +18,4 @@ pub mod LoadCalls
 pub mod LoadEnds
 pub mod RunLemmas
 pub mod CompleteLemmas
+pub mod LoadLeaves

@@ -3,7 +3,7 @@ use Rattle.std.proofs.Common.{◌≡◌, ◌<◌, ◌≤◌, ℕ, List, [], ◌�
 use Rattle.std.proofs.lemmas.List.{append-nil, append_cancel_right}
 use Rattle.cloud_trait.specs.Seen.{Seen}
 use Rattle.command_words.specs.declared.shape.Shape.{Shape}
-use Rattle.command_words.specs.declared.shape.Shape.TheVariants.{Replay, Gen, Shell, Settle}
+use Rattle.command_words.specs.declared.shape.Shape.TheVariants.{Replay, Gen, Shell, Settle, Dump, Load}
 use Rattle.db_io.specs.Content.{Told, Takes}
 use Rattle.db_io.specs.Writes.{Written}
 use Rattle.event_text.specs.declared.event.Event.{Event}
@@ -14,6 +14,9 @@ use Rattle.line_io.specs.Lines.{lines_of}
 use Rattle.replay_meaning.specs.Standing.{Line}
 use Rattle.schedule_run.specs.declared.replay.LineFault.{LineFault}
 use Rattle.schedule_run.specs.declared.replay.LineFault.TheVariants as line
+use Rattle.schedule_run.specs.declared.dumping.DumpingFault.{DumpingFault}
+use Rattle.schedule_run.specs.declared.dumping.DumpingFault.TheVariants as dump
+use Rattle.schedule_run.specs.Dumping.{DumpEnded}
 use Rattle.schedule_run.specs.declared.settling.SettleFault.{SettleFault}
 use Rattle.schedule_run.specs.declared.settling.SettleFault.TheVariants as settle
 use Rattle.schedule_run.specs.declared.shell.ShellFault.{ShellFault}
@@ -23,8 +26,8 @@ use Rattle.schedule_run.specs.Settling.{SettleEnded}
 use Rattle.schedule_run.specs.Shell.{AreShellLines, HasBadShellLine, ShellWent, WasNotOpened}
 use Rattle.schedule_run.specs.declared.status.Status.{Status}
 use Rattle.schedule_run.specs.declared.status.Status.TheVariants as status
-use Rattle.schedule_run.specs.Status.{ended_as, status_of_input, status_of_line, status_of_settle, status_of_shell}
-use Rattle.schedule_run.specs.Run.{AsksForShell, AsksToSettle, Replays, replay_unread, replay_went, RunsShell, shell_unread, shell_went, Ran, WasBad, WasTooLong}
+use Rattle.schedule_run.specs.Status.{ended_as, status_of_input, status_of_line, status_of_settle, status_of_shell, status_of_dump}
+use Rattle.schedule_run.specs.Run.{AsksToDump, AsksToLoad, AsksToLook, AsksToOpen, AsksToSettle, limit_of, Replays, replay_unread, replay_went, RunsShell, shell_unread, shell_went, RunsDump, dump_unasked, dump_went, Ran, WasBad, WasTooLong}
 use Rattle.schedule_run.specs.Complete.{WentInOrder, ReadBadLine, IsKnown, EndsWith, IsComplete, StopsAtBadLine}
 
 -- ---- what was read
@@ -94,11 +97,19 @@ shell_good client left rest w u s t known (shell_unread fault e nothing) bad = u
 shell_good client left rest w u s t known (shell_went read ended e went) bad =
     shell_lines_good client ended read.bytes w u s t e went (subst HasBadShellLine (same_bytes left rest read.bytes bad.bytes known read.taken bad.taken) bad.bad)
 
+load_good : (left rest : Told) (w u : Written) (s t : Seen) → Ran (Some (Load [])) status.Done left rest w u s t → ⊥
+load_good left rest w u s t ran = elim ran.ends [
+  | inl e ↦ absurd (cc)
+  | inr e ↦ absurd (cc)
+]
+
 all_good : (shape : Shape) (left rest : Told) (w u : Written) (s t : Seen) → IsKnown left → Ran (Some shape) status.Done left rest w u s t → ReadBadLine (Some shape) left rest → ⊥
 all_good Replay left rest w u s t known ran bad = replay_good left rest w u s t known ran bad
 all_good (Gen number count) left rest w u s t known ran bad = bad.bad
 all_good (Shell client dir) left rest w u s t known ran bad = shell_good client left rest w u s t known ran bad
 all_good (Settle dir) left rest w u s t known ran bad = bad.bad
+all_good (Dump dir) left rest w u s t known ran bad = bad.bad
+all_good (Load dir) left rest w u s t known ran bad = load_good left rest w u s t ran
 
 -- ---- what each status but Done comes of
 
@@ -106,11 +117,15 @@ all_good (Settle dir) left rest w u s t known ran bad = bad.bad
 pub record Caused (asked : Option Shape) (result : Status) (left rest : Told) (written now_written : Written) : Type 0 where
   pub bad_words : result ≡ status.BadWords → ⊥
   pub read_fault : result ≡ status.ReadFault → left.faults < rest.faults
-  pub too_long : result ≡ status.TooLong → WasTooLong left rest
+  pub too_long : result ≡ status.TooLong → WasTooLong (limit_of asked) left rest
   pub bad_line : result ≡ status.BadLine → ReadBadLine asked left rest
   pub write_fault : result ≡ status.WriteFault → written.faults < now_written.faults
   pub not_settled : result ≡ status.NotSettled → AsksToSettle asked
-  pub not_opened : result ≡ status.NotOpened → AsksForShell asked
+  pub not_opened : result ≡ status.NotOpened → AsksToOpen asked
+  pub not_quiet : result ≡ status.NotQuiet → AsksToDump asked
+  pub not_empty : result ≡ status.NotEmpty → AsksToLoad asked
+  pub not_loaded : result ≡ status.NotLoaded → AsksToLoad asked
+  pub stopped : result ≡ status.Stopped → AsksToLook asked
 
 -- this status is one of those with which it may end
 is_one : (wanted : Status) (shape : Shape) (result : Status) (w u : Written) (s t : Seen) → result ≡ wanted → EndsWith wanted (Some shape) result w u s t
@@ -118,6 +133,8 @@ is_one wanted Replay result w u s t e = inl e
 is_one wanted (Gen number count) result w u s t e = inl e
 is_one wanted (Shell client dir) result w u s t e = inl (inl e)
 is_one wanted (Settle dir) result w u s t e = inl (inl e)
+is_one wanted (Dump dir) result w u s t e = inl (inl e)
+is_one wanted (Load dir) result w u s t e = inl e
 
 -- so is want of memory
 pub out_of_memory : (wanted : Status) (asked : Option Shape) (w u : Written) (s t : Seen) → EndsWith wanted asked status.Memory w u s t
@@ -125,7 +142,17 @@ out_of_memory wanted (Some Replay) w u s t = inr refl
 out_of_memory wanted (Some (Gen number count)) w u s t = inr refl
 out_of_memory wanted (Some (Shell client dir)) w u s t = inl (inr refl)
 out_of_memory wanted (Some (Settle dir)) w u s t = inl (inr refl)
+out_of_memory wanted (Some (Dump dir)) w u s t = inl (inr refl)
+out_of_memory wanted (Some (Load dir)) w u s t = inr refl
 out_of_memory wanted None w u s t = tt
+
+-- (a load that nobody asked for)
+unasked : (result : Status) (left rest : Told) (w u : Written) (s t : Seen) → (result ≡ status.BadWords → ⊥) → (result ≡ status.Memory → ⊥)
+    → Ran (Some (Load [])) result left rest w u s t → ⊥
+unasked result left rest w u s t one other ran = elim ran.ends [
+  | inl e ↦ one e
+  | inr e ↦ other e
+]
 
 -- a settling that ended so stopped
 stopped : (ended : Result (Unit {0}) SettleFault) (w u : Written) (s t : Seen) → status.NotSettled ≡ ended_as status_of_settle ended
@@ -140,6 +167,8 @@ unsettled : (wanted : Status) (shape : Shape) (left rest : Told) (w u : Written)
 unsettled wanted Replay left rest w u s t asks ran = absurd asks
 unsettled wanted (Gen number count) left rest w u s t asks ran = absurd asks
 unsettled wanted (Shell client dir) left rest w u s t asks ran = absurd asks
+unsettled wanted (Dump dir) left rest w u s t asks ran = absurd asks
+unsettled wanted (Load dir) left rest w u s t asks ran = absurd (unasked status.NotSettled left rest w u s t (λ e. cc) (λ e. cc) ran)
 unsettled wanted (Settle dir) left rest w u s t asks ran = inr (refl, stopped ran.1.ended w u s t ran.1.leads ran.1.went)
 
 -- a shell that ended so was not opened
@@ -160,16 +189,71 @@ not_opened : (client : ℕ) (left rest : Told) (w u : Written) (s t : Seen) → 
 not_opened client left rest w u s t (shell_unread fault e nothing) = absurd (unread_not_opened fault e)
 not_opened client left rest w u s t (shell_went read ended e went) = closed client ended read.bytes w u s t e went
 
-unopened : (wanted : Status) (shape : Shape) (left rest : Told) (w u : Written) (s t : Seen) → AsksForShell (Some shape) → Ran (Some shape) status.NotOpened left rest w u s t
+unopened : (wanted : Status) (shape : Shape) (left rest : Told) (w u : Written) (s t : Seen) → AsksToOpen (Some shape) → Ran (Some shape) status.NotOpened left rest w u s t
     → EndsWith wanted (Some shape) status.NotOpened w u s t
 unopened wanted Replay left rest w u s t asks ran = absurd asks
 unopened wanted (Gen number count) left rest w u s t asks ran = absurd asks
 unopened wanted (Shell client dir) left rest w u s t asks ran = inr (refl, not_opened client left rest w u s t ran)
+unopened wanted (Dump dir) left rest w u s t asks ran = absurd asks
+unopened wanted (Load dir) left rest w u s t asks ran = absurd (unasked status.NotOpened left rest w u s t (λ e. cc) (λ e. cc) ran)
 unopened wanted (Settle dir) left rest w u s t asks ran = absurd asks
+
+-- a dump that ended so was not quiet, or stopped
+not_quiet : (ended : Result (Unit {0}) DumpingFault) (w u : Written) (s t : Seen) → status.NotQuiet ≡ ended_as status_of_dump ended → DumpEnded ended w u s t
+    → DumpEnded (Err dump.NotQuiet) w u s t
+not_quiet (Ok done) w u s t e so = absurd (cc)
+not_quiet (Err dump.NotQuiet) w u s t e so = so
+not_quiet (Err dump.Stopped) w u s t e so = absurd (cc)
+not_quiet (Err dump.WriteFault) w u s t e so = absurd (cc)
+not_quiet (Err dump.Memory) w u s t e so = absurd (cc)
+
+looks_stopped : (ended : Result (Unit {0}) DumpingFault) (w u : Written) (s t : Seen) → status.Stopped ≡ ended_as status_of_dump ended → DumpEnded ended w u s t
+    → DumpEnded (Err dump.Stopped) w u s t
+looks_stopped (Ok done) w u s t e so = absurd (cc)
+looks_stopped (Err dump.NotQuiet) w u s t e so = absurd (cc)
+looks_stopped (Err dump.Stopped) w u s t e so = so
+looks_stopped (Err dump.WriteFault) w u s t e so = absurd (cc)
+looks_stopped (Err dump.Memory) w u s t e so = absurd (cc)
+
+dump_not_quiet : (w u : Written) (s t : Seen) → RunsDump status.NotQuiet w u s t → DumpEnded (Err dump.NotQuiet) w u s t
+dump_not_quiet w u s t (dump_unasked e nothing) = absurd (cc)
+dump_not_quiet w u s t (dump_went ended e went) = not_quiet ended w u s t e went
+
+dump_stopped : (w u : Written) (s t : Seen) → RunsDump status.Stopped w u s t → DumpEnded (Err dump.Stopped) w u s t
+dump_stopped w u s t (dump_unasked e nothing) = absurd (cc)
+dump_stopped w u s t (dump_went ended e went) = looks_stopped ended w u s t e went
+
+unquiet : (wanted : Status) (shape : Shape) (left rest : Told) (w u : Written) (s t : Seen) → AsksToDump (Some shape) → Ran (Some shape) status.NotQuiet left rest w u s t
+    → EndsWith wanted (Some shape) status.NotQuiet w u s t
+unquiet wanted Replay left rest w u s t asks ran = absurd asks
+unquiet wanted (Gen number count) left rest w u s t asks ran = absurd asks
+unquiet wanted (Shell client dir) left rest w u s t asks ran = absurd asks
+unquiet wanted (Settle dir) left rest w u s t asks ran = absurd asks
+unquiet wanted (Dump dir) left rest w u s t asks ran = inr (inl (refl, dump_not_quiet w u s t ran.1))
+unquiet wanted (Load dir) left rest w u s t asks ran = absurd asks
+
+looked : (wanted : Status) (shape : Shape) (left rest : Told) (w u : Written) (s t : Seen) → AsksToLook (Some shape) → Ran (Some shape) status.Stopped left rest w u s t
+    → EndsWith wanted (Some shape) status.Stopped w u s t
+looked wanted Replay left rest w u s t asks ran = absurd asks
+looked wanted (Gen number count) left rest w u s t asks ran = absurd asks
+looked wanted (Shell client dir) left rest w u s t asks ran = absurd asks
+looked wanted (Settle dir) left rest w u s t asks ran = absurd asks
+looked wanted (Dump dir) left rest w u s t asks ran = inr (inr (refl, dump_stopped w u s t ran.1))
+looked wanted (Load dir) left rest w u s t asks ran = absurd (unasked status.Stopped left rest w u s t (λ e. cc) (λ e. cc) ran)
+
+-- a load whose cloud was not empty, or that did not commit
+unloaded : (wanted result : Status) (shape : Shape) (left rest : Told) (w u : Written) (s t : Seen) → (result ≡ status.BadWords → ⊥) → (result ≡ status.Memory → ⊥)
+    → AsksToLoad (Some shape) → Ran (Some shape) result left rest w u s t → EndsWith wanted (Some shape) result w u s t
+unloaded wanted result Replay left rest w u s t one other asks ran = absurd asks
+unloaded wanted result (Gen number count) left rest w u s t one other asks ran = absurd asks
+unloaded wanted result (Shell client dir) left rest w u s t one other asks ran = absurd asks
+unloaded wanted result (Settle dir) left rest w u s t one other asks ran = absurd asks
+unloaded wanted result (Dump dir) left rest w u s t one other asks ran = absurd asks
+unloaded wanted result (Load dir) left rest w u s t one other asks ran = absurd (unasked result left rest w u s t one other ran)
 
 -- where all went in order, a run is done or ended by a bad line, unless it ends as it may
 in_order : (wanted : Status) (shape : Shape) (result : Status) (left rest : Told) (w u : Written) (s t : Seen) → Caused (Some shape) result left rest w u
-    → Ran (Some shape) result left rest w u s t → WentInOrder left rest w u → (result ≡ status.Done → EndsWith wanted (Some shape) result w u s t)
+    → Ran (Some shape) result left rest w u s t → WentInOrder (Some shape) left rest w u → (result ≡ status.Done → EndsWith wanted (Some shape) result w u s t)
     → (result ≡ status.BadLine → EndsWith wanted (Some shape) result w u s t) → EndsWith wanted (Some shape) result w u s t
 in_order wanted shape status.Done left rest w u s t c ran order done bad = done refl
 in_order wanted shape status.BadLine left rest w u s t c ran order done bad = bad refl
@@ -184,6 +268,10 @@ in_order wanted shape status.NotSettled left rest w u s t c ran order done bad =
 in_order wanted shape status.TooLong left rest w u s t c ran order done bad = absurd (order.within (c.too_long refl))
 in_order wanted shape status.NotOpened left rest w u s t c ran order done bad = unopened wanted shape left rest w u s t (c.not_opened refl) ran
 in_order wanted shape status.Memory left rest w u s t c ran order done bad = out_of_memory wanted (Some shape) w u s t
+in_order wanted shape status.NotQuiet left rest w u s t c ran order done bad = unquiet wanted shape left rest w u s t (c.not_quiet refl) ran
+in_order wanted shape status.NotEmpty left rest w u s t c ran order done bad = unloaded wanted status.NotEmpty shape left rest w u s t (λ e. cc) (λ e. cc) (c.not_empty refl) ran
+in_order wanted shape status.NotLoaded left rest w u s t c ran order done bad = unloaded wanted status.NotLoaded shape left rest w u s t (λ e. cc) (λ e. cc) (c.not_loaded refl) ran
+in_order wanted shape status.Stopped left rest w u s t c ran order done bad = looked wanted shape left rest w u s t (c.stopped refl) ran
 
 pub completes : (shape : Shape) (result : Status) (left rest : Told) (w u : Written) (s t : Seen) → Caused (Some shape) result left rest w u
     → Ran (Some shape) result left rest w u s t → IsComplete (Some shape) result left rest w u s t

@@ -11,5 +11,6 @@ pub mod ShellOnce
 pub mod ShellLemmas
 pub mod GeneratedLemmas
 pub mod SettlingLemmas
+pub mod DumpingLemmas
 pub mod RunLemmas
 pub mod CompleteLemmas

@@ -1,7 +1,8 @@
-//! What each command of the program does over a cloud: a replay, a generated schedule, a shell and a settling.
+//! What each command of the program does over a cloud: a replay, a generated schedule, a shell, a settling, a dump and a load.
 #![tactic(auto)]
 
 pub mod arguments;
+pub mod dumping;
 pub mod generated;
 mod play;
 pub mod replay;

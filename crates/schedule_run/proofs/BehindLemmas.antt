@@ -1,5 +1,5 @@
 -- What runs leave, and settlings among them, over whatever cloud earlier runs left.
-use Rattle.std.proofs.Common.{◌≡◌, ◌+◌, ℕ, List, length, Some, Result, Ok, sym, ap, subst, ◌∙◌, inl, inr}
+use Rattle.std.proofs.Common.{◌≡◌, ◌+◌, ℕ, Bool, List, length, Some, Result, Ok, sym, ap, subst, ◌∙◌, inl, inr}
 use Rattle.client_work.specs.Session.{Acting, closed_session}
 use Rattle.client_work.specs.declared.answer.Answer.{Answer}
 use Rattle.client_work.specs.declared.answer.Answer.TheVariants as answer
@@ -44,7 +44,7 @@ left_by_runs t (inl empty) = empty_left t empty
 left_by_runs t (inr left) = left
 
 -- a new world stands over what runs left
-pub new_on_book : (world : World) (t : CloudState) → IsNew world → IsOfRuns t → SomeBookStands (session_at world.sessions) t
+pub new_on_book : {blind : Bool} → (world : World) (t : CloudState) → IsNew blind world → IsOfRuns t → SomeBookStands (session_at world.sessions) t
 new_on_book world t fresh runs = subst (λ (f : Sessions). SomeBookStands f t) (sym alike) (left_by_runs t runs)
   where
     closed : (n : ℕ) → session_at world.sessions n ≡ closed_session
@@ -146,11 +146,11 @@ went_settled before old t lines after new (further earlier line mid _ world _ we
 
 -- ---- from a new world on
 
-pub lines_left : (lines : List Line) (s t : Seen) (first world : World) → WentOn s first lines t world → IsNew first → LeavesOne s t
+pub lines_left : {blind : Bool} → (lines : List Line) (s t : Seen) (first world : World) → WentOn s first lines t world → IsNew blind first → LeavesOne s t
 lines_left lines s t first world went fresh x told runs =
     let o = went_left s first x lines t world went told (new_on_book first x fresh runs) in
     (o.0, o.1, was_left (session_at world.sessions) o.0 o.2)
 
-pub lines_settled : (lines : List Line) (s t : Seen) (first world : World) → (went : WentOn s first lines t world) → IsNew first → (x : CloudState) → s.state ≡ Some x → IsOfRuns x
+pub lines_settled : {blind : Bool} → (lines : List Line) (s t : Seen) (first world : World) → (went : WentOn s first lines t world) → IsNew blind first → (x : CloudState) → s.state ≡ Some x → IsOfRuns x
     → AreSettled s first lines t world went
 lines_settled lines s t first world went fresh x told runs = went_settled s first x lines t world went told (new_on_book first x fresh runs)

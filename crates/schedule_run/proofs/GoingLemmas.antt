@@ -1,5 +1,5 @@
 -- The lines of a replay, one after another.
-use Rattle.std.proofs.Common.{suc, ◌≡◌, ◌<◌, ◌≤◌, ◌+◌, ◌⊎◌, ℕ, List, [], ◌∷◌, ◌++◌, length, take, Some, Result, Ok, Err, refl, sym, ap, subst, ◌∙◌, inl, inr, append_assoc, arith, length-append}
+use Rattle.std.proofs.Common.{suc, ◌≡◌, ◌<◌, ◌≤◌, ◌+◌, ◌⊎◌, ℕ, List, [], ◌∷◌, ◌++◌, length, Bool, false, take, Some, Result, Ok, Err, refl, sym, ap, subst, ◌∙◌, inl, inr, append_assoc, arith, length-append}
 use Rattle.std.specs.Prelude.{slice_get}
 use Rattle.std.proofs.lemmas.List.{nil_from_length, take-append-le}
 use Rattle.std.proofs.lemmas.Option.{slice_get_within}
@@ -136,32 +136,32 @@ lines_more texts text n w v u s t z first old new line count h spells a grows ad
     }
 
 -- a new world stands for no lines over an empty cloud
-pub fresh_stands : (world : World) (t : CloudState) → IsNew world → IsEmptyCloud t → WorldStands [] world t
-fresh_stands world t fresh empty = new_stands world.sessions world.audit world.blind world.notes t fresh.sessions fresh.audit fresh.sees empty
+pub fresh_stands : {blind : Bool} → (world : World) (t : CloudState) → IsNew blind world → IsEmptyCloud t → WorldStands [] world t
+fresh_stands world t fresh empty = new_stands world.sessions world.audit world.blind world.notes t fresh.sessions fresh.audit empty
 
 -- and so every reply of lines that were handled from it on is sound
-pub replies_sound : (lines : List Line) (s t : Seen) (first world : World) (x : CloudState) → WentOn s first lines t world → IsNew first → s.state ≡ Some x → IsEmptyCloud x
+pub replies_sound : {blind : Bool} → (lines : List Line) (s t : Seen) (first world : World) (x : CloudState) → WentOn s first lines t world → IsNew blind first → s.state ≡ Some x → IsEmptyCloud x
     → RepliesAreSound lines
 replies_sound lines s t first world x went fresh told empty = (went_soundly s first x lines t world went told (fresh_stands first x fresh empty)).sound
 
 -- and each line explains itself
-pub lines_explained : (lines : List Line) (s t : Seen) (first world : World) (x : CloudState) → (went : WentOn s first lines t world) → IsNew first → s.state ≡ Some x → IsEmptyCloud x
+pub lines_explained : {blind : Bool} → (lines : List Line) (s t : Seen) (first world : World) (x : CloudState) → (went : WentOn s first lines t world) → IsNew blind first → s.state ≡ Some x → IsEmptyCloud x
     → AreExplained s first lines t world went
 lines_explained lines s t first world x went fresh told empty = went_explained s first x lines t world went told (fresh_stands first x fresh empty)
 
 -- and where no look failed reports come
-pub reports_come : (lines : List Line) (s t : Seen) (first world : World) (x : CloudState) → WentOn s first lines t world → IsNew first → s.state ≡ Some x → IsEmptyCloud x
+pub reports_come : (lines : List Line) (s t : Seen) (first world : World) (x : CloudState) → WentOn s first lines t world → IsNew false first → s.state ≡ Some x → IsEmptyCloud x
     → ReportsCome lines s t
 reports_come lines s t first world x went fresh told empty = went_comes s first x lines t world went told (fresh_stands first x fresh empty) fresh.sees
 
 -- and what they acknowledged stays committed
-pub acknowledged_stay : (lines : List Line) (s t : Seen) (first world : World) (x u : CloudState) → WentOn s first lines t world → IsNew first → s.state ≡ Some x → IsEmptyCloud x → t.state ≡ Some u
+pub acknowledged_stay : {blind : Bool} → (lines : List Line) (s t : Seen) (first world : World) (x u : CloudState) → WentOn s first lines t world → IsNew blind first → s.state ≡ Some x → IsEmptyCloud x → t.state ≡ Some u
     → AcknowledgedStay lines u
 acknowledged_stay lines s t first world x u went fresh told empty seen = went_stay s first x lines t world u went told (fresh_stands first x fresh empty) seen
 
 -- ---- the lines of a text
 
-pub at_start : (text : List ℕ) (w : Written) (s : Seen) (world : World) → IsNew world → IsAt text text 0 w w s s world world
+pub at_start : (text : List ℕ) (w : Written) (s : Seen) (world : World) → IsNew false world → IsAt text text 0 w w s s world world
 at_start text w s world fresh = record {
   earlier = [];
   at = refl;
@@ -196,7 +196,7 @@ at_more text rest behind line n m w v u s t z first old new is split next (refus
 at_more text rest behind line n m w v u s t z first old new is split next (unread e f h) grows = absurd (cc)
 
 -- the theorem of lines behind which nothing landed
-pub keeps_now : (lines : List Line) (s t : Seen) (first world : World) → WentOn s first lines t world → IsNew first
+pub keeps_now : {blind : Bool} → (lines : List Line) (s t : Seen) (first world : World) → WentOn s first lines t world → IsNew blind first
     → ((x : CloudState) → s.state ≡ Some x → IsEmptyCloud x → (u : CloudState) × (t.state ≡ Some u) × WorldStands lines world u × ReportsAreRight lines u × IsTraced u) → KeepsTheTheorem lines s t
 keeps_now lines s t first world went fresh stands x told empty =
     let o = stands x told empty in (
@@ -209,8 +209,8 @@ keeps_now lines s t first world went fresh stands x told empty =
       o.4,
     )
 
-abbrev answered : (texts : List (List ℕ)) (w v : Written) (s t : Seen) (first world : World) → IsNew first
-    → (h : Handles texts w v s t first world) → AreAnswered h.lines s t
+abbrev answered : (texts : List (List ℕ)) (w v : Written) (s t : Seen) (first world : World) → IsNew false first
+    → (h : Handles texts w v s t first world) → AreAnswered false h.lines s t
 answered texts w v s t first world fresh h = record {
   first = first;
   fresh = fresh;
@@ -225,7 +225,7 @@ answered texts w v s t first world fresh h = record {
   caused = lines_caused s first h.lines t world h.went;
 }
 
-pub at_end : (text rest : List ℕ) (n : ℕ) (w v : Written) (s t : Seen) (first world : World) → IsNew first
+pub at_end : (text rest : List ℕ) (n : ℕ) (w v : Written) (s t : Seen) (first world : World) → IsNew false first
     → IsAt text rest n w v s t first world → length rest ≡ 0 → WentThrough text (Ok tt) w v s t
 at_end text rest n w v s t first world fresh is none = record {
   lines = is.handles.lines;
@@ -238,7 +238,7 @@ at_end text rest n w v s t first world fresh is none = record {
 }
 
 -- where a run stops between two lines for want of memory
-pub at_stop : (text rest : List ℕ) (n : ℕ) (w v : Written) (s t : Seen) (first world : World) → IsNew first
+pub at_stop : (text rest : List ℕ) (n : ℕ) (w v : Written) (s t : Seen) (first world : World) → IsNew false first
     → IsAt text rest n w v s t first world → WentThrough text (Err Memory) w v s t
 at_stop text rest n w v s t first world fresh is = record {
   lines = is.handles.lines;
@@ -254,7 +254,7 @@ at_stop text rest n w v s t first world fresh is = record {
 
 -- a text of the lines was met, and calls were made at it
 pub record IsMet (text rest behind line : List ℕ) (n m : ℕ) (w v : Written) (s t z : Seen) (first old : World) : Type 0 where
-  pub fresh : IsNew first
+  pub fresh : IsNew false first
   pub is : IsAt text rest n w v s t first old
   pub split : lines_of rest ≡ line ∷ lines_of behind
   pub next : m ≡ n + 1
@@ -311,7 +311,7 @@ went_answer {text} {rest} {behind} {line} {n} {m} {w} {v} {s} {t} {z} {first} {o
 
 with_answer : {text rest behind line : List ℕ} {n m : ℕ} {w v : Written} {s t z : Seen} {first old : World}
     → (met : IsMet text rest behind line n m w v s t z first old) (new : World) (one : Line) → IsAnswered m one.event t z old new one.reply
-    → AreAnswered (met.is.handles.lines ++ one ∷ []) s z
+    → AreAnswered false (met.is.handles.lines ++ one ∷ []) s z
 with_answer {text} {rest} {behind} {line} {n} {m} {w} {v} {s} {t} {z} {first} {old} met new one a =
     let went : WentOn s first (met.is.handles.lines ++ one ∷ []) z new = went_answer met new one a in
     record {
@@ -350,10 +350,10 @@ ends_behind {text} {rest} {behind} {line} {n} {m} {w} {v} {s} {t} {z} {first} {o
 
 -- the lines before the text, where no call was made at it
 before_unmoved : {text rest behind line : List ℕ} {n m : ℕ} {w v : Written} {s t z : Seen} {first old : World}
-    → (met : IsMet text rest behind line n m w v s t z first old) → z ≡ t → AreAnswered met.is.handles.lines s z
+    → (met : IsMet text rest behind line n m w v s t z first old) → z ≡ t → AreAnswered false met.is.handles.lines s z
 before_unmoved {text} {rest} {behind} {line} {n} {m} {w} {v} {s} {t} {z} {first} {old} met e =
     let h = met.is.handles in
-    subst (λ x. AreAnswered h.lines s x) (sym e) (answered met.is.earlier w v s t first old met.fresh h)
+    subst (λ x. AreAnswered false h.lines s x) (sym e) (answered met.is.earlier w v s t first old met.fresh h)
 
 -- the event of the text has no reply
 no_answer : {text rest behind line : List ℕ} {n m : ℕ} {w v : Written} {s t z : Seen} {first old : World}
@@ -419,7 +419,7 @@ by_fault {text} {rest} {behind} {line} {n} {m} {w} {v} {s} {t} {z} {first} {old}
     ends_before (Err Memory) u met (between (before_unmoved met f) (subst (λ x. AddsEach w x (replies h.lines)) (sym same) h.wrote))
 
 pub at_fault : (text rest behind line : List ℕ) (n m : ℕ) (w v u : Written) (s t z : Seen) (first old new : World) (fault : LineFault)
-    → IsNew first → IsAt text rest n w v s t first old → lines_of rest ≡ line ∷ lines_of behind → m ≡ n + 1
+    → IsNew false first → IsAt text rest n w v s t first old → lines_of rest ≡ line ∷ lines_of behind → m ≡ n + 1
     → LineWent (Err fault) m line v u t z old new → Grows m t z → WentThrough text (Err fault) w u s z
 at_fault text rest behind line n m w v u s t z first old new fault fresh is split next went grows =
     let met : IsMet text rest behind line n m w v s t z first old = record { fresh = fresh; is = is; split = split; next = next; grows = grows } in

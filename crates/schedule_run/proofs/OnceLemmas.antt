@@ -1,5 +1,5 @@
 -- What lines add to any cloud is of its kind, and opens no transaction twice where they open no client twice.
-use Rattle.std.proofs.Common.{◌≡◌, ◌+◌, ℕ, List, [], ◌∷◌, ◌++◌, length, Some, Ok, Err, false, refl, sym, ap, subst, ◌∙◌, ◌⊎◌, inl, inr}
+use Rattle.std.proofs.Common.{◌≡◌, ◌+◌, ℕ, List, [], ◌∷◌, ◌++◌, length, Some, Ok, Err, Bool, false, refl, sym, ap, subst, ◌∙◌, ◌⊎◌, inl, inr}
 use Rattle.cloud_trait.specs.State.{CloudState}
 use Rattle.cloud_trait.specs.Seen.{Seen}
 use Rattle.client_work.specs.Session.{Acting, closed_session}
@@ -72,18 +72,18 @@ once_push (x ∷ events) e once new =
 
 -- ---- from a new world on
 
-fresh_closed : (world : World) → IsNew world → (n : ℕ) → session_at world.sessions n ≡ closed_session
+fresh_closed : {blind : Bool} → (world : World) → IsNew blind world → (n : ℕ) → session_at world.sessions n ≡ closed_session
 fresh_closed world fresh n = ap (λ (l : List Acting). session_at l n) fresh.sessions ∙ closed_at 17 n
 
 -- a new world added nothing to any cloud
-fresh_adds : (s : Seen) (world : World) (t : CloudState) → s.state ≡ Some t → IsNew world → WorldAdds [] t world s
+fresh_adds : {blind : Bool} → (s : Seen) (world : World) (t : CloudState) → s.state ≡ Some t → IsNew blind world → WorldAdds [] t world s
 fresh_adds s world t told fresh = record {
   rows = record { state = t; told = told; adds = nothing_added 0 [] t };
   acts = λ n. subst (λ (a : Acting). ActsAs a unnamed) (sym (fresh_closed world fresh n)) (record { buffer = refl; work = refl });
   rests = fresh_closed world fresh 0;
 }
 
-module _ (s : Seen) (first : World) (x : CloudState) (told : s.state ≡ Some x) (fresh : IsNew first) where
+module _ {blind : Bool} (s : Seen) (first : World) (x : CloudState) (told : s.state ≡ Some x) (fresh : IsNew blind first) where
   pub went_adds : (lines : List Line) (t : Seen) (world : World) → WentOn s first lines t world → WorldAdds lines x world t
   went_adds _ t world start = fresh_adds s first x told fresh
   went_adds _ t world (further lines line mid _ old _ went handled) =
@@ -98,11 +98,11 @@ module _ (s : Seen) (first : World) (x : CloudState) (told : s.state ≡ Some x)
       (went_apart lines mid old went (once_before (events_of lines) (line.event ∷ []) more)))
 
 -- lines that were handled
-pub lines_once : (lines : List Line) (s t : Seen) (first world : World) → WentOn s first lines t world → IsNew first → OpenEachOnce (events_of lines) → OpensNoneTwice s t
+pub lines_once : {blind : Bool} → (lines : List Line) (s t : Seen) (first world : World) → WentOn s first lines t world → IsNew blind first → OpenEachOnce (events_of lines) → OpensNoneTwice s t
 lines_once lines s t first world went fresh once x told = none_twice (events_of lines) x world t (went_apart s first x told fresh lines t world went once)
 
 -- and behind them an event that has no reply
-module _ (lines : List Line) (event : Event) (fault : WorldFault) (s t z : Seen) (first old new : World) (went : WentOn s first lines t old) (fresh : IsNew first)
+module _ {blind : Bool} (lines : List Line) (event : Event) (fault : WorldFault) (s t z : Seen) (first old new : World) (went : WentOn s first lines t old) (fresh : IsNew blind first)
     (handled : Handled (length lines + 1) event t z old new (Err fault)) where
   pub unanswered_short : LeavesShort event old new (Err fault)
   unanswered_short = left_short (length lines + 1) event t z old new (Err fault) handled
@@ -123,6 +123,6 @@ once_nothing s z same x told =
     (apart_nothing _ x _ s told (λ j. refl)))
 
 -- where memory ran out behind lines
-pub stopped_once : (event : Event) (lines : List Line) (s z : Seen) → StoppedAt event lines s z → OpenEachOnce (events_of lines ++ event ∷ []) → OpensNoneTwice s z
+pub stopped_once : {blind : Bool} → (event : Event) (lines : List Line) (s z : Seen) → StoppedAt blind event lines s z → OpenEachOnce (events_of lines ++ event ∷ []) → OpensNoneTwice s z
 stopped_once event lines s z (stopped_before play played) once = played.once (once_before (events_of lines) (event ∷ []) once)
 stopped_once event lines s z (stopped_within out theorem) once = out.once once

@@ -1,5 +1,5 @@
 -- A world that handles one event behind another.
-use Rattle.std.proofs.Common.{◌≡◌, ◌<◌, ◌+◌, ℕ, List, [], ◌∷◌, ◌++◌, length, take, Some, Result, Ok, Err, sym, subst, arith, length-append}
+use Rattle.std.proofs.Common.{◌≡◌, ◌<◌, ◌+◌, ℕ, Bool, true, false, refl, List, [], ◌∷◌, ◌++◌, length, take, Some, Result, Ok, Err, sym, subst, arith, length-append}
 use Rattle.std.proofs.lemmas.Option.{slice_get_within}
 use Rattle.cloud_trait.proofs.TracedLemmas.{empty_traced}
 use Rattle.cloud_trait.specs.Seen.{Seen}
@@ -11,26 +11,35 @@ use Rattle.reply_text.specs.declared.reply.Reply.{Reply}
 use Rattle.reply_text.specs.declared.reply.Reply.TheVariants.{Begun}
 use Rattle.cloud_trait.specs.State.{CloudState, IsEmptyCloud}
 use Rattle.replay_meaning.specs.Standing.{Line}
+use Rattle.world_core.specs.World.{World}
 use Rattle.world_core.specs.declared.world.WorldFault.{WorldFault}
 use Rattle.world_core.specs.declared.world.WorldFault.TheVariants as world
 use Rattle.world_core.specs.Handled.{Handled}
 use Rattle.world_core.specs.Stands.{WorldStands, StandsOn, Grows}
 use Rattle.world_core.proofs.Caused.{caused}
 use Rattle.schedule_run.specs.InPlay.{Play}
-use Rattle.schedule_run.specs.Answered.{WentOn, start, further, ReportsAreRight, KeepsTheTheorem}
+use Rattle.schedule_run.specs.Answered.{IsNew, WentOn, start, further, IsNoReport, AskNoReport, ReportsCome, ReportsAreRight, KeepsTheTheorem}
 use Rattle.schedule_run.specs.Play.{IsFresh, IsNext, RanOut, uncounted, no_answer, Takes, answered_run, stops_run, RunsWhole, Played, StoppedAt, stopped_before, stopped_within}
 use Rattle.schedule_run.proofs.BehindLemmas.{lines_left, lines_settled}
 use Rattle.schedule_run.proofs.GoingLemmas.{stands_more, fresh_stands, replies_sound, lines_explained, reports_come, report_same, acts_upto, acknowledged_stay, keeps_now}
 use Rattle.schedule_run.proofs.CausedLemmas.{lines_caused}
 use Rattle.schedule_run.proofs.OnceLemmas.{went_adds, lines_once, unanswered_short, unanswered_kinds, unanswered_once}
+use Rattle.schedule_run.proofs.SeeingLemmas.{unasked_more}
 use Rattle.schedule_run.proofs.StayLemmas.{stay_upto}
 
+-- where no look failed reports come, also where nothing looked and none was asked for
+reports_of : (blind : Bool) (lines : List Line) (s t : Seen) (first world : World) (x : CloudState) → WentOn s first lines t world → IsNew blind first → (blind ≡ true → AskNoReport lines)
+    → s.state ≡ Some x → IsEmptyCloud x → ReportsCome lines s t
+reports_of false lines s t first world x went fresh unasked told empty = reports_come lines s t first world x went fresh told empty
+reports_of true lines s t first world x went fresh unasked told empty still k line tree at asked is = absurd (unasked refl k line at tree asked)
+
 -- nothing is handled yet
-pub played_nothing : (s : Seen) (play : Play) → IsFresh play → Played [] s s play
-played_nothing s play fresh = record {
+pub played_nothing : {blind : Bool} → (s : Seen) (play : Play) → IsFresh blind play → Played blind [] s s play
+played_nothing {blind} s play fresh = record {
   count = fresh.none;
   first = play.world;
   fresh = fresh.world;
+  unasked = none;
   went = start;
   kinds = λ t told. went_adds s play.world t told fresh.world [] s play.world start;
   once = lines_once [] s s play.world play.world start fresh.world;
@@ -40,17 +49,20 @@ played_nothing s play fresh = record {
   stands = stands;
   theorem = keeps_now [] s s play.world play.world start fresh.world stands;
   explained = λ t told empty. tt;
-  reports = λ t told empty. reports_come [] s s play.world play.world t start fresh.world told empty;
+  reports = λ t told empty. reports_of blind [] s s play.world play.world t start fresh.world none told empty;
 }
   where
+    none : blind ≡ true → AskNoReport []
+    none b k line at tree asked = absurd (cc)
+
     stands : (t : CloudState) → s.state ≡ Some t → IsEmptyCloud t
         → (u : CloudState) × (s.state ≡ Some u) × WorldStands [] play.world u × ReportsAreRight [] u × IsTraced u
     stands t told empty = (t, told, fresh_stands play.world t fresh.world empty, λ k line at. absurd (cc), empty_traced t empty)
 
 -- one event more
-pub played_more : (lines : List Line) (event : Event) (reply : Reply) (s t z : Seen) (old new : Play)
-    → Played lines s t old → IsNext event reply t z old new → Played (lines ++ record { event = event; reply = reply } ∷ []) s z new
-played_more lines event reply s t z old new p n =
+pub played_more : {blind : Bool} → (lines : List Line) (event : Event) (reply : Reply) (s t z : Seen) (old new : Play)
+    → Played blind lines s t old → (blind ≡ true → IsNoReport event) → IsNext event reply t z old new → Played blind (lines ++ record { event = event; reply = reply } ∷ []) s z new
+played_more {blind} lines event reply s t z old new p none n =
     let line : Line = record { event = event; reply = reply } in
     let c : old.handled ≡ length lines = p.count in
     let d : new.handled ≡ old.handled + 1 = n.count in
@@ -60,6 +72,7 @@ played_more lines event reply s t z old new p n =
       count = omega (arith, length-append lines (line ∷ []));
       first = p.first;
       fresh = p.fresh;
+      unasked = unasked;
       went = went;
       kinds = λ x told. went_adds s p.first x told p.fresh (lines ++ line ∷ []) z new.world went;
       once = lines_once (lines ++ line ∷ []) s z p.first new.world went p.fresh;
@@ -69,18 +82,21 @@ played_more lines event reply s t z old new p n =
       stands = stands at;
       theorem = keeps_now (lines ++ line ∷ []) s z p.first new.world went p.fresh (stands at);
       explained = λ x told empty. lines_explained (lines ++ line ∷ []) s z p.first new.world x went p.fresh told empty;
-      reports = λ x told empty. reports_come (lines ++ line ∷ []) s z p.first new.world x went p.fresh told empty;
+      reports = λ x told empty. reports_of blind (lines ++ line ∷ []) s z p.first new.world x went p.fresh unasked told empty;
     }
   where
     one : Line
     one = record { event = event; reply = reply }
+
+    unasked : blind ≡ true → AskNoReport (lines ++ one ∷ [])
+    unasked b = unasked_more lines one (p.unasked b) (none b)
 
     stands : new.handled ≡ length lines + 1 → (x : CloudState) → s.state ≡ Some x → IsEmptyCloud x
         → (u : CloudState) × (z.state ≡ Some u) × WorldStands (lines ++ one ∷ []) new.world u × ReportsAreRight (lines ++ one ∷ []) u × IsTraced u
     stands at x told empty = let o = p.stands x told empty in stands_more lines one new.handled t z old.world new.world (omega (arith, at)) n.stands n.grows o.0 o.1 o.2 o.3 o.4
 
 -- what was handled keeps the theorem where a later event grew the cloud
-keeps_behind : (lines : List Line) (n : ℕ) (s t z : Seen) (play : Play) → Played lines s t play → n ≡ length lines + 1 → Grows n t z → KeepsTheTheorem lines s z
+keeps_behind : {blind : Bool} → (lines : List Line) (n : ℕ) (s t z : Seen) (play : Play) → Played blind lines s t play → n ≡ length lines + 1 → Grows n t z → KeepsTheTheorem lines s z
 keeps_behind lines n s t z play p count grows x told empty =
     let o = p.stands x told empty in
     let g = grows o.0 o.1 in (
@@ -97,8 +113,8 @@ keeps_behind lines n s t z play p count grows x told empty =
     )
 
 -- memory ran out at the next event
-pub stopped_at : (lines : List Line) (event : Event) (s t z : Seen) (old new : Play) → Played lines s t old → RanOut event t z old new → StoppedAt event lines s z
-stopped_at lines event s t z old new p (uncounted same) = stopped_before old (subst (λ x. Played lines s x old) (sym same) p)
+pub stopped_at : {blind : Bool} → (lines : List Line) (event : Event) (s t z : Seen) (old new : Play) → Played blind lines s t old → RanOut event t z old new → StoppedAt blind event lines s z
+stopped_at {blind} lines event s t z old new p (uncounted same) = stopped_before old (subst (λ x. Played blind lines s x old) (sym same) p)
 stopped_at lines event s t z old new p (no_answer handled grows) =
     let c : old.handled ≡ length lines = p.count in
     let at : old.handled + 1 ≡ length lines + 1 = omega arith in

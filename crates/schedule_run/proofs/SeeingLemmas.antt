@@ -18,7 +18,7 @@ use Rattle.world_core.specs.Sound.{IsSoundFor}
 use Rattle.world_core.specs.Stands.{WorldStands}
 use Rattle.world_core.proofs.Seeing.{SeesOn, handled_sees, report_comes}
 use Rattle.world_core.proofs.Sound.{sound_after}
-use Rattle.schedule_run.specs.Answered.{WentOn, start, further, ReportsCome}
+use Rattle.schedule_run.specs.Answered.{WentOn, start, further, IsNoReport, AskNoReport, ReportsCome}
 use Rattle.schedule_run.proofs.SoundLemmas.{get_before, same_some, went_soundly}
 
 -- no fewer looks have failed, and a world that is blinded saw one fail
@@ -80,6 +80,18 @@ module _ (before mid after : Seen) (world new : World) (lines : List Line) (line
           let same : line ≡ l = same_some line l (sym (slice_get-push lines line k e) ∙ at) in
           let mine = newest tree still (subst (λ (x : Line). x.event ≡ event.Report tree) (sym same) asked) is in
           subst (λ (x : Line). (r : Report) × (x.reply ≡ reply.Report r)) same mine
+
+-- where neither they nor a line behind them ask for a report, all ask for none
+pub unasked_more : (lines : List Line) (line : Line) → AskNoReport lines → IsNoReport line.event → AskNoReport (lines ++ line ∷ [])
+unasked_more lines line none one k l at tree asked = on (cases_lt k (length lines))
+  where
+    on : (k < length lines) ⊎ (length lines ≤ k) → ⊥
+    on (inl less) = none k l (sym (get_before lines line k less) ∙ at) tree asked
+    on (inr more) =
+        let within : k < length (lines ++ line ∷ []) = slice_get_within (lines ++ line ∷ []) k l at in
+        let e : k ≡ length lines = omega (arith, length-append lines (line ∷ [])) in
+        let same : line ≡ l = same_some line l (sym (slice_get-push lines line k e) ∙ at) in
+        one tree (subst (λ (x : Line). x.event ≡ event.Report tree) (sym same) asked)
 
 pub went_comes : (before : Seen) (old : World) (t : CloudState) (lines : List Line) (after : Seen) (new : World) → WentOn before old lines after new → before.state ≡ Some t
     → WorldStands [] old t → old.blind ≡ false → ReportsCome lines before after

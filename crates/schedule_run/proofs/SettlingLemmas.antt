@@ -53,7 +53,7 @@ row_opens line u row client head early kind o = never commits.changes (sym close
     never : (changes : List Noted) → Closed ≡ Working (Committing changes) → ⊥
     never changes e = absurd (cc)
 
-settled_opens : (line : Line) (s t : Seen) (play : Play) → Played (line ∷ []) s t play → OpensNothing s t
+settled_opens : (line : Line) (s t : Seen) (play : Play) → Played true (line ∷ []) s t play → OpensNothing s t
 settled_opens line s t play p x u added from to rows place row client head there o =
     row_opens line u row client head (at_place (λ (r : Landing). r.who.event ≤ 1) a.added place row a.early at)
     (subst (λ z. IsOfKind (line ∷ []) z row) same (at_place (IsOfKind (line ∷ []) w.state) a.added place row a.kinds at)) o
@@ -73,9 +73,9 @@ settled_opens line s t play p x u added from to rows place row client head there
     at : slice_get a.added place ≡ Some row
     at = ap (λ rs. slice_get rs place) (sym whole) ∙ there
 
-pub was_settled : (reply : Reply) (s t : Seen) (old new : Play) → IsFresh old → IsNext Settle reply s t old new → WasSettled reply s t
+pub was_settled : (reply : Reply) (s t : Seen) (old new : Play) → IsFresh true old → IsNext Settle reply s t old new → WasSettled reply s t
 was_settled reply s t old new fresh next =
-    let played = played_more [] Settle reply s s t old new (played_nothing s old fresh) next in
+    let played = played_more [] Settle reply s s t old new (played_nothing s old fresh) (λ b tree asked. absurd (cc)) next in
     let none : old.handled ≡ 0 = fresh.none in
     let count : new.handled ≡ old.handled + 1 = next.count in
     let first : new.handled ≡ 1 = omega arith in
@@ -97,11 +97,11 @@ settle_end reply w u s t shows = on (is_settled reply) refl where
   on true is = (reply, is, shows)
   on false is = (reply, is, shows)
 
-pub settle_stopped : (s t : Seen) (old new : Play) → IsFresh old → RanOut Settle s t old new → StoppedAt Settle [] s t
+pub settle_stopped : (s t : Seen) (old new : Play) → IsFresh true old → RanOut Settle s t old new → StoppedAt true Settle [] s t
 settle_stopped s t old new fresh out = stopped_at [] Settle s s t old new (played_nothing s old fresh) out
 
 -- a settling whose reply was written, or a part of it, ends so
-pub settle_shown : (reply : Reply) (w u : Written) (s t : Seen) (old new : Play) (written : Result (Unit {0}) OutputFault) → IsFresh old → IsNext Settle reply s t old new
+pub settle_shown : (reply : Reply) (w u : Written) (s t : Seen) (old new : Play) (written : Result (Unit {0}) OutputFault) → IsFresh true old → IsNext Settle reply s t old new
     → WasWritten w u (reply_line 1 reply) written → SettleEnded (settle_end_of written reply) w u s t
 settle_shown reply w u s t old new (Ok done) fresh next p = settle_end reply w u s t (record { handled = was_settled reply s t old new fresh next; wrote = p.0 })
 settle_shown reply w u s t old new (Err output.WriteFault) fresh next p = record { reply = reply; handled = was_settled reply s t old new fresh next; wrote = p.0 }

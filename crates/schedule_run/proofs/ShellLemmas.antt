@@ -21,14 +21,25 @@ use Rattle.schedule_run.specs.declared.shell.ShellFault.TheVariants.{NotOpened, 
 use Rattle.schedule_run.specs.Play.{IsFresh, IsRun, answered, answered_run, StopsRun, stops_event, stops_run, Played}
 use Rattle.run_text.specs.Written.{AddsFront, NothingRan, reply_line, shown_from, bad_line}
 use Rattle.schedule_run.specs.Shell.{AreShellLines, IsBad, alone, with_run, no_events, more_events, WereRun, in_event, in_run, WereStopped, Opens, WasCut, cut_opening, cut_line, cut_closing, cut_refusal, ShellRanOut, out_before, out_writing, out_between, out_opening, out_next, ShellEnded, ShellWent, IsAt, RanOutAt, out_reply, out_event, EventRan, shown_by, ended, is_opened, opened_by, OpeningRan, ClosingRan, LineRefused, LineRan, event_run, refused, unread}
-use Rattle.schedule_run.specs.Answered.{OpensNoneTwice}
+use Rattle.schedule_run.specs.Answered.{IsNoReport, OpensNoneTwice}
 use Rattle.schedule_run.proofs.OnceLemmas.{OpenNone, none_more, one_none, once_nothing}
-use Rattle.schedule_run.proofs.ShellOnce.{all_shells, next_shells, shell_once, once_whole, stopped_in_once}
+use Rattle.schedule_run.proofs.ShellOnce.{no_report_shells, all_shells, next_shells, shell_once, once_whole, stopped_in_once}
 use Rattle.schedule_run.proofs.PlayLemmas.{played_nothing, played_more, stopped_at}
+
+-- ---- what a shell runs asks for no report
+
+no_report_runs : IsNoReport (Run 1)
+no_report_runs tree asked = absurd (cc)
+
+no_report_opens : (client : ℕ) → IsNoReport (Open 1 client)
+no_report_opens client tree asked = absurd (cc)
+
+no_report_closes : IsNoReport (Close 1)
+no_report_closes tree asked = absurd (cc)
 
 -- ---- events that are run whole
 
-run_nothing : (s : Seen) (play : Play) → IsFresh play → WereRun [] [] s s play
+run_nothing : (s : Seen) (play : Play) → IsFresh true play → WereRun [] [] s s play
 run_nothing s play fresh = record {
   lines = [];
   whole = no_events;
@@ -37,32 +48,32 @@ run_nothing s play fresh = record {
 }
 
 run_more : (events : List Event) (replies : List Reply) (event : Event) (reply : Reply) (s t z : Seen) (old new : Play)
-    → WereRun events replies s t old → IsRun event reply t z old new → WereRun (events ++ event ∷ []) (replies ++ reply ∷ []) s z new
-run_more events replies event reply s t z old new w (answered other next) = record {
+    → WereRun events replies s t old → IsNoReport event → IsRun event reply t z old new → WereRun (events ++ event ∷ []) (replies ++ reply ∷ []) s z new
+run_more events replies event reply s t z old new w none (answered other next) = record {
   lines = w.lines ++ record { event = event; reply = reply } ∷ [];
   whole = more_events events event w.lines (record { event = event; reply = reply } ∷ []) replies reply w.whole (alone reply other);
   count = omega (arith, length-append replies (reply ∷ []), length-append events (event ∷ []), w.count);
-  played = played_more w.lines event reply s t z old new w.played next;
+  played = played_more w.lines event reply s t z old new w.played (λ b. none) next;
 }
-run_more events replies event reply s t z old new w (answered_run mid play first last) =
+run_more events replies event reply s t z old new w none (answered_run mid play first last) =
     let began : Line = record { event = event; reply = Begun } in
     let ran : Line = record { event = Run 1; reply = reply } in
     record {
       lines = w.lines ++ began ∷ ran ∷ [];
       whole = more_events events event w.lines (began ∷ ran ∷ []) replies reply w.whole (with_run reply);
       count = omega (arith, length-append replies (reply ∷ []), length-append events (event ∷ []), w.count);
-      played = subst (λ ls. Played ls s z new) (append_assoc w.lines (began ∷ []) (ran ∷ []))
-          (played_more (w.lines ++ began ∷ []) (Run 1) reply s mid z play new (played_more w.lines event Begun s t mid old play w.played first) last);
+      played = subst (λ ls. Played true ls s z new) (append_assoc w.lines (began ∷ []) (ran ∷ []))
+          (played_more (w.lines ++ began ∷ []) (Run 1) reply s mid z play new (played_more w.lines event Begun s t mid old play w.played (λ b. none) first) (λ b. no_report_runs) last);
     }
 
 run_stopped : (events : List Event) (replies : List Reply) (event : Event) (s t z : Seen) (old new : Play)
-    → WereRun events replies s t old → StopsRun event t z old new → WereStopped events replies event s z
-run_stopped events replies event s t z old new w (stops_event out) = record {
+    → WereRun events replies s t old → IsNoReport event → StopsRun event t z old new → WereStopped events replies event s z
+run_stopped events replies event s t z old new w none (stops_event out) = record {
   lines = w.lines;
   whole = w.whole;
   stopped = in_event (stopped_at w.lines event s t z old new w.played out);
 }
-run_stopped events replies event s t z old new w (stops_run mid play first out) = record {
+run_stopped events replies event s t z old new w none (stops_run mid play first out) = record {
   lines = w.lines;
   whole = w.whole;
   stopped = in_run (stopped_at began (Run 1) s mid z play new so_far out);
@@ -71,8 +82,8 @@ run_stopped events replies event s t z old new w (stops_run mid play first out) 
     began : List Line
     began = w.lines ++ record { event = event; reply = Begun } ∷ []
 
-    so_far : Played began s mid play
-    so_far = played_more w.lines event Begun s t mid old play w.played first
+    so_far : Played true began s mid play
+    so_far = played_more w.lines event Begun s t mid old play w.played (λ b. none) first
 
 run_same : (events : List Event) (replies : List Reply) (s t z : Seen) (play : Play) → z ≡ t → WereRun events replies s t play → WereRun events replies s z play
 run_same events replies s t z play same w = subst (λ x. WereRun events replies s x play) (sym same) w
@@ -183,7 +194,7 @@ opening_shown client reply w u s t old new ran = on (is_opened reply) refl where
 
 -- ---- the opening
 
-pub at_open : (client : ℕ) (text : List ℕ) (w u : Written) (s t : Seen) (old new : Play) → IsFresh old
+pub at_open : (client : ℕ) (text : List ℕ) (w u : Written) (s t : Seen) (old new : Play) → IsFresh true old
     → OpeningRan (Ok tt) client w u s t old new → IsAt client text text 0 w u s t new
 at_open client text w u s t old new fresh p = record {
   events = [];
@@ -192,33 +203,33 @@ at_open client text w u s t old new fresh p = record {
   spelled = tt;
   count = refl;
   replies = p.0 ∷ [];
-  run = run_more [] [] (Open 1 client) p.0 s s t old new (run_nothing s old fresh) p.2.0;
+  run = run_more [] [] (Open 1 client) p.0 s s t old new (run_nothing s old fresh) (no_report_opens client) p.2.0;
   opened = p.1;
   wrote = p.2.1;
 }
 
-open_out : (client : ℕ) (text : List ℕ) (w u : Written) (s t : Seen) (old new : Play) → IsFresh old
+open_out : (client : ℕ) (text : List ℕ) (w u : Written) (s t : Seen) (old new : Play) → IsFresh true old
     → RanOutAt 0 (Open 1 client) w u s t old new → ShellEnded (Err Memory) client [] (lines_of text) w u s t
 open_out client text w u s t old new fresh (out_reply reply ran front) =
-    out_writing (cut_opening reply new refl (run_more [] [] (Open 1 client) reply s s t old new (run_nothing s old fresh) ran) front)
+    out_writing (cut_opening reply new refl (run_more [] [] (Open 1 client) reply s s t old new (run_nothing s old fresh) (no_report_opens client) ran) front)
 open_out client text w u s t old new fresh (out_event stops same) =
-    out_opening (run_stopped [] [] (Open 1 client) s s t old new (run_nothing s old fresh) stops) same
+    out_opening (run_stopped [] [] (Open 1 client) s s t old new (run_nothing s old fresh) (no_report_opens client) stops) same
 
-open_ended : (client : ℕ) (text : List ℕ) (w u : Written) (s t : Seen) (old new : Play) (fault : ShellFault) → IsFresh old
+open_ended : (client : ℕ) (text : List ℕ) (w u : Written) (s t : Seen) (old new : Play) (fault : ShellFault) → IsFresh true old
     → OpeningRan (Err fault) client w u s t old new → ShellEnded (Err fault) client [] (lines_of text) w u s t
 open_ended client text w u s t old new NotOpened fresh p = record {
   reply = p.0;
   play = new;
-  run = run_more [] [] (Open 1 client) p.0 s s t old new (run_nothing s old fresh) p.2.0;
+  run = run_more [] [] (Open 1 client) p.0 s s t old new (run_nothing s old fresh) (no_report_opens client) p.2.0;
   closed = p.1;
   wrote = p.2.1;
 }
 open_ended client text w u s t old new BadLine fresh p = absurd p
 open_ended client text w u s t old new WriteFault fresh p =
-    cut_opening p.0 new refl (run_more [] [] (Open 1 client) p.0 s s t old new (run_nothing s old fresh) p.1) p.2
+    cut_opening p.0 new refl (run_more [] [] (Open 1 client) p.0 s s t old new (run_nothing s old fresh) (no_report_opens client) p.1) p.2
 open_ended client text w u s t old new Memory fresh p = open_out client text w u s t old new fresh p
 
-pub open_fault : (client : ℕ) (text : List ℕ) (w u : Written) (s t : Seen) (old new : Play) (fault : ShellFault) → IsFresh old
+pub open_fault : (client : ℕ) (text : List ℕ) (w u : Written) (s t : Seen) (old new : Play) (fault : ShellFault) → IsFresh true old
     → OpeningRan (Err fault) client w u s t old new → ShellWent client text (Err fault) w u s t
 open_fault client text w u s t old new fault fresh p = shell_went [] [] (lines_of text) refl tt
     (open_ended client text w u s t old new fault fresh p)
@@ -247,7 +258,7 @@ at_more client text rest behind line n m w v u s t z old new is split next (even
   spelled = shell_more is.earlier is.events line event is.spelled spells;
   count = omega (arith, length-append is.events (event ∷ []), is.count);
   replies = is.replies ++ reply ∷ [];
-  run = run_more (Open 1 client ∷ is.events) is.replies event reply s t z old new is.run ran.0;
+  run = run_more (Open 1 client ∷ is.events) is.replies event reply s t z old new is.run (no_report_shells line event spells) ran.0;
   opened = opens_more is.replies (reply ∷ []) is.opened;
   wrote = shows_more w v u is.replies reply m (replies_count client text rest n m w v s t old is next) is.wrote ran.1;
 }
@@ -267,10 +278,10 @@ close_out : (client : ℕ) (text rest : List ℕ) (n m : ℕ) (w v u : Written) 
     → (is : IsAt client text rest n w v s t old) → m ≡ n + 1 → RanOutAt m (Close 1) v u t z old new → ShellEnded (Err Memory) client is.events [] w u s z
 close_out client text rest n m w v u s t z old new is next (out_reply reply ran front) =
     out_writing
-    (cut_closing is.replies reply new refl (run_more (Open 1 client ∷ is.events) is.replies (Close 1) reply s t z old new is.run ran) is.opened
+    (cut_closing is.replies reply new refl (run_more (Open 1 client ∷ is.events) is.replies (Close 1) reply s t z old new is.run no_report_closes ran) is.opened
     (cut_behind w v u is.replies (λ j. reply_line j reply) m (replies_count client text rest n m w v s t old is next) is.wrote front))
 close_out client text rest n m w v u s t z old new is next (out_event stops same) =
-    out_next is.replies (Close 1) refl (run_stopped (Open 1 client ∷ is.events) is.replies (Close 1) s t z old new is.run stops) is.opened
+    out_next is.replies (Close 1) refl (run_stopped (Open 1 client ∷ is.events) is.replies (Close 1) s t z old new is.run no_report_closes stops) is.opened
     (subst (λ x. AddsEach w x (shown_from 0 is.replies)) (sym same) is.wrote)
 
 close_ended : (client : ℕ) (text rest : List ℕ) (n m : ℕ) (w v u : Written) (s t z : Seen) (old new : Play)
@@ -281,7 +292,7 @@ close_ended client text rest n m w v u s t z old new is next (Ok reply) ran = (
   record {
     replies = is.replies ++ reply ∷ [];
     play = new;
-    run = run_more (Open 1 client ∷ is.events) is.replies (Close 1) reply s t z old new is.run ran.0;
+    run = run_more (Open 1 client ∷ is.events) is.replies (Close 1) reply s t z old new is.run no_report_closes ran.0;
     opened = opens_more is.replies (reply ∷ []) is.opened;
     wrote = shows_more w v u is.replies reply m (replies_count client text rest n m w v s t old is next) is.wrote ran.1;
   },
@@ -289,7 +300,7 @@ close_ended client text rest n m w v u s t z old new is next (Ok reply) ran = (
 close_ended client text rest n m w v u s t z old new is next (Err NotOpened) ran = absurd ran
 close_ended client text rest n m w v u s t z old new is next (Err BadLine) ran = absurd ran
 close_ended client text rest n m w v u s t z old new is next (Err WriteFault) ran =
-    cut_closing is.replies ran.0 new refl (run_more (Open 1 client ∷ is.events) is.replies (Close 1) ran.0 s t z old new is.run ran.1) is.opened
+    cut_closing is.replies ran.0 new refl (run_more (Open 1 client ∷ is.events) is.replies (Close 1) ran.0 s t z old new is.run no_report_closes ran.1) is.opened
     (cut_behind w v u is.replies (λ j. reply_line j ran.0) m (replies_count client text rest n m w v s t old is next) is.wrote ran.2)
 close_ended client text rest n m w v u s t z old new is next (Err Memory) ran = close_out client text rest n m w v u s t z old new is next ran
 
@@ -327,7 +338,7 @@ ends_cut {client} {text} {rest} {behind} {line} {n} {m} {w} {v} {s} {t} {old} me
     let at : lines_of text ≡ (is.earlier ++ line ∷ []) ++ lines_of behind =
     is.at ∙ ap (λ ls. is.earlier ++ ls) met.split ∙ sym (append_assoc is.earlier (line ∷ []) (lines_of behind)) in
     let run : WereRun (Open 1 client ∷ (is.events ++ event ∷ [])) (is.replies ++ reply ∷ []) s z new =
-    run_more (Open 1 client ∷ is.events) is.replies event reply s t z old new is.run ran in
+    run_more (Open 1 client ∷ is.events) is.replies event reply s t z old new is.run (no_report_shells line event spells) ran in
     let wrote : AddsFront w u (shown_from 0 is.replies) (reply_line (length is.replies) reply) =
     cut_behind w v u is.replies (λ j. reply_line j reply) m (met_count met) is.wrote front in
     let spelled : AreShellLines (is.earlier ++ line ∷ []) (is.events ++ event ∷ []) = shell_more is.earlier is.events line event is.spelled spells in (
@@ -344,7 +355,7 @@ event_out {client} {text} {rest} {behind} {line} {n} {m} {w} {v} {s} {t} {old} m
 event_out {client} {text} {rest} {behind} {line} {n} {m} {w} {v} {s} {t} {old} met event u z new spells (out_event stops same) =
     let is = met.is in
     ends_before (Err Memory) u z met
-    (out_next is.replies event spells (run_stopped (Open 1 client ∷ is.events) is.replies event s t z old new is.run stops) is.opened
+    (out_next is.replies event spells (run_stopped (Open 1 client ∷ is.events) is.replies event s t z old new is.run (no_report_shells line event spells) stops) is.opened
     (subst (λ x. AddsEach w x (shown_from 0 is.replies)) (sym same) is.wrote))
 
 event_fault : {client : ℕ} {text rest behind line : List ℕ} {n m : ℕ} {w v : Written} {s t : Seen} {old : Play}

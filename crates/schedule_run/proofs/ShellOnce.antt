@@ -12,7 +12,7 @@ use Rattle.reply_text.specs.declared.reply.Reply.TheVariants.{Begun}
 use Rattle.replay_meaning.specs.Standing.{Line}
 use Rattle.world_core.specs.Opened.{Opens, IsOpenedIn, OpenEachOnce}
 use Rattle.world_core.proofs.OpenedLines.{once_before, opened_new, opened_more, opened_last}
-use Rattle.schedule_run.specs.Answered.{events_of, OpensNoneTwice}
+use Rattle.schedule_run.specs.Answered.{IsNoReport, events_of, OpensNoneTwice}
 use Rattle.schedule_run.specs.Shell.{AreShellLines, IsWhole, alone, with_run, AreWhole, no_events, more_events, StoppedIn, in_event, in_run, IsNextOf}
 use Rattle.schedule_run.proofs.OnceLemmas.{OpenNone, events_more, opened_either, none_once, once_push, stopped_once}
 
@@ -38,6 +38,13 @@ pub of_shell : (text : List ℕ) (e : Event) → IsShellLine text e → (client 
 unfolding first_word
 of_shell text (event.Open session own) line client opens = never_first word.Open line.keyword refl (ap first_word line.words) line.shell
 of_shell text e line client opens = absurd opens
+
+-- and asks for no report
+pub no_report_shells : (text : List ℕ) (e : Event) → IsShellLine text e → IsNoReport e
+unfolding first_word
+no_report_shells text e line tree asked =
+    let report : IsShellLine text (event.Report tree) = subst (IsShellLine text) asked line in
+    never_first word.Report report.keyword refl (ap first_word report.words) report.shell
 
 -- the events of these lines
 pub all_shells : (texts : List (List ℕ)) (events : List Event) → AreShellLines texts events → OpenNone events

@@ -1,5 +1,5 @@
 -- Lines that a world handles, one behind another.
-use Rattle.std.specs.Prelude.{ℕ, ◌≡◌, ◌+◌, ◌≤◌, ◌⊎◌, false, List, [], ◌∷◌, ◌++◌, map, length, replicate, take, slice_get, Some, Ok, Err}
+use Rattle.std.specs.Prelude.{ℕ, ◌≡◌, ◌+◌, ◌≤◌, ◌⊎◌, Bool, List, [], ◌∷◌, ◌++◌, map, length, replicate, take, slice_get, Some, Ok, Err}
 use Rattle.client_work.specs.Session.{closed_session}
 use Rattle.cloud_trait.specs.State.{CloudState, IsEmptyCloud}
 use Rattle.cloud_trait.specs.Seen.{Seen}
@@ -41,11 +41,11 @@ use Rattle.world_core.specs.Settled.{SettledLeaves, AnswersSettled, NoLockHeld, 
 use Rattle.world_core.specs.Sound.{IsSoundFor}
 use Rattle.world_core.specs.Stands.{LeftIsRight}
 
--- a world whose sessions are closed, and that saw nothing
-pub record IsNew (world : World) : Type 0 where
+-- a world whose sessions are closed, and that saw nothing; blind where it looks at no put
+pub record IsNew (blind : Bool) (world : World) : Type 0 where
   pub sessions : world.sessions ≡ replicate 17 closed_session
   pub audit : world.audit ≡ record { committed = []; order = [] }
-  pub sees : world.blind ≡ false
+  pub sees : world.blind ≡ blind
   pub notes : world.notes ≡ replicate 17 blank
 
 -- these lines were handled one behind another: each did what its event asks for, and its reply is the reply to that
@@ -127,6 +127,14 @@ ReportsCome lines before after =
     after.counts.dark ≡ before.counts.dark → (k : ℕ) (line : Line) (tree : ℕ) → slice_get lines k ≡ Some line → line.event ≡ event.Report tree → IsTree tree
     → (r : Report) × (line.reply ≡ reply.Report r)
 
+-- an event asks for no report
+abbrev pub IsNoReport : Event → Type 0
+IsNoReport asked = (tree : ℕ) → asked ≡ event.Report tree → ⊥
+
+-- nor does any of these lines
+abbrev pub AskNoReport : List Line → Type 0
+AskNoReport lines = (k : ℕ) (line : Line) → slice_get lines k ≡ Some line → IsNoReport line.event
+
 -- ---- over any cloud
 
 -- what lines asked for
@@ -146,9 +154,9 @@ OpensNoneTwice before after = (t : CloudState) → before.state ≡ Some t → A
 -- these lines were handled from a new world on; over a cloud that was empty and told its state each of them explains itself, and reports come; over
 -- one that earlier runs left each settling among them explains itself; and over any one each row that they added is of a kind that its session's
 -- standing by them allows, each step that they made has its cause, and where they open no client twice no transaction was opened twice
-pub record AreAnswered (lines : List Line) (before after : Seen) : Type 0 where
+pub record AreAnswered (blind : Bool) (lines : List Line) (before after : Seen) : Type 0 where
   pub first : World
-  pub fresh : IsNew first
+  pub fresh : IsNew blind first
   pub last : World
   pub went : WentOn before first lines after last
   pub explained : (t : CloudState) → before.state ≡ Some t → IsEmptyCloud t → AreExplained before first lines after last went
@@ -162,9 +170,9 @@ pub record AreAnswered (lines : List Line) (before after : Seen) : Type 0 where
 -- behind these lines this event was handled, and has no reply, by this fault; the session of its operation is broken off; each step that it made has
 -- its cause; and what it added to any cloud is of its kind too, whatever its reply would have been, and where it opens no client of theirs no
 -- transaction was opened twice
-pub record IsUnanswered (lines : List Line) (event : Event) (fault : WorldFault) (before after : Seen) : Type 0 where
+pub record IsUnanswered (blind : Bool) (lines : List Line) (event : Event) (fault : WorldFault) (before after : Seen) : Type 0 where
   pub mid : Seen
-  pub answered : AreAnswered lines before mid
+  pub answered : AreAnswered blind lines before mid
   pub last : World
   pub handled : Handled (length lines + 1) event mid after answered.last last (Err fault)
   pub short : LeavesShort event answered.last last (Err fault)

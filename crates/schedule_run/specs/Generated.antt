@@ -1,5 +1,5 @@
 -- What a run of made events writes and leaves.
-use Rattle.std.specs.Prelude.{◌≡◌, List, [], ◌∷◌, ◌++◌, length, Result, Ok, Err}
+use Rattle.std.specs.Prelude.{◌≡◌, false, List, [], ◌∷◌, ◌++◌, length, Result, Ok, Err}
 use Rattle.cloud_trait.specs.Seen.{Seen}
 use Rattle.db_io.specs.Writes.{Written, AddsOne, AddsPart}
 use Rattle.event_text.specs.declared.event.Event.{Event}
@@ -19,7 +19,7 @@ use Rattle.run_text.specs.Written.{NothingRan}
 pub record Handles (events : List Event) (start now : Seen) (play : Play) : Type 0 where
   pub lines : List Line
   pub asked : events_of lines ≡ events
-  pub played : Played lines start now play
+  pub played : Played false lines start now play
 
 -- memory ran out at one of these events, or before it
 pub record StopsAmong (events : List Event) (start now : Seen) : Type 0 where
@@ -27,7 +27,7 @@ pub record StopsAmong (events : List Event) (start now : Seen) : Type 0 where
   pub event : Event
   pub later : List Event
   pub asked : events ≡ events_of lines ++ event ∷ later
-  pub stopped : StoppedAt event lines start now
+  pub stopped : StoppedAt false event lines start now
 
 -- the first of these events were handled from a new world on, and these are left
 pub record IsAmong (events left : List Event) (start now : Seen) (play : Play) : Type 0 where
@@ -46,7 +46,7 @@ pub record HandlesAll (events : List Event) (settling report : Reply) (start now
   pub last : Event
   pub asked : events ≡ events_of lines ++ last ∷ []
   pub play : Play
-  pub played : Played ((lines ++ record { event = last; reply = settling } ∷ []) ++ record { event = Report 1; reply = report } ∷ []) start now play
+  pub played : Played false ((lines ++ record { event = last; reply = settling } ∷ []) ++ record { event = Report 1; reply = report } ∷ []) start now play
 
 abbrev pub TakesAll : List Event → Result (Reply × Reply) WorldFault → Seen → Seen → Type 0
 TakesAll events (Ok replies) start now = HandlesAll events replies.0 replies.1 start now

@@ -6,6 +6,7 @@ pub mod Dumping
 pub mod Shell
 pub mod Generated
 pub mod InPlay
+pub mod Load
 pub mod Status
 pub mod Arguments
 pub mod Run

@@ -1,5 +1,5 @@
 -- A world that handles one event behind another, from a new one on.
-use Rattle.std.specs.Prelude.{◌≡◌, ◌+◌, List, length, Some, Result, Ok, Err}
+use Rattle.std.specs.Prelude.{◌≡◌, ◌+◌, Bool, true, List, length, Some, Result, Ok, Err}
 use Rattle.cloud_trait.specs.State.{CloudState, IsEmptyCloud}
 use Rattle.cloud_trait.specs.Seen.{Seen}
 use Rattle.cloud_trait.specs.Traced.{IsTraced}
@@ -16,11 +16,11 @@ use Rattle.world_core.specs.Added.{WorldAdds}
 use Rattle.world_core.specs.Opened.{OpenEachOnce}
 use Rattle.world_core.specs.Stands.{WorldStands, StandsOn, Grows}
 use Rattle.schedule_run.specs.InPlay.{Play}
-use Rattle.schedule_run.specs.Answered.{IsNew, WentOn, AreSettled, IsOfRuns, LeavesOne, IsUnanswered, events_of, OpensNoneTwice, ReportsAreRight, KeepsTheTheorem, AreExplained, AreCaused, ReportsCome}
+use Rattle.schedule_run.specs.Answered.{IsNew, AskNoReport, WentOn, AreSettled, IsOfRuns, LeavesOne, IsUnanswered, events_of, OpensNoneTwice, ReportsAreRight, KeepsTheTheorem, AreExplained, AreCaused, ReportsCome}
 
--- a new world that has handled nothing
-pub record IsFresh (play : Play) : Type 0 where
-  pub world : IsNew play.world
+-- a new world that has handled nothing; blind where it looks at no put
+pub record IsFresh (blind : Bool) (play : Play) : Type 0 where
+  pub world : IsNew blind play.world
   pub none : play.handled ≡ 0
 
 -- ---- the next event
@@ -65,11 +65,12 @@ RunsWhole event (Err fault) before after old new = StopsRun event before after o
 -- these lines were handled from a new world on, and each step that they made has its cause; over any cloud that tells its state each row that they
 -- added is of a kind that its session's standing by them allows, and where they open no client twice no transaction was opened twice; over one that
 -- earlier runs left each settling among them explains itself and another one is left; and over one that was empty all stands for them, they keep the
--- theorem, each explains itself, and reports come
-pub record Played (lines : List Line) (start now : Seen) (play : Play) : Type 0 where
+-- theorem, each explains itself, and reports come; a blind one is asked for none
+pub record Played (blind : Bool) (lines : List Line) (start now : Seen) (play : Play) : Type 0 where
   pub count : play.handled ≡ length lines
   pub first : World
-  pub fresh : IsNew first
+  pub fresh : IsNew blind first
+  pub unasked : blind ≡ true → AskNoReport lines
   pub went : WentOn start first lines now play.world
   pub kinds : (t : CloudState) → start.state ≡ Some t → WorldAdds lines t play.world now
   pub once : OpenEachOnce (events_of lines) → OpensNoneTwice start now
@@ -83,6 +84,6 @@ pub record Played (lines : List Line) (start now : Seen) (play : Play) : Type 0 
   pub reports : (t : CloudState) → start.state ≡ Some t → IsEmptyCloud t → ReportsCome lines start now
 
 -- behind these lines memory ran out: before this event did anything, or while it was handled. What was handled keeps the theorem
-pub data StoppedAt (event : Event) (lines : List Line) (start now : Seen) : Type 0 where
-  stopped_before : (play : Play) → Played lines start now play → StoppedAt event lines start now
-  stopped_within : IsUnanswered lines event world.Memory start now → KeepsTheTheorem lines start now → StoppedAt event lines start now
+pub data StoppedAt (blind : Bool) (event : Event) (lines : List Line) (start now : Seen) : Type 0 where
+  stopped_before : (play : Play) → Played blind lines start now play → StoppedAt blind event lines start now
+  stopped_within : IsUnanswered blind lines event world.Memory start now → KeepsTheTheorem lines start now → StoppedAt blind event lines start now

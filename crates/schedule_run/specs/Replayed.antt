@@ -48,22 +48,22 @@ pub data WroteFront (lines : List Line) (later : List (List ℕ)) (written now_w
 pub record EndedBy (fault : WorldFault) (lines : List Line) (later : List (List ℕ)) (written now_written : Written) (start now : Seen) : Type 0 where
   pub event : Event
   pub spelled : Begins later event
-  pub handled : IsUnanswered lines event fault start now
+  pub handled : IsUnanswered false lines event fault start now
   pub wrote : AddsEach written now_written (replies lines)
 
 -- where memory ran out: before the next line did anything, while a text was written, or while the next line was handled
 pub data RanOut (lines : List Line) (later : List (List ℕ)) (written now_written : Written) (start now : Seen) : Type 0 where
-  between : AreAnswered lines start now → AddsEach written now_written (replies lines) → RanOut lines later written now_written start now
-  writing : AreAnswered lines start now → WroteFront lines later written now_written → RanOut lines later written now_written start now
+  between : AreAnswered false lines start now → AddsEach written now_written (replies lines) → RanOut lines later written now_written start now
+  writing : AreAnswered false lines start now → WroteFront lines later written now_written → RanOut lines later written now_written start now
   handling : EndedBy world.Memory lines later written now_written start now → RanOut lines later written now_written start now
 
 -- how these lines ended, before these texts
 abbrev pub Ended : Result (Unit {0}) LineFault → List Line → List (List ℕ) → Written → Written → Seen → Seen → Type 0
 Ended (Ok done) lines later written now_written start now =
-    (later ≡ []) × AreAnswered lines start now × AddsEach written now_written (replies lines)
+    (later ≡ []) × AreAnswered false lines start now × AddsEach written now_written (replies lines)
 Ended (Err BadLine) lines later written now_written start now =
-    BeginsBad later × AreAnswered lines start now × AddsEach written now_written (replies lines ++ bad_line (length lines + 1) ∷ [])
-Ended (Err WriteFault) lines later written now_written start now = AreAnswered lines start now × WroteFront lines later written now_written
+    BeginsBad later × AreAnswered false lines start now × AddsEach written now_written (replies lines ++ bad_line (length lines + 1) ∷ [])
+Ended (Err WriteFault) lines later written now_written start now = AreAnswered false lines start now × WroteFront lines later written now_written
 Ended (Err Memory) lines later written now_written start now = RanOut lines later written now_written start now
 
 -- a text was handled line by line up to this end: the first lines of it spell the lines that were handled

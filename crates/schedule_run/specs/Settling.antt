@@ -34,9 +34,9 @@ OpensNothing start now =
 -- the one line `settle` was handled in a new world, and has this reply; over a cloud that earlier runs left, that is sound and explains itself
 pub record WasSettled (reply : Reply) (start now : Seen) : Type 0 where
   pub play : Play
-  pub played : Played (record { event = Settle; reply = reply } ∷ []) start now play
+  pub played : Played true (record { event = Settle; reply = reply } ∷ []) start now play
   pub first : World
-  pub fresh : IsNew first
+  pub fresh : IsNew true first
   pub handled : Handled 1 Settle start now first play.world (Ok reply)
   pub settles : (t : CloudState) → start.state ≡ Some t → IsOfRuns t → SettlesSo [] Settle reply start now first play.world handled
   pub opens : OpensNothing start now
@@ -55,7 +55,7 @@ pub record CutsSettling (written now_written : Written) (start now : Seen) : Typ
 -- where memory ran out: before anything, while the line was handled, or while its reply was written
 pub data SettlingRanOut (written now_written : Written) (start now : Seen) : Type 0 where
   out_before : NothingRan written now_written start now → SettlingRanOut written now_written start now
-  out_handling : StoppedAt Settle [] start now → now_written ≡ written → SettlingRanOut written now_written start now
+  out_handling : StoppedAt true Settle [] start now → now_written ≡ written → SettlingRanOut written now_written start now
   out_writing : CutsSettling written now_written start now → SettlingRanOut written now_written start now
 
 -- how a settling ended: well exactly where its reply says that it is done

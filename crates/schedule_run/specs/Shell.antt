@@ -62,12 +62,12 @@ pub record WereRun (events : List Event) (replies : List Reply) (start now : See
   pub lines : List Line
   pub whole : AreWhole events lines replies
   pub count : length replies ≡ length events
-  pub played : Played lines start now play
+  pub played : Played true lines start now play
 
 -- memory ran out at an event behind these lines, or at the run of what it began
 pub data StoppedIn (event : Event) (lines : List Line) (start now : Seen) : Type 0 where
-  in_event : StoppedAt event lines start now → StoppedIn event lines start now
-  in_run : StoppedAt (Run 1) (lines ++ record { event = event; reply = Begun } ∷ []) start now → StoppedIn event lines start now
+  in_event : StoppedAt true event lines start now → StoppedIn event lines start now
+  in_run : StoppedAt true (Run 1) (lines ++ record { event = event; reply = Begun } ∷ []) start now → StoppedIn event lines start now
 
 -- these events were run whole, and memory ran out at this one
 pub record WereStopped (events : List Event) (replies : List Reply) (event : Event) (start now : Seen) : Type 0 where

@@ -1,4 +1,4 @@
-ghost use Rattle.std.specs.Prelude.{◌≡◌, ◌≤◌, ◌<◌, ◌+◌, ◌⊎◌, [], ◌∷◌, ◌++◌, Err};
+ghost use Rattle.std.specs.Prelude.{◌≡◌, ◌≤◌, ◌<◌, ◌+◌, ◌⊎◌, false, [], ◌∷◌, ◌++◌, Err};
 ghost use Rattle.line_io.specs.Output.{WasWritten};
 ghost use Rattle.schedule_run.specs.Play.{IsFresh};
 ghost use Rattle.run_text.specs.Summary.{summary};
@@ -57,7 +57,7 @@ fn generate_in<S: SessionCalls, O: Sink, C: Bench>(
     sink: &mut O,
     cloud: &mut C,
 ) -> Result<(), OutputFault>
-    requires { IsFresh play.old }
+    requires { IsFresh false play.old }
     ensures write_fault { result ≡ Err OutputFault.WriteFault
         → (O.told sink.old).faults < (O.told sink.new).faults }
     ensures writes { (result ≡ Err OutputFault.WriteFault)
@@ -85,7 +85,7 @@ fn take_all<S: SessionCalls, C: Bench>(
     last: &Event,
     cloud: &mut C,
 ) -> Result<(Reply, Reply), WorldFault>
-    requires { IsFresh play.old }
+    requires { IsFresh false play.old }
     ensures { TakesAll (earlier.now ++ last.now ∷ []) result (C.seen cloud.old) (C.seen cloud.new) }
 {
     match take_each(alloc, play, earlier, cloud) {
@@ -112,7 +112,7 @@ fn take_each<S: SessionCalls, C: Bench>(
     events: &[Event],
     cloud: &mut C,
 ) -> Result<(), WorldFault>
-    requires { IsFresh play.old }
+    requires { IsFresh false play.old }
     ensures { TakesEach events.now result (C.seen cloud.old) (C.seen cloud.new) play.new }
 {
     let mut left = events;

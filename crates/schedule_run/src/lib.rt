@@ -4,6 +4,7 @@
 pub mod arguments;
 pub mod dumping;
 pub mod generated;
+pub mod load;
 mod play;
 pub mod replay;
 pub mod run;

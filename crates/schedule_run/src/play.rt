@@ -1,6 +1,6 @@
 //! A world, and how many events it has handled.
 
-ghost use Rattle.std.specs.Prelude.{◌≡◌, IfOk, IfErr};
+ghost use Rattle.std.specs.Prelude.{◌≡◌, true, false, IfOk, IfErr};
 ghost use Rattle.schedule_run.specs.Play.{IsFresh, Takes, RunsWhole};
 
 use client_work::calls::SessionCalls;
@@ -40,11 +40,22 @@ impl<S: SessionCalls> Model for Play<S> {
 impl<S: SessionCalls> Play<S> {
     /// A new world, that has handled nothing. Refused for memory alone.
     pub fn new(alloc: Global) -> Result<Play<S>, Refused>
-        ensures fresh { IfOk result (λ play. IsFresh play) }
+        ensures fresh { IfOk result (λ play. IsFresh false play) }
         ensures memory { IfErr result (λ e. e ≡ Refused.Memory) }
     {
         Ok(Play {
             world: World::new(alloc)?,
+            handled: 0,
+        })
+    }
+
+    /// A new world that looks at no put, and has handled nothing: for events that ask for no report. Refused for memory alone.
+    pub fn unseeing(alloc: Global) -> Result<Play<S>, Refused>
+        ensures fresh { IfOk result (λ play. IsFresh true play) }
+        ensures memory { IfErr result (λ e. e ≡ Refused.Memory) }
+    {
+        Ok(Play {
+            world: World::unseeing(alloc)?,
             handled: 0,
         })
     }

@@ -1,4 +1,4 @@
-ghost use Rattle.std.specs.Prelude.{◌≡◌, ◌<◌, ◌⊎◌, Err};
+ghost use Rattle.std.specs.Prelude.{◌≡◌, ◌<◌, ◌⊎◌, false, Err};
 ghost use Rattle.event_text.specs.declared.event.Event.{Event};
 ghost use Rattle.event_text.specs.Event.{IsEvent};
 ghost use Rattle.world_core.specs.Stands.{Grows};
@@ -58,7 +58,7 @@ fn go_on<S: SessionCalls, O: Sink, C: Bench>(
     sink: &mut O,
     cloud: &mut C,
 ) -> Result<(), LineFault>
-    requires fresh { IsNew world.old }
+    requires fresh { IsNew false world.old }
     ensures went { WentThrough input.now result (O.told sink.old) (O.told sink.new)
         (C.seen cloud.old) (C.seen cloud.new) }
     ensures bad_line { result ≡ Err LineFault.BadLine → HasBadLine input.now }

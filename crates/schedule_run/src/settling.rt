@@ -1,4 +1,4 @@
-ghost use Rattle.std.specs.Prelude.{◌≡◌, ◌<◌, ◌⊎◌, Err};
+ghost use Rattle.std.specs.Prelude.{◌≡◌, ◌<◌, ◌⊎◌, true, Err};
 ghost use Rattle.schedule_run.specs.Play.{IsFresh};
 ghost use Rattle.schedule_run.specs.Settling.{settled_by, settle_end_of, SettleEnded};
 
@@ -36,20 +36,20 @@ pub fn settle<O: Sink, C: Bench>(
         ⊎ ((O.told sink.new).faults ≡ (O.told sink.old).faults) }
     ensures went { SettleEnded result (O.told sink.old) (O.told sink.new) (C.seen cloud.old) (C.seen cloud.new) }
 {
-    match Play::<Session>::new(alloc) {
+    match Play::<Session>::unseeing(alloc) {
         Ok(mut play) => settle_in(alloc, &mut play, sink, cloud),
         Err(_) => Err(SettleFault::Memory),
     }
 }
 
-/// Settles in a new world.
+/// Settles in a new world, which looks at no put.
 fn settle_in<S: SessionCalls, O: Sink, C: Bench>(
     alloc: Global,
     play: &mut Play<S>,
     sink: &mut O,
     cloud: &mut C,
 ) -> Result<(), SettleFault>
-    requires { IsFresh play.old }
+    requires { IsFresh true play.old }
     ensures write_fault { result ≡ Err SettleFault.WriteFault
         → (O.told sink.old).faults < (O.told sink.new).faults }
     ensures writes { (result ≡ Err SettleFault.WriteFault)

@@ -1,4 +1,4 @@
-ghost use Rattle.std.specs.Prelude.{◌≡◌, ◌<◌, ◌⊎◌, Err};
+ghost use Rattle.std.specs.Prelude.{◌≡◌, ◌<◌, ◌⊎◌, true, Err};
 ghost use Rattle.event_text.specs.declared.event.Event.{Event};
 ghost use Rattle.event_text.specs.Event.{IsShellLine};
 ghost use Rattle.schedule_run.specs.Play.{IsFresh};
@@ -48,13 +48,13 @@ pub fn run_shell<O: Sink, C: Bench>(
     ensures went { ShellWent client input.now result (O.told sink.old) (O.told sink.new)
         (C.seen cloud.old) (C.seen cloud.new) }
 {
-    match Play::<Session>::new(alloc) {
+    match Play::<Session>::unseeing(alloc) {
         Ok(mut play) => run_lines(alloc, &mut play, client, input, sink, cloud),
         Err(_) => Err(ShellFault::Memory),
     }
 }
 
-/// Opens the client's session in a new world, runs the lines, and closes it.
+/// Opens the client's session in a new world, which looks at no put, runs the lines, and closes it.
 fn run_lines<S: SessionCalls, O: Sink, C: Bench>(
     alloc: Global,
     play: &mut Play<S>,
@@ -63,7 +63,7 @@ fn run_lines<S: SessionCalls, O: Sink, C: Bench>(
     sink: &mut O,
     cloud: &mut C,
 ) -> Result<(), ShellFault>
-    requires { IsFresh play.old }
+    requires { IsFresh true play.old }
     ensures bad_line { result ≡ Err ShellFault.BadLine → HasBadShellLine input.now }
     ensures write_fault { result ≡ Err ShellFault.WriteFault
         → (O.told sink.old).faults < (O.told sink.new).faults }

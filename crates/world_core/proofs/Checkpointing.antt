@@ -333,10 +333,15 @@ step_moves who under to old noted called new turn first s last = record {
   rest = last ∙ s.rest ∙ ap (λ l. slice_set l who.session s.after) first;
 }
 
-pub step_noted : (who : Caller) (wish : Wish) (before under to : Seen) (old noted called new : World) (turn : Turn Answer) (done : Bool) → HasPut who.session old.sessions None
+-- a step at whose put nothing looks is none, where its world is not blind
+no_put_of : {P : Type 0} → (blind : Bool) → blind ≡ false → (blind ≡ true) ⊎ P → P
+no_put_of blind sees (inl blinded) = absurd (let never : false ≡ true = sym sees ∙ blinded in cc)
+no_put_of blind sees (inr none) = none
+
+pub step_noted : (who : Caller) (wish : Wish) (before under to : Seen) (old noted called new : World) (turn : Turn Answer) (done : Bool) → (old.blind ≡ true) ⊎ HasPut who.session old.sessions None
     → NotesCall who.session old noted → SetsWish wish before under → Changes who.session (λ a b. StepsSession who under to a b (Ok turn)) noted.sessions called.sessions → called.audit ≡ noted.audit
     → called.blind ≡ noted.blind → called.notes ≡ noted.notes → done ≡ is_done turn → NotesEnd who.session done called new → StepsLooked who wish before to old new turn
-step_noted who wish before under to old noted called new turn done no_put n sets s audit blind notes same e =
+step_noted who wish before under to old noted called new turn done unlooked n sets s audit blind notes same e =
     let m : Changes who.session (λ a b. StepsSession who under to a b (Ok turn)) old.sessions new.sessions =
     step_moves who under to old.sessions noted.sessions called.sessions new.sessions turn n.sessions s e.sessions in
     let sees : new.blind ≡ old.blind = e.blind ∙ blind ∙ n.blind in
@@ -351,7 +356,8 @@ step_noted who wish before under to old noted called new turn done no_put n sets
       newest_call = newest_call who wish before before under to to who.session old.sessions new.sessions turn (looked_not before) sets m (looked_not to);
       saw = λ b. sym sees ∙ b;
       blinded = λ b. inl (sym sees ∙ b);
-      audit = λ b x y first second. e.audit ∙ audit ∙ n.audit ∙ audited_none (newest x) (newest y) m.before.work old.audit (put_before who.session old.sessions None m.before no_put m.there);
+      audit = λ b x y first second. e.audit ∙ audit ∙ n.audit
+          ∙ audited_none (newest x) (newest y) m.before.work old.audit (put_before who.session old.sessions None m.before (no_put_of old.blind (sym sees ∙ b) unlooked) m.there);
       notes = notes_step who.session old m.before.work called.notes new.notes noted turn done m.before n (sym notes) m.there refl same e.notes;
     }
 

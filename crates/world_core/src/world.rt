@@ -52,7 +52,7 @@ pub struct World<S: SessionCalls> {
     sessions: Sessions<S>,
     // What was seen to commit and to be applied.
     audit: Audit,
-    // Whether a look at the object of a put failed: the audit does not know then whether the put landed.
+    // Whether it looks at no put, from its start or since a look failed: the audit does not know then whether the put landed.
     blind: bool,
     // What is kept of each session for the choice of its checkpoints.
     notes: Notebooks,
@@ -101,7 +101,6 @@ impl<S: SessionCalls> World<S> {
 
     /// A world whose sessions are closed, and that saw nothing: over an empty cloud it stands for no lines. Refused for memory
     /// alone.
-    #[tactic(auto, using(crate::proofs::StartLemmas::new_stands))]
     pub fn new(alloc: Global) -> Result<World<S>, Refused>
         ensures sessions { IfOk result (λ w. w.sessions ≡ replicate 17 closed_session) }
         ensures audit { IfOk result (λ w. w.audit ≡ record { committed = []; order = [] }) }
@@ -110,10 +109,36 @@ impl<S: SessionCalls> World<S> {
         ensures memory { IfErr result (λ e. e ≡ Refused.Memory) }
         ensures stands { (t : CloudState) → IsEmptyCloud t → IfOk result (λ w. WorldStands [] w t) }
     {
+        World::start(alloc, false)
+    }
+
+    /// A world as a new one that looks at no put, and so keeps no audit: each report that it is asked for fails. Refused for
+    /// memory alone.
+    pub fn unseeing(alloc: Global) -> Result<World<S>, Refused>
+        ensures sessions { IfOk result (λ w. w.sessions ≡ replicate 17 closed_session) }
+        ensures audit { IfOk result (λ w. w.audit ≡ record { committed = []; order = [] }) }
+        ensures sees_none { IfOk result (λ w. w.blind ≡ true) }
+        ensures notes { IfOk result (λ w. w.notes ≡ replicate 17 blank) }
+        ensures memory { IfErr result (λ e. e ≡ Refused.Memory) }
+        ensures stands { (t : CloudState) → IsEmptyCloud t → IfOk result (λ w. WorldStands [] w t) }
+    {
+        World::start(alloc, true)
+    }
+
+    /// A world whose sessions are closed, and that saw nothing; blind where it looks at no put.
+    #[tactic(auto, using(crate::proofs::StartLemmas::new_stands))]
+    fn start(alloc: Global, blind: bool) -> Result<World<S>, Refused>
+        ensures sessions { IfOk result (λ w. w.sessions ≡ replicate 17 closed_session) }
+        ensures audit { IfOk result (λ w. w.audit ≡ record { committed = []; order = [] }) }
+        ensures blind { IfOk result (λ w. w.blind ≡ blind) }
+        ensures notes { IfOk result (λ w. w.notes ≡ replicate 17 blank) }
+        ensures memory { IfErr result (λ e. e ≡ Refused.Memory) }
+        ensures stands { (t : CloudState) → IsEmptyCloud t → IfOk result (λ w. WorldStands [] w t) }
+    {
         Ok(World {
             sessions: Sessions::new(alloc)?,
             audit: Audit::new(alloc),
-            blind: false,
+            blind,
             notes: Notebooks::new(alloc)?,
         })
     }
@@ -667,7 +692,7 @@ impl<S: SessionCalls> World<S> {
         }
     }
 
-    /// Makes a step of a session that is at work under a wish, between two looks where it is a put.
+    /// Makes a step of a session that is at work under a wish, between two looks where it is a put and the world is not blind.
     fn step_looked<C: Bench>(
         &mut self,
         alloc: Global,
@@ -680,6 +705,9 @@ impl<S: SessionCalls> World<S> {
         ensures short { OnErr result (FallsShort who wish (C.seen cloud.old) (C.seen cloud.new) self.old self.new) }
         ensures grows { Grows who.event (C.seen cloud.old) (C.seen cloud.new) }
     {
+        if self.blind {
+            return self.step_other(alloc, cloud, who, wish);
+        }
         match put_in_hand(alloc, self.session(who.session)) {
             Ok(Some(put)) => self.step_put(alloc, cloud, who, wish, &put),
             Ok(None) => self.step_other(alloc, cloud, who, wish),
@@ -687,7 +715,7 @@ impl<S: SessionCalls> World<S> {
         }
     }
 
-    /// Makes a step that is no put.
+    /// Makes a step at whose put nothing looks: it is none, or the world is blind.
     fn step_other<C: Bench>(
         &mut self,
         alloc: Global,
@@ -696,7 +724,7 @@ impl<S: SessionCalls> World<S> {
         wish: Wish,
     ) -> Result<Turn<Answer>, WorldFault>
         requires works { IsAtWork who.session self.old.sessions }
-        requires no_put { HasPut who.session self.old.sessions None }
+        requires unlooked { (self.old.blind ≡ true) ⊎ HasPut who.session self.old.sessions None }
         ensures looked { IfOk result (λ turn. StepsLooked who wish (C.seen cloud.old) (C.seen cloud.new) self.old self.new turn) }
         ensures short { OnErr result (FallsShort who wish (C.seen cloud.old) (C.seen cloud.new) self.old self.new) }
         ensures grows { Grows who.event (C.seen cloud.old) (C.seen cloud.new) }

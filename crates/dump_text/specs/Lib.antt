@@ -1,0 +1,5 @@
+pub mod Dump
+pub mod Text
+pub mod Maps
+pub mod BadLine
+pub mod Reading

@@ -1,0 +1,40 @@
+//! The inserts of the records of a dump.
+
+ghost use Rattle.std.specs.Prelude.{◌≡◌, length, IfSome, IfOk};
+ghost use Rattle.load_plan.specs.Events.{insert_of, records_of};
+
+use db_base::blob::Blob;
+use dump_text::dump::Dump;
+use event_text::event::Event;
+use report_types::stored::Stored;
+use std::alloc::{AllocError, Global};
+
+/// The insert of a record of a tree, by session 1.
+pub fn insert_of(alloc: Global, tree: u64, record: &Stored) -> Result<Event, AllocError>
+    ensures { IfOk result (λ event. event ≡ insert_of (record { tree = tree; stored = record.now })) }
+{
+    let key = Blob::copy_of(alloc, record.key.as_slice())?;
+    let payload = Blob::copy_of(alloc, record.payload.as_slice())?;
+    let attr = match &record.attr {
+        Some(attr) => Some(Blob::copy_of(alloc, attr.as_slice())?),
+        None => None,
+    };
+    Ok(Event::Insert {
+        session: 1,
+        tree,
+        key,
+        payload,
+        attr,
+    })
+}
+
+/// How many records a dump has, where 64 bits have room for the number.
+pub fn count_records(dump: &Dump) -> Option<u64>
+    ensures { IfSome result (λ n. n ≡ length (records_of dump.now.trees)) }
+{
+    let mut count: u64 = 0;
+    for tree in dump.trees.as_slice() {
+        count = count.checked_add(tree.records.len() as u64)?;
+    }
+    Some(count)
+}

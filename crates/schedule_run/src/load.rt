@@ -1,0 +1,302 @@
+//! Filling an empty database from a dump by ordinary commits.
+
+ghost use Rattle.std.specs.Prelude.{◌≡◌, [], ◌∷◌, map, take, drop, length, OnOk};
+ghost use Rattle.dump_text.specs.Dump.{IsDumpable};
+ghost use Rattle.event_text.specs.declared.event.Event.TheVariants.{Open, Close, Renew, Commit, Tree};
+ghost use Rattle.schedule_run.specs.Load.{LoadEnded, Loads, Settles, Runs, IsPassedOver, GoesThrough};
+ghost use Rattle.load_plan.specs.Events.{records_of, parts, parts_of, insert_of, checkpoints_of, part_events, later_events, commit_events};
+ghost use Rattle.schedule_run.specs.Play.{IsFresh};
+
+use crate::play::{Play, let_event_go};
+use client_session::session::Session;
+use client_work::calls::SessionCalls;
+use cloud_trait::cloud::Bench;
+use db_base::text::Text;
+use db_base::trouble::{CommitAnswer, Trouble};
+use dump_text::dump::Dump;
+use event_text::event::Event;
+use load_plan::first_look::{LookStop, look_first};
+use load_plan::insert::{count_records, insert_of};
+use load_plan::remaining::Remaining;
+use reply_text::reply::Reply;
+use report_types::stored::Stored;
+use run_text::writing::let_go;
+use std::alloc::Global;
+
+/// How many records a transaction takes.
+const PART: u64 = 200;
+
+/// What a load did.
+#[derive(Clone, Copy, Debug, PartialEq, Eq)]
+pub struct Loaded {
+    /// How many records it committed.
+    pub records: u64,
+    /// How many service calls its settling made.
+    pub calls: u64,
+}
+
+/// Why a load stopped.
+#[derive(Debug, Drop)]
+pub enum LoadStop {
+    /// An object is there: its name. Nothing was run.
+    NotEmpty(Text),
+    /// A look failed before anything was run.
+    Stopped(Trouble),
+    /// The session was not opened.
+    Opening(Trouble),
+    /// A commit was answered otherwise than as committed.
+    Commit(CommitAnswer),
+    /// The settling stopped.
+    Settling(Trouble),
+    /// Memory ran out.
+    Memory,
+}
+
+impl From<LookStop> for LoadStop {
+    fn from(stop: LookStop) -> LoadStop {
+        match stop {
+            LookStop::NotEmpty(name) => LoadStop::NotEmpty(name),
+            LookStop::Failed => LoadStop::Stopped(Trouble::Failed),
+            LookStop::Memory => LoadStop::Memory,
+        }
+    }
+}
+
+/// Commits the records of a dump to an empty database, 200 a transaction, by session 1 of client 1, and settles.
+pub fn load<C: Bench>(alloc: Global, cloud: &mut C, dump: &Dump) -> Result<Loaded, LoadStop>
+    requires { IsDumpable dump.now.trees }
+    ensures went { LoadEnded result dump.now.trees (C.seen cloud.old) (C.seen cloud.new) }
+{
+    if let Err(stop) = look_first(alloc, cloud) {
+        return Err(LoadStop::from(stop));
+    }
+    match Play::<Session>::unseeing(alloc) {
+        Ok(mut play) => load_in(alloc, &mut play, cloud, dump),
+        Err(_) => Err(LoadStop::Memory),
+    }
+}
+
+/// Loads in a new world.
+fn load_in<S: SessionCalls, C: Bench>(
+    alloc: Global,
+    play: &mut Play<S>,
+    cloud: &mut C,
+    dump: &Dump,
+) -> Result<Loaded, LoadStop>
+    ensures { Loads dump.now.trees result (C.seen cloud.old) (C.seen cloud.new) play.old play.new }
+{
+    let Some(records) = count_records(dump) else {
+        return Err(LoadStop::Memory);
+    };
+    open(alloc, play, cloud)?;
+    commit_all(alloc, play, cloud, dump, records)?;
+    pass_over(alloc, play, cloud, Event::Close { session: 1 })?;
+    let calls = settle(alloc, play, cloud)?;
+    Ok(Loaded { records, calls })
+}
+
+/// Commits all records, of which there are so many.
+fn commit_all<S: SessionCalls, C: Bench>(
+    alloc: Global,
+    play: &mut Play<S>,
+    cloud: &mut C,
+    dump: &Dump,
+    records: u64,
+) -> Result<(), LoadStop>
+    requires { records ≡ length (records_of dump.now.trees) }
+    ensures { GoesThrough (commit_events (parts_of dump.now.trees)) result (C.seen cloud.old) (C.seen cloud.new) play.old play.new }
+{
+    let Some(sum) = records.checked_add(PART - 1) else {
+        return Err(LoadStop::Memory);
+    };
+    let transactions = sum / PART;
+    if transactions == 0 {
+        return Ok(());
+    }
+    let mut left = Remaining::of(dump.trees.as_slice());
+    commit_part(alloc, play, cloud, &mut left)?;
+    commit_later(alloc, play, cloud, &mut left, transactions - 1)
+}
+
+/// Commits so many transactions behind an earlier one.
+fn commit_later<S: SessionCalls, C: Bench>(
+    alloc: Global,
+    play: &mut Play<S>,
+    cloud: &mut C,
+    left: &mut Remaining<'_>,
+    transactions: u64,
+) -> Result<(), LoadStop>
+    ensures { GoesThrough (later_events (parts transactions left.old)) result (C.seen cloud.old) (C.seen cloud.new) play.old play.new }
+{
+    for _ in 0..transactions {
+        pass_over(alloc, play, cloud, Event::Renew { session: 1 })?;
+        commit_part(alloc, play, cloud, left)?;
+    }
+    Ok(())
+}
+
+/// Commits the next records in one transaction, and makes a checkpoint of each tree that it names.
+fn commit_part<S: SessionCalls, C: Bench>(
+    alloc: Global,
+    play: &mut Play<S>,
+    cloud: &mut C,
+    left: &mut Remaining<'_>,
+) -> Result<(), LoadStop>
+    ensures went { GoesThrough (part_events (take 200 left.old)) result (C.seen cloud.old) (C.seen cloud.new) play.old play.new }
+    ensures left { OnOk result (left.new ≡ drop 200 left.old) }
+{
+    let part = left.again();
+    note_part(alloc, play, cloud, left)?;
+    commit(alloc, play, cloud)?;
+    checkpoint_part(alloc, play, cloud, part)
+}
+
+/// Notes the inserts of the next records.
+fn note_part<S: SessionCalls, C: Bench>(
+    alloc: Global,
+    play: &mut Play<S>,
+    cloud: &mut C,
+    left: &mut Remaining<'_>,
+) -> Result<(), LoadStop>
+    ensures went { GoesThrough (map insert_of (take 200 left.old)) result (C.seen cloud.old) (C.seen cloud.new) play.old play.new }
+    ensures left { OnOk result (left.new ≡ drop 200 left.old) }
+{
+    for _ in 0..PART {
+        let Some((tree, record)) = left.next() else {
+            return Ok(());
+        };
+        note(alloc, play, cloud, tree, record)?;
+    }
+    Ok(())
+}
+
+/// Makes a checkpoint of each tree that the first of these records name.
+fn checkpoint_part<S: SessionCalls, C: Bench>(
+    alloc: Global,
+    play: &mut Play<S>,
+    cloud: &mut C,
+    part: Remaining<'_>,
+) -> Result<(), LoadStop>
+    ensures { GoesThrough (checkpoints_of (take 200 part)) result (C.seen cloud.old) (C.seen cloud.new) play.old play.new }
+{
+    let mut left = part;
+    let mut last = 0;
+    for _ in 0..PART {
+        let Some((tree, _)) = left.next() else {
+            return Ok(());
+        };
+        if tree != last {
+            pass_over(alloc, play, cloud, Event::Tree { session: 1, tree })?;
+            last = tree;
+        }
+    }
+    Ok(())
+}
+
+/// Opens session 1 of client 1.
+fn open<S: SessionCalls, C: Bench>(
+    alloc: Global,
+    play: &mut Play<S>,
+    cloud: &mut C,
+) -> Result<(), LoadStop>
+    ensures { GoesThrough (Open 1 1 ∷ []) result (C.seen cloud.old) (C.seen cloud.new) play.old play.new }
+{
+    let event = Event::Open {
+        session: 1,
+        client: 1,
+    };
+    match run(alloc, play, cloud, event)? {
+        Reply::Opened { .. } => Ok(()),
+        Reply::Trouble(trouble) => Err(LoadStop::Opening(trouble)),
+        reply => Err(unfit(reply)),
+    }
+}
+
+/// Notes the insert of a record.
+fn note<S: SessionCalls, C: Bench>(
+    alloc: Global,
+    play: &mut Play<S>,
+    cloud: &mut C,
+    tree: u64,
+    record: &Stored,
+) -> Result<(), LoadStop>
+    ensures { GoesThrough (insert_of (record { tree = tree; stored = record.now }) ∷ []) result (C.seen cloud.old) (C.seen cloud.new) play.old play.new }
+{
+    let Ok(event) = insert_of(alloc, tree, record) else {
+        return Err(LoadStop::Memory);
+    };
+    match run(alloc, play, cloud, event)? {
+        Reply::Noted => Ok(()),
+        reply => Err(unfit(reply)),
+    }
+}
+
+/// Commits what was noted.
+fn commit<S: SessionCalls, C: Bench>(
+    alloc: Global,
+    play: &mut Play<S>,
+    cloud: &mut C,
+) -> Result<(), LoadStop>
+    ensures { GoesThrough (Commit 1 ∷ []) result (C.seen cloud.old) (C.seen cloud.new) play.old play.new }
+{
+    match run(alloc, play, cloud, Event::Commit { session: 1 })? {
+        Reply::Commit(CommitAnswer::Committed { .. }) => Ok(()),
+        Reply::Commit(answer) => Err(LoadStop::Commit(answer)),
+        reply => Err(unfit(reply)),
+    }
+}
+
+/// Settles: how many service calls that made.
+fn settle<S: SessionCalls, C: Bench>(
+    alloc: Global,
+    play: &mut Play<S>,
+    cloud: &mut C,
+) -> Result<u64, LoadStop>
+    ensures { Settles result (C.seen cloud.old) (C.seen cloud.new) play.old play.new }
+{
+    match run(alloc, play, cloud, Event::Settle)? {
+        Reply::Settled { calls } => Ok(calls),
+        Reply::NotSettled(trouble) => Err(LoadStop::Settling(trouble)),
+        reply => Err(unfit(reply)),
+    }
+}
+
+/// Runs an event, whatever it is answered.
+fn pass_over<S: SessionCalls, C: Bench>(
+    alloc: Global,
+    play: &mut Play<S>,
+    cloud: &mut C,
+    event: Event,
+) -> Result<(), LoadStop>
+    requires { IsPassedOver event }
+    ensures { GoesThrough (event ∷ []) result (C.seen cloud.old) (C.seen cloud.new) play.old play.new }
+{
+    let reply = run(alloc, play, cloud, event)?;
+    let_go(reply);
+    Ok(())
+}
+
+/// Runs an event: its last reply.
+fn run<S: SessionCalls, C: Bench>(
+    alloc: Global,
+    play: &mut Play<S>,
+    cloud: &mut C,
+    event: Event,
+) -> Result<Reply, LoadStop>
+    ensures { Runs event result (C.seen cloud.old) (C.seen cloud.new) play.old play.new }
+{
+    let answer = play.run_whole(alloc, cloud, &event);
+    let_event_go(event);
+    match answer {
+        Ok(reply) => Ok(reply),
+        Err(_) => Err(LoadStop::Memory),
+    }
+}
+
+/// A reply that is none of its event's is told as want of memory.
+fn unfit(reply: Reply) -> LoadStop
+    ensures { result ≡ LoadStop.Memory }
+{
+    let_go(reply);
+    LoadStop::Memory
+}

@@ -270,21 +270,21 @@ record IsNoName (word : Text) : Type 0 where
 
 -- as a first word it is of no shape
 no_name : (word : Text) (rest : List Text) → IsNoName word → shape_of (word ∷ rest) ≡ None
-no_name word [] no = rw no.replay refl
-no_name word (a ∷ []) no = rw (no.settle, no.dump, no.load) refl
-no_name word (a ∷ b ∷ []) no = rw (no.gen, no.shell) refl
-no_name word (a ∷ b ∷ c ∷ rest) no = refl
+no_name word [] other = rw other.replay refl
+no_name word (a ∷ []) other = rw (other.settle, other.dump, other.load) refl
+no_name word (a ∷ b ∷ []) other = rw (other.gen, other.shell) refl
+no_name word (a ∷ b ∷ c ∷ rest) other = refl
 
 -- and is refused
 stray : (word : Text) (rest : List Text) (read wanted : Option CommandShape) → is_folder word ≡ true → IsNoName word → wanted ≡ None → Agrees (fault_of command_app (word ∷ rest)) read wanted
 unfolding clap_on_literals
-stray word rest read wanted p no none =
-    let r = turned word (codes "replay") no.replay in
-    let g = turned word (codes "gen") no.gen in
-    let s = turned word (codes "shell") no.shell in
-    let t = turned word (codes "settle") no.settle in
-    let d = turned word (codes "dump") no.dump in
-    let l = turned word (codes "load") no.load in
+stray word rest read wanted p other none =
+    let r = turned word (codes "replay") other.replay in
+    let g = turned word (codes "gen") other.gen in
+    let s = turned word (codes "shell") other.shell in
+    let t = turned word (codes "settle") other.settle in
+    let d = turned word (codes "dump") other.dump in
+    let l = turned word (codes "load") other.load in
     rw (r, g, s, t, d, l, no_dashes word p, no_long word p, no_short word p) none
 
 -- ---- all words
@@ -348,8 +348,8 @@ at_name word name rest e h =
 on_load : (word : Text) (rest : List Text) (same : Bool) → bytes_eq word (codes "load") ≡ same → is_folder word ≡ true → list_all is_folder rest ≡ true → bytes_eq word (codes "replay") ≡ false → bytes_eq word (codes "gen") ≡ false → bytes_eq word (codes "shell") ≡ false → bytes_eq word (codes "settle") ≡ false → bytes_eq word (codes "dump") ≡ false → AgreesAt (word ∷ rest)
 on_load word rest true e p q r g s t d = at_name word (codes "load") rest e (at_load rest q)
 on_load word rest false e p q r g s t d =
-    let no : IsNoName word = record { replay = r; gen = g; shell = s; settle = t; dump = d; load = e } in
-    stray word rest (shape_in (subcommand_of command_app (word ∷ rest))) (shape_of (word ∷ rest)) p no (no_name word rest no)
+    let other : IsNoName word = record { replay = r; gen = g; shell = s; settle = t; dump = d; load = e } in
+    stray word rest (shape_in (subcommand_of command_app (word ∷ rest))) (shape_of (word ∷ rest)) p other (no_name word rest other)
 
 on_dump : (word : Text) (rest : List Text) (same : Bool) → bytes_eq word (codes "dump") ≡ same → is_folder word ≡ true → list_all is_folder rest ≡ true → bytes_eq word (codes "replay") ≡ false → bytes_eq word (codes "gen") ≡ false → bytes_eq word (codes "shell") ≡ false → bytes_eq word (codes "settle") ≡ false → AgreesAt (word ∷ rest)
 on_dump word rest true e p q r g s t = at_name word (codes "dump") rest e (at_dump rest q)

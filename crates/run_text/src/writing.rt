@@ -52,11 +52,7 @@ pub fn write_count<O: Sink>(
 }
 
 /// Writes a reply under no number.
-pub fn write_plain<O: Sink>(
-    alloc: Global,
-    sink: &mut O,
-    reply: &Reply,
-) -> Result<(), OutputFault>
+pub fn write_plain<O: Sink>(alloc: Global, sink: &mut O, reply: &Reply) -> Result<(), OutputFault>
     ensures { WasWritten (O.told sink.old) (O.told sink.new) (plain_line reply.now) result }
 {
     match plain_line(alloc, reply) {

@@ -97,11 +97,28 @@ shell_good client left rest w u s t known (shell_unread fault e nothing) bad = u
 shell_good client left rest w u s t known (shell_went read ended e went) bad =
     shell_lines_good client ended read.bytes w u s t e went (subst HasBadShellLine (same_bytes left rest read.bytes bad.bytes known read.taken bad.taken) bad.bad)
 
-load_good : (left rest : Told) (w u : Written) (s t : Seen) → Ran (Some (Load [])) status.Done left rest w u s t → ⊥
-load_good left rest w u s t ran = elim ran.ends [
-  | inl e ↦ absurd (cc)
-  | inr e ↦ absurd (cc)
-]
+-- a text that spells a dump is not bad
+fill_good : (ended : Result (Unit {0}) LoadingFault) (text : List ℕ) (w u : Written) (s t : Seen) → status.Done ≡ ended_as status_of_load ended
+    → FillEnded text ended w u s t → SpellsNoDump text → ⊥
+fill_good (Ok done) text w u s t e (fill_went trees spelled went) bad = bad trees spelled
+fill_good (Ok done) text w u s t e (fill_bad number is told still) bad = absurd (bad_not_done told)
+  where
+    bad_not_done : Tells (bad_line number) (Err load.BadLine) (Ok tt) w u → ⊥
+    bad_not_done told = let clash : Err {A = Unit {0}} load.BadLine ≡ Ok tt = told.0 in absurd (cc)
+fill_good (Ok done) text w u s t e (fill_unread out nothing) bad = absurd (cc)
+fill_good (Err load.BadLine) text w u s t e went bad = absurd (cc)
+fill_good (Err load.NotEmpty) text w u s t e went bad = absurd (cc)
+fill_good (Err load.Stopped) text w u s t e went bad = absurd (cc)
+fill_good (Err load.NotOpened) text w u s t e went bad = absurd (cc)
+fill_good (Err load.NotLoaded) text w u s t e went bad = absurd (cc)
+fill_good (Err load.NotSettled) text w u s t e went bad = absurd (cc)
+fill_good (Err load.WriteFault) text w u s t e went bad = absurd (cc)
+fill_good (Err load.Memory) text w u s t e went bad = absurd (cc)
+
+load_good : (left rest : Told) (w u : Written) (s t : Seen) → IsKnown left → RunsLoad status.Done left rest w u s t → WasBad SpellsNoDump left rest → ⊥
+load_good left rest w u s t known (load_unread fault e nothing) bad = unread_not_done fault e
+load_good left rest w u s t known (load_went read ended e went) bad =
+    fill_good ended read.bytes w u s t e went (subst SpellsNoDump (same_bytes left rest read.bytes bad.bytes known read.taken bad.taken) bad.bad)
 
 all_good : (shape : Shape) (left rest : Told) (w u : Written) (s t : Seen) → IsKnown left → Ran (Some shape) status.Done left rest w u s t → ReadBadLine (Some shape) left rest → ⊥
 all_good Replay left rest w u s t known ran bad = replay_good left rest w u s t known ran bad
@@ -109,7 +126,7 @@ all_good (Gen number count) left rest w u s t known ran bad = bad.bad
 all_good (Shell client dir) left rest w u s t known ran bad = shell_good client left rest w u s t known ran bad
 all_good (Settle dir) left rest w u s t known ran bad = bad.bad
 all_good (Dump dir) left rest w u s t known ran bad = bad.bad
-all_good (Load dir) left rest w u s t known ran bad = load_good left rest w u s t ran
+all_good (Load dir) left rest w u s t known ran bad = load_good left rest w u s t known ran bad
 
 -- ---- what each status but Done comes of
 
@@ -134,7 +151,7 @@ is_one wanted (Gen number count) result w u s t e = inl e
 is_one wanted (Shell client dir) result w u s t e = inl (inl e)
 is_one wanted (Settle dir) result w u s t e = inl (inl e)
 is_one wanted (Dump dir) result w u s t e = inl (inl e)
-is_one wanted (Load dir) result w u s t e = inl e
+is_one wanted (Load dir) result w u s t e = inl (inl e)
 
 -- so is want of memory
 pub out_of_memory : (wanted : Status) (asked : Option Shape) (w u : Written) (s t : Seen) → EndsWith wanted asked status.Memory w u s t
@@ -143,16 +160,8 @@ out_of_memory wanted (Some (Gen number count)) w u s t = inr refl
 out_of_memory wanted (Some (Shell client dir)) w u s t = inl (inr refl)
 out_of_memory wanted (Some (Settle dir)) w u s t = inl (inr refl)
 out_of_memory wanted (Some (Dump dir)) w u s t = inl (inr refl)
-out_of_memory wanted (Some (Load dir)) w u s t = inr refl
+out_of_memory wanted (Some (Load dir)) w u s t = inl (inr refl)
 out_of_memory wanted None w u s t = tt
-
--- (a load that nobody asked for)
-unasked : (result : Status) (left rest : Told) (w u : Written) (s t : Seen) → (result ≡ status.BadWords → ⊥) → (result ≡ status.Memory → ⊥)
-    → Ran (Some (Load [])) result left rest w u s t → ⊥
-unasked result left rest w u s t one other ran = elim ran.ends [
-  | inl e ↦ one e
-  | inr e ↦ other e
-]
 
 -- a settling that ended so stopped
 stopped : (ended : Result (Unit {0}) SettleFault) (w u : Written) (s t : Seen) → status.NotSettled ≡ ended_as status_of_settle ended

@@ -9,7 +9,7 @@ use Rattle.db_io.specs.Writes.{Written}
 use Rattle.line_io.specs.Input.{WasRead, AreAll}
 use Rattle.line_io.specs.declared.input.InputFault.{InputFault}
 use Rattle.line_io.specs.declared.input.InputFault.TheVariants as input
-use Rattle.line_io.specs.declared.input.TheConstants.{MAX_LINES}
+use Rattle.line_io.specs.declared.input.TheConstants.{MAX_LINES, MAX_DUMP}
 use Rattle.line_io.specs.declared.output.OutputFault.TheVariants as output
 use Rattle.schedule_run.specs.declared.replay.LineFault.{LineFault}
 use Rattle.schedule_run.specs.declared.settling.SettleFault.TheVariants as settle
@@ -17,7 +17,9 @@ use Rattle.schedule_run.specs.declared.shell.ShellFault.{ShellFault}
 use Rattle.schedule_run.specs.Replayed.{ReplayWent}
 use Rattle.schedule_run.specs.Shell.{ShellWent}
 use Rattle.schedule_run.specs.declared.dumping.DumpingFault.{DumpingFault}
+use Rattle.schedule_run.specs.declared.loading.LoadingFault.{LoadingFault}
 use Rattle.schedule_run.specs.Dumping.{DumpEnded}
+use Rattle.schedule_run.specs.Loading.{FillEnded}
 use Rattle.schedule_run.specs.Generated as generated
 use Rattle.schedule_run.specs.Settling as settling
 use Rattle.words.specs.Word.{number_of}
@@ -26,9 +28,9 @@ use Rattle.command_words.specs.declared.shape.Shape.{Shape}
 use Rattle.command_words.specs.declared.shape.Shape.TheVariants.{Replay, Gen, Shell, Settle, Dump, Load}
 use Rattle.command_words.specs.Words.{is_folder, generated, shell_over, settling_of, dumping_of, loading_of, shape_of}
 use Rattle.schedule_run.specs.declared.status.Status.TheVariants as status
-use Rattle.schedule_run.specs.Status.{ended_as, status_of_input, status_of_line, status_of_shell, status_of_dump}
+use Rattle.schedule_run.specs.Status.{ended_as, status_of_input, status_of_line, status_of_shell, status_of_dump, status_of_load}
 use Rattle.schedule_run.proofs.OnceLemmas.{once_nothing}
-use Rattle.schedule_run.specs.Run.{AsksWithin, WasWithin, ReadWhole, Replays, replay_unread, replay_went, RunsShell, shell_unread, shell_went, RunsDump, dump_unasked, dump_went, Ran}
+use Rattle.schedule_run.specs.Run.{AsksWithin, WasWithin, ReadWhole, Replays, replay_unread, replay_went, RunsShell, shell_unread, shell_went, RunsDump, dump_unasked, dump_went, RunsLoad, load_unread, load_went, Ran}
 
 -- where no read was made, nothing was read
 pub reads_nothing : (limit : ℕ) (source : Told) → WasWithin limit source source
@@ -57,12 +59,20 @@ pub shell_ran : (client : ℕ) (left rest : Told) (w u : Written) (s t : Seen) (
 shell_ran client left rest w u s t text input ended read same went =
     shell_went (whole MAX_LINES left rest input read) ended refl (subst (λ b. ShellWent client b ended w u s t) same went)
 
+pub load_ran : (left rest : Told) (w u : Written) (s t : Seen) (text input : List ℕ) (ended : Result (Unit {0}) LoadingFault) → WasRead MAX_DUMP left rest (Ok input)
+    → text ≡ input → FillEnded text ended w u s t → RunsLoad (ended_as status_of_load ended) left rest w u s t
+load_ran left rest w u s t text input ended read same went =
+    load_went (whole MAX_DUMP left rest input read) ended refl (subst (λ b. FillEnded b ended w u s t) same went)
+
 -- where the input was not read, nothing ran
 pub replay_not_read : (left rest : Told) (w : Written) (s : Seen) (fault : InputFault) → Replays (status_of_input fault) left rest w w s s
 replay_not_read left rest w s fault = replay_unread fault refl (record { output = refl; seen = refl })
 
 pub shell_not_read : (client : ℕ) (left rest : Told) (w : Written) (s : Seen) (fault : InputFault) → RunsShell client (status_of_input fault) left rest w w s s
 shell_not_read client left rest w s fault = shell_unread fault refl (record { output = refl; seen = refl })
+
+pub load_not_read : (left rest : Told) (w : Written) (s : Seen) (fault : InputFault) → RunsLoad (status_of_input fault) left rest w w s s
+load_not_read left rest w s fault = load_unread fault refl (record { output = refl; seen = refl })
 
 -- where there was no memory for the words, nothing ran, whatever they ask for
 pub not_asked : (asked : Option Shape) (left : Told) (w : Written) (s : Seen) → Ran asked status.Memory left left w w s s
@@ -74,7 +84,7 @@ not_asked (Some (Shell client dir)) left w s = shell_not_read client left left w
 not_asked (Some (Settle dir)) left w s =
     (refl, record { ended = Err settle.Memory; leads = refl; went = settling.out_before (record { output = refl; seen = refl }) })
 not_asked (Some (Dump dir)) left w s = (refl, dump_unasked refl (record { output = refl; seen = refl }))
-not_asked (Some (Load dir)) left w s = record { ends = inr refl; unread = refl; nothing = record { output = refl; seen = refl } }
+not_asked (Some (Load dir)) left w s = load_not_read left left w s input.Memory
 
 pub dump_ran : (ended : Result (Unit {0}) DumpingFault) (w u : Written) (s t : Seen) → DumpEnded ended w u s t → RunsDump (ended_as status_of_dump ended) w u s t
 dump_ran ended w u s t went = dump_went ended refl went

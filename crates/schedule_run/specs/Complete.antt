@@ -4,10 +4,15 @@ use Rattle.cloud_trait.specs.Seen.{Seen}
 use Rattle.command_words.specs.declared.shape.Shape.{Shape}
 use Rattle.command_words.specs.declared.shape.Shape.TheVariants.{Replay, Gen, Shell, Settle, Dump, Load}
 use Rattle.db_io.specs.Content.{Told}
-use Rattle.db_io.specs.Writes.{Written}
+use Rattle.db_io.specs.Writes.{Written, AddsOne}
+use Rattle.dump_text.specs.declared.dump.DumpedTree.{DumpedTree}
 use Rattle.schedule_run.specs.declared.dumping.DumpingFault.TheVariants as dump
 use Rattle.schedule_run.specs.declared.settling.SettleFault.TheVariants as settle
+use Rattle.schedule_run.specs.declared.load.LoadStop.{LoadStop}
 use Rattle.schedule_run.specs.Dumping.{DumpEnded}
+use Rattle.schedule_run.specs.Load.{LoadEnded}
+use Rattle.schedule_run.specs.Loading.{load_end, load_text}
+use Rattle.schedule_run.specs.Status.{ended_as, status_of_load}
 use Rattle.schedule_run.specs.Settling.{SettleEnded}
 use Rattle.schedule_run.specs.Shell.{WasNotOpened}
 use Rattle.schedule_run.specs.declared.status.Status.{Status}
@@ -32,8 +37,16 @@ IsKnown left = (all : List ℕ) × (left.content ≡ Some all)
 abbrev pub IsOrMemory : Status → Status → Type 0
 IsOrMemory wanted result = (result ≡ wanted) ⊎ (result ≡ Memory)
 
--- a run of words of a shape ends so, unless it is a shell whose opening did not open its session, a settling that stopped, or a
--- dump of what is not quiet, or at which a look stopped
+-- a load of a dump stopped, and that was told
+pub record LoadStopped (result : Status) (written now_written : Written) (start now : Seen) : Type 0 where
+  pub trees : List DumpedTree
+  pub stop : LoadStop
+  pub went : LoadEnded (Err stop) trees start now
+  pub leads : result ≡ ended_as status_of_load (load_end (Err stop))
+  pub told : AddsOne written now_written (load_text (Err stop))
+
+-- a run of words of a shape ends so, unless it is a shell whose opening did not open its session, a settling that stopped, a dump of what
+-- is not quiet, or at which a look stopped, or a load of a dump that stopped
 abbrev pub EndsWith : Status → Option Shape → Status → Written → Written → Seen → Seen → Type 0
 EndsWith wanted (Some Replay) result written now_written start now = IsOrMemory wanted result
 EndsWith wanted (Some (Gen number count)) result written now_written start now = IsOrMemory wanted result
@@ -45,7 +58,8 @@ EndsWith wanted (Some (Dump dir)) result written now_written start now =
     IsOrMemory wanted result
     ⊎ (((result ≡ NotQuiet) × DumpEnded (Err dump.NotQuiet) written now_written start now)
     ⊎ ((result ≡ Stopped) × DumpEnded (Err dump.Stopped) written now_written start now))
-EndsWith wanted (Some (Load dir)) result written now_written start now = IsOrMemory wanted result
+EndsWith wanted (Some (Load dir)) result written now_written start now =
+    IsOrMemory wanted result ⊎ ((wanted ≡ Done) × LoadStopped result written now_written start now)
 EndsWith wanted None result written now_written start now = Unit {0}
 
 -- where all went in order and no line is bad, the run is done

@@ -13,19 +13,21 @@ use Rattle.line_io.specs.declared.input.TheConstants.{MAX_LINES, MAX_DUMP}
 use Rattle.line_io.specs.declared.output.OutputFault.{OutputFault}
 use Rattle.sched_gen.specs.Schedule.{schedule}
 use Rattle.schedule_run.specs.declared.dumping.DumpingFault.{DumpingFault}
+use Rattle.schedule_run.specs.declared.loading.LoadingFault.{LoadingFault}
 use Rattle.schedule_run.specs.declared.replay.LineFault.{LineFault}
 use Rattle.schedule_run.specs.declared.settling.SettleFault.{SettleFault}
 use Rattle.schedule_run.specs.declared.shell.ShellFault.{ShellFault}
 use Rattle.schedule_run.specs.Answered.{OpensNoneTwice}
 use Rattle.schedule_run.specs.Dumping.{DumpEnded}
 use Rattle.schedule_run.specs.Generated.{GenEnded}
+use Rattle.schedule_run.specs.Loading.{FillEnded}
 use Rattle.schedule_run.specs.Replayed.{HasBadLine, ReplayWent}
 use Rattle.schedule_run.specs.Settling.{SettleEnded}
 use Rattle.schedule_run.specs.Shell.{HasBadShellLine, ShellWent}
 use Rattle.run_text.specs.Written.{NothingRan}
 use Rattle.schedule_run.specs.declared.status.Status.{Status}
 use Rattle.schedule_run.specs.declared.status.Status.TheVariants as status
-use Rattle.schedule_run.specs.Status.{status_of_input, status_of_line, status_of_output, status_of_shell, status_of_settle, status_of_dump, ended_as}
+use Rattle.schedule_run.specs.Status.{status_of_input, status_of_line, status_of_output, status_of_shell, status_of_settle, status_of_dump, status_of_load, ended_as}
 
 -- ---- the input
 
@@ -184,6 +186,12 @@ IsOfDump status.Stopped = Unit {0}
 IsOfDump status.Memory = Unit {0}
 IsOfDump result = ⊥
 
+-- a status that a load leads to
+abbrev pub IsOfLoad : Status → Type 0
+IsOfLoad status.BadWords = ⊥
+IsOfLoad status.NotQuiet = ⊥
+IsOfLoad result = Unit {0}
+
 -- ---- what each command reads, writes and leaves
 
 -- a replay: the input was read whole and its lines were handled up to this end, or it was not, and nothing ran
@@ -219,6 +227,13 @@ pub data RunsDump (result : Status) (written now_written : Written) (start now :
   dump_went : (ended : Result (Unit {0}) DumpingFault) → result ≡ ended_as status_of_dump ended → DumpEnded ended written now_written start now
       → RunsDump result written now_written start now
 
+-- a load: the input was read whole, and what its text spells was loaded up to this end; or it was not, and nothing ran
+pub data RunsLoad (result : Status) (left rest : Told) (written now_written : Written) (start now : Seen) : Type 0 where
+  load_unread : (fault : InputFault) → result ≡ status_of_input fault → NothingRan written now_written start now
+      → RunsLoad result left rest written now_written start now
+  load_went : (input : ReadWhole MAX_DUMP left rest) (ended : Result (Unit {0}) LoadingFault) → result ≡ ended_as status_of_load ended
+      → FillEnded input.bytes ended written now_written start now → RunsLoad result left rest written now_written start now
+
 -- words of no shape, or no memory to read them: nothing is read, and nothing ran
 pub record IsUnasked (result : Status) (left rest : Told) (written now_written : Written) (start now : Seen) : Type 0 where
   pub ends : (result ≡ status.BadWords) ⊎ (result ≡ status.Memory)
@@ -232,5 +247,5 @@ Ran (Some (Gen number count)) result left rest written now_written start now = (
 Ran (Some (Shell client dir)) result left rest written now_written start now = RunsShell client result left rest written now_written start now
 Ran (Some (Settle dir)) result left rest written now_written start now = (rest ≡ left) × RunsSettling result written now_written start now
 Ran (Some (Dump dir)) result left rest written now_written start now = (rest ≡ left) × RunsDump result written now_written start now
-Ran (Some (Load dir)) result left rest written now_written start now = IsUnasked result left rest written now_written start now
+Ran (Some (Load dir)) result left rest written now_written start now = RunsLoad result left rest written now_written start now
 Ran None result left rest written now_written start now = IsUnasked result left rest written now_written start now

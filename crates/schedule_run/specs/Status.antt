@@ -8,6 +8,8 @@ use Rattle.line_io.specs.declared.output.OutputFault.{OutputFault}
 use Rattle.line_io.specs.declared.output.OutputFault.TheVariants as output
 use Rattle.schedule_run.specs.declared.dumping.DumpingFault.{DumpingFault}
 use Rattle.schedule_run.specs.declared.dumping.DumpingFault.TheVariants as dump
+use Rattle.schedule_run.specs.declared.loading.LoadingFault.{LoadingFault}
+use Rattle.schedule_run.specs.declared.loading.LoadingFault.TheVariants as load
 use Rattle.schedule_run.specs.declared.replay.LineFault.{LineFault}
 use Rattle.schedule_run.specs.declared.replay.LineFault.TheVariants as line
 use Rattle.schedule_run.specs.declared.shell.ShellFault.{ShellFault}
@@ -44,7 +46,7 @@ status_of_input input.ReadFault = ReadFault
 status_of_input input.TooLong = TooLong
 status_of_input input.Memory = Memory
 
--- of a replay, a generated schedule, a shell, a settling, a dump that had this fault
+-- of a replay, a generated schedule, a shell, a settling, a dump, a load that had this fault
 abbrev pub status_of_line : LineFault → Status
 status_of_line line.BadLine = BadLine
 status_of_line line.WriteFault = WriteFault
@@ -70,6 +72,16 @@ status_of_dump dump.NotQuiet = NotQuiet
 status_of_dump dump.Stopped = Stopped
 status_of_dump dump.WriteFault = WriteFault
 status_of_dump dump.Memory = Memory
+
+abbrev pub status_of_load : LoadingFault → Status
+status_of_load load.BadLine = BadLine
+status_of_load load.NotEmpty = NotEmpty
+status_of_load load.Stopped = Stopped
+status_of_load load.NotOpened = NotOpened
+status_of_load load.NotLoaded = NotLoaded
+status_of_load load.NotSettled = NotSettled
+status_of_load load.WriteFault = WriteFault
+status_of_load load.Memory = Memory
 
 -- of a run that ended well, or by a fault that leads to a status
 abbrev pub ended_as : {F : Type 0} → (F → Status) → Result (Unit {0}) F → Status

@@ -5,6 +5,7 @@ pub mod arguments;
 pub mod dumping;
 pub mod generated;
 pub mod load;
+pub mod loading;
 mod play;
 pub mod replay;
 pub mod run;

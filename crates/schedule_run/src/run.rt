@@ -1,13 +1,16 @@
 ghost use Rattle.std.specs.Prelude.{◌≡◌, ◌<◌, ◌≤◌, ◌⊎◌, Some, None, map, string_bytes};
 ghost use Rattle.command_words.specs.Words.{shape_of};
-ghost use Rattle.line_io.specs.declared.input.TheConstants.{MAX_LINES};
+ghost use Rattle.line_io.specs.declared.input.TheConstants.{MAX_DUMP, MAX_LINES};
 ghost use Rattle.schedule_run.specs.Replayed.{HasBadLine};
 ghost use Rattle.schedule_run.specs.Shell.{HasBadShellLine};
 ghost use Rattle.schedule_run.specs.Complete.{IsComplete, StopsAtBadLine};
-ghost use Rattle.schedule_run.specs.Run.{AsksToDump, AsksToLoad, AsksToLook, AsksToOpen, AsksToSettle, AsksWithin, Generates, HasBad, IsOfDump, IsOfReplay, IsOfSchedule, IsOfSettling, IsOfShell, Ran, Replays, RunsDump, RunsSettling, RunsShell, WasBad, WasTooLong, WasWithin, limit_of};
+ghost use Rattle.schedule_run.specs.Run.{AsksToDump, AsksToLoad, AsksToLook, AsksToOpen, AsksToSettle, AsksWithin, Generates, HasBad, IsOfDump, IsOfLoad, IsOfReplay, IsOfSchedule, IsOfSettling, IsOfShell, Ran, Replays, RunsDump, RunsLoad, RunsSettling, RunsShell, SpellsNoDump, WasBad, WasTooLong, WasWithin, limit_of};
+
+ghost use Rattle.schedule_run.specs.Status.{ended_as, status_of_load};
 
 use crate::dumping::{DumpingFault, dump};
 use crate::generated::generate;
+use crate::loading::{LoadingFault, fill};
 use crate::replay::{LineFault, replay_lines};
 use crate::settling::{SettleFault, settle};
 use crate::shell::{ShellFault, run_shell};
@@ -18,7 +21,7 @@ use command_words::shape::{Shape, WordsFault};
 use db_base::ids::ClientId;
 use db_io::sink::Sink;
 use db_io::source::Source;
-use line_io::input::{InputFault, MAX_LINES, read_whole};
+use line_io::input::{InputFault, MAX_DUMP, MAX_LINES, read_whole};
 use line_io::output::OutputFault;
 use std::alloc::Global;
 
@@ -112,7 +115,7 @@ fn run_asked<I: Source, O: Sink, C: Bench>(
         Shape::Shell { client, dir: _ } => shell(alloc, client, source, sink, cloud),
         Shape::Settle { dir: _ } => settled(alloc, sink, cloud),
         Shape::Dump { dir: _ } => dumped(alloc, sink, cloud),
-        Shape::Load { dir: _ } => Status::Memory,
+        Shape::Load { dir: _ } => filled(alloc, source, sink, cloud),
     }
 }
 
@@ -248,5 +251,53 @@ fn dumped<O: Sink, C: Bench>(alloc: Global, sink: &mut O, cloud: &mut C) -> Stat
         Err(DumpingFault::Stopped) => Status::Stopped,
         Err(DumpingFault::WriteFault) => Status::WriteFault,
         Err(DumpingFault::Memory) => Status::Memory,
+    }
+}
+
+/// Loads the dump that the text of the source spells.
+fn filled<I: Source, O: Sink, C: Bench>(
+    alloc: Global,
+    source: &mut I,
+    sink: &mut O,
+    cloud: &mut C,
+) -> Status
+    ensures only { IsOfLoad result }
+    ensures read_fault { result ≡ Status.ReadFault
+        → (I.told source.old).faults < (I.told source.new).faults }
+    ensures reads { (result ≡ Status.ReadFault)
+        ⊎ ((I.told source.new).faults ≡ (I.told source.old).faults) }
+    ensures too_long { result ≡ Status.TooLong → WasTooLong MAX_DUMP (I.told source.old) (I.told source.new) }
+    ensures within { (result ≡ Status.TooLong) ⊎ WasWithin MAX_DUMP (I.told source.old) (I.told source.new) }
+    ensures bad_line { result ≡ Status.BadLine
+        → WasBad SpellsNoDump (I.told source.old) (I.told source.new) }
+    ensures write_fault { result ≡ Status.WriteFault
+        → (O.told sink.old).faults < (O.told sink.new).faults }
+    ensures writes { (result ≡ Status.WriteFault)
+        ⊎ ((O.told sink.new).faults ≡ (O.told sink.old).faults) }
+    ensures ran { RunsLoad result (I.told source.old) (I.told source.new) (O.told sink.old) (O.told sink.new)
+        (C.seen cloud.old) (C.seen cloud.new) }
+{
+    match read_whole(alloc, source, MAX_DUMP) {
+        Ok(input) => status_of(fill(alloc, input.as_slice(), sink, cloud)),
+        Err(InputFault::ReadFault) => Status::ReadFault,
+        Err(InputFault::TooLong) => Status::TooLong,
+        Err(InputFault::Memory) => Status::Memory,
+    }
+}
+
+/// The status of a load.
+fn status_of(ended: Result<(), LoadingFault>) -> Status
+    ensures { result ≡ ended_as status_of_load ended }
+{
+    match ended {
+        Ok(()) => Status::Done,
+        Err(LoadingFault::BadLine) => Status::BadLine,
+        Err(LoadingFault::NotEmpty) => Status::NotEmpty,
+        Err(LoadingFault::Stopped) => Status::Stopped,
+        Err(LoadingFault::NotOpened) => Status::NotOpened,
+        Err(LoadingFault::NotLoaded) => Status::NotLoaded,
+        Err(LoadingFault::NotSettled) => Status::NotSettled,
+        Err(LoadingFault::WriteFault) => Status::WriteFault,
+        Err(LoadingFault::Memory) => Status::Memory,
     }
 }

@@ -16,8 +16,8 @@ use db_base::names::{ObjName, Place, QueueName};
 use db_base::trouble::Trouble;
 use node_codec::TreeView;
 
-/// The least free page that a version of the tree's root tells, 2 where there is none.
-fn next_page(tree: TreeId, bytes: &Option<Blob>) -> Result<u64, Trouble>
+/// The least free page that a version of the tree's root tells, 2 where there is none. Damaged where the bytes spell no root.
+pub fn next_page(tree: TreeId, bytes: &Option<Blob>) -> Result<u64, Trouble>
     ensures ok { IfOk result (λ n. IsNextPage bytes.now n) }
     ensures err { IfErr result (SpellsNoRoot bytes.now tree) }
     ensures failed { IfErr result (λ e. e ≡ Trouble.Failed → ⊥) }
@@ -36,7 +36,7 @@ fn next_page(tree: TreeId, bytes: &Option<Blob>) -> Result<u64, Trouble>
 }
 
 /// The queue of a page, and for page 0 that of the tree.
-fn queue_at(tree: TreeId, page: u64) -> QueueName
+pub fn queue_at(tree: TreeId, page: u64) -> QueueName
     ensures { result ≡ queue_at tree page }
 {
     match PageId::new(page) {

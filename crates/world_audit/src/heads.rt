@@ -20,8 +20,8 @@ use head_codec::head::{Head, HeadFault, Phase};
 use report_types::entry::Entry;
 use std::alloc::Global;
 
-/// The head that the bytes spell.
-fn head_of(alloc: Global, client: ClientId, bytes: &[u8]) -> Result<Head, Trouble>
+/// The head that the bytes spell. Damaged where they spell none, and Memory.
+pub fn head_of(alloc: Global, client: ClientId, bytes: &[u8]) -> Result<Head, Trouble>
     ensures ok { IfOk result (λ h. head_of bytes.now ≡ Some h) }
     ensures err { IfErr result
         (λ e. (e ≡ Trouble.Memory)

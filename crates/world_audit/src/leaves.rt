@@ -1,6 +1,6 @@
 //! The leaves of a tree, from the left.
 
-ghost use Rattle.std.specs.Prelude.{◌≡◌, ℕ, [], ◌∷◌, ◌++◌, ◌⊎◌, map, List, Some, IfSome, IfOk, IfErr, OnOk};
+ghost use Rattle.std.specs.Prelude.{◌≡◌, ℕ, [], ◌∷◌, ◌++◌, ◌⊎◌, ◌<◌, ◌^◌, length, map, List, Some, IfSome, IfOk, IfErr, OnOk};
 ghost use Rattle.std.specs.List.{Contains};
 ghost use Rattle.std.specs.Option.{option_copied};
 ghost use Rattle.db_base.specs.Ids.{IsPage};
@@ -18,6 +18,7 @@ use db_base::blob::Blob;
 use db_base::ids::{PageId, TreeId};
 use db_base::names::{ObjName, Place};
 use db_base::trouble::Trouble;
+use indexmap::IndexSet;
 use leaf_view::{LeafView, Records};
 use report_types::stored::Stored;
 use report_types::stored_list::StoredList;
@@ -132,18 +133,18 @@ struct Walk {
 }
 
 /// Notes the page as visited: Loop where it was, and Memory.
-fn note_visit(visited: &mut Vec<u64>, page: PageId) -> Result<(), Trouble>
+fn note_visit(visited: &mut IndexSet<u64>, page: PageId) -> Result<(), Trouble>
     ensures page { OnOk result (IsPage page) }
-    ensures noted { OnOk result (visited.new.items ≡ visited.old.items ++ page ∷ []) }
-    ensures first { OnOk result (Contains visited.old.items page → ⊥) }
-    ensures err { IfErr result (λ e. (e ≡ Trouble.Memory) ⊎ ((e ≡ Trouble.Loop page) × Contains visited.old.items page)) }
+    ensures noted { OnOk result (visited.new.keys ≡ visited.old.keys ++ page ∷ []) }
+    ensures first { OnOk result (Contains visited.old.keys page → ⊥) }
+    ensures few { OnOk result (length visited.old.keys < 2 ^ 63) }
+    ensures err { IfErr result (λ e. (e ≡ Trouble.Memory) ⊎ ((e ≡ Trouble.Loop page) × Contains visited.old.keys page)) }
     ensures kinds { (tree : ℕ) → IfErr result (MayStop tree) }
 {
-    if visited.as_slice().contains(&page.get()) {
-        return Err(Trouble::Loop { page });
-    }
-    match visited.push(page.get()) {
-        Ok(()) => Ok(()),
+    let _few = visited.len();
+    match visited.insert(page.get()) {
+        Ok(true) => Ok(()),
+        Ok(false) => Err(Trouble::Loop { page }),
         Err(_) => Err(Trouble::Memory),
     }
 }
@@ -181,19 +182,17 @@ fn add_leaf(
     Ok(leaf.right())
 }
 
-/// The records of the leaves of a tree, in their order: from page 1 along right pages.
-pub(crate) fn contents<C: Bench>(
-    alloc: Global,
-    cloud: &mut C,
-    tree: TreeId,
-) -> Result<StoredList, Trouble>
+/// The records of the leaves of a tree, in their order: from page 1 along right pages. Absent, Damaged, BadFence and
+/// Loop where they are no chain, Failed where a look failed, and Memory. No page is looked at twice, and a step does not
+/// grow with the number of leaves.
+pub fn contents<C: Bench>(alloc: Global, cloud: &mut C, tree: TreeId) -> Result<StoredList, Trouble>
     ensures looked { Looked (C.seen cloud.old) (C.seen cloud.new) }
     ensures failed { FailsDark result (C.seen cloud.old) (C.seen cloud.new) }
     ensures found { Shown (C.seen cloud.old) (Page tree) (LeavesFound tree result) }
     ensures kinds { IfErr result (MayStop tree) }
 {
     let mut page = PageId::first();
-    let mut visited = Vec::new(alloc);
+    let mut visited = IndexSet::new(alloc);
     let mut walk = Walk {
         low: Blob::new(alloc),
         contents: StoredList::new(alloc),

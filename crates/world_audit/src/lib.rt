@@ -2,9 +2,9 @@
 #![tactic(auto)]
 
 pub mod audit;
-mod backlogs;
+pub mod backlogs;
 mod entries;
-mod heads;
-mod leaves;
-mod look;
+pub mod heads;
+pub mod leaves;
+pub mod look;
 pub mod mark;

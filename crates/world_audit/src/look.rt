@@ -13,7 +13,7 @@ use db_base::names::{ObjName, QueueName};
 use db_base::trouble::Trouble;
 
 /// The newest version of an object. Failed or Memory.
-pub(crate) fn peek<C: Bench>(cloud: &mut C, name: ObjName) -> Result<Option<Blob>, Trouble>
+pub fn peek<C: Bench>(cloud: &mut C, name: ObjName) -> Result<Option<Blob>, Trouble>
     ensures looked { Looked (C.seen cloud.old) (C.seen cloud.new) }
     ensures failed { FailsDark result (C.seen cloud.old) (C.seen cloud.new) }
     ensures only { IfErr result (λ e. (e ≡ Trouble.Failed) ⊎ (e ≡ Trouble.Memory)) }
@@ -28,7 +28,7 @@ pub(crate) fn peek<C: Bench>(cloud: &mut C, name: ObjName) -> Result<Option<Blob
 }
 
 /// How many messages of a queue are not deleted. Failed or Memory.
-pub(crate) fn backlog<C: Bench>(cloud: &mut C, queue: QueueName) -> Result<u64, Trouble>
+pub fn backlog<C: Bench>(cloud: &mut C, queue: QueueName) -> Result<u64, Trouble>
     ensures looked { Looked (C.seen cloud.old) (C.seen cloud.new) }
     ensures failed { FailsDark result (C.seen cloud.old) (C.seen cloud.new) }
     ensures only { IfErr result (λ e. (e ≡ Trouble.Failed) ⊎ (e ≡ Trouble.Memory)) }

@@ -1,0 +1,6 @@
+pub mod Sights
+pub mod Sets
+pub mod Resting
+pub mod Ascending
+pub mod Dumping
+pub mod Taking

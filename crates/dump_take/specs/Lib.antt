@@ -1,0 +1,4 @@
+pub mod Quiet
+pub mod Sight
+pub mod Taken
+pub mod Parts

@@ -90,11 +90,7 @@ fn write_not_quiet<O: Sink>(alloc: Global, sink: &mut O, name: &str) -> Result<(
 }
 
 /// Writes the trouble that stopped a dump. Want of memory is not written.
-fn write_trouble<O: Sink>(
-    alloc: Global,
-    sink: &mut O,
-    trouble: Trouble,
-) -> Result<(), DumpingFault>
+fn write_trouble<O: Sink>(alloc: Global, sink: &mut O, trouble: Trouble) -> Result<(), DumpingFault>
     ensures write_fault { result ≡ Err DumpingFault.WriteFault
         → (O.told sink.old).faults < (O.told sink.new).faults }
     ensures writes { (result ≡ Err DumpingFault.WriteFault)

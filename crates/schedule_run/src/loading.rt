@@ -78,10 +78,7 @@ fn write_bad_line<O: Sink>(alloc: Global, sink: &mut O, number: u64) -> Result<(
         ⊎ ((O.told sink.new).faults ≡ (O.told sink.old).faults) }
     ensures told { Tells (bad_line number) (Err LoadingFault.BadLine) result (O.told sink.old) (O.told sink.new) }
 {
-    end_of(
-        refuse(alloc, sink, number),
-        Err(LoadingFault::BadLine),
-    )
+    end_of(refuse(alloc, sink, number), Err(LoadingFault::BadLine))
 }
 
 /// Fills the cloud from a dump.

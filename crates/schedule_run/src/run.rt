@@ -5,7 +5,6 @@ ghost use Rattle.schedule_run.specs.Replayed.{HasBadLine};
 ghost use Rattle.schedule_run.specs.Shell.{HasBadShellLine};
 ghost use Rattle.schedule_run.specs.Complete.{IsComplete, StopsAtBadLine};
 ghost use Rattle.schedule_run.specs.Run.{AsksToDump, AsksToLoad, AsksToLook, AsksToOpen, AsksToSettle, AsksWithin, Generates, HasBad, IsOfDump, IsOfLoad, IsOfReplay, IsOfSchedule, IsOfSettling, IsOfShell, Ran, Replays, RunsDump, RunsLoad, RunsSettling, RunsShell, SpellsNoDump, WasBad, WasTooLong, WasWithin, limit_of};
-
 ghost use Rattle.schedule_run.specs.Status.{ended_as, status_of_load};
 
 use crate::dumping::{DumpingFault, dump};

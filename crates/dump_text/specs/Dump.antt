@@ -1,5 +1,5 @@
 -- What a dump may hold.
-use Rattle.std.specs.Prelude.{ℕ, ◌<◌, Bool, nat_lt, List, length, None, IfSome}
+use Rattle.std.specs.Prelude.{◌<◌, Bool, nat_lt, List, length, None, IfSome}
 use Rattle.std.specs.List.{AllByRecursion}
 use Rattle.byte_format.specs.Order.{bytes_below}
 use Rattle.db_base.specs.Ids.{IsTree}

@@ -3,5 +3,8 @@
 
 pub mod dump;
 pub mod fault;
+mod lines;
 pub mod read;
+mod reading;
+mod room;
 pub mod write;

@@ -6,6 +6,8 @@ ghost use Rattle.dump_text.specs.Text.{IsDump};
 
 use crate::dump::Dump;
 use crate::fault::DumpFault;
+use crate::lines::split_line;
+use crate::reading::Reading;
 use std::alloc::Global;
 
 impl Dump {
@@ -18,6 +20,17 @@ impl Dump {
         // A bad line is the first one.
         ensures bad { (n : ℕ) → result ≡ Err (DumpFault.BadLine n) → IsBadLine text.now n }
     {
-        Err(DumpFault::Memory)
+        let mut reading = Reading::new(alloc);
+        let mut left = text;
+        let mut lines: u64 = 0;
+        while let Some((line, behind)) = split_line(left) {
+            reading = reading.with_line(alloc, line, lines + 1)?;
+            left = behind;
+            lines += 1;
+        }
+        if !left.is_empty() {
+            return Err(DumpFault::BadLine(lines + 1));
+        }
+        reading.whole(lines + 1)
     }
 }

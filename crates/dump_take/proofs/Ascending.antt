@@ -1,8 +1,7 @@
 -- The records of a whole chain of leaves are in the order of their keys, each key once, and within the limits.
-use Rattle.std.proofs.Common.{◌≡◌, ℕ, zero, suc, Bool, true, false, not, List, [], ◌∷◌, ◌++◌, map, Option, Some, None, Ok, refl, sym, ap, subst, ◌∙◌, arith}
+use Rattle.std.proofs.Common.{◌≡◌, ℕ, Bool, true, false, not, List, [], ◌∷◌, ◌++◌, map, Option, Some, None, Ok, refl, sym, ap, subst, ◌∙◌, arith}
 use Rattle.std.specs.List.{AllByRecursion}
 use Rattle.std.proofs.lemmas.List.{append_assoc, append-nil, flat_map_more}
-use Rattle.db_base.specs.Ids.{IsPage}
 use Rattle.db_base.specs.declared.names.ObjName.TheVariants as object
 use Rattle.byte_format.specs.Order.{bytes_below, bytes_same, below_bound}
 use Rattle.byte_format.proofs.OrderLemmas.{same_is}
@@ -80,17 +79,15 @@ module _ (s : CloudState) (tree : ℕ) where
       → ((p : Option Stored) → IsLow behind p → Ascend stored_below p rest) → Ascend stored_below before (records_of leaves ++ rest)
   ascend_from from [] to low behind before rest lead meet less on = on before (subst (λ (k : List ℕ). IsLow k before) meet less)
   ascend_from from (l ∷ leaves) to low behind before rest lead meet less on =
+      let here : Option (List ℕ) = newest s (object.Page tree from) in
+      let begins : IsLow l.low before = subst (λ (k : List ℕ). IsLow k before) (sym meet.0) less in
+      let up : bytes_below l.low meet.1 ≡ true = high_above l.low l.right l.high meet.1 (read_high tree from here l lead.1) meet.2 in
+      let again : (p : Option Stored) → IsLow meet.1 p → Ascend stored_below p (records_of leaves ++ rest)
+      = λ p below. ascend_from l.right leaves to meet.1 behind p rest lead.2 meet.3 below on in
       subst (Ascend stored_below before) (sym (append_assoc (map stored_of l.records) (records_of leaves) rest))
-      (leaf_ascends l.low l.high before l.records (records_of leaves ++ rest) (subst (λ (k : List ℕ). IsLow k before) (sym meet.0) less)
-        (read_within tree from (newest s (object.Page tree from)) l lead.1) (read_ascends tree from (newest s (object.Page tree from)) l lead.1)
-        (again before (low_behind l.low meet.1 before up (subst (λ (k : List ℕ). IsLow k before) (sym meet.0) less)))
-        (λ p within. again (Some p) (subst (λ (h : Option (List ℕ)). below_bound p.key h ≡ true) meet.2 within)))
-    where
-      up : bytes_below l.low meet.1 ≡ true
-      up = high_above l.low l.right l.high meet.1 (read_high tree from (newest s (object.Page tree from)) l lead.1) meet.2
-
-      again : (p : Option Stored) → IsLow meet.1 p → Ascend stored_below p (records_of leaves ++ rest)
-      again p below = ascend_from l.right leaves to meet.1 behind p rest lead.2 meet.3 below on
+      (leaf_ascends l.low l.high before l.records (records_of leaves ++ rest) begins (read_within tree from here l lead.1) (read_ascends tree from here l lead.1)
+      (again before (low_behind l.low meet.1 before up begins))
+      (λ p within. again (Some p) (subst (λ (h : Option (List ℕ)). below_bound p.key h ≡ true) meet.2 within)))
 
   each_from : (from : ℕ) (leaves : List Leaf) (to : ℕ) → Leads s tree from leaves to → AllByRecursion IsRecord (records_of leaves)
   each_from from [] to lead = tt
@@ -128,4 +125,4 @@ module _ (s : CloudState) (tree : ℕ) where
       last_ascends : (page : ℕ) (l : Leaf) (low : List ℕ) → IsNewestLeaf s tree page l → l.low ≡ low → (p : Option Stored) → IsLow low p → Ascend stored_below p (map stored_of l.records)
       last_ascends page l low read begins p below = subst (Ascend stored_below p) (append-nil (map stored_of l.records))
           (leaf_ascends l.low l.high p l.records [] (subst (λ (k : List ℕ). IsLow k p) (sym begins) below)
-            (read_within tree page (newest s (object.Page tree page)) l read) (read_ascends tree page (newest s (object.Page tree page)) l read) tt (λ q within. tt))
+          (read_within tree page (newest s (object.Page tree page)) l read) (read_ascends tree page (newest s (object.Page tree page)) l read) tt (λ q within. tt))

@@ -1,6 +1,6 @@
 -- The contents of all trees, one tree further.
-use Rattle.std.proofs.Common.{◌≡◌, ◌<◌, ◌≤◌, ◌+◌, ℕ, zero, suc, List, [], ◌∷◌, ◌++◌, length, Option, Some, None, Ok, Err, Result, refl, sym, ap, subst, ◌∙◌, inl, inr, true, arith}
-use Rattle.std.specs.Prelude.{◌⊎◌, nat_lt}
+use Rattle.std.proofs.Common.{◌≡◌, ◌<◌, ◌≤◌, ◌+◌, ℕ, List, [], ◌∷◌, ◌++◌, length, Option, Some, None, Ok, Err, refl, sym, ap, subst, ◌∙◌, inl, inr, arith}
+use Rattle.std.specs.Prelude.{◌⊎◌}
 use Rattle.std.specs.List.{AllByRecursion}
 use Rattle.std.proofs.lemmas.Bool.{cases_lt, lt-ltb}
 use Rattle.std.proofs.lemmas.List.{length-append}
@@ -19,7 +19,7 @@ use Rattle.tree_meaning.specs.Chain.{Walked}
 use Rattle.world_audit.specs.Finding.{Shown, LeavesFound}
 use Rattle.world_audit.specs.Stop.{SlipOr, ChainStops, ChainIsWhole}
 use Rattle.dump_take.specs.Sight.{Sees, pages_to, no_queue}
-use Rattle.dump_take.specs.Taken.{AreContents, AreDumped, ChainIsDamaged}
+use Rattle.dump_take.specs.Taken.{AreContents, ChainIsDamaged}
 use Rattle.dump_take.specs.Parts.{ContentsFound}
 use Rattle.dump_take.proofs.Ascending.{are_records}
 use Rattle.dump_take.proofs.Sights.{sees_always, sees_so, sees_wider, sees_both, sees_pages, found, pages_of}
@@ -127,7 +127,7 @@ module _ (before : Seen) (n tree : ℕ) (is : tree ≡ n + 1) (less : n < 16) (t
   pub contents_stop : (trouble : Trouble) → Shown before (object.Page tree) (LeavesFound tree (Err trouble)) → Sees before (pages_to 16) no_queue (ContentsFound (Err trouble))
   contents_stop trouble look = sees_wider before (pages_to (n + 1)) (pages_to 16) no_queue no_queue (ContentsFound (Err trouble)) (pages_within (n + 1) 16 (omega (arith, less))) (λ q h. h)
       (sees_so before (pages_to (n + 1)) no_queue (λ s. Holds s n here.contents × LeavesFound tree (Err trouble) s) (ContentsFound (Err trouble)) (chain_stops trouble)
-          (tree_seen (LeavesFound tree (Err trouble)) look))
+      (tree_seen (LeavesFound tree (Err trouble)) look))
 
   module _ (records : List Stored) (look : Shown before (object.Page tree) (LeavesFound tree (Ok records))) where
     records_are : AreRecords records

@@ -1,5 +1,5 @@
 -- Heads and trees that rest, one further, and the first that does not.
-use Rattle.std.proofs.Common.{◌≡◌, ◌<◌, ◌≤◌, ◌+◌, ℕ, zero, suc, List, [], ◌∷◌, length, Option, Some, None, Ok, Err, Result, refl, sym, ap, subst, ◌∙◌, inl, inr, arith}
+use Rattle.std.proofs.Common.{◌≡◌, ◌<◌, ◌≤◌, ◌+◌, ℕ, List, [], ◌∷◌, length, Option, Ok, Err, refl, sym, ap, subst, ◌∙◌, inl, inr, arith}
 use Rattle.std.specs.Prelude.{◌⊎◌, true, false}
 use Rattle.std.proofs.lemmas.Bool.{cases_lt}
 use Rattle.db_base.specs.Ids.{IsClient, IsTree}
@@ -11,7 +11,6 @@ use Rattle.cloud_trait.specs.Delivery.{unmarked}
 use Rattle.cloud_trait.specs.Seen.{Seen}
 use Rattle.cloud_trait.specs.State.{CloudState, newest}
 use Rattle.world_audit.specs.Counts.{queue_at, IsNextPage}
-use Rattle.world_audit.specs.Look.{Looked}
 use Rattle.reply_text.specs.Name.{queue_word}
 use Rattle.world_audit.specs.Stop.{SlipOr, SpellsNoHead, SpellsNoRoot, RootStops}
 use Rattle.dump_take.specs.Taken.{HeadIsDamaged, RootIsDamaged}
@@ -20,8 +19,8 @@ use Rattle.dump_take.specs.declared.stop.DumpStop.TheVariants as stop
 use Rattle.dump_take.specs.Quiet.{HeadRests, HeadsRest, IsOpen, IsDrained, TreeRests, TreesRest}
 use Rattle.dump_take.specs.Sight.{Sees, no_object, no_queue, one_object, one_queue, heads_to, root_of, roots_to, queues_below, queues_of, queues_to}
 use Rattle.dump_take.specs.Parts.{Names, StopsAtHead, HeadsFound, QueueFound, TreeFound, TreesFound}
-use Rattle.dump_take.proofs.Sights.{sees_always, sees_so, sees_behind, sees_wider, sees_both}
-use Rattle.dump_take.proofs.Sets.{no_queues, queues_first, queues_last, objects_last, heads_more, heads_within, root_is, queues_more, queues_within, queues_all, roots_more, roots_within, trees_more, trees_within}
+use Rattle.dump_take.proofs.Sights.{sees_always, sees_so, sees_wider, sees_both}
+use Rattle.dump_take.proofs.Sets.{no_queues, objects_last, heads_more, heads_within, root_is, queues_more, queues_all, roots_more, roots_within, trees_more, trees_within}
 
 abbrev pub Bytes : Type 0
 Bytes = Option (List ℕ)
@@ -37,6 +36,9 @@ heads_none before = sees_always before (heads_to 0) no_queue (λ s. HeadsRest s 
 
 pub heads_all : (s : CloudState) → HeadsRest s 65 → (client : ℕ) → IsClient client → HeadRests (newest s (object.Head client))
 heads_all s below client is = below client is (omega (arith, is.most))
+
+pub heads_end : (before : Seen) → HeadsSeen before 64 → Sees before (heads_to 64) no_queue (HeadsFound (Ok tt))
+heads_end before h = sees_so before (heads_to 64) no_queue (λ s. HeadsRest s 65) (HeadsFound (Ok tt)) (λ s rest. heads_all s rest) h
 
 module _ (before : Seen) (n client : ℕ) (bytes : Bytes) (is : client ≡ n + 1) (less : n < 64) (here : HeadsSeen before n)
     (look : Sees before (one_object (object.Head client)) no_queue (λ s. bytes ≡ newest s (object.Head client))) where
@@ -76,29 +78,31 @@ module _ (before : Seen) (n client : ℕ) (bytes : Bytes) (is : client ≡ n + 1
       (sees_so before (heads_to (n + 1)) no_queue (λ s. HeadsRest s (n + 1) × (bytes ≡ newest s (object.Head client))) (HeadsFound (Err e)) (head_stops e why) head_seen)
 
 pub heads_slip : (before : Seen) (trouble : Trouble) → (trouble ≡ Failed) ⊎ (trouble ≡ Memory) → Sees before (heads_to 64) no_queue (HeadsFound (Err (stop.Trouble trouble)))
-heads_slip before trouble slip = sees_always before (heads_to 64) no_queue (HeadsFound (Err (stop.Trouble trouble))) (λ s. on slip)
+heads_slip before trouble slip = sees_always before (heads_to 64) no_queue (HeadsFound (Err (stop.Trouble trouble))) (λ s. on s slip)
   where
-    on : (trouble ≡ Failed) ⊎ (trouble ≡ Memory) → SlipOr (HeadIsDamaged s trouble) trouble
-    on (inl failed) = inl failed
-    on (inr memory) = inr (inl memory)
+    on : (s : CloudState) → (trouble ≡ Failed) ⊎ (trouble ≡ Memory) → SlipOr (HeadIsDamaged s trouble) trouble
+    on s (inl failed) = inl failed
+    on s (inr memory) = inr (inl memory)
 
 -- ---- a queue
-
-pub queue_found : (before : Seen) (queue : QueueName) (n : ℕ) (result : Result (Unit {0}) DumpStop)
-    → ((s : CloudState) → n ≡ length (unmarked (s.messages queue)) → QueueFound queue result s)
-    → Sees before no_object (one_queue queue) (λ s. n ≡ length (unmarked (s.messages queue))) → Sees before no_object (one_queue queue) (QueueFound queue result)
-queue_found before queue n result so h = sees_so before no_object (one_queue queue) (λ s. n ≡ length (unmarked (s.messages queue))) (QueueFound queue result) so h
 
 none_of : {A : Type 0} (xs : List A) → 0 ≡ length xs → xs ≡ []
 none_of [] e = refl
 none_of (x ∷ xs) e = absurd (omega (arith, e))
 
-pub drained : (queue : QueueName) (n : ℕ) (s : CloudState) → n ≡ 0 → n ≡ length (unmarked (s.messages queue)) → IsDrained s queue
-drained queue n s none e = none_of (unmarked (s.messages queue)) (sym none ∙ e)
+module _ (before : Seen) (queue : QueueName) (n : ℕ) where
+  abbrev Counts : CloudState → Type 0
+  Counts s = n ≡ length (unmarked (s.messages queue))
 
-pub queue_waits : (queue : QueueName) (n : ℕ) (e : DumpStop) → (n ≡ 0 → ⊥) → Names (queue_word queue) e → (s : CloudState) → n ≡ length (unmarked (s.messages queue)) → QueueFound queue (Err e) s
-queue_waits queue n (stop.NotQuiet name) some named s is = (λ none. some (is ∙ ap length none), named)
-queue_waits queue n (stop.Trouble trouble) some named s is = inr named
+  pub queue_rests : n ≡ 0 → Sees before no_object (one_queue queue) Counts → Sees before no_object (one_queue queue) (λ s. IsDrained s queue)
+  queue_rests none h = sees_so before no_object (one_queue queue) Counts (λ s. IsDrained s queue) (λ s e. none_of (unmarked (s.messages queue)) (sym none ∙ e)) h
+
+  waits : (e : DumpStop) → (n ≡ 0 → ⊥) → Names (queue_word queue) e → (s : CloudState) → Counts s → QueueFound queue (Err e) s
+  waits (stop.NotQuiet name) some named s is = (λ none. some (is ∙ ap length none), named)
+  waits (stop.Trouble trouble) some named s is = inr named
+
+  pub queue_waits : (e : DumpStop) → (n ≡ 0 → ⊥) → Names (queue_word queue) e → Sees before no_object (one_queue queue) Counts → Sees before no_object (one_queue queue) (QueueFound queue (Err e))
+  queue_waits e some named h = sees_so before no_object (one_queue queue) Counts (QueueFound queue (Err e)) (waits e some named) h
 
 pub queue_slip : (before : Seen) (queue : QueueName) (trouble : Trouble) → (trouble ≡ Failed) ⊎ (trouble ≡ Memory)
     → Sees before no_object (one_queue queue) (QueueFound queue (Err (stop.Trouble trouble)))
@@ -127,17 +131,17 @@ module _ (before : Seen) (tree : ℕ) where
     root_seen look = sees_so before (root_of tree) (queues_below tree 0) (λ s. bytes ≡ newest s (object.Tree tree)) (λ s. Drains s tree bytes 0)
         (λ s e. record { root = e; drained = λ page less. absurd (omega (arith, less)) })
         (sees_wider before (one_object (object.Tree tree)) (root_of tree) no_queue (queues_below tree 0) (λ s. bytes ≡ newest s (object.Tree tree))
-            (root_is tree) (λ k h. absurd (let e : false ≡ true = h in cc)) look)
+        (root_is tree) (λ k h. absurd (let e : false ≡ true = h in cc)) look)
 
     pub root_stops : (trouble : Trouble) → SpellsNoRoot bytes tree trouble → TreeSeen before tree bytes 0 → Sees before (root_of tree) (queues_of tree) (TreeFound tree (Err (stop.Trouble trouble)))
     root_stops trouble none here = sees_wider before (root_of tree) (root_of tree) (queues_below tree 0) (queues_of tree) (TreeFound tree (Err (stop.Trouble trouble))) (λ k h. h) (queues_all tree 0)
         (sees_so before (root_of tree) (queues_below tree 0) (λ s. Drains s tree bytes 0) (TreeFound tree (Err (stop.Trouble trouble)))
-            (λ s d. inr (inr (subst (λ (b : Bytes). SpellsNoRoot b tree trouble) d.root none))) here)
+        (λ s d. inr (inr (subst (λ (b : Bytes). SpellsNoRoot b tree trouble) d.root none))) here)
 
     pub tree_rests : (next : ℕ) → IsNextPage bytes next → TreeSeen before tree bytes next → Sees before (root_of tree) (queues_of tree) (λ s. TreeRests s tree)
     tree_rests next is here = sees_wider before (root_of tree) (root_of tree) (queues_below tree next) (queues_of tree) (λ s. TreeRests s tree) (λ k h. h) (queues_all tree next)
         (sees_so before (root_of tree) (queues_below tree next) (λ s. Drains s tree bytes next) (λ s. TreeRests s tree)
-            (λ s d. record { next = next; is_next = subst (λ (b : Bytes). IsNextPage b next) d.root is; drained = d.drained }) here)
+        (λ s d. record { next = next; is_next = subst (λ (b : Bytes). IsNextPage b next) d.root is; drained = d.drained }) here)
 
     module _ (page : ℕ) (here : TreeSeen before tree bytes page) where
       queue_seen : (Holds : CloudState → Type 0) → Sees before no_object (one_queue (queue_at tree page)) Holds
@@ -177,7 +181,7 @@ module _ (before : Seen) (tree : ℕ) where
             → Sees before (root_of tree) (queues_of tree) (TreeFound tree (Err e))
         queues_stop e look = sees_wider before (root_of tree) (root_of tree) (queues_below tree (page + 1)) (queues_of tree) (TreeFound tree (Err e)) (λ k h. h) (queues_all tree (page + 1))
             (sees_so before (root_of tree) (queues_below tree (page + 1)) (λ s. Drains s tree bytes page × QueueFound (queue_at tree page) (Err e) s) (TreeFound tree (Err e))
-                (queue_first e) (queue_seen (QueueFound (queue_at tree page) (Err e)) look))
+            (queue_first e) (queue_seen (QueueFound (queue_at tree page) (Err e)) look))
 
 -- ---- all trees
 
@@ -217,3 +221,6 @@ module _ (before : Seen) (n tree : ℕ) (is : tree ≡ n + 1) (less : n < 16) (h
   pub trees_stop : (e : DumpStop) → Sees before (root_of tree) (queues_of tree) (TreeFound tree (Err e)) → Sees before (roots_to 16) (queues_to 16) (TreesFound (Err e))
   trees_stop e look = sees_wider before (roots_to (n + 1)) (roots_to 16) (queues_to (n + 1)) (queues_to 16) (TreesFound (Err e)) (roots_within (n + 1) 16 (omega arith)) (trees_within (n + 1) 16 (omega arith))
       (sees_so before (roots_to (n + 1)) (queues_to (n + 1)) (λ s. TreesRest s (n + 1) × TreeFound tree (Err e) s) (TreesFound (Err e)) (tree_first e) (tree_seen (TreeFound tree (Err e)) look))
+
+pub trees_end : (before : Seen) → TreesSeen before 16 → Sees before (roots_to 16) (queues_to 16) (TreesFound (Ok tt))
+trees_end before h = h

@@ -1,5 +1,5 @@
 -- What looks show, one after another and together.
-use Rattle.std.proofs.Common.{◌≡◌, ℕ, zero, suc, List, [], ◌∷◌, length, Option, Some, None, Bool, true, false, refl, sym, ap, subst, ◌∙◌, inl, inr, arith}
+use Rattle.std.proofs.Common.{◌≡◌, ◌+◌, ℕ, zero, suc, List, [], ◌∷◌, length, Option, Some, None, Bool, true, false, refl, sym, ap, subst, ◌∙◌, inl, inr}
 use Rattle.std.specs.Prelude.{IsTrue, if◌then◌else◌, ◌==◌}
 use Rattle.std.specs.Ordering.{is_eq}
 use Rattle.std.proofs.lemmas.Bool.{eq-eqb}
@@ -10,7 +10,6 @@ use Rattle.db_base.specs.declared.names.QueueName.{QueueName}
 use Rattle.db_base.specs.declared.wish.Wish.TheVariants.{Plain}
 use Rattle.cloud_trait.specs.Bench.{IsShown}
 use Rattle.cloud_trait.specs.Delivery.{unmarked, unmarked_from}
-use Rattle.cloud_trait.specs.Names.{object_cmp, queue_cmp}
 use Rattle.cloud_trait.specs.Seen.{Seen, Showing}
 use Rattle.cloud_trait.specs.State.{CloudState, newest, newest_of, never_taken}
 use Rattle.cloud_trait.specs.declared.state.Posted.{Posted}
@@ -18,7 +17,7 @@ use Rattle.cloud_trait.specs.declared.state.Version.{Version}
 use Rattle.cloud_trait.proofs.NameLemmas.{object_cmp-total, queue_cmp-total}
 use Rattle.world_audit.specs.Finding.{IsSeenBy, Shown}
 use Rattle.world_audit.specs.Look.{Looked}
-use Rattle.dump_take.specs.Sight.{Sees, AreShown, AreCounted, IsShownIn, no_object, no_queue, one_object, one_queue}
+use Rattle.dump_take.specs.Sight.{Sees, AreShown, AreCounted, no_object, no_queue, one_object, one_queue}
 
 -- ---- what looks show
 
@@ -78,10 +77,10 @@ module _ {K V : Type 0} (first : K → Bool) (f g : K → V) where
   either_first k e = rw e refl
 
   either_other : (k : K) → (IsTrue (first k) → ⊥) → either k ≡ g k
-  either_other k no = on (first k) refl
+  either_other k other = on (first k) refl
     where
       on : (c : Bool) → first k ≡ c → (if c then f k else g k) ≡ g k
-      on true e = absurd (no e)
+      on true e = absurd (other e)
       on false e = refl
 
 -- looks at other objects and queues show more
@@ -140,6 +139,11 @@ pub object_behind : (before mid : Seen) (name : ObjName) (bytes : Option (List �
     → Sees before (one_object name) no_queue (λ s. bytes ≡ newest s name)
 object_behind before mid name bytes behind told shown =
     sees_behind before mid (one_object name) no_queue (λ s. bytes ≡ newest s name) behind (sees_object mid name bytes told shown)
+
+pub queue_behind : (before mid : Seen) (queue other : QueueName) (Holds : QueueName → CloudState → Type 0) → Looked before mid → queue ≡ other
+    → Sees mid no_object (one_queue queue) (Holds queue) → Sees before no_object (one_queue other) (Holds other)
+queue_behind before mid queue other Holds behind is h =
+    subst (λ (x : QueueName). Sees before no_object (one_queue x) (Holds x)) is (sees_behind before mid no_object (one_queue queue) (Holds queue) behind h)
 
 -- the pages of a tree
 abbrev pub pages_of : ℕ → ObjName → Bool

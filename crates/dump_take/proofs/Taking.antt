@@ -1,20 +1,17 @@
 -- A taking by its parts.
-use Rattle.std.proofs.Common.{◌≡◌, ◌<◌, ℕ, List, Some, Ok, Err, Result, refl, sym, subst, inl, inr, arith}
-use Rattle.std.specs.Prelude.{◌⊎◌}
-use Rattle.db_base.specs.Ids.{IsTree}
+use Rattle.std.proofs.Common.{◌≡◌, Some, Ok, Err, Result, sym, subst, inl, inr, arith}
 use Rattle.db_base.specs.declared.trouble.Trouble.{Trouble}
 use Rattle.cloud_trait.specs.Seen.{Seen}
 use Rattle.cloud_trait.specs.State.{CloudState}
 use Rattle.dump_text.specs.declared.dump.Dump.{Dump}
-use Rattle.dump_text.specs.declared.dump.DumpedTree.{DumpedTree}
 use Rattle.world_audit.specs.Stop.{SlipOr}
 use Rattle.dump_take.specs.declared.stop.DumpStop.{DumpStop}
 use Rattle.dump_take.specs.declared.stop.DumpStop.TheVariants as stop
 use Rattle.dump_take.specs.Quiet.{AllHeadsRest, TreesRest, IsQuiet}
 use Rattle.dump_take.specs.Sight.{Sees, heads_to, roots_to, pages_to, queues_to, no_queue}
-use Rattle.dump_take.specs.Taken.{IsTaken, Takes, FirstDamage, HeadIsDamaged, RootIsDamaged, ChainIsDamaged}
+use Rattle.dump_take.specs.Taken.{IsTaken, Takes, FirstDamage, RootIsDamaged, ChainIsDamaged}
 use Rattle.dump_take.specs.Parts.{HeadsFound, TreesFound, ContentsFound}
-use Rattle.dump_take.proofs.Sights.{sees_so, sees_both, found}
+use Rattle.dump_take.proofs.Sights.{sees_both, found}
 use Rattle.dump_take.proofs.Sets.{queues_first, queues_last, heads_roots, first_pages, heads_and_roots, all_objects}
 
 heads_taken : (e : DumpStop) (s : CloudState) → HeadsFound (Err e) s → IsTaken s (Err e)

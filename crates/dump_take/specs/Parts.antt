@@ -12,7 +12,7 @@ use Rattle.reply_text.specs.Name.{object_word, queue_word}
 use Rattle.world_audit.specs.Stop.{SlipOr, SpellsNoHead, RootStops}
 use Rattle.dump_take.specs.declared.stop.DumpStop.{DumpStop}
 use Rattle.dump_take.specs.declared.stop.DumpStop.TheVariants as stop
-use Rattle.dump_take.specs.Quiet.{IsOpen, AllHeadsRest, IsDrained, TreeRests, TreesRest, IsQuiet, HeadIsFirst, QueueIsFirst, TreeIsFirst}
+use Rattle.dump_take.specs.Quiet.{IsOpen, AllHeadsRest, IsDrained, TreeRests, TreesRest, HeadIsFirst, QueueIsFirst, TreeIsFirst}
 use Rattle.dump_take.specs.Taken.{AreDumped, HeadIsDamaged, RootIsDamaged, ChainIsDamaged}
 
 -- it answers that a look failed only where one did

@@ -1,5 +1,5 @@
 -- What looks at objects and queues show.
-use Rattle.std.specs.Prelude.{ℕ, ◌≡◌, ◌==◌, ◌&&◌, Bool, true, false, nat_lt, nat_le, IsTrue, List, length, Option, Some}
+use Rattle.std.specs.Prelude.{ℕ, ◌≡◌, ◌==◌, ◌&&◌, Bool, false, nat_lt, nat_le, IsTrue, List, length, Option, Some}
 use Rattle.std.specs.Ordering.{is_eq}
 use Rattle.db_base.specs.declared.names.ObjName.{ObjName}
 use Rattle.db_base.specs.declared.names.ObjName.TheVariants as object

@@ -1,5 +1,5 @@
 -- What is taken: the contents of all trees of a quiet database, or why not.
-use Rattle.std.specs.Prelude.{ℕ, ◌≡◌, ◌<◌, ◌+◌, ◌⊎◌, List, [], ◌∷◌, length, Option, Some, None, Result, Ok, Err}
+use Rattle.std.specs.Prelude.{ℕ, ◌≡◌, ◌<◌, ◌+◌, ◌⊎◌, List, [], ◌∷◌, length, Some, None, Result, Ok, Err}
 use Rattle.db_base.specs.Ids.{IsTree}
 use Rattle.db_base.specs.declared.trouble.Trouble.{Trouble}
 use Rattle.cloud_trait.specs.Seen.{Seen, Showing}

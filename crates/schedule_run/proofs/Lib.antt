@@ -12,5 +12,7 @@ pub mod ShellLemmas
 pub mod GeneratedLemmas
 pub mod SettlingLemmas
 pub mod DumpingLemmas
+pub mod LoadingLemmas
 pub mod RunLemmas
+pub mod FallenLemmas
 pub mod CompleteLemmas

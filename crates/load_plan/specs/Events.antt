@@ -35,13 +35,17 @@ parts_of trees = parts (transactions (length (records_of trees))) (records_of tr
 abbrev pub insert_of : Placed → Event
 insert_of p = Insert 1 p.tree p.stored.key p.stored.payload p.stored.attr
 
--- the trees of records, each where it is another than the last one
-abbrev pub trees_from : ℕ → List Placed → List ℕ
-trees_from last [] = []
-trees_from last (p ∷ records) = if p.tree == last then trees_from last records else (p.tree ∷ trees_from p.tree records)
+-- a checkpoint of a tree, where it is another than the last one
+abbrev pub checkpoint_at : ℕ → ℕ → List Event
+checkpoint_at last tree = if tree == last then [] else (Tree 1 tree ∷ [])
+
+-- a checkpoint of each tree of these records, each where it is another than the one before it
+abbrev pub checkpoints_from : ℕ → List Placed → List Event
+checkpoints_from last [] = []
+checkpoints_from last (p ∷ records) = checkpoint_at last p.tree ++ checkpoints_from p.tree records
 
 abbrev pub checkpoints_of : List Placed → List Event
-checkpoints_of part = map (Tree 1) (trees_from 0 part)
+checkpoints_of part = checkpoints_from 0 part
 
 -- a transaction: its inserts, the commit, and a checkpoint of each tree that it names
 abbrev pub part_events : List Placed → List Event

@@ -33,8 +33,10 @@ pub fn count_records(dump: &Dump) -> Option<u64>
     ensures { IfSome result (λ n. n ≡ length (records_of dump.now.trees)) }
 {
     let mut count: u64 = 0;
-    for tree in dump.trees.as_slice() {
+    let mut left = dump.trees.as_slice();
+    while let Some((tree, behind)) = left.split_first() {
         count = count.checked_add(tree.records.len() as u64)?;
+        left = behind;
     }
     Some(count)
 }

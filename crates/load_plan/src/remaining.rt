@@ -62,15 +62,14 @@ impl<'d> Remaining<'d> {
     pub fn next(&mut self) -> Option<(u64, &'d Stored)>
         ensures { MatchOption result ((self.old ≡ []) × (self.new ≡ [])) (λ x. self.old ≡ record { tree = x.0; stored = x.1.now } ∷ self.new) }
     {
-        loop {
-            if let Some((first, rest)) = self.records.split_first() {
-                self.records = rest;
-                return Some((self.tree, first));
-            }
-            let (first, rest) = self.trees.split_first()?;
+        while self.records.is_empty() {
+            let (first, behind) = self.trees.split_first()?;
             self.tree = first.tree.get();
             self.records = first.records.as_slice();
-            self.trees = rest;
+            self.trees = behind;
         }
+        let (first, behind) = self.records.split_first()?;
+        self.records = behind;
+        Some((self.tree, first))
     }
 }

@@ -13,6 +13,9 @@ pub mod GeneratedLemmas
 pub mod SettlingLemmas
 pub mod DumpingLemmas
 pub mod LoadingLemmas
+pub mod LoadLemmas
+pub mod LoadRuns
+pub mod LoadEnds
 pub mod RunLemmas
 pub mod FallenLemmas
 pub mod CompleteLemmas

@@ -39,7 +39,7 @@ no_report_closes tree asked = absurd (cc)
 
 -- ---- events that are run whole
 
-run_nothing : (s : Seen) (play : Play) → IsFresh true play → WereRun [] [] s s play
+pub run_nothing : (s : Seen) (play : Play) → IsFresh true play → WereRun [] [] s s play
 run_nothing s play fresh = record {
   lines = [];
   whole = no_events;
@@ -47,7 +47,7 @@ run_nothing s play fresh = record {
   played = played_nothing s play fresh;
 }
 
-run_more : (events : List Event) (replies : List Reply) (event : Event) (reply : Reply) (s t z : Seen) (old new : Play)
+pub run_more : (events : List Event) (replies : List Reply) (event : Event) (reply : Reply) (s t z : Seen) (old new : Play)
     → WereRun events replies s t old → IsNoReport event → IsRun event reply t z old new → WereRun (events ++ event ∷ []) (replies ++ reply ∷ []) s z new
 run_more events replies event reply s t z old new w none (answered other next) = record {
   lines = w.lines ++ record { event = event; reply = reply } ∷ [];
@@ -66,7 +66,7 @@ run_more events replies event reply s t z old new w none (answered_run mid play 
           (played_more (w.lines ++ began ∷ []) (Run 1) reply s mid z play new (played_more w.lines event Begun s t mid old play w.played (λ b. none) first) (λ b. no_report_runs) last);
     }
 
-run_stopped : (events : List Event) (replies : List Reply) (event : Event) (s t z : Seen) (old new : Play)
+pub run_stopped : (events : List Event) (replies : List Reply) (event : Event) (s t z : Seen) (old new : Play)
     → WereRun events replies s t old → IsNoReport event → StopsRun event t z old new → WereStopped events replies event s z
 run_stopped events replies event s t z old new w none (stops_event out) = record {
   lines = w.lines;

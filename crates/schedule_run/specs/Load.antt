@@ -1,5 +1,5 @@
 -- What a load runs and leaves, event by event.
-use Rattle.std.specs.Prelude.{ℕ, ◌≡◌, Bool, true, false, List, [], ◌∷◌, ◌++◌, length, Result, Ok, Err}
+use Rattle.std.specs.Prelude.{ℕ, ◌≡◌, Bool, true, false, if◌then◌else◌, List, [], ◌∷◌, ◌++◌, length, Result, Ok, Err}
 use Rattle.cloud_trait.specs.Seen.{Seen}
 use Rattle.db_base.specs.declared.trouble.CommitAnswer.TheVariants.{Committed}
 use Rattle.db_base.specs.declared.trouble.Trouble.TheVariants as trouble
@@ -8,9 +8,11 @@ use Rattle.event_text.specs.declared.event.Event.{Event}
 use Rattle.event_text.specs.declared.event.Event.TheVariants as event
 use Rattle.load_plan.specs.Events.{load_events, records_of}
 use Rattle.load_plan.specs.FirstLook.{first_names, LookedAtAll, LooksEnded}
+use Rattle.load_plan.specs.declared.first_look.LookStop.{LookStop}
 use Rattle.load_plan.specs.declared.first_look.LookStop.TheVariants as look
 use Rattle.reply_text.specs.declared.reply.Reply.{Reply}
 use Rattle.reply_text.specs.declared.reply.Reply.TheVariants as reply
+use Rattle.schedule_run.specs.Answered.{IsNoReport}
 use Rattle.schedule_run.specs.InPlay.{Play}
 use Rattle.schedule_run.specs.Play.{IsRun, StopsRun}
 use Rattle.schedule_run.specs.Settling.{is_settled}
@@ -104,11 +106,12 @@ LoadEnded (Err Memory) trees start now = LoadRanOut trees start now
 
 -- ---- events in the course of a load
 
--- these events were run whole, one behind another, and these are their last replies
+-- these events, which ask for no report, were run whole, one behind another, and these are their last replies
 pub data RanEach (before : Seen) (old : Play) : List Event → List Reply → Seen → Play → Type 0 where
   ran_none : RanEach before old [] [] before old
   ran_more : (events : List Event) (e : Event) (replies : List Reply) (r : Reply) (mid after : Seen) (play new : Play)
-      → RanEach before old events replies mid play → IsRun e r mid after play new → RanEach before old (events ++ e ∷ []) (replies ++ r ∷ []) after new
+      → RanEach before old events replies mid play → IsNoReport e → IsRun e r mid after play new
+      → RanEach before old (events ++ e ∷ []) (replies ++ r ∷ []) after new
 
 -- they were run, and the load went on behind each
 pub record WentThrough (events : List Event) (before after : Seen) (old new : Play) : Type 0 where
@@ -119,10 +122,10 @@ pub record WentThrough (events : List Event) (before after : Seen) (old new : Pl
 -- the load stopped at one of these events: behind its reply, for want of memory at it, or for want of memory before it
 pub data StopsAt (events : List Event) (stop : LoadStop) (before after : Seen) (old : Play) : Type 0 where
   stops_behind : (earlier later : List Event) (e : Event) (r : Reply) (mid : Seen) (play new : Play) → events ≡ earlier ++ e ∷ later
-      → WentThrough earlier before mid old play → IsRun e r mid after play new → goes_on e r ≡ false → stop ≡ stop_of e r
+      → WentThrough earlier before mid old play → IsNoReport e → IsRun e r mid after play new → goes_on e r ≡ false → stop ≡ stop_of e r
       → StopsAt events stop before after old
   stops_at : (earlier later : List Event) (e : Event) (mid : Seen) (play new : Play) → events ≡ earlier ++ e ∷ later
-      → WentThrough earlier before mid old play → StopsRun e mid after play new → stop ≡ Memory → StopsAt events stop before after old
+      → WentThrough earlier before mid old play → IsNoReport e → StopsRun e mid after play new → stop ≡ Memory → StopsAt events stop before after old
   stops_before : (earlier later : List Event) (play : Play) → events ≡ earlier ++ later → WentThrough earlier before after old play → stop ≡ Memory
       → StopsAt events stop before after old
 
@@ -131,14 +134,31 @@ abbrev pub GoesThrough : List Event → Result (Unit {0}) LoadStop → Seen → 
 GoesThrough events (Ok done) before after old new = WentThrough events before after old new
 GoesThrough events (Err stop) before after old new = StopsAt events stop before after old
 
--- these replies are passed over, whatever they are
-abbrev pub IsPassedOver : Event → Type 0
-IsPassedOver e = (r : Reply) → goes_on e r ≡ true
+-- of these events some were gone through, and these are left
+pub record IsAmong (events left : List Event) (before after : Seen) (old new : Play) : Type 0 where
+  pub done : List Event
+  pub at : events ≡ done ++ left
+  pub went : WentThrough done before after old new
+
+-- whatever is replied to it, the load goes on
+pub record IsPassedOver (e : Event) : Type 0 where
+  pub goes : (r : Reply) → goes_on e r ≡ true
+  pub unasked : IsNoReport e
 
 -- an event was run, and this is its last reply; or memory ran out at it
 abbrev pub Runs : Event → Result Reply LoadStop → Seen → Seen → Play → Play → Type 0
 Runs e (Ok r) before after old new = IsRun e r before after old new
 Runs e (Err stop) before after old new = StopsRun e before after old new × (stop ≡ Memory)
+
+-- the end that a reply leads to
+abbrev pub answer_of : Event → Reply → Result (Unit {0}) LoadStop
+answer_of e r = if goes_on e r then Ok tt else Err (stop_of e r)
+
+-- the end that the reply to a settling leads to
+abbrev pub calls_of : Reply → Result ℕ LoadStop
+calls_of (reply.Settled calls) = Ok calls
+calls_of (reply.NotSettled t) = Err (Settling t)
+calls_of r = Err Memory
 
 -- the settling was done, and made so many calls; or the load stopped at it
 abbrev pub Settles : Result ℕ LoadStop → Seen → Seen → Play → Play → Type 0
@@ -155,3 +175,9 @@ pub record WentThroughAll (trees : List DumpedTree) (loaded : Loaded) (before af
 abbrev pub Loads : List DumpedTree → Result Loaded LoadStop → Seen → Seen → Play → Play → Type 0
 Loads trees (Ok loaded) before after old new = WentThroughAll trees loaded before after old new
 Loads trees (Err stop) before after old new = StopsAt (load_events trees) stop before after old
+
+-- the stop that an end of the first looks leads to
+abbrev pub stop_of_look : LookStop → LoadStop
+stop_of_look (look.NotEmpty text) = NotEmpty text
+stop_of_look look.Failed = Stopped trouble.Failed
+stop_of_look look.Memory = Memory

@@ -2,9 +2,9 @@
 
 ghost use Rattle.std.specs.Prelude.{◌≡◌, [], ◌∷◌, map, take, drop, length, OnOk};
 ghost use Rattle.dump_text.specs.Dump.{IsDumpable};
-ghost use Rattle.event_text.specs.declared.event.Event.TheVariants.{Open, Close, Renew, Commit, Tree};
-ghost use Rattle.schedule_run.specs.Load.{LoadEnded, Loads, Settles, Runs, IsPassedOver, GoesThrough};
-ghost use Rattle.load_plan.specs.Events.{records_of, parts, parts_of, insert_of, checkpoints_of, part_events, later_events, commit_events};
+ghost use Rattle.event_text.specs.declared.event.Event.TheVariants.{Open, Commit};
+ghost use Rattle.schedule_run.specs.Load.{LoadEnded, Loads, Settles, Runs, IsPassedOver, GoesThrough, answer_of, calls_of, stop_of_look};
+ghost use Rattle.load_plan.specs.Events.{Placed, records_of, parts, parts_of, insert_of, checkpoint_at, checkpoints_of, part_events, later_events, commit_events};
 ghost use Rattle.schedule_run.specs.Play.{IsFresh};
 
 use crate::play::{Play, let_event_go};
@@ -52,23 +52,14 @@ pub enum LoadStop {
     Memory,
 }
 
-impl From<LookStop> for LoadStop {
-    fn from(stop: LookStop) -> LoadStop {
-        match stop {
-            LookStop::NotEmpty(name) => LoadStop::NotEmpty(name),
-            LookStop::Failed => LoadStop::Stopped(Trouble::Failed),
-            LookStop::Memory => LoadStop::Memory,
-        }
-    }
-}
-
 /// Commits the records of a dump to an empty database, 200 a transaction, by session 1 of client 1, and settles.
 pub fn load<C: Bench>(alloc: Global, cloud: &mut C, dump: &Dump) -> Result<Loaded, LoadStop>
     requires { IsDumpable dump.now.trees }
     ensures went { LoadEnded result dump.now.trees (C.seen cloud.old) (C.seen cloud.new) }
 {
-    if let Err(stop) = look_first(alloc, cloud) {
-        return Err(LoadStop::from(stop));
+    match look_first(alloc, cloud) {
+        Ok(()) => {}
+        Err(stop) => return Err(stopped_looking(stop)),
     }
     match Play::<Session>::unseeing(alloc) {
         Ok(mut play) => load_in(alloc, &mut play, cloud, dump),
@@ -128,7 +119,7 @@ fn commit_later<S: SessionCalls, C: Bench>(
 ) -> Result<(), LoadStop>
     ensures { GoesThrough (later_events (parts transactions left.old)) result (C.seen cloud.old) (C.seen cloud.new) play.old play.new }
 {
-    for _ in 0..transactions {
+    for made in 0..transactions {
         pass_over(alloc, play, cloud, Event::Renew { session: 1 })?;
         commit_part(alloc, play, cloud, left)?;
     }
@@ -161,7 +152,7 @@ fn note_part<S: SessionCalls, C: Bench>(
     ensures went { GoesThrough (map insert_of (take 200 left.old)) result (C.seen cloud.old) (C.seen cloud.new) play.old play.new }
     ensures left { OnOk result (left.new ≡ drop 200 left.old) }
 {
-    for _ in 0..PART {
+    for noted in 0..PART {
         let Some((tree, record)) = left.next() else {
             return Ok(());
         };
@@ -177,20 +168,34 @@ fn checkpoint_part<S: SessionCalls, C: Bench>(
     cloud: &mut C,
     part: Remaining<'_>,
 ) -> Result<(), LoadStop>
-    ensures { GoesThrough (checkpoints_of (take 200 part)) result (C.seen cloud.old) (C.seen cloud.new) play.old play.new }
+    ensures { GoesThrough (checkpoints_of (take 200 part.entry)) result (C.seen cloud.old) (C.seen cloud.new) play.old play.new }
 {
     let mut left = part;
     let mut last = 0;
-    for _ in 0..PART {
+    for seen in 0..PART {
         let Some((tree, _)) = left.next() else {
             return Ok(());
         };
-        if tree != last {
-            pass_over(alloc, play, cloud, Event::Tree { session: 1, tree })?;
-            last = tree;
-        }
+        checkpoint_at(alloc, play, cloud, last, tree)?;
+        last = tree;
     }
     Ok(())
+}
+
+/// Makes a checkpoint of a tree, where it is another than the last one.
+fn checkpoint_at<S: SessionCalls, C: Bench>(
+    alloc: Global,
+    play: &mut Play<S>,
+    cloud: &mut C,
+    last: u64,
+    tree: u64,
+) -> Result<(), LoadStop>
+    ensures { GoesThrough (checkpoint_at last tree) result (C.seen cloud.old) (C.seen cloud.new) play.old play.new }
+{
+    if tree == last {
+        return Ok(());
+    }
+    pass_over(alloc, play, cloud, Event::Tree { session: 1, tree })
 }
 
 /// Opens session 1 of client 1.
@@ -205,11 +210,7 @@ fn open<S: SessionCalls, C: Bench>(
         session: 1,
         client: 1,
     };
-    match run(alloc, play, cloud, event)? {
-        Reply::Opened { .. } => Ok(()),
-        Reply::Trouble(trouble) => Err(LoadStop::Opening(trouble)),
-        reply => Err(unfit(reply)),
-    }
+    opened(run(alloc, play, cloud, event)?)
 }
 
 /// Notes the insert of a record.
@@ -222,12 +223,9 @@ fn note<S: SessionCalls, C: Bench>(
 ) -> Result<(), LoadStop>
     ensures { GoesThrough (insert_of (record { tree = tree; stored = record.now }) ∷ []) result (C.seen cloud.old) (C.seen cloud.new) play.old play.new }
 {
-    let Ok(event) = insert_of(alloc, tree, record) else {
-        return Err(LoadStop::Memory);
-    };
-    match run(alloc, play, cloud, event)? {
-        Reply::Noted => Ok(()),
-        reply => Err(unfit(reply)),
+    match insert_of(alloc, tree, record) {
+        Ok(event) => noted(run(alloc, play, cloud, event)?),
+        Err(_) => Err(LoadStop::Memory),
     }
 }
 
@@ -239,11 +237,7 @@ fn commit<S: SessionCalls, C: Bench>(
 ) -> Result<(), LoadStop>
     ensures { GoesThrough (Commit 1 ∷ []) result (C.seen cloud.old) (C.seen cloud.new) play.old play.new }
 {
-    match run(alloc, play, cloud, Event::Commit { session: 1 })? {
-        Reply::Commit(CommitAnswer::Committed { .. }) => Ok(()),
-        Reply::Commit(answer) => Err(LoadStop::Commit(answer)),
-        reply => Err(unfit(reply)),
-    }
+    committed(run(alloc, play, cloud, Event::Commit { session: 1 })?)
 }
 
 /// Settles: how many service calls that made.
@@ -254,11 +248,7 @@ fn settle<S: SessionCalls, C: Bench>(
 ) -> Result<u64, LoadStop>
     ensures { Settles result (C.seen cloud.old) (C.seen cloud.new) play.old play.new }
 {
-    match run(alloc, play, cloud, Event::Settle)? {
-        Reply::Settled { calls } => Ok(calls),
-        Reply::NotSettled(trouble) => Err(LoadStop::Settling(trouble)),
-        reply => Err(unfit(reply)),
-    }
+    settled(run(alloc, play, cloud, Event::Settle)?)
 }
 
 /// Runs an event, whatever it is answered.
@@ -271,8 +261,7 @@ fn pass_over<S: SessionCalls, C: Bench>(
     requires { IsPassedOver event }
     ensures { GoesThrough (event ∷ []) result (C.seen cloud.old) (C.seen cloud.new) play.old play.new }
 {
-    let reply = run(alloc, play, cloud, event)?;
-    let_go(reply);
+    let_go(run(alloc, play, cloud, event)?);
     Ok(())
 }
 
@@ -293,10 +282,64 @@ fn run<S: SessionCalls, C: Bench>(
     }
 }
 
+/// Goes on where the session is open.
+fn opened(reply: Reply) -> Result<(), LoadStop>
+    ensures { result ≡ answer_of (Open 1 1) reply }
+{
+    match reply {
+        Reply::Opened { .. } => Ok(()),
+        Reply::Trouble(trouble) => Err(LoadStop::Opening(trouble)),
+        other => Err(unfit(other)),
+    }
+}
+
+/// Goes on where the insert was noted.
+fn noted(reply: Reply) -> Result<(), LoadStop>
+    ensures { (p : Placed) → result ≡ answer_of (insert_of p) reply }
+{
+    match reply {
+        Reply::Noted => Ok(()),
+        other => Err(unfit(other)),
+    }
+}
+
+/// Goes on where the commit is committed.
+fn committed(reply: Reply) -> Result<(), LoadStop>
+    ensures { result ≡ answer_of (Commit 1) reply }
+{
+    match reply {
+        Reply::Commit(CommitAnswer::Committed { .. }) => Ok(()),
+        Reply::Commit(answer) => Err(LoadStop::Commit(answer)),
+        other => Err(unfit(other)),
+    }
+}
+
+/// How many calls a settling made, where it is done.
+fn settled(reply: Reply) -> Result<u64, LoadStop>
+    ensures { result ≡ calls_of reply }
+{
+    match reply {
+        Reply::Settled { calls } => Ok(calls),
+        Reply::NotSettled(trouble) => Err(LoadStop::Settling(trouble)),
+        other => Err(unfit(other)),
+    }
+}
+
 /// A reply that is none of its event's is told as want of memory.
 fn unfit(reply: Reply) -> LoadStop
     ensures { result ≡ LoadStop.Memory }
 {
     let_go(reply);
     LoadStop::Memory
+}
+
+/// Why a load stopped at its first looks.
+fn stopped_looking(stop: LookStop) -> LoadStop
+    ensures { result ≡ stop_of_look stop }
+{
+    match stop {
+        LookStop::NotEmpty(name) => LoadStop::NotEmpty(name),
+        LookStop::Failed => LoadStop::Stopped(Trouble::Failed),
+        LookStop::Memory => LoadStop::Memory,
+    }
 }

@@ -2,7 +2,7 @@
 
 ghost use Rattle.std.specs.Prelude.{◌≡◌, IfOk};
 ghost use Rattle.line_io.specs.Output.{WasWritten};
-ghost use Rattle.run_text.specs.Written.{reply_line, bad_line, plain_line, name_line, count_line};
+ghost use Rattle.run_text.specs.Written.{reply_line, bad_line, name_line, plain_line};
 
 use db_base::blob::Blob;
 use db_base::refusal::Refused;
@@ -31,21 +31,6 @@ pub fn write_name<O: Sink>(
     ensures { WasWritten (O.told sink.old) (O.told sink.new) (name_line word.now name.now) result }
 {
     match format!(in alloc; "{word} {name}\n") {
-        Ok(text) => write_text(sink, text.as_bytes()),
-        Err(_) => Err(OutputFault::Memory),
-    }
-}
-
-/// Writes a line of a word and a count.
-pub fn write_count<O: Sink>(
-    alloc: Global,
-    sink: &mut O,
-    word: &str,
-    count: u64,
-) -> Result<(), OutputFault>
-    ensures { WasWritten (O.told sink.old) (O.told sink.new) (count_line word.now count) result }
-{
-    match format!(in alloc; "{word} {count}\n") {
         Ok(text) => write_text(sink, text.as_bytes()),
         Err(_) => Err(OutputFault::Memory),
     }

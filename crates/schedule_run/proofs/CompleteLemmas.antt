@@ -27,8 +27,8 @@ use Rattle.schedule_run.specs.Shell.{AreShellLines, HasBadShellLine, ShellWent, 
 use Rattle.schedule_run.specs.declared.status.Status.{Status}
 use Rattle.schedule_run.specs.declared.status.Status.TheVariants as status
 use Rattle.schedule_run.specs.Status.{ended_as, status_of_input, status_of_line, status_of_settle, status_of_shell, status_of_dump, status_of_load}
-use Rattle.schedule_run.specs.Run.{AsksToDump, AsksToLoad, AsksToLook, AsksToOpen, AsksToSettle, limit_of, SpellsNoDump, Replays, replay_unread, replay_went, RunsShell, shell_unread, shell_went, RunsDump, dump_unasked, dump_went, RunsLoad, load_unread, load_went, Ran, WasBad, WasTooLong}
-use Rattle.schedule_run.specs.Loading.{Tells, FillEnded, fill_went, fill_bad, fill_unread}
+use Rattle.schedule_run.specs.Run.{AsksToDump, AsksToLoad, AsksToLook, AsksToOpen, AsksToSettle, limit_of, Replays, replay_unread, replay_went, RunsShell, shell_unread, shell_went, RunsDump, dump_unasked, dump_went, RunsLoad, load_unread, load_went, Ran, WasBad, WasTooLong}
+use Rattle.schedule_run.specs.Loading.{SpellsNoDump, FillEnded, fill_went, fill_bad, fill_unread}
 use Rattle.schedule_run.specs.declared.loading.LoadingFault.{LoadingFault}
 use Rattle.schedule_run.specs.declared.loading.LoadingFault.TheVariants as load
 use Rattle.run_text.specs.Written.{bad_line}

@@ -15,6 +15,7 @@ use Rattle.line_io.specs.Output.{WasWritten}
 use Rattle.run_text.specs.Written.{NothingRan, bad_line}
 use Rattle.schedule_run.specs.declared.load.Loaded.{Loaded}
 use Rattle.schedule_run.specs.declared.load.LoadStop.{LoadStop}
+use Rattle.schedule_run.specs.declared.load.LoadStop.TheVariants as load
 use Rattle.schedule_run.specs.declared.loading.LoadingFault.{LoadingFault}
 use Rattle.schedule_run.specs.declared.loading.LoadingFault.TheVariants.{BadLine, NotEmpty, Stopped, NotOpened, NotLoaded, NotSettled, WriteFault, Memory}
 use Rattle.schedule_run.specs.Load.{LoadEnded}
@@ -64,3 +65,12 @@ load_writes (Err output.Memory) end text w u p = inr p.1
 pub load_went : (trees : List DumpedTree) (loaded : Result Loaded LoadStop) (result : Result (Unit {0}) LoadingFault) (w u : Written) (s t : Seen) → LoadEnded loaded trees s t
     → Tells (load_text loaded) (load_end loaded) result w u → FillWent trees result w u s t
 load_went trees loaded result w u s t went told = record { loaded = loaded; went = went; told = told }
+
+-- it does not end by a bad line
+pub never_bad : (stop : LoadStop) → load_end (Err stop) ≡ Err BadLine → ⊥
+never_bad (load.NotEmpty name) e = absurd (cc)
+never_bad (load.Stopped trouble) e = absurd (cc)
+never_bad (load.Opening trouble) e = absurd (cc)
+never_bad (load.Commit answer) e = absurd (cc)
+never_bad (load.Settling trouble) e = absurd (cc)
+never_bad load.Memory e = absurd (cc)

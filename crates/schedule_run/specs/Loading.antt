@@ -37,6 +37,10 @@ load_end (Err (load.Commit answer)) = Err NotLoaded
 load_end (Err (load.Settling trouble)) = Err NotSettled
 load_end (Err load.Memory) = Err Memory
 
+-- the text spells no dump
+abbrev pub SpellsNoDump : List ℕ → Type 0
+SpellsNoDump text = (trees : List DumpedTree) → IsDump text trees → ⊥
+
 -- this text was written in one write, and the end is that to which it leads; or at a failed write and want of memory a first part of it was
 abbrev pub Tells : List ℕ → Result (Unit {0}) LoadingFault → Result (Unit {0}) LoadingFault → Written → Written → Type 0
 Tells text end (Ok done) written now_written = (end ≡ Ok done) × AddsOne written now_written text

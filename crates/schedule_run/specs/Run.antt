@@ -5,8 +5,6 @@ use Rattle.command_words.specs.declared.shape.Shape.{Shape}
 use Rattle.command_words.specs.declared.shape.Shape.TheVariants.{Replay, Gen, Shell, Settle, Dump, Load}
 use Rattle.db_io.specs.Content.{Told, Takes}
 use Rattle.db_io.specs.Writes.{Written}
-use Rattle.dump_text.specs.declared.dump.DumpedTree.{DumpedTree}
-use Rattle.dump_text.specs.Text.{IsDump}
 use Rattle.line_io.specs.Input.{AreAll}
 use Rattle.line_io.specs.declared.input.InputFault.{InputFault}
 use Rattle.line_io.specs.declared.input.TheConstants.{MAX_LINES, MAX_DUMP}
@@ -20,7 +18,7 @@ use Rattle.schedule_run.specs.declared.shell.ShellFault.{ShellFault}
 use Rattle.schedule_run.specs.Answered.{OpensNoneTwice}
 use Rattle.schedule_run.specs.Dumping.{DumpEnded}
 use Rattle.schedule_run.specs.Generated.{GenEnded}
-use Rattle.schedule_run.specs.Loading.{FillEnded}
+use Rattle.schedule_run.specs.Loading.{FillEnded, SpellsNoDump}
 use Rattle.schedule_run.specs.Replayed.{HasBadLine, ReplayWent}
 use Rattle.schedule_run.specs.Settling.{SettleEnded}
 use Rattle.schedule_run.specs.Shell.{HasBadShellLine, ShellWent}
@@ -59,10 +57,6 @@ pub record ReadWhole (limit : ℕ) (before after : Told) : Type 0 where
   pub taken : Takes before after bytes
   pub all : AreAll before bytes
   pub within : length bytes ≤ limit
-
--- the text spells no dump
-abbrev pub SpellsNoDump : List ℕ → Type 0
-SpellsNoDump text = (trees : List DumpedTree) → IsDump text trees → ⊥
 
 -- a line of the text is not one of those that the command reads, or the text is no dump where it reads that
 abbrev pub HasBad : Option Shape → List ℕ → Type 0

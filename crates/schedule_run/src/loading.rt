@@ -2,7 +2,7 @@ ghost use Rattle.std.specs.Prelude.{◌≡◌, ◌<◌, ◌⊎◌, Ok, Err};
 ghost use Rattle.dump_text.specs.Dump.{IsDumpable};
 ghost use Rattle.line_io.specs.Output.{WasWritten};
 ghost use Rattle.run_text.specs.Written.{bad_line, plain_line};
-ghost use Rattle.schedule_run.specs.Loading.{FillEnded, FillWent, Tells, end_of, load_end, load_text};
+ghost use Rattle.schedule_run.specs.Loading.{FillEnded, FillWent, SpellsNoDump, Tells, end_of, load_end, load_text};
 
 use crate::load::{LoadStop, Loaded, load};
 use cloud_trait::cloud::Bench;
@@ -47,6 +47,7 @@ pub fn fill<O: Sink, C: Bench>(
         → (O.told sink.old).faults < (O.told sink.new).faults }
     ensures writes { (result ≡ Err LoadingFault.WriteFault)
         ⊎ ((O.told sink.new).faults ≡ (O.told sink.old).faults) }
+    ensures bad_line { result ≡ Err LoadingFault.BadLine → SpellsNoDump text.now }
     ensures went { FillEnded text.now result (O.told sink.old) (O.told sink.new) (C.seen cloud.old) (C.seen cloud.new) }
 {
     match Dump::read(alloc, text) {
@@ -93,6 +94,7 @@ fn fill_from<O: Sink, C: Bench>(
         → (O.told sink.old).faults < (O.told sink.new).faults }
     ensures writes { (result ≡ Err LoadingFault.WriteFault)
         ⊎ ((O.told sink.new).faults ≡ (O.told sink.old).faults) }
+    ensures good { result ≡ Err LoadingFault.BadLine → ⊥ }
     ensures went { FillWent dump.now.trees result (O.told sink.old) (O.told sink.new) (C.seen cloud.old) (C.seen cloud.new) }
 {
     match load(alloc, cloud, dump) {

@@ -1,11 +1,11 @@
 ghost use Rattle.std.specs.Prelude.{◌≡◌, ◌<◌, ◌≤◌, ◌⊎◌, Some, None, map, string_bytes};
 ghost use Rattle.command_words.specs.Words.{shape_of};
 ghost use Rattle.line_io.specs.declared.input.TheConstants.{MAX_DUMP, MAX_LINES};
+ghost use Rattle.schedule_run.specs.Loading.{SpellsNoDump};
 ghost use Rattle.schedule_run.specs.Replayed.{HasBadLine};
 ghost use Rattle.schedule_run.specs.Shell.{HasBadShellLine};
 ghost use Rattle.schedule_run.specs.Complete.{IsComplete, StopsAtBadLine};
-ghost use Rattle.schedule_run.specs.Run.{AsksToDump, AsksToLoad, AsksToLook, AsksToOpen, AsksToSettle, AsksWithin, Generates, HasBad, IsOfDump, IsOfLoad, IsOfReplay, IsOfSchedule, IsOfSettling, IsOfShell, Ran, Replays, RunsDump, RunsLoad, RunsSettling, RunsShell, SpellsNoDump, WasBad, WasTooLong, WasWithin, limit_of};
-ghost use Rattle.schedule_run.specs.Status.{ended_as, status_of_load};
+ghost use Rattle.schedule_run.specs.Run.{AsksToDump, AsksToLoad, AsksToLook, AsksToOpen, AsksToSettle, AsksWithin, Generates, HasBad, IsOfDump, IsOfLoad, IsOfReplay, IsOfSchedule, IsOfSettling, IsOfShell, Ran, Replays, RunsDump, RunsLoad, RunsSettling, RunsShell, WasBad, WasTooLong, WasWithin, limit_of};
 
 use crate::dumping::{DumpingFault, dump};
 use crate::generated::generate;
@@ -277,26 +277,19 @@ fn filled<I: Source, O: Sink, C: Bench>(
         (C.seen cloud.old) (C.seen cloud.new) }
 {
     match read_whole(alloc, source, MAX_DUMP) {
-        Ok(input) => status_of(fill(alloc, input.as_slice(), sink, cloud)),
+        Ok(input) => match fill(alloc, input.as_slice(), sink, cloud) {
+            Ok(()) => Status::Done,
+            Err(LoadingFault::BadLine) => Status::BadLine,
+            Err(LoadingFault::NotEmpty) => Status::NotEmpty,
+            Err(LoadingFault::Stopped) => Status::Stopped,
+            Err(LoadingFault::NotOpened) => Status::NotOpened,
+            Err(LoadingFault::NotLoaded) => Status::NotLoaded,
+            Err(LoadingFault::NotSettled) => Status::NotSettled,
+            Err(LoadingFault::WriteFault) => Status::WriteFault,
+            Err(LoadingFault::Memory) => Status::Memory,
+        },
         Err(InputFault::ReadFault) => Status::ReadFault,
         Err(InputFault::TooLong) => Status::TooLong,
         Err(InputFault::Memory) => Status::Memory,
-    }
-}
-
-/// The status of a load.
-fn status_of(ended: Result<(), LoadingFault>) -> Status
-    ensures { result ≡ ended_as status_of_load ended }
-{
-    match ended {
-        Ok(()) => Status::Done,
-        Err(LoadingFault::BadLine) => Status::BadLine,
-        Err(LoadingFault::NotEmpty) => Status::NotEmpty,
-        Err(LoadingFault::Stopped) => Status::Stopped,
-        Err(LoadingFault::NotOpened) => Status::NotOpened,
-        Err(LoadingFault::NotLoaded) => Status::NotLoaded,
-        Err(LoadingFault::NotSettled) => Status::NotSettled,
-        Err(LoadingFault::WriteFault) => Status::WriteFault,
-        Err(LoadingFault::Memory) => Status::Memory,
     }
 }

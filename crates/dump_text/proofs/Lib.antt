@@ -6,3 +6,4 @@ pub mod Filling
 pub mod States
 pub mod Continuing
 pub mod Reached
+pub mod MapLaws

@@ -35,6 +35,12 @@ pub record Reached (text left : List ℕ) (reading : Reading) (n : ℕ) : Type 0
 abbrev pub nothing_read : Reading
 nothing_read = record { trees = []; partial = None }
 
+pub all_sound : IsSound [] None
+all_sound = record { in_range = tt; dumpable = record { each = tt; ascending = tt }; partial = tt }
+
+pub all_goes_on : (text : List ℕ) (all : List DumpedTree) → IsDump text all → Continues [] None text all
+all_goes_on text all d = record { others = all; all_are = refl; rest_is = d.is }
+
 pub at_first : (text : List ℕ) → Reached text text nothing_read 0
 at_first text = record {
   before = [];
@@ -42,9 +48,9 @@ at_first text = record {
   ended = inl refl;
   count = refl;
   twice = omega arith;
-  sound = record { in_range = tt; dumpable = record { each = tt; ascending = tt }; partial = tt };
+  sound = all_sound;
   read = refl;
-  only = λ rest all d. record { others = all; all_are = refl; rest_is = d.is };
+  only = all_goes_on;
 }
 
 -- what stands behind a line of a text

@@ -15,6 +15,8 @@ pub mod DumpingLemmas
 pub mod LoadingLemmas
 pub mod LoadLemmas
 pub mod LoadRuns
+pub mod LoadCalm
+pub mod LoadCalls
 pub mod LoadEnds
 pub mod RunLemmas
 pub mod FallenLemmas

@@ -12,10 +12,13 @@ use Rattle.reply_text.specs.declared.reply.Reply.{Reply}
 use Rattle.reply_text.specs.declared.reply.Reply.TheVariants as reply
 use Rattle.schedule_run.specs.InPlay.{Play}
 use Rattle.schedule_run.specs.Load.{stop_of, stop_of_look, ran_more, StopsAt, stops_behind, stops_at, stops_before, StoppedBehind, LoadRanOut, out_looking, out_between, out_event, out_behind, LoadEnded, Loads}
+use Rattle.schedule_run.specs.LoadCalm.{IsSpentStop}
 use Rattle.schedule_run.specs.Play.{IsFresh}
+use Rattle.schedule_run.specs.Shell.{WereRun}
 use Rattle.schedule_run.specs.declared.load.LoadStop.{LoadStop}
 use Rattle.schedule_run.specs.declared.load.LoadStop.TheVariants.{NotEmpty, Stopped, Opening, Commit, Settling, Memory}
 use Rattle.schedule_run.specs.declared.load.Loaded.{Loaded}
+use Rattle.schedule_run.proofs.LoadCalm.{stops_spent}
 use Rattle.schedule_run.proofs.LoadRuns.{were_run, were_stopped}
 
 -- the first looks ended before the last
@@ -50,6 +53,8 @@ ran_out stop trees start now is out = subst (λ (x : LoadStop). LoadEnded (Err x
 stopped_by : (trees : List DumpedTree) (stop : LoadStop) (start mid now : Seen) (old : Play) → LookedAtAll first_names start mid → IsFresh true old
     → StopsAt (load_events trees) stop mid now old → LoadEnded (Err stop) trees start now
 stopped_by trees stop start mid now old empty fresh (stops_behind earlier later e r y play new at went none run ends is) =
+    let run_so : WereRun (earlier ++ e ∷ []) (went.replies ++ r ∷ []) mid now new =
+    were_run mid old fresh (earlier ++ e ∷ []) (went.replies ++ r ∷ []) now new (ran_more earlier e went.replies r y now play new went.ran none run) in
     stopped_so stop trees start now (subst IsOfEvents (sym is) (of_events e r))
     (record {
       mid = mid;
@@ -61,10 +66,13 @@ stopped_by trees stop start mid now old empty fresh (stops_behind earlier later 
       replies = went.replies;
       reply = r;
       play = new;
-      run = were_run mid old fresh (earlier ++ e ∷ []) (went.replies ++ r ∷ []) now new (ran_more earlier e went.replies r y now play new went.ran none run);
+      run = run_so;
       well = went.well;
       ends = ends;
       stops = is;
+      calm = λ t told nothing u seen calm.
+          subst (λ (x : LoadStop). IsSpentStop u x) (sym is)
+          (stops_spent trees earlier later e went.replies r mid now new at run_so ends t (empty.looked.looked.stays t told) nothing u seen calm);
     })
 stopped_by trees stop start mid now old empty fresh (stops_at earlier later e y play new at went none stops is) =
     ran_out stop trees start now is

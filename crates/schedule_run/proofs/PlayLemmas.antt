@@ -31,7 +31,7 @@ use Rattle.schedule_run.proofs.StayLemmas.{stay_upto}
 reports_of : (blind : Bool) (lines : List Line) (s t : Seen) (first world : World) (x : CloudState) → WentOn s first lines t world → IsNew blind first → (blind ≡ true → AskNoReport lines)
     → s.state ≡ Some x → IsEmptyCloud x → ReportsCome lines s t
 reports_of false lines s t first world x went fresh unasked told empty = reports_come lines s t first world x went fresh told empty
-reports_of true lines s t first world x went fresh unasked told empty still k line tree at asked is = absurd (unasked refl k line at tree asked)
+reports_of true lines s t first world x went fresh unasked told empty = λ still k line tree at asked is. absurd (unasked refl k line at tree asked)
 
 -- nothing is handled yet
 pub played_nothing : {blind : Bool} → (s : Seen) (play : Play) → IsFresh blind play → Played blind [] s s play

@@ -39,7 +39,6 @@ use Rattle.session_facts.proofs.CommittedLemmas.{committed_same, committed_line,
 use Rattle.session_facts.proofs.Steps.{made_call}
 use Rattle.db_base.specs.declared.names.QueueName.{QueueName}
 use Rattle.ckpt_policy.specs.declared.role.Role.{Role}
-use Rattle.cloud_facts.specs.Book.Tally.{at}
 use Rattle.world_core.specs.World.{World}
 use Rattle.world_core.specs.declared.asked.Asked.{Asked}
 use Rattle.world_core.specs.declared.asked.Asked.TheVariants.{Session, Wait, Report, Settle}

@@ -7,6 +7,8 @@ pub mod Loading
 pub mod Shell
 pub mod Generated
 pub mod InPlay
+pub mod PlainCalls
+pub mod LoadCalm
 pub mod Load
 pub mod Status
 pub mod Arguments

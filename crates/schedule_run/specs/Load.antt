@@ -1,6 +1,7 @@
 -- What a load runs and leaves, event by event.
-use Rattle.std.specs.Prelude.{ℕ, ◌≡◌, Bool, true, false, if◌then◌else◌, List, [], ◌∷◌, ◌++◌, length, Result, Ok, Err}
+use Rattle.std.specs.Prelude.{ℕ, ◌≡◌, Bool, true, false, if◌then◌else◌, List, [], ◌∷◌, ◌++◌, length, Some, Result, Ok, Err}
 use Rattle.cloud_trait.specs.Seen.{Seen}
+use Rattle.cloud_trait.specs.State.{CloudState, IsEmptyCloud}
 use Rattle.db_base.specs.declared.trouble.CommitAnswer.TheVariants.{Committed}
 use Rattle.db_base.specs.declared.trouble.Trouble.TheVariants as trouble
 use Rattle.dump_text.specs.declared.dump.DumpedTree.{DumpedTree}
@@ -14,6 +15,7 @@ use Rattle.reply_text.specs.declared.reply.Reply.{Reply}
 use Rattle.reply_text.specs.declared.reply.Reply.TheVariants as reply
 use Rattle.schedule_run.specs.Answered.{IsNoReport}
 use Rattle.schedule_run.specs.InPlay.{Play}
+use Rattle.schedule_run.specs.LoadCalm.{AreCalm, IsSpentStop}
 use Rattle.schedule_run.specs.Play.{IsRun, StopsRun}
 use Rattle.schedule_run.specs.Settling.{is_settled}
 use Rattle.schedule_run.specs.Shell.{WereRun, WereStopped, is_opened}
@@ -67,7 +69,7 @@ pub record LoadDone (loaded : Loaded) (trees : List DumpedTree) (start now : See
   pub records : loaded.records ≡ length (records_of trees)
 
 -- none of the first objects was there; the events before this one were run and it went on behind each, and so was this one, behind whose reply it
--- does not go on
+-- does not go on; over a cloud that was empty and told its state, where each step was calm, a counter is spent, or memory ran out
 pub record StoppedBehind (stop : LoadStop) (trees : List DumpedTree) (start now : Seen) : Type 0 where
   pub mid : Seen
   pub empty : LookedAtAll first_names start mid
@@ -82,6 +84,8 @@ pub record StoppedBehind (stop : LoadStop) (trees : List DumpedTree) (start now 
   pub well : GoOn earlier replies
   pub ends : goes_on event reply ≡ false
   pub stops : stop ≡ stop_of event reply
+  pub calm : (t : CloudState) → start.state ≡ Some t → IsEmptyCloud t → (u : CloudState) → now.state ≡ Some u
+      → AreCalm mid run.played.first run.lines now play.world run.played.went → IsSpentStop u stop
 
 -- where memory ran out: at the first looks, before anything was run, behind these events, at the next one, or behind a reply that is none of its
 -- event's

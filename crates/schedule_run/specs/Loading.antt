@@ -10,6 +10,7 @@ use Rattle.line_io.specs.declared.output.OutputFault.TheVariants as output
 use Rattle.reply_text.specs.declared.reply.Reply.TheVariants as reply
 use Rattle.run_text.specs.Written.{NothingRan, bad_line, count_line, name_line, plain_line}
 use Rattle.schedule_run.specs.Load.{LoadEnded}
+use Rattle.schedule_run.specs.PlainCalls.{CallsPlainly}
 use Rattle.schedule_run.specs.declared.load.Loaded.{Loaded}
 use Rattle.schedule_run.specs.declared.load.LoadStop.{LoadStop}
 use Rattle.schedule_run.specs.declared.load.LoadStop.TheVariants as load
@@ -48,10 +49,11 @@ Tells text end (Err WriteFault) written now_written = AddsPart written now_writt
 Tells text end (Err Memory) written now_written = AddsPart written now_written text
 Tells text end (Err fault) written now_written = (end ≡ Err fault) × AddsOne written now_written text
 
--- a load of these trees ended, and that was told
+-- a load of these trees ended, by plain calls of its session and its settling alone, and that was told
 pub record FillWent (trees : List DumpedTree) (result : Result (Unit {0}) LoadingFault) (written now_written : Written) (start now : Seen) : Type 0 where
   pub loaded : Result Loaded LoadStop
   pub went : LoadEnded loaded trees start now
+  pub calls : CallsPlainly start now
   pub told : Tells (load_text loaded) (load_end loaded) result written now_written
 
 -- the text spells a dump, which was loaded up to this end; or it spells none, and its first bad line was told; or there was no memory to read it.

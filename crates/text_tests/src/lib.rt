@@ -1,8 +1,10 @@
-//! Tests of words, lines, replies and made schedules.
+//! Tests of words, lines, replies, dumps and made schedules.
 #![tactic(auto)]
 
 #[cfg(test)]
 mod command_words_tests;
+#[cfg(test)]
+mod dump_text_tests;
 #[cfg(test)]
 mod event_text_tests;
 #[cfg(test)]

@@ -3,10 +3,10 @@ use Rattle.schedule_run.proofs.LoadingLemmas.{load_went, never_bad}
 use Rattle.schedule_run.proofs.loading.fill_from.Goals as goal
 
 pub returns-in-Ok-clause-went : goal.returns-in-Ok-clause-went
-returns-in-Ok-clause-went g c = load_went c.args.dump.now.trees (Ok c.in-Ok.loaded) _ _ _ _ _ c.in-Ok.ensures c.write_loaded.ensures.told
+returns-in-Ok-clause-went g c = load_went c.args.dump.now.trees (Ok c.in-Ok.loaded) _ _ _ _ _ c.in-Ok.ensures.went c.in-Ok.ensures.calls c.write_loaded.ensures.told
 
 pub returns-clause-went : goal.returns-clause-went
-returns-clause-went g c = load_went c.args.dump.now.trees (Err c.in-Err.stop) _ _ _ _ _ c.in-Err.ensures c.write_stop.ensures.told
+returns-clause-went g c = load_went c.args.dump.now.trees (Err c.in-Err.stop) _ _ _ _ _ c.in-Err.ensures.went c.in-Err.ensures.calls c.write_stop.ensures.told
 
 pub returns-in-Ok-clause-good : goal.returns-in-Ok-clause-good
 returns-in-Ok-clause-good g c e =

@@ -12,11 +12,11 @@ use Rattle.clap.specs.Walk.{Names, Rule, Text, Walk, walk_from, walked, nothing_
 use Rattle.clap.specs.Simple.{App, Shape, built, is_simple, built_leaf, inherited, with_leaf_noted, marked_built, names_of, subcommand_of}
 use Rattle.clap.specs.Lexer.{long_of, short_of, strip_byte}
 use Rattle.clap.proofs.OnLiterals.{clap_on_literals}
-use Rattle.command_words.specs.Command.{command_app, replay_app, gen_app, shell_app, settle_app, shape_in, shell_in, settling_in}
+use Rattle.command_words.specs.Command.{command_app, replay_app, gen_app, shell_app, settle_app, dump_app, load_app, shape_in, shell_in, settling_in, dumping_in, loading_in}
 use Rattle.words.specs.Word.{number_of}
 use Rattle.command_words.specs.declared.shape.Shape.{Shape as CommandShape}
 use Rattle.command_words.specs.declared.shape.Shape.TheVariants.{Shell}
-use Rattle.command_words.specs.Words.{generated, is_folder, settling_of, shape_of, shell_over}
+use Rattle.command_words.specs.Words.{generated, is_folder, settling_of, dumping_of, loading_of, shape_of, shell_over}
 
 -- ---- words that begin with no hyphen
 
@@ -94,6 +94,12 @@ same_shell (Some client) dir h = same_range (nat_le 1 client) (nat_le client 64)
 same_settling : (dir : Text) → is_folder dir ≡ true → settling_in (Some dir) ≡ settling_of dir
 same_settling dir h = rw h refl
 
+same_dumping : (dir : Text) → is_folder dir ≡ true → dumping_in (Some dir) ≡ dumping_of dir
+same_dumping dir h = rw h refl
+
+same_loading : (dir : Text) → is_folder dir ≡ true → loading_in (Some dir) ≡ loading_of dir
+same_loading dir h = rw h refl
+
 agree_replay : (words : List Text) → list_all is_folder words ≡ true → Agrees (leaf_fault (leaf_of replay_app) words) (leaf_read (leaf_of replay_app) (codes "replay") words) (shape_of (codes "replay" ∷ words))
 unfolding clap_on_literals
 agree_replay [] h = refl
@@ -118,6 +124,36 @@ agree_settle (a ∷ b ∷ []) h =
     let q = (all_first b [] p.1).0 in
     rw (no_dashes a p.0, no_long a p.0, no_short a p.0, no_dashes b q, no_long b q, no_short b q) refl
 agree_settle (a ∷ b ∷ c ∷ words) h =
+    let p = all_first a (b ∷ c ∷ words) h in
+    let q = (all_first b (c ∷ words) p.1).0 in
+    rw (no_dashes a p.0, no_long a p.0, no_short a p.0, no_dashes b q, no_long b q, no_short b q) refl
+
+agree_dump : (words : List Text) → list_all is_folder words ≡ true → Agrees (leaf_fault (leaf_of dump_app) words) (leaf_read (leaf_of dump_app) (codes "dump") words) (shape_of (codes "dump" ∷ words))
+unfolding clap_on_literals
+agree_dump [] h = refl
+agree_dump (a ∷ []) h =
+    let p = (all_first a [] h).0 in
+    rw (no_dashes a p, no_long a p, no_short a p) (same_dumping a p)
+agree_dump (a ∷ b ∷ []) h =
+    let p = all_first a (b ∷ []) h in
+    let q = (all_first b [] p.1).0 in
+    rw (no_dashes a p.0, no_long a p.0, no_short a p.0, no_dashes b q, no_long b q, no_short b q) refl
+agree_dump (a ∷ b ∷ c ∷ words) h =
+    let p = all_first a (b ∷ c ∷ words) h in
+    let q = (all_first b (c ∷ words) p.1).0 in
+    rw (no_dashes a p.0, no_long a p.0, no_short a p.0, no_dashes b q, no_long b q, no_short b q) refl
+
+agree_load : (words : List Text) → list_all is_folder words ≡ true → Agrees (leaf_fault (leaf_of load_app) words) (leaf_read (leaf_of load_app) (codes "load") words) (shape_of (codes "load" ∷ words))
+unfolding clap_on_literals
+agree_load [] h = refl
+agree_load (a ∷ []) h =
+    let p = (all_first a [] h).0 in
+    rw (no_dashes a p, no_long a p, no_short a p) (same_loading a p)
+agree_load (a ∷ b ∷ []) h =
+    let p = all_first a (b ∷ []) h in
+    let q = (all_first b [] p.1).0 in
+    rw (no_dashes a p.0, no_long a p.0, no_short a p.0, no_dashes b q, no_long b q, no_short b q) refl
+agree_load (a ∷ b ∷ c ∷ words) h =
     let p = all_first a (b ∷ c ∷ words) h in
     let q = (all_first b (c ∷ words) p.1).0 in
     rw (no_dashes a p.0, no_long a p.0, no_short a p.0, no_dashes b q, no_long b q, no_short b q) refl
@@ -190,6 +226,20 @@ top_settle rest =
     let walk_fault_is = stopped_fault top_of top_names (walk_from nothing_held) (codes "settle") [] rest in
     (rw (walk_is, walk_fault_is) (no_more (leaf_fault (leaf_of settle_app) rest)), rw walk_is refl)
 
+top_dump : (rest : List Text) → (fault_of command_app (codes "dump" ∷ rest) ≡ leaf_fault (leaf_of dump_app) rest) × (subcommand_of command_app (codes "dump" ∷ rest) ≡ Some (codes "dump", rows_after (leaf_of dump_app).rules [] rest))
+unfolding clap_on_literals
+top_dump rest =
+    let walk_is = stopped_walk top_of.rules top_names (walk_from nothing_held) (codes "dump") [] rest in
+    let walk_fault_is = stopped_fault top_of top_names (walk_from nothing_held) (codes "dump") [] rest in
+    (rw (walk_is, walk_fault_is) (no_more (leaf_fault (leaf_of dump_app) rest)), rw walk_is refl)
+
+top_load : (rest : List Text) → (fault_of command_app (codes "load" ∷ rest) ≡ leaf_fault (leaf_of load_app) rest) × (subcommand_of command_app (codes "load" ∷ rest) ≡ Some (codes "load", rows_after (leaf_of load_app).rules [] rest))
+unfolding clap_on_literals
+top_load rest =
+    let walk_is = stopped_walk top_of.rules top_names (walk_from nothing_held) (codes "load") [] rest in
+    let walk_fault_is = stopped_fault top_of top_names (walk_from nothing_held) (codes "load") [] rest in
+    (rw (walk_is, walk_fault_is) (no_more (leaf_fault (leaf_of load_app) rest)), rw walk_is refl)
+
 -- what agrees stays so under equal terms
 moved : (kinds k : Kinds) (read r wanted : Option CommandShape) → kinds ≡ k → read ≡ r → Agrees k r wanted → Agrees kinds read wanted
 moved kinds k read r wanted e f h = rw (e, f) h
@@ -209,17 +259,33 @@ turned a b h = on (bytes_eq b a) refl
         differ true p q = absurd cc
         differ false p q = absurd cc
 
--- a first word that names no subcommand is of no shape
-no_name : (word : Text) (rest : List Text) → bytes_eq word (codes "replay") ≡ false → bytes_eq word (codes "gen") ≡ false → bytes_eq word (codes "shell") ≡ false → bytes_eq word (codes "settle") ≡ false → shape_of (word ∷ rest) ≡ None
-no_name word [] r g s t = rw r refl
-no_name word (a ∷ []) r g s t = rw t refl
-no_name word (a ∷ b ∷ []) r g s t = rw (g, s) refl
-no_name word (a ∷ b ∷ c ∷ rest) r g s t = refl
+-- a word that names no subcommand
+record IsNoName (word : Text) : Type 0 where
+  replay : bytes_eq word (codes "replay") ≡ false
+  gen : bytes_eq word (codes "gen") ≡ false
+  shell : bytes_eq word (codes "shell") ≡ false
+  settle : bytes_eq word (codes "settle") ≡ false
+  dump : bytes_eq word (codes "dump") ≡ false
+  load : bytes_eq word (codes "load") ≡ false
+
+-- as a first word it is of no shape
+no_name : (word : Text) (rest : List Text) → IsNoName word → shape_of (word ∷ rest) ≡ None
+no_name word [] other = rw other.replay refl
+no_name word (a ∷ []) other = rw (other.settle, other.dump, other.load) refl
+no_name word (a ∷ b ∷ []) other = rw (other.gen, other.shell) refl
+no_name word (a ∷ b ∷ c ∷ rest) other = refl
 
 -- and is refused
-stray : (word : Text) (rest : List Text) (read wanted : Option CommandShape) → is_folder word ≡ true → bytes_eq (codes "replay") word ≡ false → bytes_eq (codes "gen") word ≡ false → bytes_eq (codes "shell") word ≡ false → bytes_eq (codes "settle") word ≡ false → wanted ≡ None → Agrees (fault_of command_app (word ∷ rest)) read wanted
+stray : (word : Text) (rest : List Text) (read wanted : Option CommandShape) → is_folder word ≡ true → IsNoName word → wanted ≡ None → Agrees (fault_of command_app (word ∷ rest)) read wanted
 unfolding clap_on_literals
-stray word rest read wanted p r g s t none = rw (r, g, s, t, no_dashes word p, no_long word p, no_short word p) none
+stray word rest read wanted p other none =
+    let r = turned word (codes "replay") other.replay in
+    let g = turned word (codes "gen") other.gen in
+    let s = turned word (codes "shell") other.shell in
+    let t = turned word (codes "settle") other.settle in
+    let d = turned word (codes "dump") other.dump in
+    let l = turned word (codes "load") other.load in
+    rw (r, g, s, t, d, l, no_dashes word p, no_long word p, no_short word p) none
 
 -- ---- all words
 
@@ -259,18 +325,39 @@ at_settle rest h =
     moved (fault_of command_app words) (leaf_fault (leaf_of settle_app) rest) (shape_in (subcommand_of command_app words)) (leaf_read (leaf_of settle_app) (codes "settle") rest) (shape_of words)
     top.0 (ap shape_in top.1) (agree_settle rest h)
 
+at_dump : (rest : List Text) → list_all is_folder rest ≡ true → AgreesAt (codes "dump" ∷ rest)
+at_dump rest h =
+    let words = codes "dump" ∷ rest in
+    let top = top_dump rest in
+    moved (fault_of command_app words) (leaf_fault (leaf_of dump_app) rest) (shape_in (subcommand_of command_app words)) (leaf_read (leaf_of dump_app) (codes "dump") rest) (shape_of words)
+    top.0 (ap shape_in top.1) (agree_dump rest h)
+
+at_load : (rest : List Text) → list_all is_folder rest ≡ true → AgreesAt (codes "load" ∷ rest)
+at_load rest h =
+    let words = codes "load" ∷ rest in
+    let top = top_load rest in
+    moved (fault_of command_app words) (leaf_fault (leaf_of load_app) rest) (shape_in (subcommand_of command_app words)) (leaf_read (leaf_of load_app) (codes "load") rest) (shape_of words)
+    top.0 (ap shape_in top.1) (agree_load rest h)
+
 at_name : (word name : Text) (rest : List Text) → bytes_eq word name ≡ true → AgreesAt (name ∷ rest) → AgreesAt (word ∷ rest)
 at_name word name rest e h =
     let P : Text → Type 0 = λ w. AgreesAt (w ∷ rest) in
     subst P (sym ((bytes_eq-Decides word name).0 e)) h
 
 -- the word is tried with each name in turn
+on_load : (word : Text) (rest : List Text) (same : Bool) → bytes_eq word (codes "load") ≡ same → is_folder word ≡ true → list_all is_folder rest ≡ true → bytes_eq word (codes "replay") ≡ false → bytes_eq word (codes "gen") ≡ false → bytes_eq word (codes "shell") ≡ false → bytes_eq word (codes "settle") ≡ false → bytes_eq word (codes "dump") ≡ false → AgreesAt (word ∷ rest)
+on_load word rest true e p q r g s t d = at_name word (codes "load") rest e (at_load rest q)
+on_load word rest false e p q r g s t d =
+    let other : IsNoName word = record { replay = r; gen = g; shell = s; settle = t; dump = d; load = e } in
+    stray word rest (shape_in (subcommand_of command_app (word ∷ rest))) (shape_of (word ∷ rest)) p other (no_name word rest other)
+
+on_dump : (word : Text) (rest : List Text) (same : Bool) → bytes_eq word (codes "dump") ≡ same → is_folder word ≡ true → list_all is_folder rest ≡ true → bytes_eq word (codes "replay") ≡ false → bytes_eq word (codes "gen") ≡ false → bytes_eq word (codes "shell") ≡ false → bytes_eq word (codes "settle") ≡ false → AgreesAt (word ∷ rest)
+on_dump word rest true e p q r g s t = at_name word (codes "dump") rest e (at_dump rest q)
+on_dump word rest false e p q r g s t = on_load word rest (bytes_eq word (codes "load")) refl p q r g s t e
+
 on_settle : (word : Text) (rest : List Text) (same : Bool) → bytes_eq word (codes "settle") ≡ same → is_folder word ≡ true → list_all is_folder rest ≡ true → bytes_eq word (codes "replay") ≡ false → bytes_eq word (codes "gen") ≡ false → bytes_eq word (codes "shell") ≡ false → AgreesAt (word ∷ rest)
 on_settle word rest true e p q r g s = at_name word (codes "settle") rest e (at_settle rest q)
-on_settle word rest false e p q r g s =
-    stray word rest (shape_in (subcommand_of command_app (word ∷ rest))) (shape_of (word ∷ rest)) p
-    (turned word (codes "replay") r) (turned word (codes "gen") g) (turned word (codes "shell") s) (turned word (codes "settle") e)
-    (no_name word rest r g s e)
+on_settle word rest false e p q r g s = on_dump word rest (bytes_eq word (codes "dump")) refl p q r g s e
 
 on_shell : (word : Text) (rest : List Text) (same : Bool) → bytes_eq word (codes "shell") ≡ same → is_folder word ≡ true → list_all is_folder rest ≡ true → bytes_eq word (codes "replay") ≡ false → bytes_eq word (codes "gen") ≡ false → AgreesAt (word ∷ rest)
 on_shell word rest true e p q r g = at_name word (codes "shell") rest e (at_shell rest q)

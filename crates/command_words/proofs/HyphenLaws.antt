@@ -8,7 +8,7 @@ use Rattle.std.proofs.lemmas.Bool.Decides.{nat_tests}
 use Rattle.words.specs.Word.{number_of}
 use Rattle.command_words.specs.declared.shape.Shape.{Shape as CommandShape}
 use Rattle.command_words.specs.declared.shape.Shape.TheVariants.{Shell}
-use Rattle.command_words.specs.Words.{generated, is_folder, settling_of, shape_of, shell_over}
+use Rattle.command_words.specs.Words.{generated, is_folder, settling_of, dumping_of, loading_of, shape_of, shell_over}
 
 hyphen_name : (word name : List ℕ) → is_folder word ≡ false → is_folder name ≡ true → bytes_eq word name ≡ false
 hyphen_name word name h k = on (bytes_eq word name) refl
@@ -51,6 +51,12 @@ shell_hyphen (Some client) dir h = ranged (nat_le 1 client) (nat_le client 64) (
 settling_hyphen : (dir : List ℕ) → is_folder dir ≡ false → settling_of dir ≡ None
 settling_hyphen dir h = rw h refl
 
+dumping_hyphen : (dir : List ℕ) → is_folder dir ≡ false → dumping_of dir ≡ None
+dumping_hyphen dir h = rw h refl
+
+loading_hyphen : (dir : List ℕ) → is_folder dir ≡ false → loading_of dir ≡ None
+loading_hyphen dir h = rw h refl
+
 generated_none : (n m : Option ℕ) → m ≡ None → generated n m ≡ None
 generated_none None m e = refl
 generated_none (Some n) m e = rw e refl
@@ -73,12 +79,16 @@ one c h = elim (first_or_rest (is_folder c) true h) [
 
 two : (c a : List ℕ) → list_all is_folder (c ∷ a ∷ []) ≡ false → shape_of (c ∷ a ∷ []) ≡ None
 two c a h = elim (first_or_rest (is_folder c) (list_all is_folder (a ∷ [])) h) [
-  | inl p ↦ rw (hyphen_name c (codes "settle") p refl) refl
+  | inl p ↦ rw (hyphen_name c (codes "settle") p refl, hyphen_name c (codes "dump") p refl, hyphen_name c (codes "load") p refl) refl
   | inr p ↦ second (first_or_rest (is_folder a) true p)
 ]
   where
     second : (is_folder a ≡ false) ⊎ (true ≡ false) → shape_of (c ∷ a ∷ []) ≡ None
-    second (inl p) = both (bytes_eq c (codes "settle")) (settling_of a) None (settling_hyphen a p) refl
+    second (inl p) =
+        let load = both (bytes_eq c (codes "load")) (loading_of a) None (loading_hyphen a p) refl in
+        let dump = both (bytes_eq c (codes "dump")) (dumping_of a) (if bytes_eq c (codes "load") then loading_of a else None) (dumping_hyphen a p) load in
+        both (bytes_eq c (codes "settle")) (settling_of a)
+        (if bytes_eq c (codes "dump") then dumping_of a else (if bytes_eq c (codes "load") then loading_of a else None)) (settling_hyphen a p) dump
     second (inr p) = absurd (true≢false p)
 
 -- three words, where neither of the values gives a shape

@@ -5,7 +5,7 @@ ghost use Rattle.command_words.specs.Command.{command_app};
 use clap::{Arg, Command};
 use std::alloc::{AllocError, Global};
 
-/// The program's command: four subcommands, of which one is required.
+/// The program's command: six subcommands, of which one is required.
 pub fn command<'a>(alloc: Global) -> Result<Command<'a>, AllocError>
     ensures { IfOk result (λ c. app_of c ≡ command_app) }
 {
@@ -17,6 +17,10 @@ pub fn command<'a>(alloc: Global) -> Result<Command<'a>, AllocError>
     let shell = Command::new(alloc, "shell").arg(client)?.arg(home)?;
     let dir = Arg::new(alloc, "dir").required(true);
     let settle = Command::new(alloc, "settle").arg(dir)?;
+    let source = Arg::new(alloc, "dir").required(true);
+    let dump = Command::new(alloc, "dump").arg(source)?;
+    let target = Arg::new(alloc, "dir").required(true);
+    let load = Command::new(alloc, "load").arg(target)?;
     Command::new(alloc, "s3db")
         .no_binary_name(true)
         .disable_help_subcommand(true)
@@ -24,5 +28,7 @@ pub fn command<'a>(alloc: Global) -> Result<Command<'a>, AllocError>
         .subcommand(Command::new(alloc, "replay"))?
         .subcommand(generate)?
         .subcommand(shell)?
-        .subcommand(settle)
+        .subcommand(settle)?
+        .subcommand(dump)?
+        .subcommand(load)
 }

@@ -1,8 +1,8 @@
 ghost use Rattle.std.specs.Prelude.{◌≡◌, map, string_bytes, option_map, MatchResult};
 ghost use Rattle.std.specs.List.{list_all};
 ghost use Rattle.clap.specs.Words.{first_of, found_of, rows_of, subcommand_rows_of};
-ghost use Rattle.command_words.specs.Words.{Answers, generated, shape_of, is_folder};
-ghost use Rattle.command_words.specs.Command.{number_in, shell_in, settling_in, shape_of_values, shape_in};
+ghost use Rattle.command_words.specs.Words.{Answers, Names, generated, shape_of, is_folder};
+ghost use Rattle.command_words.specs.Command.{number_in, dumping_in, loading_in, shell_in, settling_in, shape_of_values, shape_in};
 
 use crate::command::command;
 use crate::shape::{Shape, WordsFault};
@@ -90,15 +90,41 @@ fn shell(alloc: Global, client: Option<u64>, dir: Option<&str>) -> Result<Shape,
     Ok(Shape::Shell { client, dir })
 }
 
+/// A folder's name, where there is one.
+fn folder(alloc: Global, dir: Option<&str>) -> Result<Text, WordsFault>
+    ensures { Names result (option_map (λ s. s.now) dir.entry) }
+{
+    match dir {
+        Some(dir) => text(alloc, dir),
+        None => Err(WordsFault::BadWords),
+    }
+}
+
 /// A settling of a folder.
 fn settling(alloc: Global, dir: Option<&str>) -> Result<Shape, WordsFault>
     ensures { Answers result (settling_in (option_map (λ s. s.now) dir.entry)) }
 {
-    let Some(dir) = dir else {
-        return Err(WordsFault::BadWords);
-    };
-    let dir = text(alloc, dir)?;
-    Ok(Shape::Settle { dir })
+    Ok(Shape::Settle {
+        dir: folder(alloc, dir)?,
+    })
+}
+
+/// A dump of a folder.
+fn dumping(alloc: Global, dir: Option<&str>) -> Result<Shape, WordsFault>
+    ensures { Answers result (dumping_in (option_map (λ s. s.now) dir.entry)) }
+{
+    Ok(Shape::Dump {
+        dir: folder(alloc, dir)?,
+    })
+}
+
+/// A folder that is filled.
+fn loading(alloc: Global, dir: Option<&str>) -> Result<Shape, WordsFault>
+    ensures { Answers result (loading_in (option_map (λ s. s.now) dir.entry)) }
+{
+    Ok(Shape::Load {
+        dir: folder(alloc, dir)?,
+    })
 }
 
 /// What a subcommand and its values ask for.
@@ -110,6 +136,8 @@ fn asked(alloc: Global, name: &str, values: &ArgMatches<'_>) -> Result<Shape, Wo
         "gen" => generated(number(values, "number"), number(values, "count")),
         "shell" => shell(alloc, number(values, "client"), value(values, "dir")),
         "settle" => settling(alloc, value(values, "dir")),
+        "dump" => dumping(alloc, value(values, "dir")),
+        "load" => loading(alloc, value(values, "dir")),
         _ => Err(WordsFault::BadWords),
     }
 }

@@ -12,6 +12,10 @@ pub enum Shape {
     Shell { client: ClientId, dir: Text },
     /// A settling of a folder.
     Settle { dir: Text },
+    /// The text of what is in a folder.
+    Dump { dir: Text },
+    /// A folder that is filled from the text of a dump.
+    Load { dir: Text },
 }
 
 /// Why the words were not read.

@@ -1,5 +1,6 @@
 //! Replays each shipped schedule over an empty cloud in memory, and holds what it writes against the replies beside it.
 //! Then it cuts operations off at each of their calls, and holds the report of the settled store against the one beside it.
+//! At last it loads a shipped dump, and dumps it again.
 #![tactic(auto)]
 
 mod crash_table;
@@ -7,6 +8,7 @@ mod files;
 mod generated;
 mod grown;
 mod output;
+mod round_trip;
 mod schedules;
 
 use std::io;
@@ -25,5 +27,6 @@ fn all(rt: &HostRuntime) -> io::Result<bool> {
     let cases = crash_table::run(rt)?;
     let generated = generated::run(rt)?;
     let grown = grown::run(rt)?;
-    Ok(schedules && cases && generated && grown)
+    let kept = round_trip::run(rt)?;
+    Ok(schedules && cases && generated && grown && kept)
 }

@@ -3,41 +3,50 @@ use db_io::memory_sink::MemorySink;
 use db_io::memory_source::MemorySource;
 use db_io::sink::Sink;
 use db_io::source::Source;
-use line_io::input::{InputFault, MAX_INPUT, read_whole};
+use line_io::input::{InputFault, MAX_DUMP, MAX_LINES, read_whole};
 use line_io::lines::next_line;
 use line_io::output::{OutputFault, write_text};
 use std::alloc::Global;
 
-/// How many bytes there are, which read fails, and the length or the fault of the whole input.
-type Row = (usize, u64, Result<usize, InputFault>);
+/// How many bytes there are, how many there may be, which read fails, and the length or the fault of the whole input.
+type Row = (usize, u32, u64, Result<usize, InputFault>);
 
 const INPUTS: &[Row] = &[
-    (0, 9, Ok(0)),
-    (MAX_INPUT, 9, Ok(MAX_INPUT)),
-    (MAX_INPUT + 1, 9, Err(InputFault::TooLong)),
-    (3, 1, Err(InputFault::ReadFault)),
-    (3, 2, Err(InputFault::ReadFault)),
+    (0, 262_144, 9, Ok(0)),
+    (262_144, 262_144, 9, Ok(262_144)),
+    (262_145, 262_144, 9, Err(InputFault::TooLong)),
+    (262_145, 16_777_216, 9, Ok(262_145)),
+    (0, 0, 9, Ok(0)),
+    (1, 0, 9, Err(InputFault::TooLong)),
+    (3, 3, 1, Err(InputFault::ReadFault)),
+    (3, 3, 2, Err(InputFault::ReadFault)),
 ];
 
-/// Whether a source's input is this long, or has this fault.
-fn is_whole<I: Source>(alloc: Global, source: &mut I, wanted: &Result<usize, InputFault>) -> bool {
-    match read_whole(alloc, source) {
+/// Whether a source's input of at most so many bytes is this long, or has this fault.
+fn is_whole<I: Source>(
+    alloc: Global,
+    source: &mut I,
+    limit: u32,
+    wanted: &Result<usize, InputFault>,
+) -> bool {
+    match read_whole(alloc, source, limit as usize) {
         Ok(input) => *wanted == Ok(input.len()),
         Err(fault) => *wanted == Err(fault),
     }
 }
 
-fn is_read(alloc: Global, bytes: &[u8], failing: u64, wanted: &Result<usize, InputFault>) -> bool {
-    match MemorySource::new(alloc, bytes, &[failing]) {
-        Ok(mut source) => is_whole(alloc, &mut source, wanted),
+fn is_read(alloc: Global, bytes: &[u8], row: &Row) -> bool {
+    let (_, limit, failing, wanted) = row;
+    match MemorySource::new(alloc, bytes, &[*failing]) {
+        Ok(mut source) => is_whole(alloc, &mut source, *limit, wanted),
         Err(_) => false,
     }
 }
 
 fn is_row(alloc: Global, bytes: &[u8], row: &Row) -> bool {
-    let (len, failing, wanted) = row;
+    let (len, _, _, _) = row;
     match bytes.get(..*len) {
-        Some(front) => is_read(alloc, front, *failing, wanted),
+        Some(front) => is_read(alloc, front, row),
         None => false,
     }
 }
@@ -52,9 +61,9 @@ fn are_read(alloc: Global, bytes: &[u8], rows: &[Row]) -> bool {
     true
 }
 
-/// Adds one byte more than an input has.
+/// Adds one byte more than lines may have.
 fn fill(bytes: &mut Vec<u8>) -> bool {
-    for _ in 0..=MAX_INPUT {
+    for _ in 0..=MAX_LINES {
         if bytes.push(7).is_err() {
             return false;
         }
@@ -70,6 +79,7 @@ fn reads_inputs(alloc: Global) -> bool {
 #[test]
 fn reads_up_to_the_most(rt: HostRuntime) {
     assert!(rt; reads_inputs(rt.alloc()));
+    assert!(rt; MAX_LINES == 262_144 && MAX_DUMP == 16_777_216);
 }
 
 /// Whether the first line of a text is this one, which is written, and the text behind it.

@@ -3,19 +3,18 @@ use Rattle.std.proofs.Common.{◌≡◌, ℕ, ◌+◌, ◌-◌, ◌<◌, ◌≤�
 use Rattle.db_io.specs.Content.{Told, Takes, Gives, Counts}
 use Rattle.db_io.specs.declared.fault.IoFault.{IoFault}
 use Rattle.db_io.specs.declared.fault.IoFault.TheVariants as io
-use Rattle.line_io.specs.declared.input.TheConstants.{MAX_INPUT}
 use Rattle.line_io.specs.Input.{WasRead, input_fault}
 use Rattle.line_io.specs.declared.input.InputFault.TheVariants.{ReadFault, TooLong, Memory}
 
--- an input is being read: these bytes came from the source, and no read failed
-pub record IsReading (before after : Told) (bytes : List ℕ) : Type 0 where
+-- an input of at most so many bytes is being read: these bytes came from the source, and no read failed
+pub record IsReading (limit : ℕ) (before after : Told) (bytes : List ℕ) : Type 0 where
   pub taken : Takes before after bytes
   pub faults : after.faults ≡ before.faults
-  pub most : length bytes ≤ MAX_INPUT + 1
+  pub most : length bytes ≤ limit + 1
 
 -- at first nothing is read
-pub begins : (source : Told) → IsReading source source []
-begins source = record { taken = λ all e. (all, e, refl); faults = refl; most = omega arith }
+pub begins : (limit : ℕ) (source : Told) → IsReading limit source source []
+begins limit source = record { taken = λ all e. (all, e, refl); faults = refl; most = omega arith }
 
 -- bytes that were taken one after the other are taken together
 takes_both : (a b c : Told) (one two : List ℕ) → Takes a b one → Takes b c two → Takes a c (one ++ two)
@@ -29,9 +28,9 @@ takes_still : (a b c : Told) (bytes : List ℕ) → Takes a b bytes → c.conten
 takes_still a b c bytes taken same = λ all e. let t = taken all e in (t.0, same ∙ t.1, t.2)
 
 -- a read goes on
-pub goes_on : (a b c : Told) (count : ℕ) (bytes more : List ℕ) → IsReading a b bytes
-    → Gives bytes more b c (MAX_INPUT + 1 - length bytes) count → c.faults ≡ b.faults → IsReading a c more
-goes_on a b c count bytes more reading gives same = record {
+pub goes_on : (limit : ℕ) (a b c : Told) (count : ℕ) (bytes more : List ℕ) → IsReading limit a b bytes
+    → Gives bytes more b c (limit + 1 - length bytes) count → c.faults ≡ b.faults → IsReading limit a c more
+goes_on limit a b c count bytes more reading gives same = record {
   taken = rw gives.appended (takes_both a b c bytes gives.bytes reading.taken gives.taken);
   faults = same ∙ reading.faults;
   most = rw gives.appended (omega (arith, length-append bytes gives.bytes, gives.counted, gives.within, reading.most));
@@ -43,14 +42,14 @@ is_empty [] e = refl
 is_empty (x ∷ xs) e = cc
 
 -- a read of nothing ends the input
-pub ends : (a b c : Told) (bytes more : List ℕ) → IsReading a b bytes → length bytes ≤ MAX_INPUT
-    → Gives bytes more b c (MAX_INPUT + 1 - length bytes) 0 → c.faults ≡ b.faults → WasRead a c (Ok more)
-ends a b c bytes more reading short gives same =
+pub ends : (limit : ℕ) (a b c : Told) (bytes more : List ℕ) → IsReading limit a b bytes → length bytes ≤ limit
+    → Gives bytes more b c (limit + 1 - length bytes) 0 → c.faults ≡ b.faults → WasRead limit a c (Ok more)
+ends limit a b c bytes more reading short gives same =
     let none : gives.bytes ≡ [] = is_empty gives.bytes (sym gives.counted) in
     let is : more ≡ bytes = gives.appended ∙ ap (λ (l : List ℕ). bytes ++ l) none ∙ append-nil bytes in
     record {
       bytes = more;
-      taken = (goes_on a b c 0 bytes more reading gives same).taken;
+      taken = (goes_on limit a b c 0 bytes more reading gives same).taken;
       tells = (
         refl,
         rw is short,
@@ -62,29 +61,29 @@ ends a b c bytes more reading short gives same =
     }
 
 -- so does a read that failed
-pub fails : (a b c : Told) (bytes : List ℕ) → IsReading a b bytes → length bytes ≤ MAX_INPUT
-    → c.content ≡ b.content → b.faults < c.faults → WasRead a c (Err ReadFault)
-fails a b c bytes reading short same rose = record {
+pub fails : (limit : ℕ) (a b c : Told) (bytes : List ℕ) → IsReading limit a b bytes → length bytes ≤ limit
+    → c.content ≡ b.content → b.faults < c.faults → WasRead limit a c (Err ReadFault)
+fails limit a b c bytes reading short same rose = record {
   bytes = bytes;
   taken = takes_still a b c bytes reading.taken same;
   tells = (short, rw (← reading.faults) rose);
 }
 
 -- and want of memory
-pub wants : (a b c : Told) (bytes : List ℕ) → IsReading a b bytes → length bytes ≤ MAX_INPUT
-    → c.content ≡ b.content → c.faults ≡ b.faults → WasRead a c (Err Memory)
-wants a b c bytes reading short same faults = record {
+pub wants : (limit : ℕ) (a b c : Told) (bytes : List ℕ) → IsReading limit a b bytes → length bytes ≤ limit
+    → c.content ≡ b.content → c.faults ≡ b.faults → WasRead limit a c (Err Memory)
+wants limit a b c bytes reading short same faults = record {
   bytes = bytes;
   taken = takes_still a b c bytes reading.taken same;
   tells = (short, faults ∙ reading.faults);
 }
 
 -- each fault of a read ends the input by its own
-pub stops : (a b c : Told) (bytes : List ℕ) (fault : IoFault) → IsReading a b bytes → length bytes ≤ MAX_INPUT
-    → c.content ≡ b.content → Counts {A = ℕ} (Err fault) b.faults c.faults → WasRead a c (Err (input_fault fault))
-stops a b c bytes io.Failed reading short same counts = fails a b c bytes reading short same counts
-stops a b c bytes io.Memory reading short same counts = wants a b c bytes reading short same counts
+pub stops : (limit : ℕ) (a b c : Told) (bytes : List ℕ) (fault : IoFault) → IsReading limit a b bytes → length bytes ≤ limit
+    → c.content ≡ b.content → Counts {A = ℕ} (Err fault) b.faults c.faults → WasRead limit a c (Err (input_fault fault))
+stops limit a b c bytes io.Failed reading short same counts = fails limit a b c bytes reading short same counts
+stops limit a b c bytes io.Memory reading short same counts = wants limit a b c bytes reading short same counts
 
 -- and too many bytes end it
-pub is_too_long : (a b : Told) (bytes : List ℕ) → IsReading a b bytes → MAX_INPUT < length bytes → WasRead a b (Err TooLong)
-is_too_long a b bytes reading long = record { bytes = bytes; taken = reading.taken; tells = (long, reading.faults) }
+pub is_too_long : (limit : ℕ) (a b : Told) (bytes : List ℕ) → IsReading limit a b bytes → limit < length bytes → WasRead limit a b (Err TooLong)
+is_too_long limit a b bytes reading long = record { bytes = bytes; taken = reading.taken; tells = (long, reading.faults) }

@@ -1,3 +1,4 @@
+ghost use Rattle.std.specs.Prelude.{◌<◌};
 ghost use Rattle.line_io.specs.Input.{WasRead};
 
 use db_base::blob::Blob;
@@ -5,15 +6,18 @@ use db_io::fault::IoFault;
 use db_io::source::Source;
 use std::alloc::Global;
 
-/// The most bytes that an input has.
-pub const MAX_INPUT: usize = 262_144;
+/// The most bytes that lines have which are handled one by one: those of a schedule and of a shell.
+pub const MAX_LINES: usize = 262_144;
+
+/// The most bytes that the text of a dump has which is loaded.
+pub const MAX_DUMP: usize = 16_777_216;
 
 /// Why an input was not read whole.
 #[derive(Clone, Copy, Debug, PartialEq, Eq)]
 pub enum InputFault {
     /// A read failed.
     ReadFault,
-    /// More bytes were read than an input has.
+    /// More bytes were read than the input may have.
     TooLong,
     /// Memory ran out.
     Memory,
@@ -33,13 +37,18 @@ impl From<IoFault> for InputFault {
     }
 }
 
-/// Reads a source to its end.
-pub fn read_whole<I: Source>(alloc: Global, source: &mut I) -> Result<Blob, InputFault>
-    ensures { WasRead (I.told source.old) (I.told source.new) result }
+/// Reads a source to its end, of at most `limit` bytes.
+pub fn read_whole<I: Source>(
+    alloc: Global,
+    source: &mut I,
+    limit: usize,
+) -> Result<Blob, InputFault>
+    requires { limit < 18446744073709551615 }
+    ensures { WasRead limit (I.told source.old) (I.told source.new) result }
 {
     let mut input = Blob::new(alloc);
-    while input.len() <= MAX_INPUT {
-        let room = MAX_INPUT + 1 - input.len();
+    while input.len() <= limit {
+        let room = limit + 1 - input.len();
         match source.read(&mut input, room) {
             Ok(0) => return Ok(input),
             Ok(_) => {}

@@ -158,6 +158,27 @@ fn replayed(alloc: Global, input: &[u8], reads: &[u64], sink: &mut MemorySink) -
     ended_by(alloc, &["replay"], input, reads, sink, &mut cloud)
 }
 
+/// Whether a command over an empty cloud in memory, whose reads and writes of these numbers fail, ends with this status, and has written
+/// just this.
+pub(crate) fn runs_failing(
+    alloc: Global,
+    words: &[&str],
+    input: &[u8],
+    reads: &[u64],
+    writes: &[u64],
+    status: Status,
+    output: &[u8],
+) -> bool {
+    let mut cloud = MemoryCloud::new(alloc);
+    match MemorySink::new(alloc, writes) {
+        Ok(mut sink) => {
+            ended_by(alloc, words, input, reads, &mut sink, &mut cloud) == status
+                && sink.written() == output
+        }
+        Err(_) => false,
+    }
+}
+
 /// Whether a replay over an empty cloud in memory, whose reads and writes of these numbers fail, ends with this status, and has written
 /// just this.
 pub(crate) fn replays_failing(

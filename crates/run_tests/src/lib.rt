@@ -1,4 +1,4 @@
-//! Tests of what the program runs: replays, generated schedules, shells and settlings.
+//! Tests of what the program runs: replays, generated schedules, shells, settlings, dumps and loads.
 #![tactic(auto)]
 
 #[cfg(test)]
@@ -11,6 +11,8 @@ mod bench;
 mod bytes;
 #[cfg(test)]
 mod commits;
+#[cfg(test)]
+mod dumps;
 #[cfg(test)]
 mod ends;
 #[cfg(test)]

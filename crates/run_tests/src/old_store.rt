@@ -86,7 +86,7 @@ fn lay_down(rt: &HostRuntime, dir: &str) -> io::Result<()> {
 
 /// A clock that stands still.
 #[derive(Drop)]
-struct Still;
+pub(crate) struct Still;
 
 impl Ticks for Still {
     fn now(&mut self) -> u64 {
@@ -117,7 +117,7 @@ fn page_begins_with(rt: &HostRuntime, dir: &str, bytes: &[u8]) -> bool {
 }
 
 /// Another client reads it, commits an update and an insert with an attribute, and checkpoints them and what waited.
-const WRITTEN_ON: [(&[&str], &[u8], Status, &[u8]); 3] = [
+const WRITTEN_ON: [(&[&str], &[u8], Status, &[u8]); 4] = [
     (
         &["shell", "2", "db"],
         b"read 1 01\nread 1 02\nscan 1 - -\nupdate 1 03 7a\ninsert 1 05 76 61\ncommit\npage 1 1\ntree 1\nscan 1 - -\n",
@@ -131,6 +131,12 @@ const WRITTEN_ON: [(&[&str], &[u8], Status, &[u8]); 3] = [
         Status::Done,
         b"1 report 1\ncommitted 0\norder 0\ncontents 4\n01 79\n02 0000000000000009\n04 76\n05 76 61\nleft 0 0\n",
     ),
+    (
+        &["dump", "db"],
+        b"",
+        Status::Done,
+        b"tree 1 4\n01 79\n02 0000000000000009\n04 76\n05 76 61\n",
+    ),
 ];
 
 #[test]
@@ -140,14 +146,26 @@ fn writes_an_old_store_on(rt: HostRuntime) {
 }
 
 /// It is reported and settled, and the client that wrote it reads it again.
-const SETTLED: [(&[&str], &[u8], Status, &[u8]); 4] = [
+const SETTLED: [(&[&str], &[u8], Status, &[u8]); 6] = [
     (
         &["replay"],
         b"report 1\n",
         Status::Done,
         b"1 report 1\ncommitted 0\norder 0\ncontents 3\n01 77\n02 0000000000000008\n03 7879\nleft 0 4\n",
     ),
+    (
+        &["dump", "db"],
+        b"",
+        Status::NotQuiet,
+        b"not-quiet pu:1:0\n",
+    ),
     (&["settle", "db"], b"", Status::Done, b"1 settled 340\n"),
+    (
+        &["dump", "db"],
+        b"",
+        Status::Done,
+        b"tree 1 3\n01 79\n02 0000000000000009\n04 76\n",
+    ),
     (
         &["shell", "1", "db"],
         b"read 1 01\nread 1 02\nread 1 03\nread 1 04\n",

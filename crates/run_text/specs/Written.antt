@@ -11,6 +11,18 @@ use Rattle.replay_meaning.specs.Standing.{Line}
 abbrev pub reply_line : ℕ → Reply → List ℕ
 reply_line n reply = decimal n ++ 32 ∷ reply_text reply ++ 10 ∷ []
 
+-- under no number: its text, a line feed
+abbrev pub plain_line : Reply → List ℕ
+plain_line reply = reply_text reply ++ 10 ∷ []
+
+-- a word, a space, a name, a line feed
+abbrev pub name_line : List ℕ → List ℕ → List ℕ
+name_line word name = word ++ (32 ∷ name ++ 10 ∷ [])
+
+-- a word, a space, a number, a line feed
+abbrev pub count_line : List ℕ → ℕ → List ℕ
+count_line word count = word ++ (32 ∷ decimal count ++ 10 ∷ [])
+
 -- the replies to lines in order, each a text for itself, the first under this number
 abbrev pub replies_from : ℕ → List Line → List (List ℕ)
 replies_from n [] = []

@@ -2,7 +2,7 @@
 
 ghost use Rattle.std.specs.Prelude.{◌≡◌, IfOk};
 ghost use Rattle.line_io.specs.Output.{WasWritten};
-ghost use Rattle.run_text.specs.Written.{reply_line, bad_line};
+ghost use Rattle.run_text.specs.Written.{reply_line, bad_line, name_line, plain_line};
 
 use db_base::blob::Blob;
 use db_base::refusal::Refused;
@@ -19,6 +19,45 @@ pub fn refuse<O: Sink>(alloc: Global, sink: &mut O, n: u64) -> Result<(), Output
         Ok(text) => write_text(sink, text.as_bytes()),
         Err(_) => Err(OutputFault::Memory),
     }
+}
+
+/// Writes a line of a word and a name.
+pub fn write_name<O: Sink>(
+    alloc: Global,
+    sink: &mut O,
+    word: &str,
+    name: &str,
+) -> Result<(), OutputFault>
+    ensures { WasWritten (O.told sink.old) (O.told sink.new) (name_line word.now name.now) result }
+{
+    match format!(in alloc; "{word} {name}\n") {
+        Ok(text) => write_text(sink, text.as_bytes()),
+        Err(_) => Err(OutputFault::Memory),
+    }
+}
+
+/// Writes a reply under no number.
+pub fn write_plain<O: Sink>(alloc: Global, sink: &mut O, reply: &Reply) -> Result<(), OutputFault>
+    ensures { WasWritten (O.told sink.old) (O.told sink.new) (plain_line reply.now) result }
+{
+    match plain_line(alloc, reply) {
+        Ok(line) => write_text(sink, line.as_slice()),
+        Err(_) => Err(OutputFault::Memory),
+    }
+}
+
+/// The line of a reply under no number: the text, a line feed.
+fn plain_line(alloc: Global, reply: &Reply) -> Result<Blob, Refused>
+    ensures { IfOk result (λ line. line ≡ plain_line reply.now) }
+{
+    let text = match reply.write(alloc) {
+        Ok(text) => text,
+        Err(_) => return Err(Refused::Memory),
+    };
+    let mut line = Blob::new(alloc);
+    line.add(text.as_slice())?;
+    line.add(b"\n")?;
+    Ok(line)
 }
 
 /// Writes a reply under a number.

@@ -1,4 +1,4 @@
-//! The program: replays a schedule or generates one over a cloud in memory, and runs a shell or settles over a folder.
+//! The program: replays a schedule or generates one over a cloud in memory; and over a folder runs a shell, settles, dumps and loads.
 #![tactic(auto)]
 
 mod seconds;
@@ -28,7 +28,10 @@ fn main(rt: HostRuntime) -> ExitCode {
     };
     let asked = shape(rt.alloc(), words.as_slice());
     ExitCode::from(match asked {
-        Ok(Shape::Shell { dir, .. }) | Ok(Shape::Settle { dir }) => {
+        Ok(Shape::Shell { dir, .. })
+        | Ok(Shape::Settle { dir })
+        | Ok(Shape::Dump { dir })
+        | Ok(Shape::Load { dir }) => {
             match FolderCloud::open(&rt, dir.as_str(), Seconds::of(&rt)) {
                 Ok(mut cloud) => run_over(&rt, words.as_slice(), &mut cloud),
                 Err(CloudFault::Failed) => NO_FOLDER,

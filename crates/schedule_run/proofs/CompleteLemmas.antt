@@ -1,9 +1,9 @@
 -- A run in which no read and no write failed.
-use Rattle.std.proofs.Common.{◌≡◌, ◌<◌, ◌≤◌, ℕ, List, [], ◌∷◌, ◌++◌, Option, Some, None, Result, Ok, Err, refl, sym, ap, subst, ◌∙◌, inl, inr, arith}
+use Rattle.std.proofs.Common.{◌≡◌, ◌<◌, ◌≤◌, ℕ, List, [], ◌∷◌, ◌++◌, ◌⊎◌, Option, Some, None, Result, Ok, Err, refl, sym, ap, subst, ◌∙◌, inl, inr, arith}
 use Rattle.std.proofs.lemmas.List.{append-nil, append_cancel_right}
 use Rattle.cloud_trait.specs.Seen.{Seen}
 use Rattle.command_words.specs.declared.shape.Shape.{Shape}
-use Rattle.command_words.specs.declared.shape.Shape.TheVariants.{Replay, Gen, Shell, Settle}
+use Rattle.command_words.specs.declared.shape.Shape.TheVariants.{Replay, Gen, Shell, Settle, Dump, Load}
 use Rattle.db_io.specs.Content.{Told, Takes}
 use Rattle.db_io.specs.Writes.{Written}
 use Rattle.event_text.specs.declared.event.Event.{Event}
@@ -14,6 +14,9 @@ use Rattle.line_io.specs.Lines.{lines_of}
 use Rattle.replay_meaning.specs.Standing.{Line}
 use Rattle.schedule_run.specs.declared.replay.LineFault.{LineFault}
 use Rattle.schedule_run.specs.declared.replay.LineFault.TheVariants as line
+use Rattle.schedule_run.specs.declared.dumping.DumpingFault.{DumpingFault}
+use Rattle.schedule_run.specs.declared.dumping.DumpingFault.TheVariants as dump
+use Rattle.schedule_run.specs.Dumping.{DumpEnded}
 use Rattle.schedule_run.specs.declared.settling.SettleFault.{SettleFault}
 use Rattle.schedule_run.specs.declared.settling.SettleFault.TheVariants as settle
 use Rattle.schedule_run.specs.declared.shell.ShellFault.{ShellFault}
@@ -23,8 +26,13 @@ use Rattle.schedule_run.specs.Settling.{SettleEnded}
 use Rattle.schedule_run.specs.Shell.{AreShellLines, HasBadShellLine, ShellWent, WasNotOpened}
 use Rattle.schedule_run.specs.declared.status.Status.{Status}
 use Rattle.schedule_run.specs.declared.status.Status.TheVariants as status
-use Rattle.schedule_run.specs.Status.{ended_as, status_of_input, status_of_line, status_of_settle, status_of_shell}
-use Rattle.schedule_run.specs.Run.{AsksForShell, AsksToSettle, Replays, replay_unread, replay_went, RunsShell, shell_unread, shell_went, Ran, WasBad, WasTooLong}
+use Rattle.schedule_run.specs.Status.{ended_as, status_of_input, status_of_line, status_of_settle, status_of_shell, status_of_dump, status_of_load}
+use Rattle.schedule_run.specs.Run.{AsksToDump, AsksToLoad, AsksToLook, AsksToOpen, AsksToSettle, limit_of, Replays, replay_unread, replay_went, RunsShell, shell_unread, shell_went, RunsDump, dump_unasked, dump_went, RunsLoad, load_unread, load_went, Ran, WasBad, WasTooLong}
+use Rattle.schedule_run.specs.Loading.{SpellsNoDump, FillEnded, fill_went, fill_bad, fill_unread}
+use Rattle.schedule_run.specs.declared.loading.LoadingFault.{LoadingFault}
+use Rattle.schedule_run.specs.declared.loading.LoadingFault.TheVariants as load
+use Rattle.run_text.specs.Written.{bad_line}
+use Rattle.schedule_run.proofs.FallenLemmas.{Falls, Fallen, fallen}
 use Rattle.schedule_run.specs.Complete.{WentInOrder, ReadBadLine, IsKnown, EndsWith, IsComplete, StopsAtBadLine}
 
 -- ---- what was read
@@ -94,11 +102,33 @@ shell_good client left rest w u s t known (shell_unread fault e nothing) bad = u
 shell_good client left rest w u s t known (shell_went read ended e went) bad =
     shell_lines_good client ended read.bytes w u s t e went (subst HasBadShellLine (same_bytes left rest read.bytes bad.bytes known read.taken bad.taken) bad.bad)
 
+-- a text that spells a dump is not bad
+fill_good : (ended : Result (Unit {0}) LoadingFault) (text : List ℕ) (w u : Written) (s t : Seen) → status.Done ≡ ended_as status_of_load ended
+    → FillEnded text ended w u s t → SpellsNoDump text → ⊥
+fill_good (Ok done) text w u s t e (fill_went trees spelled went) bad = bad trees spelled
+fill_good (Ok done) text w u s t e (fill_bad number is told still) bad = let clash = told.0 in absurd (cc)
+fill_good (Ok done) text w u s t e (fill_unread out nothing) bad = absurd (cc)
+fill_good (Err load.BadLine) text w u s t e went bad = absurd (cc)
+fill_good (Err load.NotEmpty) text w u s t e went bad = absurd (cc)
+fill_good (Err load.Stopped) text w u s t e went bad = absurd (cc)
+fill_good (Err load.NotOpened) text w u s t e went bad = absurd (cc)
+fill_good (Err load.NotLoaded) text w u s t e went bad = absurd (cc)
+fill_good (Err load.NotSettled) text w u s t e went bad = absurd (cc)
+fill_good (Err load.WriteFault) text w u s t e went bad = absurd (cc)
+fill_good (Err load.Memory) text w u s t e went bad = absurd (cc)
+
+load_good : (left rest : Told) (w u : Written) (s t : Seen) → IsKnown left → RunsLoad status.Done left rest w u s t → WasBad SpellsNoDump left rest → ⊥
+load_good left rest w u s t known (load_unread fault e nothing) bad = unread_not_done fault e
+load_good left rest w u s t known (load_went read ended e went) bad =
+    fill_good ended read.bytes w u s t e went (subst SpellsNoDump (same_bytes left rest read.bytes bad.bytes known read.taken bad.taken) bad.bad)
+
 all_good : (shape : Shape) (left rest : Told) (w u : Written) (s t : Seen) → IsKnown left → Ran (Some shape) status.Done left rest w u s t → ReadBadLine (Some shape) left rest → ⊥
 all_good Replay left rest w u s t known ran bad = replay_good left rest w u s t known ran bad
 all_good (Gen number count) left rest w u s t known ran bad = bad.bad
 all_good (Shell client dir) left rest w u s t known ran bad = shell_good client left rest w u s t known ran bad
 all_good (Settle dir) left rest w u s t known ran bad = bad.bad
+all_good (Dump dir) left rest w u s t known ran bad = bad.bad
+all_good (Load dir) left rest w u s t known ran bad = load_good left rest w u s t known ran bad
 
 -- ---- what each status but Done comes of
 
@@ -106,11 +136,15 @@ all_good (Settle dir) left rest w u s t known ran bad = bad.bad
 pub record Caused (asked : Option Shape) (result : Status) (left rest : Told) (written now_written : Written) : Type 0 where
   pub bad_words : result ≡ status.BadWords → ⊥
   pub read_fault : result ≡ status.ReadFault → left.faults < rest.faults
-  pub too_long : result ≡ status.TooLong → WasTooLong left rest
+  pub too_long : result ≡ status.TooLong → WasTooLong (limit_of asked) left rest
   pub bad_line : result ≡ status.BadLine → ReadBadLine asked left rest
   pub write_fault : result ≡ status.WriteFault → written.faults < now_written.faults
   pub not_settled : result ≡ status.NotSettled → AsksToSettle asked
-  pub not_opened : result ≡ status.NotOpened → AsksForShell asked
+  pub not_opened : result ≡ status.NotOpened → AsksToOpen asked
+  pub not_quiet : result ≡ status.NotQuiet → AsksToDump asked
+  pub not_empty : result ≡ status.NotEmpty → AsksToLoad asked
+  pub not_loaded : result ≡ status.NotLoaded → AsksToLoad asked
+  pub stopped : result ≡ status.Stopped → AsksToLook asked
 
 -- this status is one of those with which it may end
 is_one : (wanted : Status) (shape : Shape) (result : Status) (w u : Written) (s t : Seen) → result ≡ wanted → EndsWith wanted (Some shape) result w u s t
@@ -118,6 +152,8 @@ is_one wanted Replay result w u s t e = inl e
 is_one wanted (Gen number count) result w u s t e = inl e
 is_one wanted (Shell client dir) result w u s t e = inl (inl e)
 is_one wanted (Settle dir) result w u s t e = inl (inl e)
+is_one wanted (Dump dir) result w u s t e = inl (inl e)
+is_one wanted (Load dir) result w u s t e = inl (inl e)
 
 -- so is want of memory
 pub out_of_memory : (wanted : Status) (asked : Option Shape) (w u : Written) (s t : Seen) → EndsWith wanted asked status.Memory w u s t
@@ -125,7 +161,25 @@ out_of_memory wanted (Some Replay) w u s t = inr refl
 out_of_memory wanted (Some (Gen number count)) w u s t = inr refl
 out_of_memory wanted (Some (Shell client dir)) w u s t = inl (inr refl)
 out_of_memory wanted (Some (Settle dir)) w u s t = inl (inr refl)
+out_of_memory wanted (Some (Dump dir)) w u s t = inl (inr refl)
+out_of_memory wanted (Some (Load dir)) w u s t = inl (inr refl)
 out_of_memory wanted None w u s t = tt
+
+-- a run is to be done, or a line of what it reads is bad
+abbrev Fit : Status → Shape → Told → Told → Type 0
+Fit wanted shape left rest = (wanted ≡ status.Done) ⊎ (IsKnown left × ReadBadLine (Some shape) left rest)
+
+-- a load that ended so stopped, and what it read is not bad
+load_stops : (wanted result : Status) (dir : List ℕ) (left rest : Told) (w u : Written) (s t : Seen) → Falls result → Fit wanted (Load dir) left rest
+    → RunsLoad result left rest w u s t → EndsWith wanted (Some (Load dir)) result w u s t
+load_stops wanted result dir left rest w u s t f fit ran = on (fallen result left rest w u s t f ran) fit
+  where
+    on : Fallen result left rest w u s t → Fit wanted (Load dir) left rest → EndsWith wanted (Some (Load dir)) result w u s t
+    on it (inl e) = inr (e, it.stopped)
+    on it (inr both) =
+        let read = it.input in
+        let bad = both.1 in
+        absurd ((subst SpellsNoDump (same_bytes left rest read.bytes bad.bytes both.0 read.taken bad.taken) bad.bad) it.spells.0 it.spells.1)
 
 -- a settling that ended so stopped
 stopped : (ended : Result (Unit {0}) SettleFault) (w u : Written) (s t : Seen) → status.NotSettled ≡ ended_as status_of_settle ended
@@ -135,12 +189,14 @@ stopped (Err settle.NotSettled) w u s t e so = so
 stopped (Err settle.WriteFault) w u s t e so = absurd (cc)
 stopped (Err settle.Memory) w u s t e so = absurd (cc)
 
-unsettled : (wanted : Status) (shape : Shape) (left rest : Told) (w u : Written) (s t : Seen) → AsksToSettle (Some shape) → Ran (Some shape) status.NotSettled left rest w u s t
+unsettled : (wanted : Status) (shape : Shape) (left rest : Told) (w u : Written) (s t : Seen) → Fit wanted shape left rest → AsksToSettle (Some shape) → Ran (Some shape) status.NotSettled left rest w u s t
     → EndsWith wanted (Some shape) status.NotSettled w u s t
-unsettled wanted Replay left rest w u s t asks ran = absurd asks
-unsettled wanted (Gen number count) left rest w u s t asks ran = absurd asks
-unsettled wanted (Shell client dir) left rest w u s t asks ran = absurd asks
-unsettled wanted (Settle dir) left rest w u s t asks ran = inr (refl, stopped ran.1.ended w u s t ran.1.leads ran.1.went)
+unsettled wanted Replay left rest w u s t fit asks ran = absurd asks
+unsettled wanted (Gen number count) left rest w u s t fit asks ran = absurd asks
+unsettled wanted (Shell client dir) left rest w u s t fit asks ran = absurd asks
+unsettled wanted (Dump dir) left rest w u s t fit asks ran = absurd asks
+unsettled wanted (Load dir) left rest w u s t fit asks ran = load_stops wanted status.NotSettled dir left rest w u s t tt fit ran
+unsettled wanted (Settle dir) left rest w u s t fit asks ran = inr (refl, stopped ran.1.ended w u s t ran.1.leads ran.1.went)
 
 -- a shell that ended so was not opened
 unread_not_opened : (fault : InputFault) → status.NotOpened ≡ status_of_input fault → ⊥
@@ -160,39 +216,98 @@ not_opened : (client : ℕ) (left rest : Told) (w u : Written) (s t : Seen) → 
 not_opened client left rest w u s t (shell_unread fault e nothing) = absurd (unread_not_opened fault e)
 not_opened client left rest w u s t (shell_went read ended e went) = closed client ended read.bytes w u s t e went
 
-unopened : (wanted : Status) (shape : Shape) (left rest : Told) (w u : Written) (s t : Seen) → AsksForShell (Some shape) → Ran (Some shape) status.NotOpened left rest w u s t
+unopened : (wanted : Status) (shape : Shape) (left rest : Told) (w u : Written) (s t : Seen) → Fit wanted shape left rest → AsksToOpen (Some shape) → Ran (Some shape) status.NotOpened left rest w u s t
     → EndsWith wanted (Some shape) status.NotOpened w u s t
-unopened wanted Replay left rest w u s t asks ran = absurd asks
-unopened wanted (Gen number count) left rest w u s t asks ran = absurd asks
-unopened wanted (Shell client dir) left rest w u s t asks ran = inr (refl, not_opened client left rest w u s t ran)
-unopened wanted (Settle dir) left rest w u s t asks ran = absurd asks
+unopened wanted Replay left rest w u s t fit asks ran = absurd asks
+unopened wanted (Gen number count) left rest w u s t fit asks ran = absurd asks
+unopened wanted (Shell client dir) left rest w u s t fit asks ran = inr (refl, not_opened client left rest w u s t ran)
+unopened wanted (Dump dir) left rest w u s t fit asks ran = absurd asks
+unopened wanted (Load dir) left rest w u s t fit asks ran = load_stops wanted status.NotOpened dir left rest w u s t tt fit ran
+unopened wanted (Settle dir) left rest w u s t fit asks ran = absurd asks
+
+-- a dump that ended so was not quiet, or stopped
+not_quiet : (ended : Result (Unit {0}) DumpingFault) (w u : Written) (s t : Seen) → status.NotQuiet ≡ ended_as status_of_dump ended → DumpEnded ended w u s t
+    → DumpEnded (Err dump.NotQuiet) w u s t
+not_quiet (Ok done) w u s t e so = absurd (cc)
+not_quiet (Err dump.NotQuiet) w u s t e so = so
+not_quiet (Err dump.Stopped) w u s t e so = absurd (cc)
+not_quiet (Err dump.WriteFault) w u s t e so = absurd (cc)
+not_quiet (Err dump.Memory) w u s t e so = absurd (cc)
+
+looks_stopped : (ended : Result (Unit {0}) DumpingFault) (w u : Written) (s t : Seen) → status.Stopped ≡ ended_as status_of_dump ended → DumpEnded ended w u s t
+    → DumpEnded (Err dump.Stopped) w u s t
+looks_stopped (Ok done) w u s t e so = absurd (cc)
+looks_stopped (Err dump.NotQuiet) w u s t e so = absurd (cc)
+looks_stopped (Err dump.Stopped) w u s t e so = so
+looks_stopped (Err dump.WriteFault) w u s t e so = absurd (cc)
+looks_stopped (Err dump.Memory) w u s t e so = absurd (cc)
+
+dump_not_quiet : (w u : Written) (s t : Seen) → RunsDump status.NotQuiet w u s t → DumpEnded (Err dump.NotQuiet) w u s t
+dump_not_quiet w u s t (dump_unasked e nothing) = absurd (cc)
+dump_not_quiet w u s t (dump_went ended e went) = not_quiet ended w u s t e went
+
+dump_stopped : (w u : Written) (s t : Seen) → RunsDump status.Stopped w u s t → DumpEnded (Err dump.Stopped) w u s t
+dump_stopped w u s t (dump_unasked e nothing) = absurd (cc)
+dump_stopped w u s t (dump_went ended e went) = looks_stopped ended w u s t e went
+
+unquiet : (wanted : Status) (shape : Shape) (left rest : Told) (w u : Written) (s t : Seen) → AsksToDump (Some shape) → Ran (Some shape) status.NotQuiet left rest w u s t
+    → EndsWith wanted (Some shape) status.NotQuiet w u s t
+unquiet wanted Replay left rest w u s t asks ran = absurd asks
+unquiet wanted (Gen number count) left rest w u s t asks ran = absurd asks
+unquiet wanted (Shell client dir) left rest w u s t asks ran = absurd asks
+unquiet wanted (Settle dir) left rest w u s t asks ran = absurd asks
+unquiet wanted (Dump dir) left rest w u s t asks ran = inr (inl (refl, dump_not_quiet w u s t ran.1))
+unquiet wanted (Load dir) left rest w u s t asks ran = absurd asks
+
+looked : (wanted : Status) (shape : Shape) (left rest : Told) (w u : Written) (s t : Seen) → Fit wanted shape left rest → AsksToLook (Some shape) → Ran (Some shape) status.Stopped left rest w u s t
+    → EndsWith wanted (Some shape) status.Stopped w u s t
+looked wanted Replay left rest w u s t fit asks ran = absurd asks
+looked wanted (Gen number count) left rest w u s t fit asks ran = absurd asks
+looked wanted (Shell client dir) left rest w u s t fit asks ran = absurd asks
+looked wanted (Settle dir) left rest w u s t fit asks ran = absurd asks
+looked wanted (Dump dir) left rest w u s t fit asks ran = inr (inr (refl, dump_stopped w u s t ran.1))
+looked wanted (Load dir) left rest w u s t fit asks ran = load_stops wanted status.Stopped dir left rest w u s t tt fit ran
+
+-- a load whose cloud was not empty, or that did not commit
+unloaded : (wanted result : Status) (shape : Shape) (left rest : Told) (w u : Written) (s t : Seen) → Falls result → Fit wanted shape left rest
+    → AsksToLoad (Some shape) → Ran (Some shape) result left rest w u s t → EndsWith wanted (Some shape) result w u s t
+unloaded wanted result Replay left rest w u s t f fit asks ran = absurd asks
+unloaded wanted result (Gen number count) left rest w u s t f fit asks ran = absurd asks
+unloaded wanted result (Shell client dir) left rest w u s t f fit asks ran = absurd asks
+unloaded wanted result (Settle dir) left rest w u s t f fit asks ran = absurd asks
+unloaded wanted result (Dump dir) left rest w u s t f fit asks ran = absurd asks
+unloaded wanted result (Load dir) left rest w u s t f fit asks ran = load_stops wanted result dir left rest w u s t f fit ran
 
 -- where all went in order, a run is done or ended by a bad line, unless it ends as it may
 in_order : (wanted : Status) (shape : Shape) (result : Status) (left rest : Told) (w u : Written) (s t : Seen) → Caused (Some shape) result left rest w u
-    → Ran (Some shape) result left rest w u s t → WentInOrder left rest w u → (result ≡ status.Done → EndsWith wanted (Some shape) result w u s t)
+    → Ran (Some shape) result left rest w u s t → WentInOrder (Some shape) left rest w u → Fit wanted shape left rest → (result ≡ status.Done → EndsWith wanted (Some shape) result w u s t)
     → (result ≡ status.BadLine → EndsWith wanted (Some shape) result w u s t) → EndsWith wanted (Some shape) result w u s t
-in_order wanted shape status.Done left rest w u s t c ran order done bad = done refl
-in_order wanted shape status.BadLine left rest w u s t c ran order done bad = bad refl
-in_order wanted shape status.BadWords left rest w u s t c ran order done bad = absurd (c.bad_words refl)
-in_order wanted shape status.ReadFault left rest w u s t c ran order done bad =
+in_order wanted shape status.Done left rest w u s t c ran order fit done bad = done refl
+in_order wanted shape status.BadLine left rest w u s t c ran order fit done bad = bad refl
+in_order wanted shape status.BadWords left rest w u s t c ran order fit done bad = absurd (c.bad_words refl)
+in_order wanted shape status.ReadFault left rest w u s t c ran order fit done bad =
     let more : left.faults < rest.faults = c.read_fault refl in
     let no_more : rest.faults ≤ left.faults = order.reads in absurd (omega arith)
-in_order wanted shape status.WriteFault left rest w u s t c ran order done bad =
+in_order wanted shape status.WriteFault left rest w u s t c ran order fit done bad =
     let more : w.faults < u.faults = c.write_fault refl in
     let no_more : u.faults ≤ w.faults = order.writes in absurd (omega arith)
-in_order wanted shape status.NotSettled left rest w u s t c ran order done bad = unsettled wanted shape left rest w u s t (c.not_settled refl) ran
-in_order wanted shape status.TooLong left rest w u s t c ran order done bad = absurd (order.within (c.too_long refl))
-in_order wanted shape status.NotOpened left rest w u s t c ran order done bad = unopened wanted shape left rest w u s t (c.not_opened refl) ran
-in_order wanted shape status.Memory left rest w u s t c ran order done bad = out_of_memory wanted (Some shape) w u s t
+in_order wanted shape status.NotSettled left rest w u s t c ran order fit done bad = unsettled wanted shape left rest w u s t fit (c.not_settled refl) ran
+in_order wanted shape status.TooLong left rest w u s t c ran order fit done bad = absurd (order.within (c.too_long refl))
+in_order wanted shape status.NotOpened left rest w u s t c ran order fit done bad = unopened wanted shape left rest w u s t fit (c.not_opened refl) ran
+in_order wanted shape status.Memory left rest w u s t c ran order fit done bad = out_of_memory wanted (Some shape) w u s t
+in_order wanted shape status.NotQuiet left rest w u s t c ran order fit done bad = unquiet wanted shape left rest w u s t (c.not_quiet refl) ran
+in_order wanted shape status.NotEmpty left rest w u s t c ran order fit done bad = unloaded wanted status.NotEmpty shape left rest w u s t tt fit (c.not_empty refl) ran
+in_order wanted shape status.NotLoaded left rest w u s t c ran order fit done bad = unloaded wanted status.NotLoaded shape left rest w u s t tt fit (c.not_loaded refl) ran
+in_order wanted shape status.Stopped left rest w u s t c ran order fit done bad = looked wanted shape left rest w u s t fit (c.stopped refl) ran
 
 pub completes : (shape : Shape) (result : Status) (left rest : Told) (w u : Written) (s t : Seen) → Caused (Some shape) result left rest w u
     → Ran (Some shape) result left rest w u s t → IsComplete (Some shape) result left rest w u s t
 completes shape result left rest w u s t c ran order good =
-    in_order status.Done shape result left rest w u s t c ran order (is_one status.Done shape result w u s t) (λ e. absurd (good (c.bad_line e)))
+    in_order status.Done shape result left rest w u s t c ran order (inl refl) (is_one status.Done shape result w u s t) (λ e. absurd (good (c.bad_line e)))
 
 pub stops_at_bad_line : (shape : Shape) (result : Status) (left rest : Told) (w u : Written) (s t : Seen) → Caused (Some shape) result left rest w u
     → Ran (Some shape) result left rest w u s t → StopsAtBadLine (Some shape) result left rest w u s t
 stops_at_bad_line shape result left rest w u s t c ran order known bad =
-    in_order status.BadLine shape result left rest w u s t c ran order
+    in_order status.BadLine shape result left rest w u s t c ran order (inr (known, bad))
     (λ e. absurd (all_good shape left rest w u s t known (subst (λ r. Ran (Some shape) r left rest w u s t) e ran) bad))
     (is_one status.BadLine shape result w u s t)

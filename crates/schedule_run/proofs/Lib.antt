@@ -11,11 +11,14 @@ pub mod ShellOnce
 pub mod ShellLemmas
 pub mod GeneratedLemmas
 pub mod SettlingLemmas
+pub mod DumpingLemmas
+pub mod LoadingLemmas
 pub mod LoadLemmas
 pub mod LoadRuns
 pub mod LoadCalm
 pub mod LoadCalls
 pub mod LoadEnds
 pub mod RunLemmas
+pub mod FallenLemmas
 pub mod CompleteLemmas
 pub mod LoadLeaves

@@ -9,51 +9,60 @@ use Rattle.db_io.specs.Writes.{Written}
 use Rattle.line_io.specs.Input.{WasRead, AreAll}
 use Rattle.line_io.specs.declared.input.InputFault.{InputFault}
 use Rattle.line_io.specs.declared.input.InputFault.TheVariants as input
-use Rattle.line_io.specs.declared.input.TheConstants.{MAX_INPUT}
+use Rattle.line_io.specs.declared.input.TheConstants.{MAX_LINES, MAX_DUMP}
 use Rattle.line_io.specs.declared.output.OutputFault.TheVariants as output
 use Rattle.schedule_run.specs.declared.replay.LineFault.{LineFault}
 use Rattle.schedule_run.specs.declared.settling.SettleFault.TheVariants as settle
 use Rattle.schedule_run.specs.declared.shell.ShellFault.{ShellFault}
 use Rattle.schedule_run.specs.Replayed.{ReplayWent}
 use Rattle.schedule_run.specs.Shell.{ShellWent}
+use Rattle.schedule_run.specs.declared.dumping.DumpingFault.{DumpingFault}
+use Rattle.schedule_run.specs.declared.loading.LoadingFault.{LoadingFault}
+use Rattle.schedule_run.specs.Dumping.{DumpEnded}
+use Rattle.schedule_run.specs.Loading.{FillEnded}
 use Rattle.schedule_run.specs.Generated as generated
 use Rattle.schedule_run.specs.Settling as settling
 use Rattle.words.specs.Word.{number_of}
 use Rattle.command_words.specs.declared.read.TheConstants.{MAX_COUNT}
 use Rattle.command_words.specs.declared.shape.Shape.{Shape}
-use Rattle.command_words.specs.declared.shape.Shape.TheVariants.{Replay, Gen, Shell, Settle}
-use Rattle.command_words.specs.Words.{is_folder, generated, shell_over, settling_of, shape_of}
+use Rattle.command_words.specs.declared.shape.Shape.TheVariants.{Replay, Gen, Shell, Settle, Dump, Load}
+use Rattle.command_words.specs.Words.{is_folder, generated, shell_over, settling_of, dumping_of, loading_of, shape_of}
 use Rattle.schedule_run.specs.declared.status.Status.TheVariants as status
-use Rattle.schedule_run.specs.Status.{ended_as, status_of_input, status_of_line, status_of_shell}
+use Rattle.schedule_run.specs.Status.{ended_as, status_of_input, status_of_line, status_of_shell, status_of_dump, status_of_load}
 use Rattle.schedule_run.proofs.OnceLemmas.{once_nothing}
-use Rattle.schedule_run.specs.Run.{AsksWithin, WasWithin, ReadWhole, Replays, replay_unread, replay_went, RunsShell, shell_unread, shell_went, Ran}
+use Rattle.schedule_run.specs.Run.{AsksWithin, WasWithin, ReadWhole, Replays, replay_unread, replay_went, RunsShell, shell_unread, shell_went, RunsDump, dump_unasked, dump_went, RunsLoad, load_unread, load_went, Ran}
 
 -- where no read was made, nothing was read
-pub reads_nothing : (source : Told) → WasWithin source source
-reads_nothing source = record { bytes = []; taken = λ all e. (all, e, refl); within = omega arith }
+pub reads_nothing : (limit : ℕ) (source : Told) → WasWithin limit source source
+reads_nothing limit source = record { bytes = []; taken = λ all e. (all, e, refl); within = omega arith }
 
 -- an input that was read is the source to its end
-abbrev whole : (before after : Told) (input : List ℕ) → WasRead before after (Ok input) → ReadWhole before after
-whole before after input read =
+abbrev whole : (limit : ℕ) (before after : Told) (input : List ℕ) → WasRead limit before after (Ok input) → ReadWhole limit before after
+whole limit before after input read =
     let tells = read.tells in
     record {
       bytes = input;
       taken = subst (λ b. Takes before after b) (sym tells.0) read.taken;
       all = subst (λ b. AreAll before b) (sym tells.0) tells.2;
-      within = subst (λ b. length b ≤ MAX_INPUT) (sym tells.0) tells.1;
+      within = subst (λ b. length b ≤ limit) (sym tells.0) tells.1;
     }
 
 -- ---- the commands
 
-pub replay_ran : (left rest : Told) (w u : Written) (s t : Seen) (text input : List ℕ) (ended : Result (Unit {0}) LineFault) → WasRead left rest (Ok input)
+pub replay_ran : (left rest : Told) (w u : Written) (s t : Seen) (text input : List ℕ) (ended : Result (Unit {0}) LineFault) → WasRead MAX_LINES left rest (Ok input)
     → text ≡ input → ReplayWent ended text w u s t → Replays (ended_as status_of_line ended) left rest w u s t
 replay_ran left rest w u s t text input ended read same went =
-    replay_went (whole left rest input read) ended refl (subst (λ b. ReplayWent ended b w u s t) same went)
+    replay_went (whole MAX_LINES left rest input read) ended refl (subst (λ b. ReplayWent ended b w u s t) same went)
 
-pub shell_ran : (client : ℕ) (left rest : Told) (w u : Written) (s t : Seen) (text input : List ℕ) (ended : Result (Unit {0}) ShellFault) → WasRead left rest (Ok input)
+pub shell_ran : (client : ℕ) (left rest : Told) (w u : Written) (s t : Seen) (text input : List ℕ) (ended : Result (Unit {0}) ShellFault) → WasRead MAX_LINES left rest (Ok input)
     → text ≡ input → ShellWent client text ended w u s t → RunsShell client (ended_as status_of_shell ended) left rest w u s t
 shell_ran client left rest w u s t text input ended read same went =
-    shell_went (whole left rest input read) ended refl (subst (λ b. ShellWent client b ended w u s t) same went)
+    shell_went (whole MAX_LINES left rest input read) ended refl (subst (λ b. ShellWent client b ended w u s t) same went)
+
+pub load_ran : (left rest : Told) (w u : Written) (s t : Seen) (text input : List ℕ) (ended : Result (Unit {0}) LoadingFault) → WasRead MAX_DUMP left rest (Ok input)
+    → text ≡ input → FillEnded text ended w u s t → RunsLoad (ended_as status_of_load ended) left rest w u s t
+load_ran left rest w u s t text input ended read same went =
+    load_went (whole MAX_DUMP left rest input read) ended refl (subst (λ b. FillEnded b ended w u s t) same went)
 
 -- where the input was not read, nothing ran
 pub replay_not_read : (left rest : Told) (w : Written) (s : Seen) (fault : InputFault) → Replays (status_of_input fault) left rest w w s s
@@ -61,6 +70,9 @@ replay_not_read left rest w s fault = replay_unread fault refl (record { output 
 
 pub shell_not_read : (client : ℕ) (left rest : Told) (w : Written) (s : Seen) (fault : InputFault) → RunsShell client (status_of_input fault) left rest w w s s
 shell_not_read client left rest w s fault = shell_unread fault refl (record { output = refl; seen = refl })
+
+pub load_not_read : (left rest : Told) (w : Written) (s : Seen) (fault : InputFault) → RunsLoad (status_of_input fault) left rest w w s s
+load_not_read left rest w s fault = load_unread fault refl (record { output = refl; seen = refl })
 
 -- where there was no memory for the words, nothing ran, whatever they ask for
 pub not_asked : (asked : Option Shape) (left : Told) (w : Written) (s : Seen) → Ran asked status.Memory left left w w s s
@@ -71,6 +83,11 @@ not_asked (Some (Gen number count)) left w s =
 not_asked (Some (Shell client dir)) left w s = shell_not_read client left left w s input.Memory
 not_asked (Some (Settle dir)) left w s =
     (refl, record { ended = Err settle.Memory; leads = refl; went = settling.out_before (record { output = refl; seen = refl }) })
+not_asked (Some (Dump dir)) left w s = (refl, dump_unasked refl (record { output = refl; seen = refl }))
+not_asked (Some (Load dir)) left w s = load_not_read left left w s input.Memory
+
+pub dump_ran : (ended : Result (Unit {0}) DumpingFault) (w u : Written) (s t : Seen) → DumpEnded ended w u s t → RunsDump (ended_as status_of_dump ended) w u s t
+dump_ran ended w u s t went = dump_went ended refl went
 
 -- ---- the words
 
@@ -99,9 +116,18 @@ settling_within dir asked e = subst AsksWithin (if_some (is_folder dir) (Settle 
 one_within : (b : Bool) (asked : Shape) → (if b then Some Replay else None) ≡ Some asked → AsksWithin asked
 one_within b asked e = subst AsksWithin (if_some b Replay asked e).1 tt
 
-two_within : (b : Bool) (dir : List ℕ) (asked : Shape) → (if b then settling_of dir else None) ≡ Some asked → AsksWithin asked
-two_within true dir asked e = settling_within dir asked e
-two_within false dir asked e = absurd (cc)
+dumping_within : (dir : List ℕ) (asked : Shape) → dumping_of dir ≡ Some asked → AsksWithin asked
+dumping_within dir asked e = subst AsksWithin (if_some (is_folder dir) (Dump dir) asked e).1 tt
+
+loading_within : (dir : List ℕ) (asked : Shape) → loading_of dir ≡ Some asked → AsksWithin asked
+loading_within dir asked e = subst AsksWithin (if_some (is_folder dir) (Load dir) asked e).1 tt
+
+two_within : (b c d : Bool) (dir : List ℕ) (asked : Shape)
+    → (if b then settling_of dir else (if c then dumping_of dir else (if d then loading_of dir else None))) ≡ Some asked → AsksWithin asked
+two_within true c d dir asked e = settling_within dir asked e
+two_within false true d dir asked e = dumping_within dir asked e
+two_within false false true dir asked e = loading_within dir asked e
+two_within false false false dir asked e = absurd (cc)
 
 three_within : (b c : Bool) (one two : Option ℕ) (dir : List ℕ) (asked : Shape)
     → (if b then generated one two else (if c then shell_over one dir else None)) ≡ Some asked → AsksWithin asked
@@ -113,7 +139,7 @@ three_within false false one two dir asked e = absurd (cc)
 pub asked_within : (words : List (List ℕ)) (asked : Shape) → shape_of words ≡ Some asked → AsksWithin asked
 asked_within [] asked e = absurd (cc)
 asked_within (command ∷ []) asked e = one_within (bytes_eq command (codes "replay")) asked e
-asked_within (command ∷ dir ∷ []) asked e = two_within (bytes_eq command (codes "settle")) dir asked e
+asked_within (command ∷ dir ∷ []) asked e = two_within (bytes_eq command (codes "settle")) (bytes_eq command (codes "dump")) (bytes_eq command (codes "load")) dir asked e
 asked_within (command ∷ one ∷ two ∷ []) asked e =
     three_within (bytes_eq command (codes "gen")) (bytes_eq command (codes "shell")) (number_of one) (number_of two) two asked e
 asked_within (command ∷ one ∷ two ∷ three ∷ rest) asked e = absurd (cc)

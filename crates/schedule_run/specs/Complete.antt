@@ -2,21 +2,28 @@
 use Rattle.std.specs.Prelude.{ℕ, ◌≡◌, ◌≤◌, ◌⊎◌, List, Option, Some, None, Err}
 use Rattle.cloud_trait.specs.Seen.{Seen}
 use Rattle.command_words.specs.declared.shape.Shape.{Shape}
-use Rattle.command_words.specs.declared.shape.Shape.TheVariants.{Replay, Gen, Shell, Settle}
+use Rattle.command_words.specs.declared.shape.Shape.TheVariants.{Replay, Gen, Shell, Settle, Dump, Load}
 use Rattle.db_io.specs.Content.{Told}
-use Rattle.db_io.specs.Writes.{Written}
+use Rattle.db_io.specs.Writes.{Written, AddsOne}
+use Rattle.dump_text.specs.declared.dump.DumpedTree.{DumpedTree}
+use Rattle.schedule_run.specs.declared.dumping.DumpingFault.TheVariants as dump
 use Rattle.schedule_run.specs.declared.settling.SettleFault.TheVariants as settle
+use Rattle.schedule_run.specs.declared.load.LoadStop.{LoadStop}
+use Rattle.schedule_run.specs.Dumping.{DumpEnded}
+use Rattle.schedule_run.specs.Load.{LoadEnded}
+use Rattle.schedule_run.specs.Loading.{load_end, load_text}
+use Rattle.schedule_run.specs.Status.{ended_as, status_of_load}
 use Rattle.schedule_run.specs.Settling.{SettleEnded}
 use Rattle.schedule_run.specs.Shell.{WasNotOpened}
 use Rattle.schedule_run.specs.declared.status.Status.{Status}
-use Rattle.schedule_run.specs.declared.status.Status.TheVariants.{Done, BadLine, NotSettled, NotOpened, Memory}
-use Rattle.schedule_run.specs.Run.{HasBad, WasBad, WasTooLong}
+use Rattle.schedule_run.specs.declared.status.Status.TheVariants.{Done, BadLine, NotSettled, NotOpened, Memory, NotQuiet, Stopped}
+use Rattle.schedule_run.specs.Run.{HasBad, WasBad, WasTooLong, limit_of}
 
--- neither the source's nor the sink's count rose, and no more than an input has was read
-pub record WentInOrder (left rest : Told) (written now_written : Written) : Type 0 where
+-- neither the source's nor the sink's count rose, and no more than an input of this shape may have was read
+pub record WentInOrder (asked : Option Shape) (left rest : Told) (written now_written : Written) : Type 0 where
   pub reads : rest.faults ≤ left.faults
   pub writes : now_written.faults ≤ written.faults
-  pub within : WasTooLong left rest → ⊥
+  pub within : WasTooLong (limit_of asked) left rest → ⊥
 
 -- a line of what was read is none that the command reads
 abbrev pub ReadBadLine : Option Shape → Told → Told → Type 0
@@ -30,7 +37,16 @@ IsKnown left = (all : List ℕ) × (left.content ≡ Some all)
 abbrev pub IsOrMemory : Status → Status → Type 0
 IsOrMemory wanted result = (result ≡ wanted) ⊎ (result ≡ Memory)
 
--- a run of words of a shape ends so, unless it is a shell whose opening did not open its session, or a settling that stopped
+-- a load of a dump stopped, and that was told
+pub record LoadStopped (result : Status) (written now_written : Written) (start now : Seen) : Type 0 where
+  pub trees : List DumpedTree
+  pub stop : LoadStop
+  pub went : LoadEnded (Err stop) trees start now
+  pub leads : result ≡ ended_as status_of_load (load_end (Err stop))
+  pub told : AddsOne written now_written (load_text (Err stop))
+
+-- a run of words of a shape ends so, unless it is a shell whose opening did not open its session, a settling that stopped, a dump of what
+-- is not quiet, or at which a look stopped, or a load of a dump that stopped
 abbrev pub EndsWith : Status → Option Shape → Status → Written → Written → Seen → Seen → Type 0
 EndsWith wanted (Some Replay) result written now_written start now = IsOrMemory wanted result
 EndsWith wanted (Some (Gen number count)) result written now_written start now = IsOrMemory wanted result
@@ -38,14 +54,20 @@ EndsWith wanted (Some (Shell client dir)) result written now_written start now =
     IsOrMemory wanted result ⊎ ((result ≡ NotOpened) × WasNotOpened client written now_written start now)
 EndsWith wanted (Some (Settle dir)) result written now_written start now =
     IsOrMemory wanted result ⊎ ((result ≡ NotSettled) × SettleEnded (Err settle.NotSettled) written now_written start now)
+EndsWith wanted (Some (Dump dir)) result written now_written start now =
+    IsOrMemory wanted result
+    ⊎ (((result ≡ NotQuiet) × DumpEnded (Err dump.NotQuiet) written now_written start now)
+    ⊎ ((result ≡ Stopped) × DumpEnded (Err dump.Stopped) written now_written start now))
+EndsWith wanted (Some (Load dir)) result written now_written start now =
+    IsOrMemory wanted result ⊎ ((wanted ≡ Done) × LoadStopped result written now_written start now)
 EndsWith wanted None result written now_written start now = Unit {0}
 
 -- where all went in order and no line is bad, the run is done
 abbrev pub IsComplete : Option Shape → Status → Told → Told → Written → Written → Seen → Seen → Type 0
 IsComplete asked result left rest written now_written start now =
-    WentInOrder left rest written now_written → (ReadBadLine asked left rest → ⊥) → EndsWith Done asked result written now_written start now
+    WentInOrder asked left rest written now_written → (ReadBadLine asked left rest → ⊥) → EndsWith Done asked result written now_written start now
 
 -- where all went in order and a line is bad, the run ends by it
 abbrev pub StopsAtBadLine : Option Shape → Status → Told → Told → Written → Written → Seen → Seen → Type 0
 StopsAtBadLine asked result left rest written now_written start now =
-    WentInOrder left rest written now_written → IsKnown left → ReadBadLine asked left rest → EndsWith BadLine asked result written now_written start now
+    WentInOrder asked left rest written now_written → IsKnown left → ReadBadLine asked left rest → EndsWith BadLine asked result written now_written start now

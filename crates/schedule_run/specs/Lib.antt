@@ -2,6 +2,8 @@ pub mod Answered
 pub mod Replayed
 pub mod Play
 pub mod Settling
+pub mod Dumping
+pub mod Loading
 pub mod Shell
 pub mod Generated
 pub mod InPlay

@@ -2,54 +2,70 @@
 use Rattle.std.specs.Prelude.{ℕ, ◌≡◌, ◌<◌, ◌≤◌, ◌⊎◌, List, length, Option, Some, None, Result}
 use Rattle.cloud_trait.specs.Seen.{Seen}
 use Rattle.command_words.specs.declared.shape.Shape.{Shape}
-use Rattle.command_words.specs.declared.shape.Shape.TheVariants.{Replay, Gen, Shell, Settle}
+use Rattle.command_words.specs.declared.shape.Shape.TheVariants.{Replay, Gen, Shell, Settle, Dump, Load}
 use Rattle.db_io.specs.Content.{Told, Takes}
 use Rattle.db_io.specs.Writes.{Written}
 use Rattle.line_io.specs.Input.{AreAll}
 use Rattle.line_io.specs.declared.input.InputFault.{InputFault}
-use Rattle.line_io.specs.declared.input.TheConstants.{MAX_INPUT}
+use Rattle.line_io.specs.declared.input.TheConstants.{MAX_LINES, MAX_DUMP}
 use Rattle.line_io.specs.declared.output.OutputFault.{OutputFault}
 use Rattle.sched_gen.specs.Schedule.{schedule}
+use Rattle.schedule_run.specs.declared.dumping.DumpingFault.{DumpingFault}
+use Rattle.schedule_run.specs.declared.loading.LoadingFault.{LoadingFault}
 use Rattle.schedule_run.specs.declared.replay.LineFault.{LineFault}
 use Rattle.schedule_run.specs.declared.settling.SettleFault.{SettleFault}
 use Rattle.schedule_run.specs.declared.shell.ShellFault.{ShellFault}
 use Rattle.schedule_run.specs.Answered.{OpensNoneTwice}
+use Rattle.schedule_run.specs.Dumping.{DumpEnded}
 use Rattle.schedule_run.specs.Generated.{GenEnded}
+use Rattle.schedule_run.specs.Loading.{FillEnded, SpellsNoDump}
 use Rattle.schedule_run.specs.Replayed.{HasBadLine, ReplayWent}
 use Rattle.schedule_run.specs.Settling.{SettleEnded}
 use Rattle.schedule_run.specs.Shell.{HasBadShellLine, ShellWent}
 use Rattle.run_text.specs.Written.{NothingRan}
 use Rattle.schedule_run.specs.declared.status.Status.{Status}
 use Rattle.schedule_run.specs.declared.status.Status.TheVariants as status
-use Rattle.schedule_run.specs.Status.{status_of_input, status_of_line, status_of_output, status_of_shell, status_of_settle, ended_as}
+use Rattle.schedule_run.specs.Status.{status_of_input, status_of_line, status_of_output, status_of_shell, status_of_settle, status_of_dump, status_of_load, ended_as}
 
 -- ---- the input
 
--- some bytes were read, and more than an input has
-pub record WasTooLong (before after : Told) : Type 0 where
+-- how many bytes are read at most of what a command reads
+abbrev pub limit_of : Option Shape → ℕ
+limit_of (Some (Load dir)) = MAX_DUMP
+limit_of (Some (Dump dir)) = MAX_LINES
+limit_of (Some (Settle dir)) = MAX_LINES
+limit_of (Some (Shell client dir)) = MAX_LINES
+limit_of (Some (Gen number count)) = MAX_LINES
+limit_of (Some Replay) = MAX_LINES
+limit_of None = MAX_LINES
+
+-- some bytes were read, and more than an input may have
+pub record WasTooLong (limit : ℕ) (before after : Told) : Type 0 where
   pub bytes : List ℕ
   pub taken : Takes before after bytes
-  pub long : MAX_INPUT < length bytes
+  pub long : limit < length bytes
 
--- some bytes were read, or none, and no more than an input has
-pub record WasWithin (before after : Told) : Type 0 where
+-- some bytes were read, or none, and no more than an input may have
+pub record WasWithin (limit : ℕ) (before after : Told) : Type 0 where
   pub bytes : List ℕ
   pub taken : Takes before after bytes
-  pub within : length bytes ≤ MAX_INPUT
+  pub within : length bytes ≤ limit
 
--- the source was read to its end, and gave no more than an input has
-pub record ReadWhole (before after : Told) : Type 0 where
+-- the source was read to its end, and gave no more than an input may have
+pub record ReadWhole (limit : ℕ) (before after : Told) : Type 0 where
   pub bytes : List ℕ
   pub taken : Takes before after bytes
   pub all : AreAll before bytes
-  pub within : length bytes ≤ MAX_INPUT
+  pub within : length bytes ≤ limit
 
--- a line of the text is not one of those that the command reads
+-- a line of the text is not one of those that the command reads, or the text is no dump where it reads that
 abbrev pub HasBad : Option Shape → List ℕ → Type 0
 HasBad (Some Replay) text = HasBadLine text
 HasBad (Some (Shell client dir)) text = HasBadShellLine text
 HasBad (Some (Gen number count)) text = ⊥
 HasBad (Some (Settle dir)) text = ⊥
+HasBad (Some (Dump dir)) text = ⊥
+HasBad (Some (Load dir)) text = SpellsNoDump text
 HasBad None text = ⊥
 
 -- some bytes were read, of which this holds
@@ -60,28 +76,85 @@ pub record WasBad (IsBad : List ℕ → Type 0) (before after : Told) : Type 0 w
 
 -- ---- the words
 
--- the words ask for a settling
+-- the words ask for a settling, or for a load, which settles at its end
 abbrev pub AsksToSettle : Option Shape → Type 0
 AsksToSettle (Some (Settle dir)) = Unit {0}
+AsksToSettle (Some (Load dir)) = Unit {0}
+AsksToSettle (Some (Dump dir)) = ⊥
 AsksToSettle (Some (Shell client dir)) = ⊥
 AsksToSettle (Some (Gen number count)) = ⊥
 AsksToSettle (Some Replay) = ⊥
 AsksToSettle None = ⊥
 
--- the words ask for a shell
-abbrev pub AsksForShell : Option Shape → Type 0
-AsksForShell (Some (Shell client dir)) = Unit {0}
-AsksForShell (Some (Settle dir)) = ⊥
-AsksForShell (Some (Gen number count)) = ⊥
-AsksForShell (Some Replay) = ⊥
-AsksForShell None = ⊥
+-- the words ask for a shell or a load, which open a session
+abbrev pub AsksToOpen : Option Shape → Type 0
+AsksToOpen (Some (Shell client dir)) = Unit {0}
+AsksToOpen (Some (Settle dir)) = ⊥
+AsksToOpen (Some (Load dir)) = Unit {0}
+AsksToOpen (Some (Dump dir)) = ⊥
+AsksToOpen (Some (Gen number count)) = ⊥
+AsksToOpen (Some Replay) = ⊥
+AsksToOpen None = ⊥
+
+-- the words ask for a dump
+abbrev pub AsksToDump : Option Shape → Type 0
+AsksToDump (Some (Dump dir)) = Unit {0}
+AsksToDump (Some (Load dir)) = ⊥
+AsksToDump (Some (Settle dir)) = ⊥
+AsksToDump (Some (Shell client dir)) = ⊥
+AsksToDump (Some (Gen number count)) = ⊥
+AsksToDump (Some Replay) = ⊥
+AsksToDump None = ⊥
+
+-- the words ask for a load
+abbrev pub AsksToLoad : Option Shape → Type 0
+AsksToLoad (Some (Load dir)) = Unit {0}
+AsksToLoad (Some (Dump dir)) = ⊥
+AsksToLoad (Some (Settle dir)) = ⊥
+AsksToLoad (Some (Shell client dir)) = ⊥
+AsksToLoad (Some (Gen number count)) = ⊥
+AsksToLoad (Some Replay) = ⊥
+AsksToLoad None = ⊥
+
+-- the words ask for a dump or a load, which look at what is there
+abbrev pub AsksToLook : Option Shape → Type 0
+AsksToLook (Some (Dump dir)) = Unit {0}
+AsksToLook (Some (Load dir)) = Unit {0}
+AsksToLook (Some (Settle dir)) = ⊥
+AsksToLook (Some (Shell client dir)) = ⊥
+AsksToLook (Some (Gen number count)) = ⊥
+AsksToLook (Some Replay) = ⊥
+AsksToLook None = ⊥
 
 -- no more rounds are asked for than are generated
 abbrev pub AsksWithin : Shape → Type 0
 AsksWithin (Gen number count) = count ≤ 10000
 AsksWithin (Shell client dir) = Unit {0}
 AsksWithin (Settle dir) = Unit {0}
+AsksWithin (Dump dir) = Unit {0}
+AsksWithin (Load dir) = Unit {0}
 AsksWithin Replay = Unit {0}
+
+-- a status that a replay leads to
+abbrev pub IsOfReplay : Status → Type 0
+IsOfReplay status.Done = Unit {0}
+IsOfReplay status.BadLine = Unit {0}
+IsOfReplay status.ReadFault = Unit {0}
+IsOfReplay status.WriteFault = Unit {0}
+IsOfReplay status.TooLong = Unit {0}
+IsOfReplay status.Memory = Unit {0}
+IsOfReplay result = ⊥
+
+-- a status that a shell leads to
+abbrev pub IsOfShell : Status → Type 0
+IsOfShell status.Done = Unit {0}
+IsOfShell status.BadLine = Unit {0}
+IsOfShell status.ReadFault = Unit {0}
+IsOfShell status.WriteFault = Unit {0}
+IsOfShell status.TooLong = Unit {0}
+IsOfShell status.NotOpened = Unit {0}
+IsOfShell status.Memory = Unit {0}
+IsOfShell result = ⊥
 
 -- a status that a generated schedule leads to
 abbrev pub IsOfSchedule : Status → Type 0
@@ -98,20 +171,35 @@ IsOfSettling status.WriteFault = Unit {0}
 IsOfSettling status.Memory = Unit {0}
 IsOfSettling result = ⊥
 
+-- a status that a dump leads to
+abbrev pub IsOfDump : Status → Type 0
+IsOfDump status.Done = Unit {0}
+IsOfDump status.WriteFault = Unit {0}
+IsOfDump status.NotQuiet = Unit {0}
+IsOfDump status.Stopped = Unit {0}
+IsOfDump status.Memory = Unit {0}
+IsOfDump result = ⊥
+
+-- a status that a load leads to
+abbrev pub IsOfLoad : Status → Type 0
+IsOfLoad status.BadWords = ⊥
+IsOfLoad status.NotQuiet = ⊥
+IsOfLoad result = Unit {0}
+
 -- ---- what each command reads, writes and leaves
 
 -- a replay: the input was read whole and its lines were handled up to this end, or it was not, and nothing ran
 pub data Replays (result : Status) (left rest : Told) (written now_written : Written) (start now : Seen) : Type 0 where
   replay_unread : (fault : InputFault) → result ≡ status_of_input fault → NothingRan written now_written start now
       → Replays result left rest written now_written start now
-  replay_went : (input : ReadWhole left rest) (ended : Result (Unit {0}) LineFault) → result ≡ ended_as status_of_line ended
+  replay_went : (input : ReadWhole MAX_LINES left rest) (ended : Result (Unit {0}) LineFault) → result ≡ ended_as status_of_line ended
       → ReplayWent ended input.bytes written now_written start now → Replays result left rest written now_written start now
 
 -- a shell of a client: in the same way
 pub data RunsShell (client : ℕ) (result : Status) (left rest : Told) (written now_written : Written) (start now : Seen) : Type 0 where
   shell_unread : (fault : InputFault) → result ≡ status_of_input fault → NothingRan written now_written start now
       → RunsShell client result left rest written now_written start now
-  shell_went : (input : ReadWhole left rest) (ended : Result (Unit {0}) ShellFault) → result ≡ ended_as status_of_shell ended
+  shell_went : (input : ReadWhole MAX_LINES left rest) (ended : Result (Unit {0}) ShellFault) → result ≡ ended_as status_of_shell ended
       → ShellWent client input.bytes ended written now_written start now → RunsShell client result left rest written now_written start now
 
 -- a generated schedule: its events were handled up to this end, and opened no transaction twice, whatever was in the cloud before
@@ -127,6 +215,19 @@ pub record RunsSettling (result : Status) (written now_written : Written) (start
   pub leads : result ≡ ended_as status_of_settle ended
   pub went : SettleEnded ended written now_written start now
 
+-- a dump: what looks showed was written up to this end, or there was no memory to begin, and nothing ran
+pub data RunsDump (result : Status) (written now_written : Written) (start now : Seen) : Type 0 where
+  dump_unasked : result ≡ status.Memory → NothingRan written now_written start now → RunsDump result written now_written start now
+  dump_went : (ended : Result (Unit {0}) DumpingFault) → result ≡ ended_as status_of_dump ended → DumpEnded ended written now_written start now
+      → RunsDump result written now_written start now
+
+-- a load: the input was read whole, and what its text spells was loaded up to this end; or it was not, and nothing ran
+pub data RunsLoad (result : Status) (left rest : Told) (written now_written : Written) (start now : Seen) : Type 0 where
+  load_unread : (fault : InputFault) → result ≡ status_of_input fault → NothingRan written now_written start now
+      → RunsLoad result left rest written now_written start now
+  load_went : (input : ReadWhole MAX_DUMP left rest) (ended : Result (Unit {0}) LoadingFault) → result ≡ ended_as status_of_load ended
+      → FillEnded input.bytes ended written now_written start now → RunsLoad result left rest written now_written start now
+
 -- words of no shape, or no memory to read them: nothing is read, and nothing ran
 pub record IsUnasked (result : Status) (left rest : Told) (written now_written : Written) (start now : Seen) : Type 0 where
   pub ends : (result ≡ status.BadWords) ⊎ (result ≡ status.Memory)
@@ -139,4 +240,6 @@ Ran (Some Replay) result left rest written now_written start now = Replays resul
 Ran (Some (Gen number count)) result left rest written now_written start now = (rest ≡ left) × Generates number count result written now_written start now
 Ran (Some (Shell client dir)) result left rest written now_written start now = RunsShell client result left rest written now_written start now
 Ran (Some (Settle dir)) result left rest written now_written start now = (rest ≡ left) × RunsSettling result written now_written start now
+Ran (Some (Dump dir)) result left rest written now_written start now = (rest ≡ left) × RunsDump result written now_written start now
+Ran (Some (Load dir)) result left rest written now_written start now = RunsLoad result left rest written now_written start now
 Ran None result left rest written now_written start now = IsUnasked result left rest written now_written start now

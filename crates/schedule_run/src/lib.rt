@@ -1,9 +1,11 @@
-//! What each command of the program does over a cloud: a replay, a generated schedule, a shell, a settling and a load.
+//! What each command of the program does over a cloud: a replay, a generated schedule, a shell, a settling, a dump and a load.
 #![tactic(auto)]
 
 pub mod arguments;
+pub mod dumping;
 pub mod generated;
 pub mod load;
+pub mod loading;
 mod play;
 pub mod replay;
 pub mod run;

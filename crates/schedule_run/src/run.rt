@@ -1,11 +1,15 @@
 ghost use Rattle.std.specs.Prelude.{◌≡◌, ◌<◌, ◌≤◌, ◌⊎◌, Some, None, map, string_bytes};
 ghost use Rattle.command_words.specs.Words.{shape_of};
+ghost use Rattle.line_io.specs.declared.input.TheConstants.{MAX_DUMP, MAX_LINES};
+ghost use Rattle.schedule_run.specs.Loading.{SpellsNoDump};
 ghost use Rattle.schedule_run.specs.Replayed.{HasBadLine};
 ghost use Rattle.schedule_run.specs.Shell.{HasBadShellLine};
 ghost use Rattle.schedule_run.specs.Complete.{IsComplete, StopsAtBadLine};
-ghost use Rattle.schedule_run.specs.Run.{AsksForShell, AsksToSettle, AsksWithin, Generates, HasBad, IsOfSchedule, IsOfSettling, Ran, Replays, RunsSettling, RunsShell, WasBad, WasTooLong, WasWithin};
+ghost use Rattle.schedule_run.specs.Run.{AsksToDump, AsksToLoad, AsksToLook, AsksToOpen, AsksToSettle, AsksWithin, Generates, HasBad, IsOfDump, IsOfLoad, IsOfReplay, IsOfSchedule, IsOfSettling, IsOfShell, Ran, Replays, RunsDump, RunsLoad, RunsSettling, RunsShell, WasBad, WasTooLong, WasWithin, limit_of};
 
+use crate::dumping::{DumpingFault, dump};
 use crate::generated::generate;
+use crate::loading::{LoadingFault, fill};
 use crate::replay::{LineFault, replay_lines};
 use crate::settling::{SettleFault, settle};
 use crate::shell::{ShellFault, run_shell};
@@ -16,12 +20,12 @@ use command_words::shape::{Shape, WordsFault};
 use db_base::ids::ClientId;
 use db_io::sink::Sink;
 use db_io::source::Source;
-use line_io::input::{InputFault, read_whole};
+use line_io::input::{InputFault, MAX_DUMP, MAX_LINES, read_whole};
 use line_io::output::OutputFault;
 use std::alloc::Global;
 
 /// Runs the command that the words ask for over the cloud: a replay of the lines of the source, a generated schedule, a shell
-/// over the lines of the source, or a settling.
+/// over the lines of the source, a settling, a dump, or a load of the text of the source.
 #[tactic(auto, using(crate::proofs::RunLemmas::reads_nothing))]
 pub fn run<I: Source, O: Sink, C: Bench>(
     alloc: Global,
@@ -38,8 +42,10 @@ pub fn run<I: Source, O: Sink, C: Bench>(
         → (I.told source.old).faults < (I.told source.new).faults }
     ensures reads { (result ≡ Status.ReadFault)
         ⊎ ((I.told source.new).faults ≡ (I.told source.old).faults) }
-    ensures too_long { result ≡ Status.TooLong → WasTooLong (I.told source.old) (I.told source.new) }
-    ensures within { (result ≡ Status.TooLong) ⊎ WasWithin (I.told source.old) (I.told source.new) }
+    ensures too_long { result ≡ Status.TooLong → WasTooLong (limit_of (shape_of (map string_bytes words.now)))
+        (I.told source.old) (I.told source.new) }
+    ensures within { (result ≡ Status.TooLong) ⊎ WasWithin (limit_of (shape_of (map string_bytes words.now)))
+        (I.told source.old) (I.told source.new) }
     ensures bad_line { result ≡ Status.BadLine
         → WasBad (HasBad (shape_of (map string_bytes words.now))) (I.told source.old) (I.told source.new) }
     ensures write_fault { result ≡ Status.WriteFault
@@ -47,7 +53,11 @@ pub fn run<I: Source, O: Sink, C: Bench>(
     ensures writes { (result ≡ Status.WriteFault)
         ⊎ ((O.told sink.new).faults ≡ (O.told sink.old).faults) }
     ensures not_settled { result ≡ Status.NotSettled → AsksToSettle (shape_of (map string_bytes words.now)) }
-    ensures not_opened { result ≡ Status.NotOpened → AsksForShell (shape_of (map string_bytes words.now)) }
+    ensures not_opened { result ≡ Status.NotOpened → AsksToOpen (shape_of (map string_bytes words.now)) }
+    ensures not_quiet { result ≡ Status.NotQuiet → AsksToDump (shape_of (map string_bytes words.now)) }
+    ensures not_empty { result ≡ Status.NotEmpty → AsksToLoad (shape_of (map string_bytes words.now)) }
+    ensures not_loaded { result ≡ Status.NotLoaded → AsksToLoad (shape_of (map string_bytes words.now)) }
+    ensures stopped { result ≡ Status.Stopped → AsksToLook (shape_of (map string_bytes words.now)) }
     // Where no read or write failed, the input was not too long and no line of it is bad, it is done.
     ensures complete { IsComplete (shape_of (map string_bytes words.now)) result
         (I.told source.old) (I.told source.new) (O.told sink.old) (O.told sink.new)
@@ -82,15 +92,19 @@ fn run_asked<I: Source, O: Sink, C: Bench>(
         → (I.told source.old).faults < (I.told source.new).faults }
     ensures reads { (result ≡ Status.ReadFault)
         ⊎ ((I.told source.new).faults ≡ (I.told source.old).faults) }
-    ensures too_long { result ≡ Status.TooLong → WasTooLong (I.told source.old) (I.told source.new) }
-    ensures within { (result ≡ Status.TooLong) ⊎ WasWithin (I.told source.old) (I.told source.new) }
+    ensures too_long { result ≡ Status.TooLong → WasTooLong (limit_of (Some asked)) (I.told source.old) (I.told source.new) }
+    ensures within { (result ≡ Status.TooLong) ⊎ WasWithin (limit_of (Some asked)) (I.told source.old) (I.told source.new) }
     ensures bad_line { result ≡ Status.BadLine → WasBad (HasBad (Some asked)) (I.told source.old) (I.told source.new) }
     ensures write_fault { result ≡ Status.WriteFault
         → (O.told sink.old).faults < (O.told sink.new).faults }
     ensures writes { (result ≡ Status.WriteFault)
         ⊎ ((O.told sink.new).faults ≡ (O.told sink.old).faults) }
     ensures not_settled { result ≡ Status.NotSettled → AsksToSettle (Some asked) }
-    ensures not_opened { result ≡ Status.NotOpened → AsksForShell (Some asked) }
+    ensures not_opened { result ≡ Status.NotOpened → AsksToOpen (Some asked) }
+    ensures not_quiet { result ≡ Status.NotQuiet → AsksToDump (Some asked) }
+    ensures not_empty { result ≡ Status.NotEmpty → AsksToLoad (Some asked) }
+    ensures not_loaded { result ≡ Status.NotLoaded → AsksToLoad (Some asked) }
+    ensures stopped { result ≡ Status.Stopped → AsksToLook (Some asked) }
     ensures ran { Ran (Some asked) result (I.told source.old) (I.told source.new) (O.told sink.old) (O.told sink.new)
         (C.seen cloud.old) (C.seen cloud.new) }
 {
@@ -99,6 +113,8 @@ fn run_asked<I: Source, O: Sink, C: Bench>(
         Shape::Gen { number, count } => generated(alloc, number, count, sink, cloud),
         Shape::Shell { client, dir: _ } => shell(alloc, client, source, sink, cloud),
         Shape::Settle { dir: _ } => settled(alloc, sink, cloud),
+        Shape::Dump { dir: _ } => dumped(alloc, sink, cloud),
+        Shape::Load { dir: _ } => filled(alloc, source, sink, cloud),
     }
 }
 
@@ -109,25 +125,23 @@ fn replay<I: Source, O: Sink, C: Bench>(
     sink: &mut O,
     cloud: &mut C,
 ) -> Status
-    ensures not_words { result ≡ Status.BadWords → ⊥ }
+    ensures only { IsOfReplay result }
     ensures read_fault { result ≡ Status.ReadFault
         → (I.told source.old).faults < (I.told source.new).faults }
     ensures reads { (result ≡ Status.ReadFault)
         ⊎ ((I.told source.new).faults ≡ (I.told source.old).faults) }
-    ensures too_long { result ≡ Status.TooLong → WasTooLong (I.told source.old) (I.told source.new) }
-    ensures within { (result ≡ Status.TooLong) ⊎ WasWithin (I.told source.old) (I.told source.new) }
+    ensures too_long { result ≡ Status.TooLong → WasTooLong MAX_LINES (I.told source.old) (I.told source.new) }
+    ensures within { (result ≡ Status.TooLong) ⊎ WasWithin MAX_LINES (I.told source.old) (I.told source.new) }
     ensures bad_line { result ≡ Status.BadLine
         → WasBad HasBadLine (I.told source.old) (I.told source.new) }
     ensures write_fault { result ≡ Status.WriteFault
         → (O.told sink.old).faults < (O.told sink.new).faults }
     ensures writes { (result ≡ Status.WriteFault)
         ⊎ ((O.told sink.new).faults ≡ (O.told sink.old).faults) }
-    ensures not_settled { result ≡ Status.NotSettled → ⊥ }
-    ensures not_opened { result ≡ Status.NotOpened → ⊥ }
     ensures ran { Replays result (I.told source.old) (I.told source.new) (O.told sink.old) (O.told sink.new)
         (C.seen cloud.old) (C.seen cloud.new) }
 {
-    match read_whole(alloc, source) {
+    match read_whole(alloc, source, MAX_LINES) {
         Ok(input) => match replay_lines(alloc, input.as_slice(), sink, cloud) {
             Ok(()) => Status::Done,
             Err(LineFault::BadLine) => Status::BadLine,
@@ -148,24 +162,23 @@ fn shell<I: Source, O: Sink, C: Bench>(
     sink: &mut O,
     cloud: &mut C,
 ) -> Status
-    ensures not_words { result ≡ Status.BadWords → ⊥ }
+    ensures only { IsOfShell result }
     ensures read_fault { result ≡ Status.ReadFault
         → (I.told source.old).faults < (I.told source.new).faults }
     ensures reads { (result ≡ Status.ReadFault)
         ⊎ ((I.told source.new).faults ≡ (I.told source.old).faults) }
-    ensures too_long { result ≡ Status.TooLong → WasTooLong (I.told source.old) (I.told source.new) }
-    ensures within { (result ≡ Status.TooLong) ⊎ WasWithin (I.told source.old) (I.told source.new) }
+    ensures too_long { result ≡ Status.TooLong → WasTooLong MAX_LINES (I.told source.old) (I.told source.new) }
+    ensures within { (result ≡ Status.TooLong) ⊎ WasWithin MAX_LINES (I.told source.old) (I.told source.new) }
     ensures bad_line { result ≡ Status.BadLine
         → WasBad HasBadShellLine (I.told source.old) (I.told source.new) }
     ensures write_fault { result ≡ Status.WriteFault
         → (O.told sink.old).faults < (O.told sink.new).faults }
     ensures writes { (result ≡ Status.WriteFault)
         ⊎ ((O.told sink.new).faults ≡ (O.told sink.old).faults) }
-    ensures not_settled { result ≡ Status.NotSettled → ⊥ }
     ensures ran { RunsShell client result (I.told source.old) (I.told source.new) (O.told sink.old) (O.told sink.new)
         (C.seen cloud.old) (C.seen cloud.new) }
 {
-    match read_whole(alloc, source) {
+    match read_whole(alloc, source, MAX_LINES) {
         Ok(input) => match run_shell(alloc, client, input.as_slice(), sink, cloud) {
             Ok(()) => Status::Done,
             Err(ShellFault::NotOpened) => Status::NotOpened,
@@ -218,5 +231,65 @@ fn settled<O: Sink, C: Bench>(alloc: Global, sink: &mut O, cloud: &mut C) -> Sta
         Err(SettleFault::NotSettled) => Status::NotSettled,
         Err(SettleFault::WriteFault) => Status::WriteFault,
         Err(SettleFault::Memory) => Status::Memory,
+    }
+}
+
+/// Writes the text of what is in the cloud.
+fn dumped<O: Sink, C: Bench>(alloc: Global, sink: &mut O, cloud: &mut C) -> Status
+    ensures only { IsOfDump result }
+    ensures write_fault { result ≡ Status.WriteFault
+        → (O.told sink.old).faults < (O.told sink.new).faults }
+    ensures writes { (result ≡ Status.WriteFault)
+        ⊎ ((O.told sink.new).faults ≡ (O.told sink.old).faults) }
+    ensures ran { RunsDump result (O.told sink.old) (O.told sink.new)
+        (C.seen cloud.old) (C.seen cloud.new) }
+{
+    match dump(alloc, sink, cloud) {
+        Ok(()) => Status::Done,
+        Err(DumpingFault::NotQuiet) => Status::NotQuiet,
+        Err(DumpingFault::Stopped) => Status::Stopped,
+        Err(DumpingFault::WriteFault) => Status::WriteFault,
+        Err(DumpingFault::Memory) => Status::Memory,
+    }
+}
+
+/// Loads the dump that the text of the source spells.
+fn filled<I: Source, O: Sink, C: Bench>(
+    alloc: Global,
+    source: &mut I,
+    sink: &mut O,
+    cloud: &mut C,
+) -> Status
+    ensures only { IsOfLoad result }
+    ensures read_fault { result ≡ Status.ReadFault
+        → (I.told source.old).faults < (I.told source.new).faults }
+    ensures reads { (result ≡ Status.ReadFault)
+        ⊎ ((I.told source.new).faults ≡ (I.told source.old).faults) }
+    ensures too_long { result ≡ Status.TooLong → WasTooLong MAX_DUMP (I.told source.old) (I.told source.new) }
+    ensures within { (result ≡ Status.TooLong) ⊎ WasWithin MAX_DUMP (I.told source.old) (I.told source.new) }
+    ensures bad_line { result ≡ Status.BadLine
+        → WasBad SpellsNoDump (I.told source.old) (I.told source.new) }
+    ensures write_fault { result ≡ Status.WriteFault
+        → (O.told sink.old).faults < (O.told sink.new).faults }
+    ensures writes { (result ≡ Status.WriteFault)
+        ⊎ ((O.told sink.new).faults ≡ (O.told sink.old).faults) }
+    ensures ran { RunsLoad result (I.told source.old) (I.told source.new) (O.told sink.old) (O.told sink.new)
+        (C.seen cloud.old) (C.seen cloud.new) }
+{
+    match read_whole(alloc, source, MAX_DUMP) {
+        Ok(input) => match fill(alloc, input.as_slice(), sink, cloud) {
+            Ok(()) => Status::Done,
+            Err(LoadingFault::BadLine) => Status::BadLine,
+            Err(LoadingFault::NotEmpty) => Status::NotEmpty,
+            Err(LoadingFault::Stopped) => Status::Stopped,
+            Err(LoadingFault::NotOpened) => Status::NotOpened,
+            Err(LoadingFault::NotLoaded) => Status::NotLoaded,
+            Err(LoadingFault::NotSettled) => Status::NotSettled,
+            Err(LoadingFault::WriteFault) => Status::WriteFault,
+            Err(LoadingFault::Memory) => Status::Memory,
+        },
+        Err(InputFault::ReadFault) => Status::ReadFault,
+        Err(InputFault::TooLong) => Status::TooLong,
+        Err(InputFault::Memory) => Status::Memory,
     }
 }

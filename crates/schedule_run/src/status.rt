@@ -24,6 +24,14 @@ pub enum Status {
     NotOpened,
     /// Memory ran out.
     Memory,
+    /// A database that is dumped is not quiet. The name that shows it is written.
+    NotQuiet,
+    /// A database that is filled is not empty. The name that shows it is written. Nothing ran.
+    NotEmpty,
+    /// A commit of a load did not end well. Its answer is written.
+    NotLoaded,
+    /// A look at what is dumped or filled failed, or showed what is damaged. The trouble is written.
+    Stopped,
 }
 
 impl Status {
@@ -41,6 +49,10 @@ impl Status {
             Status::TooLong => 6,
             Status::NotOpened => 7,
             Status::Memory => 9,
+            Status::NotQuiet => 11,
+            Status::NotEmpty => 12,
+            Status::NotLoaded => 13,
+            Status::Stopped => 14,
         }
     }
 }

@@ -3,7 +3,7 @@ use command_words::shape::{Shape, WordsFault};
 use std::alloc::Global;
 
 /// Words of a shape, the name of the shape, its numbers, and its folder.
-const SHAPES: [(&[&str], &str, &[u64], &str); 10] = [
+const SHAPES: [(&[&str], &str, &[u64], &str); 13] = [
     (&["replay"], "replay", &[], ""),
     (&["gen", "7", "10000"], "gen", &[7, 10000], ""),
     (&["gen", "0", "0"], "gen", &[0, 0], ""),
@@ -19,10 +19,13 @@ const SHAPES: [(&[&str], &str, &[u64], &str); 10] = [
     (&["settle", "a b"], "settle", &[], "a b"),
     (&["settle", ""], "settle", &[], ""),
     (&["settle", "settle"], "settle", &[], "settle"),
+    (&["dump", "a b"], "dump", &[], "a b"),
+    (&["dump", "load"], "dump", &[], "load"),
+    (&["load", ""], "load", &[], ""),
 ];
 
 /// Words of no shape.
-const NO_SHAPES: [&[&str]; 26] = [
+const NO_SHAPES: [&[&str]; 32] = [
     &[],
     &[""],
     &["help"],
@@ -49,6 +52,12 @@ const NO_SHAPES: [&[&str]; 26] = [
     &["settle"],
     &["settle", "-"],
     &["settle", "a", "b"],
+    &["dump"],
+    &["dump", "-"],
+    &["dump", "1", "store"],
+    &["load"],
+    &["load", "-x"],
+    &["load", "store", "dump"],
 ];
 
 /// Adds words to a list of texts, and tells whether memory was there.
@@ -75,6 +84,8 @@ fn is_shape(shape: &Shape, name: &str, numbers: &[u64], folder: &str) -> bool {
             name == "shell" && numbers.first() == Some(&client.get()) && dir.as_str() == folder
         }
         Shape::Settle { dir } => name == "settle" && dir.as_str() == folder,
+        Shape::Dump { dir } => name == "dump" && dir.as_str() == folder,
+        Shape::Load { dir } => name == "load" && dir.as_str() == folder,
     }
 }
 

@@ -3,7 +3,7 @@ use Rattle.std.proofs.lemmas.Result.{IfOk-weaker}
 use Rattle.clap.specs.Words.{App, Rule, Shape, app_of, rule_of, with_rule, with_subcommand}
 use Rattle.clap.specs.Simple.{app_of_fields}
 use Rattle.clap.specs.declared.builder.arg.Arg.{Arg}
-use Rattle.command_words.specs.Command.{gen_app, replay_app, settle_app, shell_app, top_app, value_rule}
+use Rattle.command_words.specs.Command.{dump_app, gen_app, load_app, replay_app, settle_app, shell_app, top_app, value_rule}
 use Rattle.command_words.proofs.command.command.Goals as goal
 
 abbrev no_name : App → App
@@ -36,6 +36,10 @@ returns c =
     let home_own : is_global c.required-home.result ≡ false = ap is_global c.required-home.ensures ∙ c.new-5.ensures.optional.1 in
     let dir_is : rule_of c.required-dir.result ≡ value_rule (codes "dir") = ap rule_of c.required-dir.ensures ∙ ap must_be c.new-7.ensures.rule in
     let dir_own : is_global c.required-dir.result ≡ false = ap is_global c.required-dir.ensures ∙ c.new-7.ensures.optional.1 in
+    let source_is : rule_of c.required-source.result ≡ value_rule (codes "dir") = ap rule_of c.required-source.ensures ∙ ap must_be c.new-9.ensures.rule in
+    let source_own : is_global c.required-source.result ≡ false = ap is_global c.required-source.ensures ∙ c.new-9.ensures.optional.1 in
+    let target_is : rule_of c.required-target.result ≡ value_rule (codes "dir") = ap rule_of c.required-target.ensures ∙ ap must_be c.new-11.ensures.rule in
+    let target_own : is_global c.required-target.result ≡ false = ap is_global c.required-target.ensures ∙ c.new-11.ensures.optional.1 in
     let gen_first : app_of c.in_ok-arg.field-0 ≡ with_rule (app_of c.new-3.result) (value_rule (codes "number")) = c.in_ok-arg.ensures.shape number_own ∙ ap (with_rule (app_of c.new-3.result)) number_is in
     let gen_is : app_of c.in_ok-generate.generate ≡ gen_app = c.in_ok-generate.ensures.shape count_own
     ∙ ap₂ with_rule (gen_first ∙ ap (λ (a : App). with_rule a (value_rule (codes "number"))) c.new-3.ensures.app) count_is in
@@ -46,12 +50,20 @@ returns c =
     let shell_own = c.in_ok-shell.ensures.globals ∙ ap₂ ◌||◌ (c.in_ok-arg-2.ensures.globals ∙ ap₂ ◌||◌ c.new-6.ensures.local client_own) home_own in
     let settle_is : app_of c.in_ok-settle.settle ≡ settle_app = c.in_ok-settle.ensures.shape dir_own ∙ ap₂ with_rule c.new-8.ensures.app dir_is in
     let settle_own = c.in_ok-settle.ensures.globals ∙ ap₂ ◌||◌ c.new-8.ensures.local dir_own in
-    let named : app_of c.no_binary_name.result ≡ no_name (app_of c.new-9.result) = ap app_of_fields c.no_binary_name.ensures in
+    let dump_is : app_of c.in_ok-dump.dump ≡ dump_app = c.in_ok-dump.ensures.shape source_own ∙ ap₂ with_rule c.new-10.ensures.app source_is in
+    let dump_own = c.in_ok-dump.ensures.globals ∙ ap₂ ◌||◌ c.new-10.ensures.local source_own in
+    let load_is : app_of c.in_ok-load.load ≡ load_app = c.in_ok-load.ensures.shape target_own ∙ ap₂ with_rule c.new-12.ensures.app target_is in
+    let load_own = c.in_ok-load.ensures.globals ∙ ap₂ ◌||◌ c.new-12.ensures.local target_own in
+    let named : app_of c.no_binary_name.result ≡ no_name (app_of c.new-13.result) = ap app_of_fields c.no_binary_name.ensures in
     let helped : app_of c.disable_help_subcommand.result ≡ no_help (app_of c.no_binary_name.result) = ap app_of_fields c.disable_help_subcommand.ensures in
     let wants : app_of c.subcommand_required.result ≡ wanting (app_of c.disable_help_subcommand.result) = ap app_of_fields c.subcommand_required.ensures in
-    let top_is : app_of c.subcommand_required.result ≡ top_app = wants ∙ ap wanting (helped ∙ ap no_help (named ∙ ap no_name c.new-9.ensures.app)) in
-    let one : app_of c.in_ok-subcommand.field-0 ≡ with_subcommand top_app replay_app.top = c.in_ok-subcommand.ensures.shape c.new-10.ensures.local ∙ ap₂ with_subcommand top_is (ap top_of c.new-10.ensures.app) in
-    let two : app_of c.in_ok-subcommand-2.field-0 ≡ with_subcommand (with_subcommand top_app replay_app.top) gen_app.top = c.in_ok-subcommand-2.ensures.shape gen_own ∙ ap₂ with_subcommand one (ap top_of gen_is) in
-    let three : app_of c.in_ok-subcommand-3.field-0 ≡ with_subcommand (with_subcommand (with_subcommand top_app replay_app.top) gen_app.top) shell_app.top = c.in_ok-subcommand-3.ensures.shape shell_own ∙ ap₂ with_subcommand two (ap top_of shell_is) in
-    IfOk-weaker c.subcommand-4.result _ _
-    (λ r h. h.shape settle_own ∙ ap₂ with_subcommand three (ap top_of settle_is)) c.subcommand-4.ensures
+    let top_is : app_of c.subcommand_required.result ≡ top_app = wants ∙ ap wanting (helped ∙ ap no_help (named ∙ ap no_name c.new-13.ensures.app)) in
+    let one : app_of c.in_ok-subcommand.field-0 ≡ with_subcommand top_app replay_app.top = c.in_ok-subcommand.ensures.shape c.new-14.ensures.local ∙ ap₂ with_subcommand top_is (ap top_of c.new-14.ensures.app) in
+    let two_app : App = with_subcommand (with_subcommand top_app replay_app.top) gen_app.top in
+    let two : app_of c.in_ok-subcommand-2.field-0 ≡ two_app = c.in_ok-subcommand-2.ensures.shape gen_own ∙ ap₂ with_subcommand one (ap top_of gen_is) in
+    let three : app_of c.in_ok-subcommand-3.field-0 ≡ with_subcommand two_app shell_app.top = c.in_ok-subcommand-3.ensures.shape shell_own ∙ ap₂ with_subcommand two (ap top_of shell_is) in
+    let four_app : App = with_subcommand (with_subcommand two_app shell_app.top) settle_app.top in
+    let four : app_of c.in_ok-subcommand-4.field-0 ≡ four_app = c.in_ok-subcommand-4.ensures.shape settle_own ∙ ap₂ with_subcommand three (ap top_of settle_is) in
+    let five : app_of c.in_ok-subcommand-5.field-0 ≡ with_subcommand four_app dump_app.top = c.in_ok-subcommand-5.ensures.shape dump_own ∙ ap₂ with_subcommand four (ap top_of dump_is) in
+    IfOk-weaker c.subcommand-6.result _ _
+    (λ r h. h.shape load_own ∙ ap₂ with_subcommand five (ap top_of load_is)) c.subcommand-6.ensures

@@ -1,6 +1,6 @@
 use Rattle.std.proofs.Common.{◌≡◌, Some, None, map, sym, ◌∙◌, subst}
 use Rattle.std.specs.Prelude.{string_bytes}
-use Rattle.schedule_run.specs.Run.{AsksToSettle, AsksForShell}
+use Rattle.schedule_run.specs.Run.{AsksToSettle, AsksToOpen, AsksToDump, AsksToLoad, AsksToLook}
 use Rattle.schedule_run.proofs.RunLemmas.{asked_within, not_asked}
 use Rattle.schedule_run.proofs.CompleteLemmas.{completes, stops_at_bad_line, out_of_memory}
 use Rattle.schedule_run.proofs.run.run.Goals as goal
@@ -15,6 +15,12 @@ pub returns-in-Ok-clause-no_shape : goal.returns-in-Ok-clause-no_shape
 returns-in-Ok-clause-no_shape g c none =
     let clash : Some c.in-Ok.asked ≡ None = sym c.in-Ok.ensures ∙ none in absurd (cc)
 
+pub returns-in-Ok-clause-too_long : goal.returns-in-Ok-clause-too_long
+returns-in-Ok-clause-too_long g c e = rw c.in-Ok.ensures (c.run_asked.ensures.too_long e)
+
+pub returns-in-Ok-clause-within : goal.returns-in-Ok-clause-within
+returns-in-Ok-clause-within g c = rw c.in-Ok.ensures c.run_asked.ensures.within
+
 pub returns-in-Ok-clause-bad_line : goal.returns-in-Ok-clause-bad_line
 returns-in-Ok-clause-bad_line g c e = rw c.in-Ok.ensures (c.run_asked.ensures.bad_line e)
 
@@ -22,7 +28,19 @@ pub returns-in-Ok-clause-not_settled : goal.returns-in-Ok-clause-not_settled
 returns-in-Ok-clause-not_settled g c e = subst AsksToSettle (sym c.in-Ok.ensures) (c.run_asked.ensures.not_settled e)
 
 pub returns-in-Ok-clause-not_opened : goal.returns-in-Ok-clause-not_opened
-returns-in-Ok-clause-not_opened g c e = subst AsksForShell (sym c.in-Ok.ensures) (c.run_asked.ensures.not_opened e)
+returns-in-Ok-clause-not_opened g c e = subst AsksToOpen (sym c.in-Ok.ensures) (c.run_asked.ensures.not_opened e)
+
+pub returns-in-Ok-clause-not_quiet : goal.returns-in-Ok-clause-not_quiet
+returns-in-Ok-clause-not_quiet g c e = subst AsksToDump (sym c.in-Ok.ensures) (c.run_asked.ensures.not_quiet e)
+
+pub returns-in-Ok-clause-not_empty : goal.returns-in-Ok-clause-not_empty
+returns-in-Ok-clause-not_empty g c e = subst AsksToLoad (sym c.in-Ok.ensures) (c.run_asked.ensures.not_empty e)
+
+pub returns-in-Ok-clause-not_loaded : goal.returns-in-Ok-clause-not_loaded
+returns-in-Ok-clause-not_loaded g c e = subst AsksToLoad (sym c.in-Ok.ensures) (c.run_asked.ensures.not_loaded e)
+
+pub returns-in-Ok-clause-stopped : goal.returns-in-Ok-clause-stopped
+returns-in-Ok-clause-stopped g c e = subst AsksToLook (sym c.in-Ok.ensures) (c.run_asked.ensures.stopped e)
 
 pub returns-in-Ok-clause-ran : goal.returns-in-Ok-clause-ran
 returns-in-Ok-clause-ran g c = rw c.in-Ok.ensures c.run_asked.ensures.ran
@@ -43,6 +61,10 @@ returns-in-Ok-clause-complete g c =
       write_fault = e.write_fault;
       not_settled = e.not_settled;
       not_opened = e.not_opened;
+      not_quiet = e.not_quiet;
+      not_empty = e.not_empty;
+      not_loaded = e.not_loaded;
+      stopped = e.stopped;
     })
     e.ran)
 
@@ -59,6 +81,10 @@ returns-in-Ok-clause-at_bad_line g c =
       write_fault = e.write_fault;
       not_settled = e.not_settled;
       not_opened = e.not_opened;
+      not_quiet = e.not_quiet;
+      not_empty = e.not_empty;
+      not_loaded = e.not_loaded;
+      stopped = e.stopped;
     })
     e.ran)
 

@@ -10,12 +10,12 @@ use report_types::stored::Stored;
 use std::alloc::{AllocError, Global};
 
 /// The insert of a record of a tree, by session 1.
-pub fn insert_of(alloc: Global, tree: u64, record: &Stored) -> Result<Event, AllocError>
-    ensures { IfOk result (λ event. event ≡ insert_of (record { tree = tree; stored = record.now })) }
+pub fn insert_of(alloc: Global, tree: u64, stored: &Stored) -> Result<Event, AllocError>
+    ensures { IfOk result (λ event. event ≡ insert_of (record { tree = tree; stored = stored.now })) }
 {
-    let key = Blob::copy_of(alloc, record.key.as_slice())?;
-    let payload = Blob::copy_of(alloc, record.payload.as_slice())?;
-    let attr = match &record.attr {
+    let key = Blob::copy_of(alloc, stored.key.as_slice())?;
+    let payload = Blob::copy_of(alloc, stored.payload.as_slice())?;
+    let attr = match &stored.attr {
         Some(attr) => Some(Blob::copy_of(alloc, attr.as_slice())?),
         None => None,
     };

@@ -224,11 +224,11 @@ fn note<S: SessionCalls, C: Bench>(
     play: &mut Play<S>,
     cloud: &mut C,
     tree: u64,
-    record: &Stored,
+    stored: &Stored,
 ) -> Result<(), LoadStop>
-    ensures { GoesThrough (insert_of (record { tree = tree; stored = record.now }) ∷ []) result (C.seen cloud.old) (C.seen cloud.new) play.old play.new }
+    ensures { GoesThrough (insert_of (record { tree = tree; stored = stored.now }) ∷ []) result (C.seen cloud.old) (C.seen cloud.new) play.old play.new }
 {
-    match insert_of(alloc, tree, record) {
+    match insert_of(alloc, tree, stored) {
         Ok(event) => noted(run(alloc, play, cloud, event)?),
         Err(_) => Err(LoadStop::Memory),
     }

@@ -9,14 +9,14 @@ use Rattle.schedule_run.proofs.load.note.Goals as goal
 
 pub returns-in_err-run-in-Ok : goal.returns-in_err-run-in-Ok
 returns-in_err-run-in-Ok g c =
-    let placed : Placed = record { tree = c.args.tree; stored = c.args.record.now } in
+    let placed : Placed = record { tree = c.args.tree; stored = c.args.stored.now } in
     let p = err_from_is_err_and c.from_residual.result c.from_residual.ensures.1 in
     let ran = rw c.in-Ok.ensures at c.in_err-run-in-Ok.ensures in
     rw (p.1, p.2) (out_at (insert_of placed) _ _ _ _ _ (no_insert placed) ran)
 
 pub returns-in_ok-run-in-Ok : goal.returns-in_ok-run-in-Ok
 returns-in_ok-run-in-Ok g c =
-    let placed : Placed = record { tree = c.args.tree; stored = c.args.record.now } in
+    let placed : Placed = record { tree = c.args.tree; stored = c.args.stored.now } in
     let ran = rw c.in-Ok.ensures at c.in_ok-run-in-Ok.ensures in
     rw (c.noted.ensures placed) (goes_by (insert_of placed) c.in_ok-run-in-Ok.field-0 _ _ _ _ (no_insert placed) ran)
 

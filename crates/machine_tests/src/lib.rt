@@ -2,4 +2,8 @@
 #![tactic(auto)]
 
 #[cfg(test)]
+mod dark_cloud;
+#[cfg(test)]
+mod dump_take_tests;
+#[cfg(test)]
 mod world_audit_tests;

@@ -1,7 +1,9 @@
 //! Policies, and the checkpoints that sessions make by them.
 
-use crate::bench::all_write;
+use crate::bench::{all_write, replay_over};
+use memory_cloud::memory::MemoryCloud;
 use schedule_run::status::Status;
+use std::alloc::Global;
 
 /// A writer checkpoints the queues to which it sent.
 const WRITERS: [(&[u8], Status, &[u8]); 4] = [
@@ -141,4 +143,46 @@ const STATES: [(&[u8], Status, &[u8]); 5] = [
 #[test]
 fn policies_by_state(rt: HostRuntime) {
     assert!(rt; all_write(rt.alloc(), &STATES));
+}
+
+/// Whether this input writes this where the cloud's call of this number fails.
+fn writes_failing(alloc: Global, input: &[u8], call: u64, output: &[u8]) -> bool {
+    match MemoryCloud::with_failures(alloc, &[call]) {
+        Ok(mut cloud) => replay_over(alloc, input, Status::Done, output, &mut cloud),
+        Err(_) => false,
+    }
+}
+
+/// Whether it writes what each row says where the call fails that the row names.
+fn all_write_failing(alloc: Global, input: &[u8], rows: &[(u64, &[u8])]) -> bool {
+    for (call, output) in rows {
+        if !writes_failing(alloc, input, *call, output) {
+            return false;
+        }
+    }
+    true
+}
+
+/// A writer works twice behind one commit, whose last call is the ninth.
+const WORKS_TWICE: &[u8] =
+    b"open 1 1\nrun 1\npolicy 1 writer 1\ninsert 1 1 6b 76\ncommit 1\nrun 1\nwork 1\nwork 1\nreport 1\n";
+
+/// Where a checkpoint of its first work failed it is passed over, and the second makes it.
+const PASSED_FIRST: &[u8] =
+    b"1 begun\n2 opened 1\n3 noted\n4 noted\n5 begun\n6 committed 1\n7 worked 0 1\n8 worked 1 0\n9 report 1\ncommitted 1\n1 1 1 insert 6b 76\norder 1\n1 1 1 insert 6b 76\ncontents 1\n6b 76\nleft 0 0\n";
+
+/// The take of the tree, the receive, the put of the leaf; and the deletion, which leaves a message behind a checkpoint that is done.
+const WORK_FAILED: [(u64, &[u8]); 4] = [
+    (10, PASSED_FIRST),
+    (12, PASSED_FIRST),
+    (15, PASSED_FIRST),
+    (
+        18,
+        b"1 begun\n2 opened 1\n3 noted\n4 noted\n5 begun\n6 committed 1\n7 worked 1 0\n8 worked 0 0\n9 report 1\ncommitted 1\n1 1 1 insert 6b 76\norder 1\n1 1 1 insert 6b 76\ncontents 1\n6b 76\nleft 0 1\n",
+    ),
+];
+
+#[test]
+fn a_checkpoint_that_fails_in_a_work_is_passed_over(rt: HostRuntime) {
+    assert!(rt; all_write_failing(rt.alloc(), WORKS_TWICE, &WORK_FAILED));
 }

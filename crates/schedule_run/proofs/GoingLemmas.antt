@@ -30,9 +30,9 @@ use Rattle.world_core.proofs.StartLemmas.{new_stands}
 use Rattle.world_core.proofs.Caused.{caused}
 use Rattle.schedule_run.specs.declared.replay.LineFault.{LineFault}
 use Rattle.schedule_run.specs.declared.replay.LineFault.TheVariants.{BadLine, WriteFault, Memory}
-use Rattle.schedule_run.specs.Answered.{IsNew, WentOn, start, further, AreAnswered, AreExplained, ReportsAreRight, RepliesAreSound, ActsByTheLines, AcknowledgedStay, KeepsTheTheorem, ReportsCome}
+use Rattle.schedule_run.specs.Answered.{IsNew, WentOn, start, further, AreAnswered, AreExplained, AreMetered, ReportsAreRight, RepliesAreSound, ActsByTheLines, AcknowledgedStay, KeepsTheTheorem, ReportsCome}
 use Rattle.schedule_run.proofs.BehindLemmas.{lines_left, lines_settled}
-use Rattle.schedule_run.proofs.SoundLemmas.{get_before, take_whole, went_soundly, went_explained}
+use Rattle.schedule_run.proofs.SoundLemmas.{get_before, take_whole, went_soundly, went_explained, went_metered}
 use Rattle.schedule_run.proofs.SeeingLemmas.{went_comes}
 use Rattle.schedule_run.proofs.CausedLemmas.{lines_caused}
 use Rattle.schedule_run.proofs.OnceLemmas.{went_adds, lines_once, unanswered_short, unanswered_kinds, unanswered_once}
@@ -149,6 +149,11 @@ pub lines_explained : {blind : Bool} → (lines : List Line) (s t : Seen) (first
     → AreExplained s first lines t world went
 lines_explained lines s t first world x went fresh told empty = went_explained s first x lines t world went told (fresh_stands first x fresh empty)
 
+-- and a writer leaves few messages
+pub lines_metered : {blind : Bool} → (lines : List Line) (s t : Seen) (first world : World) (x : CloudState) → (went : WentOn s first lines t world) → IsNew blind first → s.state ≡ Some x → IsEmptyCloud x
+    → AreMetered s first lines t world went
+lines_metered lines s t first world x went fresh told empty = went_metered s first x lines t world went told (fresh_stands first x fresh empty)
+
 -- and where no look failed reports come
 pub reports_come : (lines : List Line) (s t : Seen) (first world : World) (x : CloudState) → WentOn s first lines t world → IsNew false first → s.state ≡ Some x → IsEmptyCloud x
     → ReportsCome lines s t
@@ -217,6 +222,7 @@ answered texts w v s t first world fresh h = record {
   last = world;
   went = h.went;
   explained = λ x told empty. lines_explained h.lines s t first world x h.went fresh told empty;
+  metered = λ x told empty. lines_metered h.lines s t first world x h.went fresh told empty;
   settled = lines_settled h.lines s t first world h.went fresh;
   left = lines_left h.lines s t first world h.went fresh;
   reports = λ x told empty. reports_come h.lines s t first world x h.went fresh told empty;
@@ -320,6 +326,7 @@ with_answer {text} {rest} {behind} {line} {n} {m} {w} {v} {s} {t} {z} {first} {o
       last = new;
       went = went;
       explained = λ x told empty. lines_explained (met.is.handles.lines ++ one ∷ []) s z first new x went met.fresh told empty;
+      metered = λ x told empty. lines_metered (met.is.handles.lines ++ one ∷ []) s z first new x went met.fresh told empty;
       settled = lines_settled (met.is.handles.lines ++ one ∷ []) s z first new went met.fresh;
       left = lines_left (met.is.handles.lines ++ one ∷ []) s z first new went met.fresh;
       reports = λ x told empty. reports_come (met.is.handles.lines ++ one ∷ []) s z first new x went met.fresh told empty;

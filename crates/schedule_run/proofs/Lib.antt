@@ -21,3 +21,4 @@ pub mod LoadEnds
 pub mod RunLemmas
 pub mod FallenLemmas
 pub mod CompleteLemmas
+pub mod LoadLeaves

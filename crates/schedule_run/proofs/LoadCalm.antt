@@ -93,7 +93,7 @@ lines_last (x ∷ xs) y ones = lines_last xs y ones.1
 
 it_one : (e : Event) (of_it : List Line) (r : Reply) → IsWhole e of_it r → session_of e ≡ 1 → LinesOne of_it
 it_one e _ r (alone _ other) one = (one, tt)
-it_one e _ r (with_run _) one = (one, refl, tt)
+it_one e _ r (with_run _) one = (one, (refl, tt))
 
 whole_one : (events : List Event) (lines : List Line) (replies : List Reply) → AreWhole events lines replies → Ones events → LinesOne lines
 whole_one _ _ _ no_events ones = tt
@@ -138,7 +138,6 @@ record Behind (s : Seen) (first : World) (lines : List Line) (t : Seen) : Type 0
   calm : AreCalm s first lines t world went
 
 module _ (s : Seen) (first : World) (x : CloudState) (fresh : IsNew true first) (told : s.state ≡ Some x) (empty : IsEmptyCloud x) where
-
   -- the state is told behind them
   left_told : (lines : List Line) (t : Seen) (world : World) → WentOn s first lines t world → (u : CloudState) × (t.state ≡ Some u)
   left_told lines t world went = let left = lines_left lines s t first world went fresh x told (inl empty) in (left.0, left.1)

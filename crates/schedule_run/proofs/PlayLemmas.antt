@@ -21,7 +21,7 @@ use Rattle.schedule_run.specs.InPlay.{Play}
 use Rattle.schedule_run.specs.Answered.{IsNew, WentOn, start, further, IsNoReport, AskNoReport, ReportsCome, ReportsAreRight, KeepsTheTheorem}
 use Rattle.schedule_run.specs.Play.{IsFresh, IsNext, RanOut, uncounted, no_answer, Takes, answered_run, stops_run, RunsWhole, Played, StoppedAt, stopped_before, stopped_within}
 use Rattle.schedule_run.proofs.BehindLemmas.{lines_left, lines_settled}
-use Rattle.schedule_run.proofs.GoingLemmas.{stands_more, fresh_stands, replies_sound, lines_explained, reports_come, report_same, acts_upto, acknowledged_stay, keeps_now}
+use Rattle.schedule_run.proofs.GoingLemmas.{stands_more, fresh_stands, replies_sound, lines_explained, lines_metered, reports_come, report_same, acts_upto, acknowledged_stay, keeps_now}
 use Rattle.schedule_run.proofs.CausedLemmas.{lines_caused}
 use Rattle.schedule_run.proofs.OnceLemmas.{went_adds, lines_once, unanswered_short, unanswered_kinds, unanswered_once}
 use Rattle.schedule_run.proofs.SeeingLemmas.{unasked_more}
@@ -49,6 +49,7 @@ played_nothing {blind} s play fresh = record {
   stands = stands;
   theorem = keeps_now [] s s play.world play.world start fresh.world stands;
   explained = λ t told empty. tt;
+  metered = λ t told empty. tt;
   reports = λ t told empty. reports_of blind [] s s play.world play.world t start fresh.world none told empty;
 }
   where
@@ -82,6 +83,7 @@ played_more {blind} lines event reply s t z old new p none n =
       stands = stands at;
       theorem = keeps_now (lines ++ line ∷ []) s z p.first new.world went p.fresh (stands at);
       explained = λ x told empty. lines_explained (lines ++ line ∷ []) s z p.first new.world x went p.fresh told empty;
+      metered = λ x told empty. lines_metered (lines ++ line ∷ []) s z p.first new.world x went p.fresh told empty;
       reports = λ x told empty. reports_of blind (lines ++ line ∷ []) s z p.first new.world x went p.fresh unasked told empty;
     }
   where
@@ -127,6 +129,7 @@ stopped_at lines event s t z old new p (no_answer handled grows) =
         last = old.world;
         went = p.went;
         explained = p.explained;
+        metered = p.metered;
         settled = p.settled;
         left = p.left;
         reports = p.reports;

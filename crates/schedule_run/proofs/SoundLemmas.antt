@@ -25,13 +25,17 @@ use Rattle.world_core.proofs.Bounded.{few_calls}
 use Rattle.world_core.proofs.Counting.{stands_after}
 use Rattle.world_core.proofs.Calm.{well_after}
 use Rattle.world_core.proofs.Explained.{explained}
+use Rattle.world_core.proofs.MeteredLines.{keeps_meter}
+use Rattle.world_core.proofs.Unsent.{stage_line}
+use Rattle.world_core.specs.Metered.{LeavesFewAt, MetersAt}
+use Rattle.world_core.specs.Writers.{Stage, stage_of}
 use Rattle.world_core.proofs.LeftNone.{nothing_after}
 use Rattle.world_core.proofs.Named.{names_pieces}
 use Rattle.world_core.proofs.Shown.{shown}
 use Rattle.world_core.proofs.ShownByLines.{shown_by}
 use Rattle.world_core.proofs.Settled.{settling_leaves, settling_ends}
 use Rattle.world_core.proofs.Sound.{sound_after}
-use Rattle.schedule_run.specs.Answered.{WentOn, start, further, LeavesSo, EndsSo, AreExplained, IsSoundLine, RepliesAreSound}
+use Rattle.schedule_run.specs.Answered.{WentOn, start, further, LeavesSo, EndsSo, AreExplained, GoThrough, AreMetered, IsSoundLine, RepliesAreSound}
 
 -- ---- places of lines
 
@@ -141,3 +145,27 @@ went_explained before old t lines after new (further earlier line mid _ world _ 
             subst (λ x. LeftIsRight x line.reply) (same_some f.after u (sym f.told ∙ seen)) f.left;
       },
     )
+
+-- ---- what a writer leaves
+
+-- what its notes meter behind these lines, where each of their steps went through
+meters_behind : (before : Seen) (old : World) (t : CloudState) (lines : List Line) (after : Seen) (new : World) → (went : WentOn before old lines after new) → before.state ≡ Some t
+    → WorldStands [] old t → GoThrough before old lines after new went → (session k : ℕ) (u : CloudState) → after.state ≡ Some u
+    → MetersAt (stage_of session k lines) session k new u × LeavesFewAt (stage_of session k lines) k u
+meters_behind before old t lines after new start told stands through session k u seen = (tt, tt)
+meters_behind before old t lines after new (further earlier line mid _ world _ went handled) told stands through session k u seen =
+    let o = went_soundly before old t earlier mid world went told stands in
+    let m = meters_behind before old t earlier mid world went told stands through.0 session k o.state o.told in
+    let kept = keeps_meter (length earlier + 1) line.event mid after world new (Ok line.reply) earlier o.state u refl o.told seen o.stands handled through.1 session k m.0 in
+    let same = sym (stage_line session k earlier line) in
+    (subst (λ (stage : Stage). MetersAt stage session k new u) same kept.0, subst (λ (stage : Stage). LeavesFewAt stage k u) same kept.1)
+
+-- a writer leaves few behind each of them
+pub went_metered : (before : Seen) (old : World) (t : CloudState) (lines : List Line) (after : Seen) (new : World) → (went : WentOn before old lines after new) → before.state ≡ Some t
+    → WorldStands [] old t → AreMetered before old lines after new went
+went_metered before old t lines after new start told stands = tt
+went_metered before old t lines after new (further earlier line mid _ world _ went handled) told stands = (
+  went_metered before old t earlier mid world went told stands,
+  λ through session k u seen.
+      (meters_behind before old t (earlier ++ line ∷ []) after new (further earlier line mid after world new went handled) told stands through session k u seen).1,
+)

@@ -252,7 +252,7 @@ reply_on entries more client posture (reply.Commit a) begins h = on posture h
 reply_on entries more client posture r begins h = tt
 
 -- up to the last event of a state the same was committed
-committed_upto : (lines : List Line) (n : ℕ) (s : CloudState) → IsUpto n s → committed lines (upto s n) ≡ committed lines s
+pub committed_upto : (lines : List Line) (n : ℕ) (s : CloudState) → IsUpto n s → committed lines (upto s n) ≡ committed lines s
 committed_upto lines n s all =
     committed_same lines s (upto s n) (λ i name. versions_upto-all n (s.versions name) (all.versions name) i) (trace_upto-all n s.trace all.trace)
 

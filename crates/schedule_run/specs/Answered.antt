@@ -33,6 +33,7 @@ use Rattle.world_core.specs.EachStep.{EachStep}
 use Rattle.world_core.specs.Explained.{StepExplains}
 use Rattle.world_core.specs.Handled.{Handled}
 use Rattle.world_core.specs.LeftShort.{LeavesShort}
+use Rattle.world_core.specs.Metered.{LeavesFewAt, StepGoesThrough}
 use Rattle.world_core.specs.Named.{NamesAt}
 use Rattle.world_core.specs.Opened.{OpenEachOnce}
 use Rattle.world_core.specs.Shown.{StepShows}
@@ -40,6 +41,7 @@ use Rattle.world_core.specs.ShownByLines.{StepShowsBy}
 use Rattle.world_core.specs.Settled.{SettledLeaves, AnswersSettled, NoLockHeld, StepGoesWell}
 use Rattle.world_core.specs.Sound.{IsSoundFor}
 use Rattle.world_core.specs.Stands.{LeftIsRight}
+use Rattle.world_core.specs.Writers.{stage_of}
 
 -- a world whose sessions are closed, and that saw nothing; blind where it looks at no put
 pub record IsNew (blind : Bool) (world : World) : Type 0 where
@@ -97,6 +99,24 @@ abbrev pub AreExplained : (before : Seen) (old : World) (lines : List Line) (aft
 AreExplained before old lines after new start = Unit {0}
 AreExplained before old _ after new (further lines line mid _ world _ went handled) = AreExplained before old lines mid world went × IsExplained lines line mid after world new handled
 
+-- in no step of these lines a call failed, and nothing was withheld
+abbrev pub GoThrough : (before : Seen) (old : World) (lines : List Line) (after : Seen) (new : World) → WentOn before old lines after new → Type 0
+GoThrough before old lines after new start = Unit {0}
+GoThrough before old _ after new (further lines line mid _ world _ went handled) =
+    GoThrough before old lines mid world went × EachStep StepGoesThrough (length lines + 1) line.event mid after world new (Ok line.reply) handled
+
+-- then, behind its policy and behind each work of it that passes nothing over, a session that works as a writer of k leaves at most k - 1 messages in each
+-- pending update queue
+abbrev pub LeavesFewSo : (before : Seen) (old : World) (lines : List Line) (after : Seen) (new : World) → WentOn before old lines after new → Type 0
+LeavesFewSo before old lines after new went =
+    GoThrough before old lines after new went → (session k : ℕ) (u : CloudState) → after.state ≡ Some u → LeavesFewAt (stage_of session k lines) k u
+
+-- so it does behind each of these lines
+abbrev pub AreMetered : (before : Seen) (old : World) (lines : List Line) (after : Seen) (new : World) → WentOn before old lines after new → Type 0
+AreMetered before old lines after new start = Unit {0}
+AreMetered before old _ after new (further lines line mid _ world _ went handled) =
+    AreMetered before old lines mid world went × LeavesFewSo before old (lines ++ line ∷ []) after new (further lines line mid after world new went handled)
+
 -- the reply to a line is sound by how the lines before it say that its session stood: it shows no trouble that only damage could cause
 abbrev pub IsSoundLine : List Line → Line → Type 0
 IsSoundLine before line = IsSoundFor line.event (standing before (session_of line.event)).posture line.reply
@@ -151,15 +171,16 @@ AreCaused before old _ after new (further lines line mid _ world _ went handled)
 abbrev pub OpensNoneTwice : Seen → Seen → Type 0
 OpensNoneTwice before after = (t : CloudState) → before.state ≡ Some t → AddsNoneTwice t after
 
--- these lines were handled from a new world on; over a cloud that was empty and told its state each of them explains itself, and reports come; over
--- one that earlier runs left each settling among them explains itself; and over any one each row that they added is of a kind that its session's
--- standing by them allows, each step that they made has its cause, and where they open no client twice no transaction was opened twice
+-- these lines were handled from a new world on; over a cloud that was empty and told its state each of them explains itself, reports come, and a writer
+-- leaves few messages; over one that earlier runs left each settling among them explains itself; and over any one each row that they added is of a kind
+-- that its session's standing by them allows, each step that they made has its cause, and where they open no client twice no transaction was opened twice
 pub record AreAnswered (blind : Bool) (lines : List Line) (before after : Seen) : Type 0 where
   pub first : World
   pub fresh : IsNew blind first
   pub last : World
   pub went : WentOn before first lines after last
   pub explained : (t : CloudState) → before.state ≡ Some t → IsEmptyCloud t → AreExplained before first lines after last went
+  pub metered : (t : CloudState) → before.state ≡ Some t → IsEmptyCloud t → AreMetered before first lines after last went
   pub settled : (t : CloudState) → before.state ≡ Some t → IsOfRuns t → AreSettled before first lines after last went
   pub left : LeavesOne before after
   pub reports : (t : CloudState) → before.state ≡ Some t → IsEmptyCloud t → ReportsCome lines before after

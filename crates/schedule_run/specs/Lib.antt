@@ -14,3 +14,4 @@ pub mod Status
 pub mod Arguments
 pub mod Run
 pub mod Complete
+pub mod LoadLeft

@@ -16,7 +16,7 @@ use Rattle.world_core.specs.Added.{WorldAdds}
 use Rattle.world_core.specs.Opened.{OpenEachOnce}
 use Rattle.world_core.specs.Stands.{WorldStands, StandsOn, Grows}
 use Rattle.schedule_run.specs.InPlay.{Play}
-use Rattle.schedule_run.specs.Answered.{IsNew, AskNoReport, WentOn, AreSettled, IsOfRuns, LeavesOne, IsUnanswered, events_of, OpensNoneTwice, ReportsAreRight, KeepsTheTheorem, AreExplained, AreCaused, ReportsCome}
+use Rattle.schedule_run.specs.Answered.{IsNew, AskNoReport, WentOn, AreSettled, IsOfRuns, LeavesOne, IsUnanswered, events_of, OpensNoneTwice, ReportsAreRight, KeepsTheTheorem, AreExplained, AreMetered, AreCaused, ReportsCome}
 
 -- a new world that has handled nothing; blind where it looks at no put
 pub record IsFresh (blind : Bool) (play : Play) : Type 0 where
@@ -65,7 +65,7 @@ RunsWhole event (Err fault) before after old new = StopsRun event before after o
 -- these lines were handled from a new world on, and each step that they made has its cause; over any cloud that tells its state each row that they
 -- added is of a kind that its session's standing by them allows, and where they open no client twice no transaction was opened twice; over one that
 -- earlier runs left each settling among them explains itself and another one is left; and over one that was empty all stands for them, they keep the
--- theorem, each explains itself, and reports come; a blind one is asked for none
+-- theorem, each explains itself, reports come, and a writer leaves few messages; a blind one is asked for none
 pub record Played (blind : Bool) (lines : List Line) (start now : Seen) (play : Play) : Type 0 where
   pub count : play.handled ≡ length lines
   pub first : World
@@ -81,6 +81,7 @@ pub record Played (blind : Bool) (lines : List Line) (start now : Seen) (play : 
       → (u : CloudState) × (now.state ≡ Some u) × WorldStands lines play.world u × ReportsAreRight lines u × IsTraced u
   pub theorem : KeepsTheTheorem lines start now
   pub explained : (t : CloudState) → start.state ≡ Some t → IsEmptyCloud t → AreExplained start first lines now play.world went
+  pub metered : (t : CloudState) → start.state ≡ Some t → IsEmptyCloud t → AreMetered start first lines now play.world went
   pub reports : (t : CloudState) → start.state ≡ Some t → IsEmptyCloud t → ReportsCome lines start now
 
 -- behind these lines memory ran out: before this event did anything, or while it was handled. What was handled keeps the theorem

@@ -34,6 +34,12 @@ pub mod AddedShort
 pub mod BrokenOff
 pub mod LeftShort
 pub mod OpenedLines
+pub mod Unsent
+pub mod Ledgers
+pub mod MeteredSteps
+pub mod MeteredCheckpoints
+pub mod MeteredWork
+pub mod MeteredLines
 pub mod EachAny
 pub mod Begun
 pub mod Caused

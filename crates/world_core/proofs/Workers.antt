@@ -1,10 +1,8 @@
 -- The work of a session: within a checkpoint the session has that in hand, between two it is open as before, and the other sessions stay.
-use Rattle.std.proofs.Common.{◌≡◌, ◌≢◌, ◌⊎◌, inl, inr, ◌+◌, ◌≤◌, ℕ, List, [], ◌∷◌, ◌++◌, length, Some, Result, Ok, Err, refl, sym, ap, subst, ◌∙◌, Bool, arith}
+use Rattle.std.proofs.Common.{◌≡◌, ◌≢◌, ◌⊎◌, inl, inr, ◌+◌, ◌≤◌, ℕ, List, [], ◌∷◌, ◌++◌, length, Some, Result, Ok, refl, sym, ap, subst, ◌∙◌, Bool, arith}
 use Rattle.std.proofs.lemmas.Bool.{cases_eq}
 use Rattle.db_base.specs.declared.names.QueueName.{QueueName}
 use Rattle.db_base.specs.declared.names.QueueName.TheVariants.{Atomic, TreePu, PagePu}
-use Rattle.db_base.specs.declared.refusal.Refusal.{Refusal}
-use Rattle.db_base.specs.declared.trouble.Trouble.{Trouble}
 use Rattle.db_base.specs.declared.trouble.Trouble.TheVariants as trouble
 use Rattle.db_base.specs.declared.wish.Wish.TheVariants.{Plain}
 use Rattle.ckpt_policy.specs.Notes.{IsPending}
@@ -13,7 +11,7 @@ use Rattle.client_work.specs.declared.answer.Answer.TheVariants as answer
 use Rattle.client_work.specs.declared.answer.Begun.TheVariants.{Working}
 use Rattle.client_work.specs.declared.work.Work.{Work}
 use Rattle.client_work.specs.declared.work.Work.TheVariants.{Closed, Idle, Opening, Committing, Reading, Scanning, Paging, Folding, Closing, Renewing, Settling, Broken}
-use Rattle.client_work.specs.Session.{Acting, Begins, StepsSession, StepsAt, noted_behind, open_client}
+use Rattle.client_work.specs.Session.{Acting, Begins, StepsSession, noted_behind, open_client}
 use Rattle.cloud_facts.specs.Book.Tally.{at}
 use Rattle.cloud_facts.proofs.Book.Names.{at_same, at_other}
 use Rattle.cloud_trait.specs.Caller.{Caller}
@@ -24,10 +22,9 @@ use Rattle.cloud_trait.specs.declared.turn.Turn.TheVariants.{More, Ended}
 use Rattle.event_text.specs.declared.event.Event.TheVariants as event
 use Rattle.history.specs.Audited.{Audited}
 use Rattle.recover_run.specs.declared.home.Home.{Home}
-use Rattle.replay_meaning.specs.Standing.{Line, Standing, standing}
+use Rattle.replay_meaning.specs.Standing.{Line, standing}
 use Rattle.reply_text.specs.declared.reply.Reply.{Reply}
 use Rattle.reply_text.specs.declared.reply.Reply.TheVariants as reply
-use Rattle.report_types.specs.declared.entry.Entry.{Entry}
 use Rattle.txn_buffer.specs.Noted.{Noted}
 use Rattle.session_facts.specs.Facts.{session_at, ActsAs, AllAct, CloudHolds, SettlerRests, WorksAs}
 use Rattle.session_facts.specs.Sessions.Noting.{audited}
@@ -41,7 +38,7 @@ use Rattle.session_facts.proofs.WorkerLemmas.{work_begins, work_ends, worker_row
 use Rattle.world_core.specs.World.{World}
 use Rattle.world_core.specs.declared.world.WorldFault.{WorldFault}
 use Rattle.world_core.specs.Sessions.{Changes}
-use Rattle.world_core.specs.Handled.{StepsLooked, Went, start, further, ComesTo, IsOpen, BeginsCheckpoint, Checkpoints, IsPassable, Works, no_checkpoint, checkpoint_more, WorksDown, WorksThrough, checkpoint_of}
+use Rattle.world_core.specs.Handled.{StepsLooked, Went, start, further, IsOpen, BeginsCheckpoint, Checkpoints, IsPassable, Works, no_checkpoint, checkpoint_more, WorksDown, WorksThrough, checkpoint_of}
 use Rattle.world_core.proofs.Behind.{LinesStand, LineLeaves}
 use Rattle.world_core.proofs.StandsLemmas.{IsNoReport, changed_at, changed_was, declines, no_memory, no_report_front, no_report_left, no_report_right}
 

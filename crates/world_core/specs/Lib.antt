@@ -17,6 +17,8 @@ pub mod Settled
 pub mod Added
 pub mod Opened
 pub mod World
+pub mod Writers
+pub mod Metered
 pub mod Begun
 pub mod Caused
 pub mod Shown

@@ -1,5 +1,5 @@
 -- The reply of a line: what it shows, and why there is none.
-use Rattle.std.specs.Prelude.{ℕ, ◌≡◌, List, Option, Some, None, Result, Ok, Err}
+use Rattle.std.specs.Prelude.{◌≡◌, List, Option, Some, None, Result, Ok, Err}
 use Rattle.db_base.specs.declared.pair.Pair.{Pair}
 use Rattle.db_base.specs.Value.{Value}
 use Rattle.db_base.specs.declared.refusal.Refused.{Refused}

@@ -93,6 +93,7 @@ impl<S: SessionCalls> World<S> {
     ghost use Rattle.world_core.specs.Calm.{AnswersWell};
     ghost use Rattle.world_core.specs.Bounded.{MakesFewCalls};
     ghost use Rattle.world_core.specs.LeftShort.{LeavesShort};
+    ghost use Rattle.world_core.specs.Metered.{KeepsMeter};
     ghost use Rattle.world_core.specs.Named.{NamesSteps};
     ghost use Rattle.world_core.specs.Settled.{SettlingEnds, SettlingIsRight, SettlingLeaves};
     ghost use Rattle.world_core.specs.Stands.{KeepsABook, WorldStands, StandsOn};
@@ -168,6 +169,8 @@ impl<S: SessionCalls> World<S> {
         ensures bounded { MakesFewCalls n event.now (C.seen cloud.old) (C.seen cloud.new) self.old self.new result }
         // A tree checkpoint that is done finds each new piece named by the level above.
         ensures named { NamesSteps n event.now (C.seen cloud.old) (C.seen cloud.new) self.old self.new result }
+        // A writer that works behind each of its commits leaves few messages.
+        ensures metered { KeepsMeter n event.now (C.seen cloud.old) (C.seen cloud.new) self.old self.new result }
         ensures settled { SettlingLeaves n event.now (C.seen cloud.old) (C.seen cloud.new) self.old self.new result }
         ensures settles { SettlingEnds n event.now (C.seen cloud.old) (C.seen cloud.new) self.old self.new result }
         ensures settling { SettlingIsRight n event.now (C.seen cloud.old) (C.seen cloud.new) self.old self.new result }

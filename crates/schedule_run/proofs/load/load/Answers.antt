@@ -1,5 +1,6 @@
 use Rattle.schedule_run.proofs.LoadCalls.{plain_both, plain_first, load_calls}
 use Rattle.schedule_run.proofs.LoadEnds.{ended_by, ended_looking}
+use Rattle.schedule_run.proofs.LoadLeaves.{ended_leaves}
 use Rattle.schedule_run.proofs.load.load.Goals as goal
 
 pub returns-in-Ok-unseeing-clause-went : goal.returns-in-Ok-unseeing-clause-went
@@ -8,4 +9,13 @@ returns-in-Ok-unseeing-clause-went g c =
 
 pub returns-in-Ok-unseeing-clause-calls : goal.returns-in-Ok-unseeing-clause-calls
 returns-in-Ok-unseeing-clause-calls g c =
-    plain_both _ _ _ (plain_first _ _ _ c.look_first.ensures) (load_calls c.args.dump.now.trees c.load_in.result _ _ _ _ c.load_in.ensures)
+    let start = g.C.Cloud.seen c.args.cloud.now in
+    let mid = g.C.Cloud.seen c.look_first.new.cloud in
+    let now = g.C.Cloud.seen c.load_in.new.cloud in
+    plain_both start mid now (plain_first c.look_first.result start mid c.look_first.ensures)
+    (load_calls c.args.dump.now.trees c.load_in.result mid now c.in-Ok-unseeing.play c.load_in.new.play c.load_in.ensures)
+
+pub returns-in-Ok-unseeing-clause-leaves : goal.returns-in-Ok-unseeing-clause-leaves
+returns-in-Ok-unseeing-clause-leaves g c =
+    ended_leaves c.args.dump.now.trees c.load_in.result _ _ c.requires
+    (ended_by c.args.dump.now.trees c.load_in.result _ _ _ _ _ c.in-Ok.ensures c.in-Ok-unseeing.ensures.fresh c.load_in.ensures)

@@ -1,0 +1,16 @@
+pub mod Folds
+pub mod SameRecords
+pub mod Lines
+pub mod Transactions
+pub mod Parts
+pub mod Buffers
+pub mod Kept
+pub mod Contents
+pub mod AtOnce
+pub mod Course
+pub mod Dumps
+pub mod Fair
+pub mod Withheld
+pub mod Loaded
+pub mod Places
+pub mod Rows

@@ -1,0 +1,4 @@
+pub mod Sends
+pub mod WorkSends
+pub mod Coming
+pub mod Emptying

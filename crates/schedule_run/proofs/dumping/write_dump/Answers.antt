@@ -12,4 +12,4 @@ pub returns-in-Ok-clause-writes : goal.returns-in-Ok-clause-writes
 returns-in-Ok-clause-writes g c = rw c.end_of.ensures (end_writes _ (Ok tt) _ _ _ c.write_text.ensures)
 
 pub returns-in-Err-clause-told : goal.returns-in-Err-clause-told
-returns-in-Err-clause-told g c = no_memory (Ok c.args.dump.now) _
+returns-in-Err-clause-told g c = no_memory (Ok c.args.dump.now) (g.O.Sink.told c.args.sink.now)

@@ -1,7 +1,7 @@
 -- The end of a load.
 use Rattle.std.proofs.Common.{◌≡◌, ◌<◌, ◌⊎◌, ◌++◌, List, [], ◌∷◌, ℕ, Result, Ok, Err, refl, sym, subst, inl, inr}
 use Rattle.std.proofs.lemmas.List.{append-nil}
-use Rattle.std.specs.Prelude.{codes}
+use Rattle.std.specs.Prelude.{IfOk, codes}
 use Rattle.cloud_trait.specs.Seen.{Seen}
 use Rattle.db_base.specs.declared.trouble.CommitAnswer.{CommitAnswer}
 use Rattle.db_base.specs.declared.trouble.Trouble.{Trouble}
@@ -19,6 +19,7 @@ use Rattle.schedule_run.specs.declared.load.LoadStop.TheVariants as load
 use Rattle.schedule_run.specs.declared.loading.LoadingFault.{LoadingFault}
 use Rattle.schedule_run.specs.declared.loading.LoadingFault.TheVariants.{BadLine, NotEmpty, Stopped, NotOpened, NotLoaded, NotSettled, WriteFault, Memory}
 use Rattle.schedule_run.specs.Load.{LoadEnded}
+use Rattle.schedule_run.specs.LoadLeft.{LeavesLoaded}
 use Rattle.schedule_run.specs.PlainCalls.{CallsPlainly}
 use Rattle.schedule_run.specs.Loading.{load_text, load_end, Tells, FillWent, FillEnded, fill_went, fill_bad, fill_unread, end_of}
 
@@ -64,8 +65,8 @@ load_writes (Err output.Memory) end text w u p = inr p.1
 
 -- a load that ended, and told so
 pub load_went : (trees : List DumpedTree) (loaded : Result Loaded LoadStop) (result : Result (Unit {0}) LoadingFault) (w u : Written) (s t : Seen) → LoadEnded loaded trees s t
-    → CallsPlainly s t → Tells (load_text loaded) (load_end loaded) result w u → FillWent trees result w u s t
-load_went trees loaded result w u s t went calls told = record { loaded = loaded; went = went; calls = calls; told = told }
+    → CallsPlainly s t → IfOk loaded (λ l. LeavesLoaded trees s t) → Tells (load_text loaded) (load_end loaded) result w u → FillWent trees result w u s t
+load_went trees loaded result w u s t went calls leaves told = record { loaded = loaded; went = went; calls = calls; leaves = leaves; told = told }
 
 -- it does not end by a bad line
 pub never_bad : (stop : LoadStop) → load_end (Err stop) ≡ Err BadLine → ⊥

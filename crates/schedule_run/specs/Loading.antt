@@ -1,5 +1,6 @@
 -- What the load of a text writes and leaves.
-use Rattle.std.specs.Prelude.{ℕ, ◌≡◌, List, [], ◌++◌, Result, Ok, Err, codes}
+use Rattle.std.specs.Prelude.{ℕ, ◌≡◌, List, [], ◌∷◌, ◌++◌, Result, Ok, Err, IfOk, codes}
+use Rattle.std.specs.Fmt.{decimal}
 use Rattle.cloud_trait.specs.Seen.{Seen}
 use Rattle.db_io.specs.Writes.{Written, AddsOne, AddsPart}
 use Rattle.dump_text.specs.BadLine.{IsBadLine}
@@ -10,6 +11,7 @@ use Rattle.line_io.specs.declared.output.OutputFault.TheVariants as output
 use Rattle.reply_text.specs.declared.reply.Reply.TheVariants as reply
 use Rattle.run_text.specs.Written.{NothingRan, bad_line, count_line, name_line, plain_line}
 use Rattle.schedule_run.specs.Load.{LoadEnded}
+use Rattle.schedule_run.specs.LoadLeft.{LeavesLoaded}
 use Rattle.schedule_run.specs.PlainCalls.{CallsPlainly}
 use Rattle.schedule_run.specs.declared.load.Loaded.{Loaded}
 use Rattle.schedule_run.specs.declared.load.LoadStop.{LoadStop}
@@ -20,7 +22,7 @@ use Rattle.schedule_run.specs.declared.loading.LoadingFault.TheVariants.{BadLine
 -- what is written of a load: how many records it committed and how many calls its settling made; or `not-empty` with a name, the answer of the commit at
 -- which it stopped, or the trouble
 abbrev pub load_text : Result Loaded LoadStop → List ℕ
-load_text (Ok loaded) = count_line (codes "loaded") loaded.records ++ count_line (codes "settled") loaded.calls
+load_text (Ok loaded) = codes "loaded" ++ (32 ∷ decimal loaded.records ++ (10 ∷ count_line (codes "settled") loaded.calls))
 load_text (Err (load.NotEmpty name)) = name_line (codes "not-empty") name
 load_text (Err (load.Stopped trouble)) = plain_line (reply.Trouble trouble)
 load_text (Err (load.Opening trouble)) = plain_line (reply.Trouble trouble)
@@ -49,11 +51,13 @@ Tells text end (Err WriteFault) written now_written = AddsPart written now_writt
 Tells text end (Err Memory) written now_written = AddsPart written now_written text
 Tells text end (Err fault) written now_written = (end ≡ Err fault) × AddsOne written now_written text
 
--- a load of these trees ended, by plain calls of its session and its settling alone, and that was told
+-- a load of these trees ended, by plain calls of its session and its settling alone, and that was told; where it was done, over a cloud that was empty and
+-- told its state, that has what these trees hold
 pub record FillWent (trees : List DumpedTree) (result : Result (Unit {0}) LoadingFault) (written now_written : Written) (start now : Seen) : Type 0 where
   pub loaded : Result Loaded LoadStop
   pub went : LoadEnded loaded trees start now
   pub calls : CallsPlainly start now
+  pub leaves : IfOk loaded (λ l. LeavesLoaded trees start now)
   pub told : Tells (load_text loaded) (load_end loaded) result written now_written
 
 -- the text spells a dump, which was loaded up to this end; or it spells none, and its first bad line was told; or there was no memory to read it.

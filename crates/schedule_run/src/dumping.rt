@@ -95,7 +95,7 @@ fn write_trouble<O: Sink>(alloc: Global, sink: &mut O, trouble: Trouble) -> Resu
         → (O.told sink.old).faults < (O.told sink.new).faults }
     ensures writes { (result ≡ Err DumpingFault.WriteFault)
         ⊎ ((O.told sink.new).faults ≡ (O.told sink.old).faults) }
-    ensures told { IsTold (Err (stop.Trouble trouble.entry)) result (O.told sink.old) (O.told sink.new) }
+    ensures told { IsTold (Err (stop.Trouble trouble)) result (O.told sink.old) (O.told sink.new) }
 {
     if is_memory(&trouble) {
         return Err(DumpingFault::Memory);

@@ -125,7 +125,7 @@ fn write_stop<O: Sink>(alloc: Global, sink: &mut O, stop: LoadStop) -> Result<()
         → (O.told sink.old).faults < (O.told sink.new).faults }
     ensures writes { (result ≡ Err LoadingFault.WriteFault)
         ⊎ ((O.told sink.new).faults ≡ (O.told sink.old).faults) }
-    ensures told { Tells (load_text (Err stop.entry)) (load_end (Err stop.entry)) result (O.told sink.old) (O.told sink.new) }
+    ensures told { Tells (load_text (Err stop)) (load_end (Err stop)) result (O.told sink.old) (O.told sink.new) }
 {
     match stop {
         LoadStop::NotEmpty(name) => end_of(
@@ -154,7 +154,7 @@ fn write_stop<O: Sink>(alloc: Global, sink: &mut O, stop: LoadStop) -> Result<()
 
 /// Writes a reply under no number, and lets it go.
 fn write_reply<O: Sink>(alloc: Global, sink: &mut O, reply: Reply) -> Result<(), OutputFault>
-    ensures { WasWritten (O.told sink.old) (O.told sink.new) (plain_line reply.entry) result }
+    ensures { WasWritten (O.told sink.old) (O.told sink.new) (plain_line reply) result }
 {
     let written = write_plain(alloc, sink, &reply);
     let_go(reply);

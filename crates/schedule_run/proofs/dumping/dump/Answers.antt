@@ -14,8 +14,8 @@ returns-in-Err-NotQuiet-clause-went g c =
     let is = c.in-Err-NotQuiet.field-0-is in
     dump_ended (Err (stop.NotQuiet c.in-Err-NotQuiet.name)) _ _ _ _ _ (rw is at e.taken) e.looked (rw is at e.failed) (rw c.as_str.ensures at c.write_not_quiet.ensures.told)
 
-pub returns-clause-went : goal.returns-clause-went
-returns-clause-went g c =
+pub returns-in-Err-Trouble-clause-went : goal.returns-in-Err-Trouble-clause-went
+returns-in-Err-Trouble-clause-went g c =
     let e = c.in-Err-Trouble.ensures in
     let is = c.in-Err-Trouble.field-0-is in
     dump_ended (Err (stop.Trouble c.in-Err-Trouble.trouble)) _ _ _ _ _ (rw is at e.taken) e.looked (rw is at e.failed) c.write_trouble.ensures.told

@@ -11,5 +11,5 @@ returns-in-Ok-clause-write_fault g c e = end_fails _ (Ok tt) _ _ _ c.write_text.
 pub returns-in-Ok-clause-writes : goal.returns-in-Ok-clause-writes
 returns-in-Ok-clause-writes g c = rw c.end_of.ensures (end_writes _ (Ok tt) _ _ _ c.write_text.ensures)
 
-pub returns-clause-told : goal.returns-clause-told
-returns-clause-told g c = no_memory (Ok c.args.dump.now) _
+pub returns-in-Err-clause-told : goal.returns-in-Err-clause-told
+returns-in-Err-clause-told g c = no_memory (Ok c.args.dump.now) (g.O.Sink.told c.args.sink.now)

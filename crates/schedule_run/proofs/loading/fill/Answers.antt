@@ -9,8 +9,8 @@ pub returns-in-Err-BadLine-clause-went : goal.returns-in-Err-BadLine-clause-went
 returns-in-Err-BadLine-clause-went g c =
     fill_bad c.in-Err-BadLine.number (c.in-Err-BadLine.ensures.bad c.in-Err-BadLine.number (rw c.in-Err-BadLine.field-0-is refl)) c.write_bad_line.ensures.told refl
 
-pub returns-clause-went : goal.returns-clause-went
-returns-clause-went g c = fill_unread refl (record { output = refl; seen = refl })
+pub returns-in-Err-Memory-clause-went : goal.returns-in-Err-Memory-clause-went
+returns-in-Err-Memory-clause-went g c = fill_unread refl (record { output = refl; seen = refl })
 
 pub returns-in-Ok-clause-bad_line : goal.returns-in-Ok-clause-bad_line
 returns-in-Ok-clause-bad_line g c e = absurd (c.fill_from.ensures.good e)

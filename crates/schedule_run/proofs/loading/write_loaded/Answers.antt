@@ -12,5 +12,5 @@ returns-in-Ok-clause-write_fault g c e = load_fails _ (Ok tt) _ _ _ c.write_text
 pub returns-in-Ok-clause-writes : goal.returns-in-Ok-clause-writes
 returns-in-Ok-clause-writes g c = rw c.end_of.ensures (load_writes _ (Ok tt) _ _ _ c.write_text.ensures)
 
-pub returns-clause-told : goal.returns-clause-told
-returns-clause-told g c = tells_nothing _ (Ok tt) _
+pub returns-in-Err-clause-told : goal.returns-in-Err-clause-told
+returns-in-Err-clause-told g c = tells_nothing (load_text (Ok c.args.loaded)) (Ok tt) (g.O.Sink.told c.args.sink.now)

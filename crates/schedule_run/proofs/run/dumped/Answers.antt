@@ -15,5 +15,5 @@ returns-in-Err-Stopped-clause-ran g c = dump_ran (Err fault.Stopped) _ _ _ _ (rw
 pub returns-in-Err-WriteFault-clause-ran : goal.returns-in-Err-WriteFault-clause-ran
 returns-in-Err-WriteFault-clause-ran g c = dump_ran (Err fault.WriteFault) _ _ _ _ (rw c.in-Err-WriteFault.field-0-is at c.in-Err-WriteFault.ensures.went)
 
-pub returns-clause-ran : goal.returns-clause-ran
-returns-clause-ran g c = dump_ran (Err fault.Memory) _ _ _ _ (rw c.in-Err-Memory.field-0-is at c.in-Err-Memory.ensures.went)
+pub returns-in-Err-Memory-clause-ran : goal.returns-in-Err-Memory-clause-ran
+returns-in-Err-Memory-clause-ran g c = dump_ran (Err fault.Memory) _ _ _ _ (rw c.in-Err-Memory.field-0-is at c.in-Err-Memory.ensures.went)

@@ -138,7 +138,6 @@ record Behind (s : Seen) (first : World) (lines : List Line) (t : Seen) : Type 0
   calm : AreCalm s first lines t world went
 
 module _ (s : Seen) (first : World) (x : CloudState) (fresh : IsNew true first) (told : s.state ≡ Some x) (empty : IsEmptyCloud x) where
-
   -- the state is told behind them
   left_told : (lines : List Line) (t : Seen) (world : World) → WentOn s first lines t world → (u : CloudState) × (t.state ≡ Some u)
   left_told lines t world went = let left = lines_left lines s t first world went fresh x told (inl empty) in (left.0, left.1)

@@ -2,13 +2,11 @@
 use Rattle.std.proofs.Common.{suc, zero, ◌≡◌, ◌<◌, ◌+◌, ◌-◌, ◌⊎◌, ℕ, List, [], ◌∷◌, ◌++◌, Option, Some, None, Result, Ok, Err, refl, sym, ap, subst, ◌∙◌, append_assoc, map, inl, inr, arith}
 use Rattle.cloud_trait.specs.Bench.{Looks}
 use Rattle.cloud_trait.specs.Seen.{Seen}
-use Rattle.cloud_trait.specs.State.{CloudState}
 use Rattle.cloud_trait.specs.declared.fault.CloudFault.{CloudFault}
-use Rattle.cloud_trait.specs.declared.fault.CloudFault.TheVariants as fault
 use Rattle.db_base.specs.declared.names.ObjName.{ObjName}
 use Rattle.db_base.specs.declared.names.ObjName.TheVariants.{Head, Tree, Page}
 use Rattle.reply_text.specs.Name.{object_word}
-use Rattle.load_plan.specs.FirstLook.{numbers, tree_names, ShowsOf, NoneThere, Looked, LookedOn, LookedDark, EndsLooks, LooksEnded, LookedAtAll, LooksAt}
+use Rattle.load_plan.specs.FirstLook.{numbers, tree_names, ShowsOf, NoneThere, Looked, LookedOn, EndsLooks, LooksEnded, LookedAtAll, LooksAt}
 use Rattle.load_plan.specs.declared.first_look.LookStop.{LookStop}
 use Rattle.load_plan.specs.declared.first_look.LookStop.TheVariants.{NotEmpty, Failed, Memory}
 

@@ -1,7 +1,7 @@
 use Rattle.std.proofs.Common.{ℕ, ◌≡◌, [], ◌∷◌, subst, arith}
 use Rattle.std.proofs.lemmas.Result.{err_from_is_err_and}
 use Rattle.db_base.specs.declared.names.ObjName.TheVariants.{Tree, Page}
-use Rattle.load_plan.specs.FirstLook.{numbers, tree_names, LookedAtAll, LooksEnded}
+use Rattle.load_plan.specs.FirstLook.{numbers, tree_names, LookedAtAll}
 use Rattle.load_plan.proofs.LookLemmas.{all_none, all_on, ends_before, ends_on, both_names, looked_more, looked_upto}
 use Rattle.load_plan.proofs.first_look.look_at_trees.Goals as goal
 

@@ -1,5 +1,5 @@
 -- The end of a dump.
-use Rattle.std.proofs.Common.{◌≡◌, ◌<◌, ◌⊎◌, List, ℕ, Bool, true, false, Result, Ok, Err, refl, subst, inl, inr}
+use Rattle.std.proofs.Common.{◌≡◌, ◌<◌, ◌⊎◌, List, ℕ, false, Result, Ok, Err, refl, subst, inl, inr}
 use Rattle.std.specs.Prelude.{codes}
 use Rattle.cloud_trait.specs.Seen.{Seen}
 use Rattle.db_base.specs.declared.trouble.Trouble.{Trouble}

@@ -1,5 +1,5 @@
 -- A load that stopped.
-use Rattle.std.proofs.Common.{◌≡◌, ◌⊎◌, List, ℕ, Result, Ok, Err, refl, sym, ap, subst, inl, inr}
+use Rattle.std.proofs.Common.{◌≡◌, List, ℕ, Result, Ok, Err, sym, ap, subst}
 use Rattle.cloud_trait.specs.Seen.{Seen}
 use Rattle.db_io.specs.Content.{Told}
 use Rattle.db_io.specs.Writes.{Written, AddsOne}
@@ -16,7 +16,7 @@ use Rattle.schedule_run.specs.declared.status.Status.{Status}
 use Rattle.schedule_run.specs.declared.status.Status.TheVariants as status
 use Rattle.schedule_run.specs.Complete.{LoadStopped}
 use Rattle.schedule_run.specs.Load.{LoadEnded}
-use Rattle.schedule_run.specs.Loading.{load_text, load_end, FillWent, FillEnded, fill_went, fill_bad, fill_unread}
+use Rattle.schedule_run.specs.Loading.{load_text, load_end, FillEnded, fill_went, fill_bad, fill_unread}
 use Rattle.schedule_run.specs.Run.{ReadWhole, RunsLoad, load_unread, load_went}
 use Rattle.schedule_run.specs.Status.{ended_as, status_of_input, status_of_load}
 

@@ -1,18 +1,13 @@
 -- The end of a load.
-use Rattle.std.proofs.Common.{◌≡◌, ◌<◌, ◌⊎◌, ◌++◌, List, [], ◌∷◌, ℕ, Result, Ok, Err, refl, sym, subst, inl, inr}
+use Rattle.std.proofs.Common.{◌≡◌, ◌<◌, ◌⊎◌, List, [], ℕ, Result, Ok, Err, refl, sym, inl, inr}
 use Rattle.std.proofs.lemmas.List.{append-nil}
-use Rattle.std.specs.Prelude.{IfOk, codes}
+use Rattle.std.specs.Prelude.{IfOk}
 use Rattle.cloud_trait.specs.Seen.{Seen}
-use Rattle.db_base.specs.declared.trouble.CommitAnswer.{CommitAnswer}
-use Rattle.db_base.specs.declared.trouble.Trouble.{Trouble}
 use Rattle.db_io.specs.Writes.{Written, AddsOne, AddsPart}
-use Rattle.dump_text.specs.BadLine.{IsBadLine}
 use Rattle.dump_text.specs.declared.dump.DumpedTree.{DumpedTree}
-use Rattle.dump_text.specs.Text.{IsDump}
 use Rattle.line_io.specs.declared.output.OutputFault.{OutputFault}
 use Rattle.line_io.specs.declared.output.OutputFault.TheVariants as output
 use Rattle.line_io.specs.Output.{WasWritten}
-use Rattle.run_text.specs.Written.{NothingRan, bad_line}
 use Rattle.schedule_run.specs.declared.load.Loaded.{Loaded}
 use Rattle.schedule_run.specs.declared.load.LoadStop.{LoadStop}
 use Rattle.schedule_run.specs.declared.load.LoadStop.TheVariants as load
@@ -21,7 +16,7 @@ use Rattle.schedule_run.specs.declared.loading.LoadingFault.TheVariants.{BadLine
 use Rattle.schedule_run.specs.Load.{LoadEnded}
 use Rattle.schedule_run.specs.LoadLeft.{LeavesLoaded}
 use Rattle.schedule_run.specs.PlainCalls.{CallsPlainly}
-use Rattle.schedule_run.specs.Loading.{load_text, load_end, Tells, FillWent, FillEnded, fill_went, fill_bad, fill_unread, end_of}
+use Rattle.schedule_run.specs.Loading.{load_text, load_end, Tells, FillWent, end_of}
 
 -- the whole of a text is a first part of it
 as_part : (w u : Written) (text : List ℕ) → AddsOne w u text → AddsPart w u text

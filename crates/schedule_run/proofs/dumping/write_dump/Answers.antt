@@ -1,4 +1,4 @@
-use Rattle.std.proofs.Common.{◌∙◌, sym, Ok, Err}
+use Rattle.std.proofs.Common.{◌∙◌, sym, Ok}
 use Rattle.schedule_run.proofs.DumpingLemmas.{tells_dump, end_fails, end_writes, no_memory}
 use Rattle.schedule_run.proofs.dumping.write_dump.Goals as goal
 

@@ -1,4 +1,4 @@
-use Rattle.std.proofs.Common.{◌∙◌, sym, Ok, Err}
+use Rattle.std.proofs.Common.{◌∙◌, sym, Err}
 use Rattle.schedule_run.specs.declared.dumping.DumpingFault.TheVariants.{NotQuiet}
 use Rattle.schedule_run.proofs.DumpingLemmas.{tells_name, end_fails, end_writes}
 use Rattle.schedule_run.proofs.dumping.write_not_quiet.Goals as goal

@@ -1,4 +1,4 @@
-use Rattle.std.proofs.Common.{rules, ◌≡◌, ◌∙◌, false, sym, Ok, Err}
+use Rattle.std.proofs.Common.{rules, ◌≡◌, ◌∙◌, false, sym, Err}
 use Rattle.dump_take.specs.declared.stop.DumpStop.TheVariants as stop
 use Rattle.schedule_run.specs.declared.dumping.DumpingFault.TheVariants.{Stopped}
 use Rattle.schedule_run.specs.Dumping.{is_memory}

@@ -1,4 +1,4 @@
-use Rattle.std.proofs.Common.{refl, Ok, Err}
+use Rattle.std.proofs.Common.{refl}
 use Rattle.schedule_run.specs.Loading.{fill_went, fill_bad, fill_unread}
 use Rattle.schedule_run.proofs.loading.fill.Goals as goal
 

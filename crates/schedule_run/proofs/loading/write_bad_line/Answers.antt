@@ -1,4 +1,4 @@
-use Rattle.std.proofs.Common.{◌∙◌, sym, Ok, Err}
+use Rattle.std.proofs.Common.{◌∙◌, sym, Err}
 use Rattle.schedule_run.specs.declared.loading.LoadingFault.TheVariants.{BadLine}
 use Rattle.schedule_run.proofs.LoadingLemmas.{tells, load_fails, load_writes}
 use Rattle.schedule_run.proofs.loading.write_bad_line.Goals as goal

@@ -1,4 +1,4 @@
-use Rattle.std.proofs.Common.{◌∙◌, sym, subst, Ok, Err}
+use Rattle.std.proofs.Common.{◌∙◌, sym, Ok}
 use Rattle.schedule_run.specs.Loading.{load_text}
 use Rattle.schedule_run.proofs.LoadingLemmas.{tells, tells_nothing, load_fails, load_writes}
 use Rattle.schedule_run.proofs.loading.write_loaded.Goals as goal

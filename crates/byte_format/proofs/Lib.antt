@@ -7,4 +7,5 @@ pub mod Wholes
 pub mod Loops
 pub mod Plain
 pub mod OrderLemmas
+pub mod Words
 pub mod HighKeys

@@ -18,7 +18,7 @@ pub use list::{Rules, skip_list};
 pub use mark::{mark_at, more_at};
 pub use maybe::maybe_text8_at;
 pub use number::{u8_at, u16_at, u64_at};
-pub use order::{is_below, is_below_bound, is_same};
+pub use order::{compare, is_below, is_below_bound, is_same};
 pub use owned::{OwnedRules, owned_list};
 pub use spare::{add, add_text8, add_text16, add_u8, add_u16, add_u64};
 pub use stop::{ReadFault, Stop};

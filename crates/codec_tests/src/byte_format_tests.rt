@@ -1,7 +1,7 @@
 use byte_format::{
-    add, add_text8, add_text16, add_u8, add_u16, add_u64, is_below, is_below_bound, is_same,
-    mark_at, more_at, text8_at, text16_at, try_add, try_add_text8, try_add_text16, try_add_u8,
-    try_add_u16, try_add_u64, u8_at, u16_at, u64_at,
+    add, add_text8, add_text16, add_u8, add_u16, add_u64, compare, is_below, is_below_bound,
+    is_same, mark_at, more_at, text8_at, text16_at, try_add, try_add_text8, try_add_text16,
+    try_add_u8, try_add_u16, try_add_u64, u8_at, u16_at, u64_at,
 };
 use std::alloc::AllocError;
 use std::process::Abort;
@@ -9,6 +9,26 @@ use std::process::Abort;
 /// A mark, numbers of one, two and eight bytes, texts behind one and two bytes of length.
 const FIELDS: [u8; 20] = [
     9, 1, 0, 2, 0, 0, 0, 0, 0, 0, 0, 3, 2, b'a', b'b', 0, 1, b'c', 0, 7,
+];
+
+/// In order: a front first, bytes with no sign, what differs on either side of four, eight and sixteen bytes.
+const ASCENDING: [&[u8]; 16] = [
+    b"",
+    b"\0",
+    b"abc",
+    b"abcd",
+    b"abcdefg",
+    b"abcdefgh",
+    b"abcdefgh\0",
+    b"abcdefghabcdefg",
+    b"abcdefghabcdefgh",
+    b"abcdefghabcdefgi",
+    b"abcdefgi",
+    b"abcd\x7f",
+    b"abcd\x80",
+    b"abd",
+    b"\x80",
+    b"\xff",
 ];
 
 /// The numbers behind the mark, and what is behind them.
@@ -51,6 +71,16 @@ fn texts_are_read(rt: HostRuntime) {
             assert!(rt; is_same(long, long));
         }
         None => rt.panic("no texts"),
+    }
+}
+
+#[test]
+fn bytes_are_compared(rt: HostRuntime) {
+    for (i, a) in ASCENDING.iter().enumerate() {
+        for (j, b) in ASCENDING.iter().enumerate() {
+            assert!(rt; compare(*a, *b) == i.cmp(&j));
+            assert!(rt; is_below(*a, *b) == (i < j) && is_same(*a, *b) == (i == j));
+        }
     }
 }
 

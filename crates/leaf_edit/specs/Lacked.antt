@@ -1,5 +1,5 @@
 -- The items of a run that a leaf takes.
-use Rattle.std.specs.Prelude.{◌≡◌, ℕ, Bool, true, false, ◌&&◌, nat_lt, List, [], ◌∷◌, filter}
+use Rattle.std.specs.Prelude.{◌≡◌, ℕ, Bool, true, ◌&&◌, nat_lt, List, [], ◌∷◌, filter}
 use Rattle.db_base.specs.Change.{key_of}
 use Rattle.leaf_view.specs.Leaf.{Leaf}
 use Rattle.leaf_view.specs.Lookup.{holds, number_of}
@@ -13,8 +13,7 @@ is_lacked l queue x = holds l (key_of x.rec.change) && nat_lt (number_of l.done 
 abbrev pub lacked : Leaf → ℕ → List PuItem → List PuItem
 lacked l queue run = filter (is_lacked l queue) run
 
--- where it is said that one was found, the first item of the run is lacked
-abbrev pub IsFirstLacked : Bool → Leaf → ℕ → List PuItem → Type 0
-IsFirstLacked found l queue [] = Unit {0}
-IsFirstLacked true l queue (x ∷ run) = is_lacked l queue x ≡ true
-IsFirstLacked false l queue (x ∷ run) = Unit {0}
+-- the first item of the run is lacked, where there is one
+abbrev pub IsFirstLacked : Leaf → ℕ → List PuItem → Type 0
+IsFirstLacked l queue [] = Unit {0}
+IsFirstLacked l queue (x ∷ run) = is_lacked l queue x ≡ true

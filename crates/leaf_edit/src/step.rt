@@ -1,6 +1,6 @@
 //! Records and changes merged, one record at a time.
 
-ghost use Rattle.std.specs.Prelude.{◌≡◌, [], ◌∷◌, IfSome, MatchOption};
+ghost use Rattle.std.specs.Prelude.{◌≡◌, [], ◌∷◌, drop, IfSome, MatchOption};
 ghost use Rattle.std.specs.Option.{option_map};
 ghost use Rattle.db_base.specs.Key.{IsKey};
 ghost use Rattle.db_base.specs.Change.{key_of, act, IsChange};
@@ -10,7 +10,7 @@ ghost use Rattle.leaf_edit.specs.Edited.{edited_by, with_value};
 ghost use Rattle.leaf_edit.specs.Merging.{AllFrom, AreChanges, AreRecords, entry_at, Folds, IsValue, KeyBefore, Steps};
 
 use crate::changes::Changes;
-use byte_format::is_same;
+use byte_format::{compare, is_same};
 use db_base::change::{Change, act};
 use db_base::value::Value;
 use leaf_view::Records;
@@ -37,12 +37,12 @@ fn fold_key<'a>(
 {
     let mut value = old;
     let mut left = changes;
-    while let Some(x) = left.again().split() {
-        if !is_at(x.item, key) {
-            return (value, x.all);
+    while let Some(x) = left.first() {
+        if !is_at(x, key) {
+            return (value, left);
         }
-        value = act(value, &x.item.rec.change);
-        left = x.rest;
+        value = act(value, &x.rec.change);
+        left = left.behind();
     }
     (value, left)
 }
@@ -55,23 +55,24 @@ pub(crate) struct Step<'a> {
     pub(crate) changes: Changes<'a>,
 }
 
-/// The step at a key, from its value, its first change and those behind that, and the records behind the key.
+/// The step at a key, from its value, the changes, of which the first is of the key, and the records behind the key.
 fn folded<'a>(
     x: &'a PuItem,
     old: Option<Value<'a>>,
-    rest: Changes<'a>,
+    changes: Changes<'a>,
     records: Records<'a>,
 ) -> Step<'a>
     requires records { AreRecords records }
-    requires changes { AreChanges (x.now ∷ rest) }
+    requires first { changes ≡ x.now ∷ drop 1 changes }
+    requires changes { AreChanges changes }
     requires before { KeyBefore (key_of x.now.rec.change) records }
     requires value { IfSome old IsValue }
-    ensures { Steps (with_value (key_of x.now.rec.change) old.entry records.entry) (x.now ∷ rest.entry)
+    ensures { Steps (with_value (key_of x.now.rec.change) old.entry records.entry) changes.entry
         (option_map valued result.record) result.records result.changes }
 {
     let key = key_at(x);
     let value = act_sized(old, &x.rec.change);
-    let (value, changes) = fold_key(key, value, rest);
+    let (value, changes) = fold_key(key, value, changes.behind());
     Step {
         record: entry_at(key, value),
         records,
@@ -115,27 +116,22 @@ fn act_sized<'a>(old: Option<Value<'a>>, change: &'a Change) -> Option<Value<'a>
 }
 
 /// The step at the first change, and at the first record where there is one.
-fn at_change<'a>(
-    x: &'a PuItem,
-    rest: Changes<'a>,
-    changes: Changes<'a>,
-    records: Records<'a>,
-) -> Step<'a>
+fn at_change<'a>(x: &'a PuItem, changes: Changes<'a>, records: Records<'a>) -> Step<'a>
     requires records { AreRecords records }
-    requires split { changes ≡ x.now ∷ rest }
+    requires first { changes ≡ x.now ∷ drop 1 changes }
     requires changes { AreChanges changes }
     ensures { Steps records.entry changes.entry (option_map valued result.record) result.records result.changes }
 {
     match records.again().split() {
-        None => folded(x, None, rest, records),
-        Some((record, behind)) => match record.0.cmp(key_at(x)) {
+        None => folded(x, None, changes, records),
+        Some((record, behind)) => match compare(record.0, key_at(x)) {
             Ordering::Less => Step {
                 record: Some(kept(record)),
                 records: behind,
                 changes,
             },
-            Ordering::Equal => folded(x, Some(Value::with(record.1, record.2)), rest, behind),
-            Ordering::Greater => folded(x, None, rest, records),
+            Ordering::Equal => folded(x, Some(Value::with(record.1, record.2)), changes, behind),
+            Ordering::Greater => folded(x, None, changes, records),
         },
     }
 }
@@ -147,15 +143,15 @@ pub(crate) fn next_step<'a>(records: Records<'a>, changes: Changes<'a>) -> Optio
     ensures { MatchOption result (edited_by records.entry changes.entry ≡ [])
         (λ s. Steps records.entry changes.entry (option_map valued s.record) s.records s.changes) }
 {
-    match changes.again().split() {
+    match changes.first() {
         None => match records.split() {
             None => None,
             Some((record, behind)) => Some(Step {
                 record: Some(kept(record)),
                 records: behind,
-                changes: changes.ended(),
+                changes,
             }),
         },
-        Some(first) => Some(at_change(first.item, first.rest, first.all, records)),
+        Some(x) => Some(at_change(x, changes, records)),
     }
 }

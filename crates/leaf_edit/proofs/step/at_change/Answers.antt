@@ -1,4 +1,4 @@
-use Rattle.std.proofs.Common.{Some, ◌∷◌, sym, subst, ◌∙◌}
+use Rattle.std.proofs.Common.{Some, ◌∷◌, refl, sym, subst, ◌∙◌}
 use Rattle.std.specs.Option.{option_map}
 use Rattle.db_base.specs.Change.{key_of}
 use Rattle.db_base.specs.Value.{Value}
@@ -23,13 +23,13 @@ pub returns-in-Less : goal.returns-in-Less
 returns-in-Less c =
     let P : Entry → Type 0 = λ e. Steps c.args.records c.args.changes (Some e) c.in-Some.behind c.args.changes in
     subst P (sym c.kept.ensures)
-    (steps-less _ (shown c.in-Some.record) _ _ c.args.x.now _ _ (sym c.again.ensures ∙ c.in-Some.ensures) c.requires.records c.requires.split
+    (steps-less _ (shown c.in-Some.record) _ _ c.args.x.now _ _ (sym c.again.ensures ∙ c.in-Some.ensures) c.requires.records c.requires.first
     c.requires.changes c.key_at.ensures.key c.in-Less.ensures)
 
 pub returns-in-Equal : goal.returns-in-Equal
 returns-in-Equal c =
     let Q : Value → Type 0 = λ value.
-    Steps (record { key = key_of c.args.x.now.rec.change; value = value } ∷ c.in-Some.behind) (c.args.x.now ∷ c.args.rest)
+    Steps (record { key = key_of c.args.x.now.rec.change; value = value } ∷ c.in-Some.behind) c.args.changes
     (option_map valued c.folded-in-Equal.result.record) c.folded-in-Equal.result.records c.folded-in-Equal.result.changes in
-    steps-equal _ (shown c.in-Some.record) _ _ _ _ _ _ _ _ (sym c.again.ensures ∙ c.in-Some.ensures) c.requires.split c.key_at.ensures.key
+    steps-equal _ (shown c.in-Some.record) _ _ _ _ _ _ _ _ (sym c.again.ensures ∙ c.in-Some.ensures) refl c.key_at.ensures.key
     c.in-Equal.ensures (subst Q c.with.ensures c.folded-in-Equal.ensures)

@@ -73,7 +73,7 @@ const ALL_TREES: [(&[&str], &[u8], Status, &[u8]); 3] = [
         &["replay"],
         b"report 2\n",
         Status::Done,
-        b"1 report 1\ncommitted 0\norder 0\ncontents 1\n02 - 6162\nleft 0 0\n",
+        b"1 report 2\ncommitted 0\norder 0\ncontents 1\n02 - 6162\nleft 0 0\n",
     ),
 ];
 

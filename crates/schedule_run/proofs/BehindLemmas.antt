@@ -27,6 +27,7 @@ use Rattle.world_core.proofs.Settled.{settling_leaves, settling_ends, settling_r
 use Rattle.world_core.proofs.StandsLemmas.{no_memory}
 use Rattle.world_core.specs.Bounded.{AnswersSoon}
 use Rattle.world_core.specs.Named.{NamesAt}
+use Rattle.world_core.specs.Passed.{AskedPassed}
 use Rattle.world_core.specs.Handled.{SettlesOn, Settles as SettlesLine, Answers, Handled}
 use Rattle.world_core.specs.Replying.{RepliesSettled, unsettled_reply}
 use Rattle.world_core.specs.Stands.{LeftIsRight}
@@ -71,6 +72,14 @@ no_checkpoint n (Session k request) before after old new result is answers = abs
 no_checkpoint n (Wait ticks) before after old new result is answers = tt
 no_checkpoint n (Report tree) before after old new result is answers = tt
 
+-- and passes none over
+no_passed : (n : ℕ) (asked : Asked) (before after : Seen) (old new : World) (result : Result Reply WorldFault) → asked ≡ Settle → (answers : Answers n asked before after old new result)
+    → AskedPassed n asked before after old new result answers
+no_passed n Settle before after old new result is answers = tt
+no_passed n (Session k request) before after old new result is answers = absurd (cc (is))
+no_passed n (Wait ticks) before after old new result is answers = tt
+no_passed n (Report tree) before after old new result is answers = tt
+
 -- what holds of each reply to a settling holds of its own
 unsettled_is : (P : Reply → Type 0) (r : Reply) (q : Trouble) → ((k : Trouble) → P (reply.NotSettled k)) → (let result : Result Reply WorldFault = Ok r in result ≡ unsettled_reply q) → P r
 unsettled_is P r trouble.Memory each e = absurd (cc (e))
@@ -110,6 +119,7 @@ settles_so lines event.Settle r before after old new t told stands handled =
       record {
         explains = right.explains;
         calm = λ each s u seen told_after well. right.calm each u told_after;
+        passed = λ each. no_passed (length lines + 1) handled.asked before after old new (Ok r) handled.asks handled.answers;
         bounded = no_run lines (length lines + 1) handled.asked before after old new (Ok r) handled.asks handled.answers;
         names = no_checkpoint (length lines + 1) handled.asked before after old new (Ok r) handled.asks handled.answers;
         leaves = leaves_so (length lines + 1) event.Settle before after old new r (settling_leaves (length lines + 1) event.Settle before after old new (Ok r)) t told stands handled;

@@ -26,6 +26,7 @@ use Rattle.world_core.proofs.Counting.{stands_after}
 use Rattle.world_core.proofs.Calm.{well_after}
 use Rattle.world_core.proofs.Explained.{explained}
 use Rattle.world_core.proofs.MeteredLines.{keeps_meter}
+use Rattle.world_core.proofs.PassedOver.{passes_well}
 use Rattle.world_core.proofs.Unsent.{stage_line}
 use Rattle.world_core.specs.Metered.{LeavesFewAt, MetersAt}
 use Rattle.world_core.specs.Writers.{Stage, stage_of}
@@ -128,6 +129,7 @@ went_explained before old t lines after new (further earlier line mid _ world _ 
         calm = λ each s u seen told_after well.
             well_after (length earlier + 1) line.event mid after world new (Ok line.reply) earlier o.state u refl o.told told_after o.stands handled each
             (subst (λ x. IsUntroubled x (work_at world (session_of line.event))) (same_some s o.state (sym seen ∙ o.told)) well);
+        passed = λ each. passes_well (length earlier + 1) line.event mid after world new (Ok line.reply) earlier o.state refl o.told o.stands handled each;
         bounded = few_calls (length earlier + 1) line.event mid after world new (Ok line.reply) earlier o.state refl o.told o.stands handled;
         names = names_pieces (length earlier + 1) line.event mid after world new (Ok line.reply) earlier o.state refl o.told o.stands handled;
         leaves =

@@ -1,5 +1,5 @@
 -- A line whose calls are all calm is answered well.
-use Rattle.std.proofs.Common.{◌≡◌, ◌≤◌, ◌+◌, arith, inl, inr, ℕ, List, [], length, Bool, true, false, Option, Some, None, Result, Ok, Err, refl, sym, ap, subst, ◌∙◌}
+use Rattle.std.proofs.Common.{◌≡◌, ◌+◌, arith, inl, inr, ℕ, List, [], length, Bool, true, false, Option, Some, None, Result, Ok, Err, refl, sym, ap, subst, ◌∙◌}
 use Rattle.std.specs.Prelude.{unwrap_or}
 use Rattle.client_work.specs.Session.{Acting, StepsSession, StepsAt, Follows, Begins, closed_session, settling_session, value_of}
 use Rattle.client_work.specs.declared.answer.Answer.{Answer}
@@ -96,7 +96,7 @@ commit_spent u trouble.Failed may none other = none
 commit_spent u (trouble.Late end now) may none other = none
 commit_spent u k may none other = may
 
-tree_spent : (u : CloudState) (tree : ℕ) (k : Trouble) → MayStopTree k → IsOfNoCall (IsSpentInTree tree) u k → (k ≡ trouble.Memory → ⊥) → IsSpent (IsSpentInTree tree) u k
+pub tree_spent : (u : CloudState) (tree : ℕ) (k : Trouble) → MayStopTree k → IsOfNoCall (IsSpentInTree tree) u k → (k ≡ trouble.Memory → ⊥) → IsSpent (IsSpentInTree tree) u k
 tree_spent u tree (trouble.Exhausted what) may none other = none
 tree_spent u tree trouble.Memory may none other = other refl
 tree_spent u tree trouble.Failed may none other = none
@@ -130,7 +130,7 @@ settled_spent u w (trouble.Busy lock until) may none other = none
 settled_spent u w (trouble.Waiting have need) may none other = none
 settled_spent u w k may none other = may
 
-page_spent : (u : CloudState) (tree page : ℕ) (k : Trouble) → MayStopPage page k → IsOfNoCall (IsSpentInPages tree) u k → (k ≡ trouble.Memory → ⊥) → IsSpentOrOf tree page u k
+pub page_spent : (u : CloudState) (tree page : ℕ) (k : Trouble) → MayStopPage page k → IsOfNoCall (IsSpentInPages tree) u k → (k ≡ trouble.Memory → ⊥) → IsSpentOrOf tree page u k
 page_spent u tree page (trouble.Exhausted what) may none other = none
 page_spent u tree page (trouble.Absent named) may none other = may
 page_spent u tree page (trouble.NotALeaf named) may none other = may
@@ -216,10 +216,10 @@ answers_as who before after (work.Idle home) new s a p acts = absurd p
 answers_as who before after (work.Broken lease) new s a p acts = absurd p
 
 -- what is known of an answer: no call brought its trouble, no deletion failed, and what a commit tells
-record IsOfNone (Spent : CloudState → Counter → Type 0) (u : CloudState) (w : Work) (a : Answer) : Type 0 where
-  trouble : (k : Trouble) → trouble_of_answer a ≡ Some k → IsOfNoCall Spent u k
-  left : left_told w (Ended a) ≡ 0
-  told : (c : CommitAnswer) → a ≡ answer.Commit c → IsTold c
+pub record IsOfNone (Spent : CloudState → Counter → Type 0) (u : CloudState) (w : Work) (a : Answer) : Type 0 where
+  pub trouble : (k : Trouble) → trouble_of_answer a ≡ Some k → IsOfNoCall Spent u k
+  pub left : left_told w (Ended a) ≡ 0
+  pub told : (c : CommitAnswer) → a ≡ answer.Commit c → IsTold c
 
 counts_on : (Spent Other : CloudState → Counter → Type 0) (u : CloudState) (w : Work) (a : Answer) → ((what : Counter) → Spent u what → Other u what) → IsOfNone Spent u w a → IsOfNone Other u w a
 counts_on Spent Other u w a more none = record { trouble = λ k e. no_call_by Spent Other u u more k (none.trouble k e); left = none.left; told = none.told }
@@ -282,7 +282,7 @@ abbrev pub SessionIsUntroubled : ℕ → Seen → World → Type 0
 SessionIsUntroubled session seen world = (t : CloudState) → seen.state ≡ Some t → IsUntroubled t (work_at world session)
 
 -- or it tells one, and the session goes well
-abbrev GoesWellAt : ℕ → Seen → World → Type 0
+abbrev pub GoesWellAt : ℕ → Seen → World → Type 0
 GoesWellAt session seen world = (t : CloudState) × (seen.state ≡ Some t) × IsUntroubled t (work_at world session)
 
 state_is : (x y : CloudState) → Some x ≡ Some y → x ≡ y
@@ -318,7 +318,7 @@ goes_calmly who wish before after old new p calm explains well =
     untroubled_after who wish before after old new More p calm
     (step_untroubled who p.under p.to p.session.before p.session.after p.session.does calm explains (untroubled_before who wish before after old new More p calm well))
 
-went_calmly : (who : Caller) (before : Seen) (old : World) (after : Seen) (new : World) (went : Went who before old after new) → EachWent StepIsCalm who before old after new went
+pub went_calmly : (who : Caller) (before : Seen) (old : World) (after : Seen) (new : World) (went : Went who before old after new) → EachWent StepIsCalm who before old after new went
     → EachWent StepExplains who before old after new went → GoesWellAt who.session before old → GoesWellAt who.session after new
 went_calmly who before old after new start calm explains well = well
 went_calmly who before old after new (further mid _ world _ went step) calm explains well =
@@ -330,7 +330,7 @@ tells_any who before after old new (answer.Commit b) p calm c e = let same : b �
 tells_any who before after old new a p calm c e = absurd (cc (e))
 
 -- the answer of a calm step
-answers_calmly : (who : Caller) (wish : Wish) (before after : Seen) (old new : World) (a : Answer) (p : StepsLooked who wish before after old new (Ended a))
+pub answers_calmly : (who : Caller) (wish : Wish) (before after : Seen) (old new : World) (a : Answer) (p : StepsLooked who wish before after old new (Ended a))
     → (calm : StepIsCalm who wish before after old new (Ended a) p) → StepExplains who wish before after old new (Ended a) p → GoesWellAt who.session before old
     → IsOfNone (spent_for p.session.before.work) calm.calm.after p.session.after.work a
 answers_calmly who wish before after old new a p calm explains well =

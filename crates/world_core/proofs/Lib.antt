@@ -40,6 +40,7 @@ pub mod MeteredSteps
 pub mod MeteredCheckpoints
 pub mod MeteredWork
 pub mod MeteredLines
+pub mod PassedOver
 pub mod EachAny
 pub mod Begun
 pub mod Caused

@@ -19,6 +19,7 @@ pub mod Opened
 pub mod World
 pub mod Writers
 pub mod Metered
+pub mod Passed
 pub mod Begun
 pub mod Caused
 pub mod Shown

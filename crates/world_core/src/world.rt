@@ -95,6 +95,7 @@ impl<S: SessionCalls> World<S> {
     ghost use Rattle.world_core.specs.LeftShort.{LeavesShort};
     ghost use Rattle.world_core.specs.Metered.{KeepsMeter};
     ghost use Rattle.world_core.specs.Named.{NamesSteps};
+    ghost use Rattle.world_core.specs.Passed.{PassesWell};
     ghost use Rattle.world_core.specs.Settled.{SettlingEnds, SettlingIsRight, SettlingLeaves};
     ghost use Rattle.world_core.specs.Stands.{KeepsABook, WorldStands, StandsOn};
     ghost use Rattle.world_core.specs.Sessions.{Changes, IsNotWorking, IsAtWork, HasPut};
@@ -171,6 +172,8 @@ impl<S: SessionCalls> World<S> {
         ensures named { NamesSteps n event.now (C.seen cloud.old) (C.seen cloud.new) self.old self.new result }
         // A writer that works behind each of its commits leaves few messages.
         ensures metered { KeepsMeter n event.now (C.seen cloud.old) (C.seen cloud.new) self.old self.new result }
+        // A work whose calls are all calm passes a checkpoint over for a spent counter, or its page, alone.
+        ensures passed { PassesWell n event.now (C.seen cloud.old) (C.seen cloud.new) self.old self.new result }
         ensures settled { SettlingLeaves n event.now (C.seen cloud.old) (C.seen cloud.new) self.old self.new result }
         ensures settles { SettlingEnds n event.now (C.seen cloud.old) (C.seen cloud.new) self.old self.new result }
         ensures settling { SettlingIsRight n event.now (C.seen cloud.old) (C.seen cloud.new) self.old self.new result }

@@ -7,6 +7,7 @@ use Rattle.world_core.proofs.Keeping.{keeps_book}
 use Rattle.world_core.proofs.Settled.{settling_ends, settling_leaves, settling_right}
 use Rattle.world_core.proofs.MeteredLines.{keeps_meter}
 use Rattle.world_core.proofs.Named.{names_pieces}
+use Rattle.world_core.proofs.PassedOver.{passes_well}
 use Rattle.world_core.proofs.Shown.{shown}
 use Rattle.world_core.proofs.ShownByLines.{shown_by}
 use Rattle.world_core.proofs.Sound.{sound_after}
@@ -47,6 +48,9 @@ returns-clause-named g c = names_pieces _ _ _ _ _ _ _
 
 pub returns-clause-metered : goal.returns-clause-metered
 returns-clause-metered g c = keeps_meter _ _ _ _ _ _ _
+
+pub returns-clause-passed : goal.returns-clause-passed
+returns-clause-passed g c = passes_well _ _ _ _ _ _ _
 
 pub returns-clause-settled : goal.returns-clause-settled
 returns-clause-settled g c = settling_leaves _ _ _ _ _ _ _

@@ -115,7 +115,7 @@ entry_of_row lines t place row client head n at lands is =
 -- ---- the transaction of a row
 
 -- its session committed as many changes
-row_counts : (lines : List Line) (t : CloudState) (row : Landing) (client : ℕ) (head : Head) → IsOfKind lines t row → (o : LandsOpen t row client head)
+pub row_counts : (lines : List Line) (t : CloudState) (row : Landing) (client : ℕ) (head : Head) → IsOfKind lines t row → (o : LandsOpen t row client head)
     → CommitsCount client o.count (standing_of_row lines row)
 row_counts lines t row client head kind o =
     let put : MayPutBytes lines row client (version_at (t.versions (object.Head client)) row.position) = subst (IsOfKindAt lines t row) o.site kind in

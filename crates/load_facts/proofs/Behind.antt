@@ -1,8 +1,8 @@
 -- What stands in a state stands in later ones, and what landed up to a line stood behind it.
-use Rattle.std.proofs.Common.{◌≡◌, ◌≤◌, ◌<◌, ◌+◌, ◌-◌, ◌⊎◌, inl, inr, ℕ, zero, suc, Bool, true, false, List, [], ◌∷◌, ◌++◌, length, map, take, cond, Option, Some, None, refl, sym, ap, subst, ◌∙◌, arith}
+use Rattle.std.proofs.Common.{◌≡◌, ◌≤◌, ◌<◌, ◌-◌, ℕ, zero, suc, Bool, List, [], ◌++◌, length, take, cond, Option, Some, None, refl, sym, ap, subst, ◌∙◌, arith}
 use Rattle.std.specs.Prelude.{slice_get, All, nat_le, ◌==◌}
 use Rattle.std.specs.Option.{option_map}
-use Rattle.std.proofs.lemmas.Bool.{leb-true, le-leb}
+use Rattle.std.proofs.lemmas.Bool.{le-leb}
 use Rattle.client_work.specs.declared.work.Work.{Work}
 use Rattle.client_work.specs.declared.work.Work.TheVariants.{Closed, Idle, Opening, Committing, Reading, Scanning, Paging, Folding, Closing, Renewing, Settling, Broken}
 use Rattle.cloud_facts.proofs.Book.Places.{get_map, get_within, in_front}
@@ -24,7 +24,7 @@ use Rattle.history.specs.Audited.{committed_entry}
 use Rattle.log_codec.specs.Atomic.{atomic_of}
 use Rattle.recover_run.specs.declared.home.Home.{Home}
 use Rattle.replay_meaning.specs.Kinds.{IsOfKind, LandsOpen}
-use Rattle.replay_meaning.specs.Standing.{Line, Posture, Closed as Shut, Idle as Resting, Broken as Cut, Working, Standing, standing}
+use Rattle.replay_meaning.specs.Standing.{Line, Closed as Shut, Idle as Resting, Standing, standing}
 use Rattle.report_types.specs.declared.entry.Entry.{Entry}
 use Rattle.session_facts.proofs.CommittedLemmas.{slice_get-append_left}
 use Rattle.session_facts.proofs.Once.{at_place, lands_same}
@@ -32,7 +32,7 @@ use Rattle.session_facts.specs.Facts.{IsPlaced, IsPlacedAt, WorksAs}
 use Rattle.session_facts.specs.Opened.{AddsApart, WorksFor, MayHaveOpened, with_rows}
 use Rattle.session_facts.specs.Sessions.Sessions.{Sessions}
 use Rattle.txn_buffer.specs.Noted.{Noted}
-use Rattle.load_facts.proofs.Lines.{CommitsParts, EndsAt, stood}
+use Rattle.load_facts.proofs.Lines.{CommitsParts, EndsAt}
 use Rattle.load_facts.proofs.Messages.{SentAs, IsSent, AllBounded}
 use Rattle.load_facts.proofs.Numbered.{Numbered}
 use Rattle.load_facts.proofs.Rows.{row_counts, row_part}

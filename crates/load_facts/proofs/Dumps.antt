@@ -1,6 +1,6 @@
 -- The records of a dump: each tree and key once, cut into parts of at most 200.
-use Rattle.std.proofs.Common.{◌≡◌, ◌≢◌, ◌≤◌, ◌<◌, ◌+◌, ◌*◌, ◌⊎◌, inl, inr, ℕ, zero, suc, List, [], ◌∷◌, ◌++◌, length, map, take, drop, Option, Some, None, refl, sym, ap, subst, ◌∙◌, cond, Bool, true, false, arith, eqb-true, eq-eqb}
-use Rattle.std.specs.Prelude.{◌==◌, nat_lt, slice_get}
+use Rattle.std.proofs.Common.{◌≡◌, ◌≢◌, ◌≤◌, ◌<◌, ◌+◌, ◌*◌, ◌⊎◌, inl, inr, ℕ, zero, suc, List, [], ◌∷◌, ◌++◌, length, take, drop, Option, Some, None, refl, sym, ap, subst, ◌∙◌, cond, Bool, true, false, arith, eqb-true, eq-eqb}
+use Rattle.std.specs.Prelude.{◌==◌, slice_get}
 use Rattle.std.specs.List.{AllByRecursion}
 use Rattle.std.proofs.lemmas.List.{length-take, length-drop, take-append-drop}
 use Rattle.std.proofs.lemmas.Bool.{ltb-true}
@@ -19,7 +19,7 @@ use Rattle.txn_buffer.specs.Noted.{Noted, is_of, found_in, AreDistinct}
 use Rattle.txn_buffer.proofs.NotedLemmas.{is_of-Decides}
 use Rattle.load_plan.specs.Events.{Placed, placed_in, records_of, parts, transactions, parts_of}
 use Rattle.load_facts.specs.Inserts.{insert_of}
-use Rattle.load_facts.proofs.Course.{noted_of, changes_of, all_changes, IsPart, AreAllParts}
+use Rattle.load_facts.proofs.Course.{noted_of, changes_of, all_changes, AreAllParts}
 use Rattle.load_facts.proofs.Parts.{AreParts, AreOf}
 use Rattle.load_facts.proofs.SameRecords.{never, not_below, below_behind, not_above}
 

@@ -10,7 +10,7 @@ use Rattle.db_base.specs.declared.trouble.CommitAnswer.TheVariants.{Committed}
 use Rattle.db_base.specs.declared.change.Change.TheVariants.{Insert}
 use Rattle.event_text.specs.declared.event.Event.{Event}
 use Rattle.event_text.specs.declared.event.Event.TheVariants as event
-use Rattle.replay_meaning.specs.Standing.{Line, Task, Posture, Closed, Idle, Working, Opening, Closing, Renewing, Committing, Folding, Standing, unnamed, begins, steps, task_answered, idle, after_own, after_line, session_of, standing}
+use Rattle.replay_meaning.specs.Standing.{Line, Task, Posture, Closed, Idle, Working, Opening, Closing, Committing, Standing, unnamed, begins, steps, task_answered, idle, after_own, session_of, standing}
 use Rattle.reply_text.specs.declared.reply.Reply.{Reply}
 use Rattle.reply_text.specs.declared.reply.Reply.TheVariants as reply
 use Rattle.session_facts.proofs.CommittedLemmas.{standing_line}

@@ -1,5 +1,5 @@
 -- A session's client has begun as many transactions as the lines of a load tell.
-use Rattle.std.proofs.Common.{◌≡◌, ◌≢◌, ◌≤◌, ◌+◌, ◌⊎◌, inl, inr, ℕ, List, [], length, Option, Some, None, Result, Ok, Err, refl, sym, ap, subst, ◌∙◌, arith}
+use Rattle.std.proofs.Common.{◌≡◌, ◌≢◌, ◌+◌, inl, inr, ℕ, List, Option, Some, None, Result, Ok, Err, refl, sym, ap, subst, ◌∙◌, arith}
 use Rattle.client_work.specs.Session.{Acting, Begins, BeginsWith, CommitsNoted, Follows, HasInHand, StepsAt, StepsSession, committed_work, opened_work, stopped_work, value_of}
 use Rattle.client_work.specs.declared.listing.Listing.{Listing}
 use Rattle.client_work.specs.declared.answer.Answer.{Answer}
@@ -29,7 +29,6 @@ use Rattle.db_base.specs.declared.trouble.Trouble.TheVariants as trouble
 use Rattle.db_base.specs.declared.wish.Wish.{Wish}
 use Rattle.event_text.specs.declared.event.Event.{Event}
 use Rattle.event_text.specs.declared.event.Event.TheVariants as event
-use Rattle.page_cache.specs.Cache.{Cache}
 use Rattle.recover_run.specs.Recovery.{Recovery, home_at, home_with}
 use Rattle.recover_run.specs.declared.home.Home.{Home}
 use Rattle.recover_run.specs.declared.stage.Stage.{Stage}
@@ -38,12 +37,11 @@ use Rattle.reply_text.specs.declared.reply.Reply.{Reply}
 use Rattle.reply_text.specs.declared.reply.Reply.TheVariants as reply
 use Rattle.session_facts.proofs.CommitNumbers.{BeginsAt, RunsAt, run_begins_at, run_goes_at}
 use Rattle.session_facts.specs.Facts.{session_at}
-use Rattle.txn_buffer.specs.Noted.{Noted}
 use Rattle.world_core.proofs.EveryLine.{does_own, asked_is}
 use Rattle.world_core.proofs.StandsLemmas.{changed_at, changed_was, has_at, no_memory}
 use Rattle.world_core.proofs.Texts.{commit_is}
 use Rattle.world_core.specs.Asked.{Asks, OfSession}
-use Rattle.world_core.specs.Handled.{Declines, BeginsOp, Has, StepsLooked, Went, start, further, ComesTo, Runs, Settles, SettlesOn, Does, Answers, Handled}
+use Rattle.world_core.specs.Handled.{Declines, Has, StepsLooked, Went, start, further, Runs, SettlesOn, Does, Answers, Handled}
 use Rattle.world_core.specs.Replying.{RepliesBegun, RepliesTo, value_reply}
 use Rattle.world_core.specs.Sessions.{Changes, NotesIn}
 use Rattle.world_core.specs.World.{World}
@@ -313,7 +311,7 @@ module _ (m n : ℕ) (before after : Seen) (old new : World) (r : Reply) (h : Nu
   noted_so tree change does =
       let c = does.1 in
       let w = changes_work _ old new c in
-      subst (Numbered n) (sym w.1 ) (subst (Numbered n) (sym (by_note c.does.noted c.does.notes)) (subst (Numbered n) w.0 h))
+      subst (Numbered n) (sym w.1) (subst (Numbered n) (sym (by_note c.does.noted c.does.notes)) (subst (Numbered n) w.0 h))
     where
       by_note : (noted : Result (Unit {0}) Refused) → NotesIn tree change does.1.before does.1.after noted → does.1.after.work ≡ does.1.before.work
       by_note (Ok done) k = ap (λ (z : Acting). z.work) k.0

@@ -1,5 +1,5 @@
 -- A commit that is answered as committed has a record of each change in the log, under the change's place.
-use Rattle.std.proofs.Common.{◌≡◌, ◌+◌, ℕ, Bool, true, false, List, [], ◌∷◌, ◌++◌, Option, Some, None, Result, Ok, Err, refl, sym, ap, subst, ◌∙◌}
+use Rattle.std.proofs.Common.{◌≡◌, ◌+◌, ℕ, Bool, true, false, List, [], ◌∷◌, ◌++◌, Option, Some, None, Result, Ok, Err, refl, sym, subst}
 use Rattle.std.specs.Prelude.{slice_get}
 use Rattle.client_work.specs.Session.{Acting, StepsSession, StepsCommit, ShowsAt}
 use Rattle.client_work.specs.declared.answer.Answer.TheVariants as answer

@@ -1,14 +1,13 @@
 -- What a line leaves that answers a commit as committed: its records among the ATOMIC messages, its entries among what was committed, and its number.
-use Rattle.std.proofs.Common.{◌≡◌, ◌+◌, ℕ, List, [], ◌∷◌, ◌++◌, length, Some, Result, Ok, Err, refl, sym, ap, subst, ◌∙◌}
+use Rattle.std.proofs.Common.{◌≡◌, ◌+◌, ℕ, List, [], ◌∷◌, ◌++◌, length, Some, Ok, refl, sym, ap, subst, ◌∙◌}
 use Rattle.std.specs.Prelude.{slice_get}
-use Rattle.client_work.specs.Session.{Acting, StepsSession, StepsAt, committed_work}
+use Rattle.client_work.specs.Session.{Acting, StepsSession, StepsAt}
 use Rattle.client_work.specs.declared.answer.Answer.TheVariants as answer
 use Rattle.client_work.specs.declared.work.Work.{Work}
 use Rattle.client_work.specs.declared.work.Work.TheVariants.{Closed, Idle, Opening, Committing, Reading, Scanning, Paging, Folding, Closing, Renewing, Settling, Broken}
 use Rattle.cloud_facts.proofs.Book.Names.{at_same}
 use Rattle.cloud_facts.proofs.Book.Places.{get_front, get_map, in_front}
 use Rattle.cloud_facts.proofs.Numbers.Lists.{map_there}
-use Rattle.cloud_facts.specs.Book.Book.{Book}
 use Rattle.cloud_facts.specs.Book.Messages.{IsLogMessage}
 use Rattle.cloud_facts.specs.Book.Records.{StandsAt, IsIn, entry_of, entries_of}
 use Rattle.cloud_trait.proofs.RowLemmas.{leaves_grown}
@@ -31,11 +30,9 @@ use Rattle.event_text.specs.declared.event.Event.{Event}
 use Rattle.history.specs.Audited.{committed_entry}
 use Rattle.log_codec.specs.Atomic.{atomic_of}
 use Rattle.log_codec.specs.declared.record.AtomicRec.{AtomicRec}
-use Rattle.page_cache.specs.Cache.{Cache}
 use Rattle.recover_run.specs.declared.home.Home.{Home}
 use Rattle.replay_meaning.specs.Committed.{committed}
-use Rattle.replay_meaning.specs.Standing.{Line, Posture, Closed as Shut, Idle as Resting, Broken as Cut, Working, Committing as CommitTask, Standing, session_of, standing}
-use Rattle.reply_text.specs.declared.reply.Reply.{Reply}
+use Rattle.replay_meaning.specs.Standing.{Line, Posture, Working, Committing as CommitTask, session_of, standing}
 use Rattle.reply_text.specs.declared.reply.Reply.TheVariants as reply
 use Rattle.report_types.specs.declared.entry.Entry.{Entry}
 use Rattle.session_facts.proofs.Acknowledged.{call_commits_on}
@@ -45,14 +42,14 @@ use Rattle.session_facts.proofs.LineLemmas.{line_of}
 use Rattle.session_facts.proofs.Steps.{CallLeaves, MadeCall, made_call, wish_holds}
 use Rattle.session_facts.specs.Facts.{session_at, CloudHolds, WorksAs}
 use Rattle.txn_buffer.specs.Noted.{Noted}
-use Rattle.world_core.proofs.CommitReplies.{OfReply, SaysNothing, asked_keeps}
+use Rattle.world_core.proofs.CommitReplies.{SaysNothing, asked_keeps}
 use Rattle.world_core.proofs.StandsLemmas.{IsUnderWay, told_under, call, steps_own, changed_at}
 use Rattle.world_core.specs.Handled.{StepsLooked, Handled}
 use Rattle.world_core.specs.Stands.{WorldStands}
 use Rattle.world_core.specs.World.{World}
-use Rattle.load_facts.proofs.Messages.{SentAs, IsSent}
-use Rattle.load_facts.proofs.Numbered.{Numbered, own_work}
-use Rattle.load_facts.proofs.Records.{InLog, HasRecords, HasThese, HasFor, session_records}
+use Rattle.load_facts.proofs.Messages.{IsSent}
+use Rattle.load_facts.proofs.Numbered.{Numbered}
+use Rattle.load_facts.proofs.Records.{InLog, HasRecords, HasFor, session_records}
 
 -- ---- what is left of a commit
 

@@ -3,11 +3,14 @@ use Rattle.std.specs.Prelude.{◌≡◌, List, Some}
 use Rattle.cloud_trait.specs.Seen.{Seen}
 use Rattle.cloud_trait.specs.State.{CloudState, IsEmptyCloud}
 use Rattle.dump_text.specs.declared.dump.DumpedTree.{DumpedTree}
-use Rattle.load_facts.specs.Loaded.{HasContents}
+use Rattle.load_facts.specs.Loaded.{HasContents, AreLogged}
+use Rattle.load_plan.specs.Events.{records_of}
 use Rattle.world_core.specs.Settled.{LeavesNothing}
 
--- where no message was withheld each tree has the records of the dump, and nothing is left of it
+-- whatever call failed and whatever lease ended, the ATOMIC messages of transactions that were opened are the inserts of the dump's records in order; and
+-- where no message was withheld each tree has the records of the dump, and nothing is left
 pub record IsLoaded (trees : List DumpedTree) (start now : Seen) (u : CloudState) : Type 0 where
+  pub logged : AreLogged u (records_of trees)
   pub contents : now.counts.withheld ≡ start.counts.withheld → HasContents u trees
   pub nothing : now.counts.withheld ≡ start.counts.withheld → LeavesNothing u
 

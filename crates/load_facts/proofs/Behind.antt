@@ -48,7 +48,7 @@ message_later n s u all agree place m at =
     let f = filter_at early (s.messages (Atomic 1)) place m (le-leb m.who.event n own) at in
     let old : slice_get (posts_of (messages_upto n (s.messages (Atomic 1)))) f.0 ≡ Some (post m) = get_map post (messages_upto n (s.messages (Atomic 1))) f.0 m f.1 in
     let new : slice_get (posts_of (messages_upto n (u.messages (Atomic 1)))) f.0 ≡ Some (post m) =
-    ap (λ (l : List (Caller × List ℕ)). slice_get l f.0) (agree.messages (Atomic 1)) ∙ old in
+    subst (λ (l : List (Caller × List ℕ)). slice_get l f.0 ≡ Some (post m)) (sym (agree.messages (Atomic 1))) old in
     let p = map_there post (messages_upto n (u.messages (Atomic 1))) f.0 (post m) new in
     let q = filter_there early (u.messages (Atomic 1)) f.0 p.0 p.1 in
     (q.place, p.0, q.there, ap (λ (x : Caller × List ℕ). x.1) p.2)

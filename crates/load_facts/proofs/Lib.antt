@@ -19,3 +19,4 @@ pub mod Numbered
 pub mod Records
 pub mod Sent
 pub mod Behind
+pub mod Commits

@@ -12,6 +12,7 @@ use Rattle.dump_text.specs.declared.dump.DumpedTree.{DumpedTree}
 use Rattle.event_text.specs.declared.event.Event.{Event}
 use Rattle.event_text.specs.declared.event.Event.TheVariants as event
 use Rattle.load_facts.proofs.AtOnce.{FairLine, AllFair, fair_front, fair_next}
+use Rattle.load_facts.proofs.Commits.{load_commits}
 use Rattle.load_facts.proofs.Course.{Goes, goes_none, goes_alone, goes_run, IsGood, IsThrough, load_goes}
 use Rattle.load_facts.proofs.Dumps.{dump_parts}
 use Rattle.load_facts.proofs.Fair.{handled_fair}
@@ -148,7 +149,7 @@ all_kept lines world u stands stay =
     (subst (λ ls. AreKept ls (committed ls (upto u (length lines)))) (take_whole lines (length lines) refl) (stay (length lines) (omega arith)))
 
 pub load_leaves : (loaded : Loaded) (trees : List DumpedTree) (before now : Seen) → IsDumpable trees → LoadDone loaded trees before now → LeavesLoaded trees before now
-load_leaves loaded trees before now dumpable done t told empty = (u, o.1, record { logged = logged; contents = λ still. load_contents trees lines world u dumpable through o.2 kept (nothing still); nothing = nothing })
+load_leaves loaded trees before now dumpable done t told empty = (u, o.1, record { commits = load_commits trees; logged = logged; contents = λ still. load_contents trees lines world u dumpable through o.2 kept (nothing still); nothing = nothing })
   where
     lines : List Line
     lines = done.run.lines

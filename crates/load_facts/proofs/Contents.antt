@@ -10,13 +10,13 @@ use Rattle.cloud_facts.specs.Tellings.Told.{store_of}
 use Rattle.cloud_trait.specs.State.{CloudState}
 use Rattle.db_base.specs.Ids.{IsTree}
 use Rattle.history.specs.Audited.{Audited}
-use Rattle.history.specs.Fold.{fold, of_tree}
+use Rattle.history.specs.Fold.{of_tree}
 use Rattle.history.specs.Legal.{IsLegal}
 use Rattle.leaf_view.specs.Fits.{Ascend}
 use Rattle.report_types.specs.declared.entry.Entry.{Entry}
 use Rattle.report_types.specs.declared.stored.Stored.{Stored}
 use Rattle.replay_meaning.specs.Committed.{committed}
-use Rattle.replay_meaning.specs.Right.{HoldsAll, stored_below, value_at}
+use Rattle.replay_meaning.specs.Right.{HoldsAll, stored_below}
 use Rattle.replay_meaning.specs.Standing.{Line}
 use Rattle.session_facts.proofs.LeftLemmas.{nothing_left}
 use Rattle.session_facts.proofs.Sessions.Laws.{reports, chains, decodes, numbers}

@@ -1,5 +1,5 @@
 -- A load goes through its events: its transactions are its parts, and each was committed.
-use Rattle.std.proofs.Common.{◌≡◌, ◌≤◌, ◌+◌, inl, inr, ℕ, zero, suc, List, [], ◌∷◌, ◌++◌, length, map, refl, sym, ap, subst, ◌∙◌, append_assoc, cond, Bool, true, false, arith}
+use Rattle.std.proofs.Common.{◌≡◌, ◌≤◌, ℕ, suc, List, [], ◌∷◌, ◌++◌, length, map, refl, sym, ap, subst, append_assoc, cond, Bool, true, false, arith}
 use Rattle.std.specs.Prelude.{◌==◌}
 use Rattle.std.proofs.lemmas.List.{append-nil}
 use Rattle.db_base.specs.declared.change.Change.TheVariants.{Insert}
@@ -7,7 +7,7 @@ use Rattle.db_base.specs.declared.trouble.CommitAnswer.TheVariants.{Committed}
 use Rattle.event_text.specs.declared.event.Event.{Event}
 use Rattle.event_text.specs.declared.event.Event.TheVariants as event
 use Rattle.load_plan.specs.Events.{Placed, insert_of, checkpoints_from, checkpoints_of, part_events, later_events, commit_events}
-use Rattle.replay_meaning.specs.Standing.{Line, Standing, Task, Renewing, Folding, Closing, standing}
+use Rattle.replay_meaning.specs.Standing.{Line, Standing, Renewing, Folding, Closing, standing}
 use Rattle.reply_text.specs.declared.reply.Reply.{Reply}
 use Rattle.reply_text.specs.declared.reply.Reply.TheVariants as reply
 use Rattle.txn_buffer.specs.Noted.{Noted, AreDistinct}

@@ -1,6 +1,6 @@
 -- The records of a dump: each tree and key once, cut into parts of at most 200.
-use Rattle.std.proofs.Common.{◌≡◌, ◌≢◌, ◌≤◌, ◌<◌, ◌+◌, ◌*◌, ◌⊎◌, inl, inr, ℕ, zero, suc, List, [], ◌∷◌, ◌++◌, length, map, take, drop, Option, Some, None, refl, sym, ap, subst, ◌∙◌, cond, Bool, true, false, arith, eqb-true, eq-eqb}
-use Rattle.std.specs.Prelude.{◌==◌, nat_lt, slice_get}
+use Rattle.std.proofs.Common.{◌≡◌, ◌≢◌, ◌≤◌, ◌<◌, ◌+◌, ◌*◌, ◌⊎◌, inl, inr, ℕ, zero, suc, List, [], ◌∷◌, ◌++◌, length, take, drop, Option, Some, None, refl, sym, ap, subst, ◌∙◌, cond, Bool, true, false, arith, eqb-true, eq-eqb}
+use Rattle.std.specs.Prelude.{◌==◌, slice_get}
 use Rattle.std.specs.List.{AllByRecursion}
 use Rattle.std.proofs.lemmas.List.{length-take, length-drop, take-append-drop}
 use Rattle.std.proofs.lemmas.Bool.{ltb-true}
@@ -19,7 +19,7 @@ use Rattle.txn_buffer.specs.Noted.{Noted, is_of, found_in, AreDistinct}
 use Rattle.txn_buffer.proofs.NotedLemmas.{is_of-Decides}
 use Rattle.load_plan.specs.Events.{Placed, placed_in, records_of, parts, transactions, parts_of}
 use Rattle.load_facts.specs.Inserts.{insert_of}
-use Rattle.load_facts.proofs.Course.{noted_of, changes_of, all_changes, IsPart, AreAllParts}
+use Rattle.load_facts.proofs.Course.{noted_of, changes_of, all_changes, AreAllParts}
 use Rattle.load_facts.proofs.Parts.{AreParts, AreOf}
 use Rattle.load_facts.proofs.SameRecords.{never, not_below, below_behind, not_above}
 
@@ -99,6 +99,11 @@ are_parts (suc n) ps enough distinct = (
   are_parts n (drop 200 ps) (omega (arith, length-drop 200 ps, enough)) (distinct_dropped 200 ps distinct),
 )
 
+-- so many parts there are
+pub parts_count : (n : ℕ) (ps : List Placed) → length (all_changes (parts n ps)) ≡ n
+parts_count zero ps = refl
+parts_count (suc n) ps = ap suc (parts_count n (drop 200 ps))
+
 -- each record is in a part
 in_part : (n : ℕ) (ps : List Placed) (p : Placed) → length ps ≤ 200 * n → IsIn ps p → (part : List Placed) × IsIn (parts n ps) part × IsIn part p
 in_part zero [] p enough is = absurd (cc (is.1))
@@ -125,8 +130,11 @@ module _ (trees : List DumpedTree) (is : IsDumpable trees) where
   abbrev count : ℕ
   count = length (records_of trees)
 
-  distinct_all : AreDistinct (changes_of (records_of trees))
+  pub distinct_all : AreDistinct (changes_of (records_of trees))
   distinct_all = distinct_from None trees is.each is.ascending
+
+  pub parts_enough : count ≤ 200 * transactions count
+  parts_enough = omega arith
 
   -- each part may be one transaction
   pub dump_parts : AreAllParts (parts_of trees)

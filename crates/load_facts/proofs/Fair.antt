@@ -1,6 +1,6 @@
 -- Which replies lines never have: no line says at once what only the run of an operation can.
-use Rattle.std.proofs.Common.{◌≡◌, ◌≤◌, inl, inr, ℕ, List, [], length, Option, Result, Ok, Err, refl, sym, ap, subst, ◌∙◌, arith}
-use Rattle.client_work.specs.Session.{Acting, Begins, CommitsNoted, CommitsOf}
+use Rattle.std.proofs.Common.{◌≡◌, ◌≤◌, inl, inr, ℕ, List, length, Option, Result, Ok, Err, sym, ap, subst, ◌∙◌, arith}
+use Rattle.client_work.specs.Session.{Acting, Begins, CommitsNoted}
 use Rattle.client_work.specs.declared.answer.Answer.{Answer}
 use Rattle.client_work.specs.declared.answer.Answer.TheVariants as answer
 use Rattle.client_work.specs.declared.answer.Begun.{Begun}
@@ -8,7 +8,6 @@ use Rattle.client_work.specs.declared.answer.Begun.TheVariants.{Working, Answere
 use Rattle.client_work.specs.declared.op.Op.TheVariants as op
 use Rattle.cloud_trait.specs.Machine.{Ends}
 use Rattle.cloud_trait.specs.Seen.{Seen}
-use Rattle.db_base.specs.declared.change.Change.{Change}
 use Rattle.db_base.specs.declared.refusal.Refusal.{Refusal}
 use Rattle.db_base.specs.declared.refusal.Refusal.TheVariants.{BadNumber}
 use Rattle.db_base.specs.declared.refusal.Refused.{Refused}
@@ -31,12 +30,11 @@ use Rattle.world_core.proofs.EveryLine.{does_own, asked_is}
 use Rattle.world_core.proofs.StandsLemmas.{changed_was, no_memory}
 use Rattle.world_core.proofs.Texts.{commit_is}
 use Rattle.world_core.specs.Asked.{Asks}
-use Rattle.world_core.specs.Handled.{Does, Answers, Handled, BeginsTold, Settles, SettlesOn, DropsChanges}
-use Rattle.world_core.specs.Replying.{declined, done_reply, RepliesBegun, RepliesTo, RepliesSettled, trouble_reply, unsettled_reply}
+use Rattle.world_core.specs.Handled.{Answers, Handled, SettlesOn}
+use Rattle.world_core.specs.Replying.{declined, done_reply, RepliesBegun, RepliesSettled, trouble_reply, unsettled_reply}
 use Rattle.world_core.specs.World.{World}
 use Rattle.world_core.specs.declared.asked.Asked.{Asked}
 use Rattle.world_core.specs.declared.asked.Asked.TheVariants.{Session, Wait, Report, Settle}
-use Rattle.world_core.specs.declared.asked.Request.{Request}
 use Rattle.world_core.specs.declared.asked.Request.TheVariants.{Begin, Note, Abort, Policy, Work as WorksDue, Step, Run, Crash}
 use Rattle.world_core.specs.declared.world.WorldFault.{WorldFault}
 

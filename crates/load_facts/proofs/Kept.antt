@@ -1,15 +1,12 @@
 -- Each transaction of a load that was answered as committed is among what was committed.
 use Rattle.std.proofs.Common.{◌≡◌, ℕ, List, take, subst}
 use Rattle.std.specs.Prelude.{slice_get, Some, All}
-use Rattle.cloud_facts.specs.Book.Records.{IsIn}
 use Rattle.cloud_trait.specs.State.{CloudState}
 use Rattle.db_base.specs.declared.trouble.CommitAnswer.TheVariants.{Committed}
-use Rattle.history.specs.Audited.{committed_entry}
 use Rattle.replay_meaning.specs.Committed.{committed}
 use Rattle.replay_meaning.specs.Kinds.{IsOfKind}
-use Rattle.replay_meaning.specs.Standing.{Line, Posture, Working, Committing, Standing, standing, session_of}
+use Rattle.replay_meaning.specs.Standing.{Line, Working, Committing, Standing, standing, session_of}
 use Rattle.report_types.specs.declared.entry.Entry.{Entry}
-use Rattle.reply_text.specs.declared.reply.Reply.{Reply}
 use Rattle.reply_text.specs.declared.reply.Reply.TheVariants as reply
 use Rattle.session_facts.specs.Acknowledged.{HasEntries, IsKeptReply}
 use Rattle.txn_buffer.specs.Noted.{Noted}

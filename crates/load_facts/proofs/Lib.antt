@@ -14,3 +14,9 @@ pub mod Withheld
 pub mod Loaded
 pub mod Places
 pub mod Rows
+pub mod Messages
+pub mod Numbered
+pub mod Records
+pub mod Sent
+pub mod Behind
+pub mod Commits

@@ -5,11 +5,12 @@ use Rattle.std.proofs.lemmas.Bool.{cases_lt, cases_eq, eq-eqb}
 use Rattle.std.proofs.lemmas.List.{take-append-le, take_all}
 use Rattle.cloud_facts.specs.Book.Records.{StandsAt, IsIn}
 use Rattle.cloud_facts.proofs.Book.Places.{in_front, get_front, get_behind, get_within, get_cases, get_single}
+use Rattle.cloud_facts.proofs.Numbers.Lists.{take_there}
 use Rattle.db_base.specs.declared.trouble.CommitAnswer.TheVariants.{Committed}
 use Rattle.db_base.specs.declared.change.Change.TheVariants.{Insert}
 use Rattle.event_text.specs.declared.event.Event.{Event}
 use Rattle.event_text.specs.declared.event.Event.TheVariants as event
-use Rattle.replay_meaning.specs.Standing.{Line, Task, Posture, Closed, Idle, Working, Opening, Closing, Renewing, Committing, Folding, Standing, unnamed, begins, steps, task_answered, idle, after_own, after_line, session_of, standing}
+use Rattle.replay_meaning.specs.Standing.{Line, Task, Posture, Closed, Idle, Working, Opening, Closing, Committing, Standing, unnamed, begins, steps, task_answered, idle, after_own, session_of, standing}
 use Rattle.reply_text.specs.declared.reply.Reply.{Reply}
 use Rattle.reply_text.specs.declared.reply.Reply.TheVariants as reply
 use Rattle.session_facts.proofs.CommittedLemmas.{standing_line}
@@ -79,6 +80,21 @@ all_load_more lines line all one k l at = on (get_cases lines (line ∷ []) k l 
     on (inl before) = all k l before
     on (inr last) = subst (λ (x : Line). LoadLine x.event x.reply) (get_single line last.0 l last.2) one
 
+pub all_load_front : (lines more : List Line) → AllLoad (lines ++ more) → AllLoad lines
+all_load_front lines more all k line at = all k line (get_front lines more k line at)
+
+pub all_load_last : (lines : List Line) (line : Line) → AllLoad (lines ++ line ∷ []) → LoadLine line.event line.reply
+all_load_last lines line all = all (length lines) line (last_there lines line)
+
+pub all_load_taken : (n : ℕ) (lines : List Line) → AllLoad lines → AllLoad (take n lines)
+all_load_taken n lines all k line at = all k line (take_there n lines k line at)
+
+-- what is no begin begins no transaction
+pub number_stays : (e : Event) (r : Reply) (n : ℕ) → (r ≡ reply.Begun → ⊥) → number_by e r n ≡ n
+number_stays (event.Open session client) reply.Begun n never = absurd (never refl)
+number_stays (event.Commit session) reply.Begun n never = absurd (never refl)
+number_stays e r n never = refl
+
 -- the transaction at a place was answered as committed, and is of the number of its place
 pub record WasCommitted (lines : List Line) (index : ℕ) (changes : List Noted) : Type 0 where
   pub place : ℕ
@@ -91,6 +107,17 @@ pub record WasCommitted (lines : List Line) (index : ℕ) (changes : List Noted)
   pub client : (standing (take place lines) 1).client ≡ 1
   pub number : numbers (take place lines) ≡ index + 1
 
+-- session 1 of client 1
+abbrev pub stood : Posture → List Noted → Standing
+stood p buffer = record { posture = p; client = 1; buffer = buffer }
+
+-- the lines up to the end of the last transaction: the client is idle there and has begun all of them, and no session is at a commit from there on
+pub record EndsAt (parts : List (List Noted)) (lines : List Line) (last : ℕ) : Type 0 where
+  pub within : last ≤ length lines
+  pub past : (n session : ℕ) (changes : List Noted) → (standing (take n lines) session).posture ≡ Working (Committing changes) → n < last
+  pub rests : 1 ≤ length parts → standing (take last lines) 1 ≡ stood Idle []
+  pub count : numbers (take last lines) ≡ length parts
+
 -- behind these lines session 1 stands so, no other one was named, and these transactions were committed, and no others begun
 pub record IsLoading (parts : List (List Noted)) (lines : List Line) (own : Standing) : Type 0 where
   pub own_is : standing lines 1 ≡ own
@@ -99,6 +126,8 @@ pub record IsLoading (parts : List (List Noted)) (lines : List Line) (own : Stan
   pub done : (place : ℕ) (changes : List Noted) → StandsAt parts place changes → WasCommitted lines place changes
   pub count : numbers lines ≡ length parts
   pub each : AllLoad lines
+  pub last : ℕ
+  pub ends : EndsAt parts lines last
 
 -- a posture that is at no commit
 abbrev pub IsQuiet : Posture → Type 0
@@ -125,6 +154,32 @@ commits_more parts lines line before last n session changes = on (cases_lt (leng
         let long : length (lines ++ line ∷ []) ≤ n = omega (arith, length-append lines (line ∷ [])) in
         subst At (sym (take_all n (lines ++ line ∷ []) long)) (last session changes)
     on (inr within) = subst At (sym (take-append-le n lines (line ∷ []) within)) (before n session changes)
+
+-- a line behind which no session is at a commit
+ends_more : (parts : List (List Noted)) (lines : List Line) (line : Line) (last : ℕ)
+    → ((session : ℕ) (changes : List Noted) → (standing (lines ++ line ∷ []) session).posture ≡ Working (Committing changes) → ⊥) → EndsAt parts lines last
+    → EndsAt parts (lines ++ line ∷ []) last
+ends_more parts lines line last none h = record {
+  within = let old = h.within in omega (arith, length-append lines (line ∷ []), old);
+  past = past;
+  rests = λ some. ap (λ ls. standing ls 1) front ∙ h.rests some;
+  count = ap numbers front ∙ h.count;
+}
+  where
+    front : take last (lines ++ line ∷ []) ≡ take last lines
+    front = take-append-le last lines (line ∷ []) h.within
+
+    past : (n session : ℕ) (changes : List Noted) → (standing (take n (lines ++ line ∷ [])) session).posture ≡ Working (Committing changes) → n < last
+    past n session changes = on (cases_lt (length lines) n)
+      where
+        At : List Line → Type 0
+        At ls = (standing ls session).posture ≡ Working (Committing changes) → n < last
+
+        on : (length lines < n) ⊎ (n ≤ length lines) → At (take n (lines ++ line ∷ []))
+        on (inl beyond) =
+            let long : length (lines ++ line ∷ []) ≤ n = omega (arith, length-append lines (line ∷ [])) in
+            subst At (sym (take_all n (lines ++ line ∷ []) long)) (λ works. absurd (none session changes works))
+        on (inr within) = subst At (sym (take-append-le n lines (line ∷ []) within)) (h.past n session changes)
 
 done_more : (lines : List Line) (line : Line) (index : ℕ) (changes : List Noted) → WasCommitted lines index changes → WasCommitted (lines ++ line ∷ []) index changes
 done_more lines line index changes w =
@@ -168,6 +223,8 @@ loading_more parts lines own next e r mine after quiet same load h = record {
   done = λ place changes there. done_more lines (line_of e r) place changes (h.done place changes there);
   count = numbers-push lines (line_of e r) ∙ same (numbers lines) ∙ h.count;
   each = all_load_more lines (line_of e r) h.each load;
+  last = h.last;
+  ends = ends_more parts lines (line_of e r) h.last none h.ends;
 }
   where
     now : standing (lines ++ line_of e r ∷ []) 1 ≡ next
@@ -176,19 +233,18 @@ loading_more parts lines own next e r mine after quiet same load h = record {
     others : (session : ℕ) → session ≢ 1 → standing (lines ++ line_of e r ∷ []) session ≡ unnamed
     others session other = other_after lines e r session (λ same. other (sym same ∙ mine)) ∙ h.others session other
 
+    none : (session : ℕ) (changes : List Noted) → (standing (lines ++ line_of e r ∷ []) session).posture ≡ Working (Committing changes) → ⊥
+    none session changes works = on (cases_eq session 1)
+      where
+        on : (session ≡ 1) ⊎ (session ≢ 1) → ⊥
+        on (inl is) = quiet changes (ap (λ (s : Standing). s.posture) (sym now) ∙ ap (λ k. (standing (lines ++ line_of e r ∷ []) k).posture) (sym is) ∙ works)
+        on (inr other) = unnamed_quiet _ changes (others session other) works
+
     last : (session : ℕ) (changes : List Noted) → (standing (lines ++ line_of e r ∷ []) session).posture ≡ Working (Committing changes)
         → IsOfPart parts (standing (lines ++ line_of e r ∷ []) session) session changes
-    last session changes works = on (cases_eq session 1)
-      where
-        on : (session ≡ 1) ⊎ (session ≢ 1) → IsOfPart parts (standing (lines ++ line_of e r ∷ []) session) session changes
-        on (inl is) =
-            absurd (quiet changes (ap (λ (s : Standing). s.posture) (sym now) ∙ ap (λ k. (standing (lines ++ line_of e r ∷ []) k).posture) (sym is) ∙ works))
-        on (inr other) = absurd (unnamed_quiet _ changes (others session other) works)
+    last session changes works = absurd (none session changes works)
 
 -- ---- the lines of a load
-
-abbrev pub stood : Posture → List Noted → Standing
-stood p buffer = record { posture = p; client = 1; buffer = buffer }
 
 -- session 1 of client 1 has noted this, and is at no commit
 pub record Loads (parts : List (List Noted)) (lines : List Line) (buffer : List Noted) : Type 0 where
@@ -214,6 +270,13 @@ nothing_loaded = record {
   done = λ place changes there. absurd (cc);
   count = refl;
   each = λ k line at. absurd (cc);
+  last = 0;
+  ends = record {
+    within = omega arith;
+    past = λ n session changes works. absurd (unnamed_quiet _ changes (none n session) works);
+    rests = λ some. absurd (omega (arith, some));
+    count = refl;
+  };
 }
   where
     none : (n session : ℕ) → standing (take n []) session ≡ unnamed
@@ -229,15 +292,20 @@ opened = record {
   done = λ place changes there. absurd (cc);
   count = refl;
   each = all_load_more [] (line_of (event.Open 1 1) reply.Begun) nothing_loaded.each (refl, refl);
+  last = nothing_loaded.last;
+  ends = ends_more [] [] (line_of (event.Open 1 1) reply.Begun) nothing_loaded.last none nothing_loaded.ends;
 }
   where
-    last : (session : ℕ) (changes : List Noted) → (standing ([] ++ line_of (event.Open 1 1) reply.Begun ∷ []) session).posture ≡ Working (Committing changes)
-        → IsOfPart [] (standing ([] ++ line_of (event.Open 1 1) reply.Begun ∷ []) session) session changes
-    last session changes works = on (cases_eq session 1)
+    none : (session : ℕ) (changes : List Noted) → (standing ([] ++ line_of (event.Open 1 1) reply.Begun ∷ []) session).posture ≡ Working (Committing changes) → ⊥
+    none session changes works = on (cases_eq session 1)
       where
-        on : (session ≡ 1) ⊎ (session ≢ 1) → IsOfPart [] (standing ([] ++ line_of (event.Open 1 1) reply.Begun ∷ []) session) session changes
+        on : (session ≡ 1) ⊎ (session ≢ 1) → ⊥
         on (inl is) = let never : Working Opening ≡ Working (Committing changes) = ap (λ k. (standing ([] ++ line_of (event.Open 1 1) reply.Begun ∷ []) k).posture) (sym is) ∙ works in absurd (cc)
         on (inr other) = absurd (unnamed_quiet _ changes (other_after [] (event.Open 1 1) reply.Begun session (λ same. other (sym same))) works)
+
+    last : (session : ℕ) (changes : List Noted) → (standing ([] ++ line_of (event.Open 1 1) reply.Begun ∷ []) session).posture ≡ Working (Committing changes)
+        → IsOfPart [] (standing ([] ++ line_of (event.Open 1 1) reply.Begun ∷ []) session) session changes
+    last session changes works = absurd (none session changes works)
 
 pub opening_loads : (epoch : ℕ) → Loads [] ((([] ++ line_of (event.Open 1 1) reply.Begun ∷ []) ++ line_of (event.Run 1) (reply.Opened epoch) ∷ [])) []
 opening_loads epoch = record {
@@ -311,14 +379,16 @@ commit_loads parts lines buffer txn h = record { posture = Idle; quiet = idle_qu
     others : (session : ℕ) → session ≢ 1 → standing (mid ++ second ∷ []) session ≡ unnamed
     others session other = other_after mid (event.Run 1) (reply.Commit (Committed txn)) session (λ e. other (sym e)) ∙ others_mid session other
 
+    none : (session : ℕ) (changes : List Noted) → (standing (mid ++ second ∷ []) session).posture ≡ Working (Committing changes) → ⊥
+    none session changes works = on (cases_eq session 1)
+      where
+        on : (session ≡ 1) ⊎ (session ≢ 1) → ⊥
+        on (inl is) = idle_quiet changes (ap (λ (s : Standing). s.posture) (sym behind) ∙ ap (λ k. (standing (mid ++ second ∷ []) k).posture) (sym is) ∙ works)
+        on (inr other) = unnamed_quiet _ changes (others session other) works
+
     last : (session : ℕ) (changes : List Noted) → (standing (mid ++ second ∷ []) session).posture ≡ Working (Committing changes)
         → IsOfPart (parts ++ buffer ∷ []) (standing (mid ++ second ∷ []) session) session changes
-    last session changes works = on (cases_eq session 1)
-      where
-        on : (session ≡ 1) ⊎ (session ≢ 1) → IsOfPart (parts ++ buffer ∷ []) (standing (mid ++ second ∷ []) session) session changes
-        on (inl is) =
-            absurd (idle_quiet changes (ap (λ (s : Standing). s.posture) (sym behind) ∙ ap (λ k. (standing (mid ++ second ∷ []) k).posture) (sym is) ∙ works))
-        on (inr other) = absurd (unnamed_quiet _ changes (others session other) works)
+    last session changes works = absurd (none session changes works)
 
     begun : numbers mid ≡ length parts + 1
     begun = numbers-push lines first ∙ ap (λ n. n + 1) h.is.count
@@ -357,7 +427,29 @@ commit_loads parts lines buffer txn h = record { posture = Idle; quiet = idle_qu
       done = done;
       count = numbers-push mid second ∙ begun ∙ sym (length-append parts (buffer ∷ []));
       each = all_load_more mid second (all_load_more lines first h.is.each (refl, refl)) refl;
+      last = length mid + 1;
+      ends = record {
+        within = omega (arith, length-append mid (second ∷ []));
+        past = past;
+        rests = λ some. ap (λ ls. standing ls 1) whole ∙ behind;
+        count = ap numbers whole ∙ numbers-push mid second ∙ begun ∙ sym (length-append parts (buffer ∷ []));
+      };
     }
+      where
+        whole : take (length mid + 1) (mid ++ second ∷ []) ≡ mid ++ second ∷ []
+        whole = take_all (length mid + 1) (mid ++ second ∷ []) (omega (arith, length-append mid (second ∷ [])))
+
+        past : (n session : ℕ) (changes : List Noted) → (standing (take n (mid ++ second ∷ [])) session).posture ≡ Working (Committing changes) → n < length mid + 1
+        past n session changes = on (cases_lt (length mid) n)
+          where
+            At : List Line → Type 0
+            At ls = (standing ls session).posture ≡ Working (Committing changes) → n < length mid + 1
+
+            on : (length mid < n) ⊎ (n ≤ length mid) → At (take n (mid ++ second ∷ []))
+            on (inl beyond) =
+                let long : length (mid ++ second ∷ []) ≤ n = omega (arith, length-append mid (second ∷ [])) in
+                subst At (sym (take_all n (mid ++ second ∷ []) long)) (λ works. absurd (none session changes works))
+            on (inr within) = λ works. omega (arith, within)
 
 -- ---- what is passed over
 
@@ -446,6 +538,13 @@ settles_loaded parts lines own r h = record {
   done = λ place changes there. done_more lines line place changes (h.done place changes there);
   count = numbers-push lines line ∙ h.count;
   each = all_load_more lines line h.each tt;
+  last = h.last;
+  ends = record {
+    within = let old = h.ends.within in omega (arith, length-append lines (line ∷ []), old);
+    past = past;
+    rests = λ some. ap (λ ls. standing ls 1) front ∙ h.ends.rests some;
+    count = ap numbers front ∙ h.ends.count;
+  };
 }
   where
     line : Line
@@ -457,6 +556,24 @@ settles_loaded parts lines own r h = record {
 
     same : (session : ℕ) → standing (lines ++ line ∷ []) session ≡ standing lines session
     same session = standing_line lines line session ∙ either (0 == session) (standing lines session)
+
+    front : take h.last (lines ++ line ∷ []) ≡ take h.last lines
+    front = take-append-le h.last lines (line ∷ []) h.ends.within
+
+    past : (n session : ℕ) (changes : List Noted) → (standing (take n (lines ++ line ∷ [])) session).posture ≡ Working (Committing changes) → n < h.last
+    past n session changes = on (cases_lt (length lines) n)
+      where
+        Then : Standing → Type 0
+        Then s = s.posture ≡ Working (Committing changes) → n < h.last
+
+        whole : take n lines ≡ lines → Then (standing lines session)
+        whole e = subst (λ ls. Then (standing ls session)) e (h.ends.past n session changes)
+
+        on : (length lines < n) ⊎ (n ≤ length lines) → Then (standing (take n (lines ++ line ∷ [])) session)
+        on (inl beyond) =
+            let long : length (lines ++ line ∷ []) ≤ n = omega (arith, length-append lines (line ∷ [])) in
+            subst (λ ls. Then (standing ls session)) (sym (take_all n (lines ++ line ∷ []) long)) (subst Then (sym (same session)) (whole (take_all n lines (omega arith))))
+        on (inr within) = subst (λ ls. Then (standing ls session)) (sym (take-append-le n lines (line ∷ []) within)) (h.ends.past n session changes)
 
     At : ℕ → List Noted → Standing → Type 0
     At session changes s = s.posture ≡ Working (Committing changes) → IsOfPart parts s session changes

@@ -1,7 +1,6 @@
 -- What a load of a dump leaves where it came to its end.
-use Rattle.std.proofs.Common.{◌≡◌, ℕ, List}
+use Rattle.std.proofs.Common.{List}
 use Rattle.cloud_trait.specs.State.{CloudState}
-use Rattle.db_base.specs.Ids.{IsTree}
 use Rattle.dump_text.specs.Dump.{IsDumpable}
 use Rattle.dump_text.specs.Maps.{contents_of}
 use Rattle.dump_text.specs.declared.dump.DumpedTree.{DumpedTree}

@@ -1,9 +1,9 @@
 -- Where a record stands in its part, and the part among the parts.
-use Rattle.std.proofs.Common.{◌≡◌, ◌≤◌, ◌<◌, ◌+◌, ◌*◌, ◌-◌, ◌/◌, ◌%◌, ◌⊎◌, inl, inr, ℕ, zero, suc, List, [], ◌∷◌, ◌++◌, length, take, drop, Some, refl, sym, ap, subst, ◌∙◌, arith}
+use Rattle.std.proofs.Common.{◌≡◌, ◌≤◌, ◌<◌, ◌+◌, ◌*◌, ◌/◌, ◌%◌, ◌⊎◌, inl, inr, ℕ, zero, suc, List, length, take, drop, Some, refl, sym, ap, subst, ◌∙◌, arith}
 use Rattle.std.specs.Prelude.{slice_get}
 use Rattle.std.proofs.lemmas.Bool.{cases_lt}
 use Rattle.std.proofs.lemmas.List.{length-take, length-drop, take-append-drop}
-use Rattle.cloud_facts.proofs.Book.Places.{get_cases, get_front, get_behind, get_within}
+use Rattle.cloud_facts.proofs.Book.Places.{get_cases, get_behind, get_within}
 use Rattle.cloud_facts.proofs.Numbers.Lists.{take_there}
 use Rattle.load_plan.specs.Events.{Placed, parts}
 

@@ -1,9 +1,8 @@
 -- The rows that put open heads, and the entries that they committed.
-use Rattle.std.proofs.Common.{◌≡◌, ◌≢◌, ◌≤◌, ◌+◌, ◌-◌, ◌⊎◌, inl, inr, ℕ, zero, suc, Bool, true, false, List, [], ◌∷◌, ◌++◌, length, take, map, cond, Option, Some, None, refl, sym, ap, subst, ◌∙◌, arith, eqb-true}
+use Rattle.std.proofs.Common.{◌≡◌, ◌+◌, ◌-◌, ◌⊎◌, inl, inr, ℕ, zero, suc, Bool, true, false, List, [], ◌∷◌, cond, Option, Some, None, refl, sym, ap, subst, ◌∙◌, arith, eqb-true}
 use Rattle.std.specs.Prelude.{slice_get, All, ◌==◌}
 use Rattle.std.specs.List.{flat_map}
 use Rattle.std.specs.Option.{option_map}
-use Rattle.std.proofs.lemmas.List.Elements.{All-head, All-tail}
 use Rattle.cloud_facts.specs.Book.Records.{StandsAt, IsIn}
 use Rattle.cloud_facts.proofs.Book.Places.{in_either, in_front, in_behind, get_map}
 use Rattle.cloud_facts.proofs.Numbers.Lists.{map_there, filter_there}
@@ -20,13 +19,13 @@ use Rattle.head_codec.specs.declared.head.Phase.{Phase}
 use Rattle.head_codec.specs.declared.head.Phase.TheVariants as phase
 use Rattle.head_codec.specs.Spelling.{head_of}
 use Rattle.history.specs.Audited.{committed_entry}
-use Rattle.replay_meaning.specs.Committed.{Versions, changes_at, changes_of_row, entries_of_phase, entries_of_head, entries_of_bytes, site_entries, row_entries, committed_by, committed}
+use Rattle.replay_meaning.specs.Committed.{changes_at, changes_of_row, entries_of_phase, entries_of_head, entries_of_bytes, site_entries, row_entries, committed_by, committed}
 use Rattle.replay_meaning.specs.Kinds.{CommitsCount, MayPutPhase, MayPutHead, MayPutBytes, IsOfKindAt, IsOfKind, LandsOpen}
-use Rattle.replay_meaning.specs.Standing.{Line, Standing, standing_of_row}
+use Rattle.replay_meaning.specs.Standing.{Line, standing_of_row}
 use Rattle.report_types.specs.declared.entry.Entry.{Entry}
 use Rattle.session_facts.proofs.Once.{at_place}
 use Rattle.txn_buffer.specs.Noted.{Noted}
-use Rattle.load_facts.proofs.Lines.{IsOfPart, CommitsParts}
+use Rattle.load_facts.proofs.Lines.{CommitsParts}
 use Rattle.load_facts.specs.Loaded.{WasOpened}
 
 -- ---- from an entry to its row
@@ -115,7 +114,7 @@ entry_of_row lines t place row client head n at lands is =
 -- ---- the transaction of a row
 
 -- its session committed as many changes
-row_counts : (lines : List Line) (t : CloudState) (row : Landing) (client : ℕ) (head : Head) → IsOfKind lines t row → (o : LandsOpen t row client head)
+pub row_counts : (lines : List Line) (t : CloudState) (row : Landing) (client : ℕ) (head : Head) → IsOfKind lines t row → (o : LandsOpen t row client head)
     → CommitsCount client o.count (standing_of_row lines row)
 row_counts lines t row client head kind o =
     let put : MayPutBytes lines row client (version_at (t.versions (object.Head client)) row.position) = subst (IsOfKindAt lines t row) o.site kind in

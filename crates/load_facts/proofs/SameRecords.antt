@@ -3,7 +3,6 @@ use Rattle.std.proofs.Common.{◌≡◌, ℕ, zero, suc, Bool, true, false, List
 use Rattle.std.specs.Ordering.{is_lt, is_eq}
 use Rattle.std.specs.declared.cmp.Ordering.{Ordering}
 use Rattle.std.specs.declared.cmp.Ordering.TheVariants.{Less, Equal, Greater}
-use Rattle.std.specs.Prelude.{slice_get}
 use Rattle.byte_format.specs.Order.{bytes_cmp, bytes_below, bytes_same}
 use Rattle.byte_format.proofs.OrderLemmas.{same_is, same_itself}
 use Rattle.db_base.specs.Value.{Value}

@@ -1,5 +1,5 @@
 -- The count of what was withheld never falls, so where it did not rise over lines it rose in none of their steps.
-use Rattle.std.proofs.Common.{◌≡◌, ◌≤◌, ◌⊎◌, ℕ, Bool, true, false, List, Result, Ok, Err, refl, sym, ap, subst, ◌∙◌, inl, inr, arith}
+use Rattle.std.proofs.Common.{◌≡◌, ◌≤◌, ℕ, Bool, true, false, List, Ok, Err, refl, ap, ◌∙◌, inl, inr, arith}
 use Rattle.ckpt_policy.specs.declared.role.Role.{Role}
 use Rattle.client_work.specs.declared.answer.Answer.{Answer}
 use Rattle.cloud_trait.specs.Caller.{Caller}
@@ -23,7 +23,6 @@ use Rattle.world_core.specs.declared.asked.Asked.{Asked}
 use Rattle.world_core.specs.declared.asked.Asked.TheVariants.{Session, Wait, Report, Settle}
 use Rattle.world_core.specs.declared.asked.Request.{Request}
 use Rattle.world_core.specs.declared.asked.Request.TheVariants.{Begin, Note, Abort, Policy, Work as WorksDue, Step, Run, Crash}
-use Rattle.world_core.specs.declared.world.WorldFault.{WorldFault}
 
 -- no fewer messages and locks were withheld
 abbrev pub Withholds : Seen → Seen → Type 0

@@ -1,5 +1,5 @@
 -- What a load of a dump leaves in a cloud.
-use Rattle.std.specs.Prelude.{ℕ, ◌≡◌, ◌+◌, ◌/◌, ◌%◌, List, Some, slice_get}
+use Rattle.std.specs.Prelude.{ℕ, zero, suc, ◌≡◌, ◌+◌, ◌/◌, ◌%◌, List, [], ◌∷◌, Some, slice_get}
 use Rattle.cloud_trait.specs.State.{CloudState}
 use Rattle.cloud_trait.specs.declared.state.Posted.{Posted}
 use Rattle.cloud_trait.specs.declared.state.Version.{Version}
@@ -8,6 +8,8 @@ use Rattle.db_base.specs.declared.names.ObjName.TheVariants.{Head as HeadName}
 use Rattle.db_base.specs.declared.names.QueueName.TheVariants.{Atomic}
 use Rattle.dump_text.specs.Maps.{contents_of}
 use Rattle.dump_text.specs.declared.dump.DumpedTree.{DumpedTree}
+use Rattle.event_text.specs.declared.event.Event.{Event}
+use Rattle.event_text.specs.declared.event.Event.TheVariants.{Commit}
 use Rattle.head_codec.specs.Spelling.{head_of}
 use Rattle.head_codec.specs.declared.head.Head.{Head}
 use Rattle.head_codec.specs.declared.head.Phase.TheVariants.{Open}
@@ -20,6 +22,12 @@ use Rattle.load_facts.specs.Inserts.{insert_of}
 -- each tree has the records of the dump, and no others
 abbrev pub HasContents : CloudState → List DumpedTree → Type 0
 HasContents t trees = (tree : ℕ) → IsTree tree → Walked t tree 0 (contents_of tree trees)
+
+-- how many of these events are commits
+abbrev pub commits_in : List Event → ℕ
+commits_in [] = zero
+commits_in (Commit session ∷ events) = suc (commits_in events)
+commits_in (e ∷ events) = commits_in events
 
 -- ---- what is logged
 

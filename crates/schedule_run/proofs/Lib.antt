@@ -21,4 +21,6 @@ pub mod LoadEnds
 pub mod RunLemmas
 pub mod FallenLemmas
 pub mod CompleteLemmas
+pub mod LoadFronts
+pub mod LoadLogged
 pub mod LoadLeaves

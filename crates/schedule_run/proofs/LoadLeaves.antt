@@ -12,6 +12,7 @@ use Rattle.dump_text.specs.declared.dump.DumpedTree.{DumpedTree}
 use Rattle.event_text.specs.declared.event.Event.{Event}
 use Rattle.event_text.specs.declared.event.Event.TheVariants as event
 use Rattle.load_facts.proofs.AtOnce.{FairLine, AllFair, fair_front, fair_next}
+use Rattle.load_facts.proofs.Commits.{load_commits}
 use Rattle.load_facts.proofs.Course.{Goes, goes_none, goes_alone, goes_run, IsGood, IsThrough, load_goes}
 use Rattle.load_facts.proofs.Dumps.{dump_parts}
 use Rattle.load_facts.proofs.Fair.{handled_fair}
@@ -19,8 +20,8 @@ use Rattle.load_facts.proofs.Kept.{AllKept}
 use Rattle.load_facts.proofs.Lines.{with_run}
 use Rattle.load_facts.proofs.Loaded.{load_contents}
 use Rattle.load_facts.proofs.Withheld.{Withholds, withholds_on, handled_withholds, settle_delivers}
-use Rattle.load_facts.specs.Loaded.{HasContents}
-use Rattle.load_plan.specs.Events.{load_events, parts_of}
+use Rattle.load_facts.specs.Loaded.{HasContents, AreLogged}
+use Rattle.load_plan.specs.Events.{load_events, parts_of, records_of}
 use Rattle.replay_meaning.specs.Committed.{committed}
 use Rattle.replay_meaning.specs.Standing.{Line, session_of, standing}
 use Rattle.reply_text.specs.declared.reply.Reply.{Reply}
@@ -38,6 +39,8 @@ use Rattle.schedule_run.specs.Shell.{IsWhole, alone, with_run as whole_run, AreW
 use Rattle.schedule_run.specs.declared.load.LoadStop.{LoadStop}
 use Rattle.schedule_run.specs.declared.load.Loaded.{Loaded}
 use Rattle.schedule_run.proofs.GoingLemmas.{fresh_stands}
+use Rattle.schedule_run.proofs.LoadFronts.{push_same}
+use Rattle.schedule_run.proofs.LoadLogged.{load_logs, whole_once}
 use Rattle.schedule_run.proofs.SoundLemmas.{take_whole, each_more, went_soundly, same_some}
 use Rattle.schedule_run.proofs.StayLemmas.{committed_upto}
 
@@ -114,16 +117,6 @@ record LastLine (lines : List Line) (line : Line) (before : Seen) (old : World) 
   handled : Handled (length lines + 1) line.event mid after world new (Ok line.reply)
   explained : IsExplained lines line mid after world new handled
 
-push_same : (xs ys : List Line) (x y : Line) → xs ++ x ∷ [] ≡ ys ++ y ∷ [] → (xs ≡ ys) × (x ≡ y)
-push_same [] [] x y e = (refl, cc)
-push_same [] (b ∷ ys) x y e = let none : length (let none : List Line = [] in none) ≡ length (ys ++ y ∷ []) = ap (λ (l : List Line). length (drop 1 l)) e in absurd (omega (arith, none, length-append ys (y ∷ [])))
-push_same (a ∷ xs) [] x y e = let none : length (xs ++ x ∷ []) ≡ length (let none : List Line = [] in none) = ap (λ (l : List Line). length (drop 1 l)) e in absurd (omega (arith, none, length-append xs (x ∷ [])))
-push_same (a ∷ xs) (b ∷ ys) x y e =
-    let rest : xs ++ x ∷ [] ≡ ys ++ y ∷ [] = ap (λ (l : List Line). drop 1 l) e in
-    let first : a ≡ b = cc in
-    let k = push_same xs ys x y rest in
-    (λ i. first i ∷ k.0 i, k.1)
-
 last_line : (before : Seen) (old : World) (all : List Line) (after : Seen) (new : World) → (went : WentOn before old all after new) → AreExplained before old all after new went
     → (lines : List Line) (line : Line) → all ≡ lines ++ line ∷ [] → LastLine lines line before old after new
 last_line before old all after new start explained lines line e =
@@ -156,7 +149,7 @@ all_kept lines world u stands stay =
     (subst (λ ls. AreKept ls (committed ls (upto u (length lines)))) (take_whole lines (length lines) refl) (stay (length lines) (omega arith)))
 
 pub load_leaves : (loaded : Loaded) (trees : List DumpedTree) (before now : Seen) → IsDumpable trees → LoadDone loaded trees before now → LeavesLoaded trees before now
-load_leaves loaded trees before now dumpable done t told empty = (u, o.1, record { contents = λ still. load_contents trees lines world u dumpable through o.2 kept (nothing still); nothing = nothing })
+load_leaves loaded trees before now dumpable done t told empty = (u, o.1, record { commits = load_commits trees; logged = logged; contents = λ still. load_contents trees lines world u dumpable through o.2 kept (nothing still); nothing = nothing })
   where
     lines : List Line
     lines = done.run.lines
@@ -186,6 +179,11 @@ load_leaves loaded trees before now dumpable done t told empty = (u, o.1, record
         load_goes (parts_of trees) lines (dump_parts trees dumpable)
         (are_whole_go (load_events trees) lines _ done.run.whole
         (went_fair done.mid played.first t lines now world played.went told_mid (fresh_stands played.first t played.fresh empty)) done.well)
+
+    logged : AreLogged u (records_of trees)
+    logged =
+        load_logs trees done.mid played.first t lines now world through.own u dumpable played.went played.fresh told_mid empty (fresh_stands played.first t played.fresh empty) o.1 o.2 o.4
+        (whole_once trees lines _ done.run.whole) through.loading
 
     nothing : now.counts.withheld ≡ before.counts.withheld → LeavesNothing u
     nothing still =

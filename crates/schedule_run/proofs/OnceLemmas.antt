@@ -89,7 +89,7 @@ module _ {blind : Bool} (s : Seen) (first : World) (x : CloudState) (told : s.st
   went_adds _ t world (further lines line mid _ old _ went handled) =
       handled_adds (length lines + 1) line.event mid t old world line.reply lines x refl handled (went_adds lines mid old went)
 
-  went_apart : (lines : List Line) (t : Seen) (world : World) → WentOn s first lines t world → OpenEachOnce (events_of lines) → WorldApart (events_of lines) x world t
+  pub went_apart : (lines : List Line) (t : Seen) (world : World) → WentOn s first lines t world → OpenEachOnce (events_of lines) → WorldApart (events_of lines) x world t
   went_apart _ t world start once = apart_nothing _ x _ s told (fresh_closed first fresh)
   went_apart _ t world (further lines line mid _ old _ went handled) once =
       let more : OpenEachOnce (events_of lines ++ line.event ∷ []) = subst OpenEachOnce (events_more lines (line ∷ [])) once in

@@ -55,25 +55,25 @@ use Rattle.schedule_run.proofs.SoundLemmas.{each_more, take_whole, same_some, we
 -- ---- what a line leaves of a cloud
 
 -- versions and the trace only grew at their ends, and up to each event before n nothing has changed
-record HasLanded (n : ℕ) (s t : CloudState) : Type 0 where
-  versions : (name : ObjName) → BeginsWith (s.versions name) (t.versions name)
-  trace : BeginsWith s.trace t.trace
-  agree : (k : ℕ) → k < n → AgreeUpto k s t
+pub record HasLanded (n : ℕ) (s t : CloudState) : Type 0 where
+  pub versions : (name : ObjName) → BeginsWith (s.versions name) (t.versions name)
+  pub trace : BeginsWith s.trace t.trace
+  pub agree : (k : ℕ) → k < n → AgreeUpto k s t
 
-begins_same : {X : Type 0} (xs ys : List X) → ys ≡ xs → BeginsWith xs ys
+pub begins_same : {X : Type 0} (xs ys : List X) → ys ≡ xs → BeginsWith xs ys
 begins_same xs ys e = ([], e ∙ sym (append-nil xs))
 
-begins_on : {X : Type 0} (xs ys zs : List X) → BeginsWith xs ys → BeginsWith ys zs → BeginsWith xs zs
+pub begins_on : {X : Type 0} (xs ys zs : List X) → BeginsWith xs ys → BeginsWith ys zs → BeginsWith xs zs
 begins_on xs ys zs a b = (a.0 ++ b.0, b.1 ∙ ap (λ l. l ++ b.0) a.1 ∙ append_assoc xs a.0 b.0)
 
-landed_none : (n : ℕ) (s t : CloudState) → t.versions ≡ s.versions → t.messages ≡ s.messages → t.trace ≡ s.trace → HasLanded n s t
+pub landed_none : (n : ℕ) (s t : CloudState) → t.versions ≡ s.versions → t.messages ≡ s.messages → t.trace ≡ s.trace → HasLanded n s t
 landed_none n s t v m r = record {
   versions = λ name. begins_same (s.versions name) (t.versions name) (ap (λ (f : Versions). f name) v);
   trace = begins_same s.trace t.trace r;
   agree = λ k less. agree_itself k s t v m r;
 }
 
-landed_on : (n : ℕ) (s t u : CloudState) → HasLanded n s t → HasLanded n t u → HasLanded n s u
+pub landed_on : (n : ℕ) (s t u : CloudState) → HasLanded n s t → HasLanded n t u → HasLanded n s u
 landed_on n s t u a b = record {
   versions = λ name. begins_on (s.versions name) (t.versions name) (u.versions name) (a.versions name) (b.versions name);
   trace = begins_on s.trace t.trace u.trace a.trace b.trace;
@@ -81,7 +81,7 @@ landed_on n s t u a b = record {
 }
 
 -- of a cloud that is told
-abbrev Lands : ℕ → Seen → Seen → Type 0
+abbrev pub Lands : ℕ → Seen → Seen → Type 0
 Lands n before after = (x : CloudState) → before.state ≡ Some x → (y : CloudState) × (after.state ≡ Some y) × HasLanded n x y
 
 lands_not : (n : ℕ) (before after : Seen) → ((x : CloudState) → before.state ≡ Some x → after.state ≡ Some x) → Lands n before after
@@ -191,7 +191,7 @@ module _ (n : ℕ) (before after : Seen) (old new : World) (r : Reply) where
   lands_settles (inl h) = lands_settled h.begun h.settles
   lands_settles (inr memory) = absurd (no_memory r memory.0)
 
-  lands_asked : (asked : Asked) → Answers n asked before after old new (Ok r) → Lands n before after
+  pub lands_asked : (asked : Asked) → Answers n asked before after old new (Ok r) → Lands n before after
   lands_asked (Session k (Ok request)) (inl served) = lands_does k request served.1
   lands_asked (Session k (Err why)) (inl served) = lands_same n before after served.1.seen
   lands_asked (Session k request) (inr none) = lands_same n before after none.declines.seen
@@ -227,7 +227,7 @@ rows_kept lines v w begins (row ∷ rows) h =
     (rows_kept lines v w begins rows (All-tail (IsPlaced v) row rows h))
 
 -- what lines committed is where that begins which they and one more line have committed
-committed_begins : (lines : List Line) (line : Line) (n : ℕ) (s t : CloudState) → All (IsPlaced s.versions) s.trace → IsUpto (length lines) s → HasLanded n s t
+pub committed_begins : (lines : List Line) (line : Line) (n : ℕ) (s t : CloudState) → All (IsPlaced s.versions) s.trace → IsUpto (length lines) s → HasLanded n s t
     → BeginsWith (committed lines s) (committed (lines ++ line ∷ []) t)
 committed_begins lines line n s t placed all landed = (
   committed_by more t.versions landed.trace.0,

@@ -1,13 +1,18 @@
 -- What a load leaves in a cloud that was empty.
-use Rattle.std.specs.Prelude.{◌≡◌, List, Some}
+use Rattle.std.specs.Prelude.{◌≡◌, List, Some, length}
 use Rattle.cloud_trait.specs.Seen.{Seen}
 use Rattle.cloud_trait.specs.State.{CloudState, IsEmptyCloud}
 use Rattle.dump_text.specs.declared.dump.DumpedTree.{DumpedTree}
-use Rattle.load_facts.specs.Loaded.{HasContents}
+use Rattle.load_facts.specs.Loaded.{HasContents, AreLogged, commits_in}
+use Rattle.load_plan.specs.Events.{records_of, transactions, load_events}
 use Rattle.world_core.specs.Settled.{LeavesNothing}
 
--- where no message was withheld each tree has the records of the dump, and nothing is left of it
+-- A transaction takes 200 records, the last one what is left. Whatever call failed and whatever lease ended, the ATOMIC messages of transactions that
+-- were opened are the inserts of the dump's records in order; and where no message was withheld each tree has the records of the dump, and nothing is
+-- left.
 pub record IsLoaded (trees : List DumpedTree) (start now : Seen) (u : CloudState) : Type 0 where
+  pub commits : commits_in (load_events trees) ≡ transactions (length (records_of trees))
+  pub logged : AreLogged u (records_of trees)
   pub contents : now.counts.withheld ≡ start.counts.withheld → HasContents u trees
   pub nothing : now.counts.withheld ≡ start.counts.withheld → LeavesNothing u
 

@@ -56,8 +56,8 @@ use Rattle.txn_buffer.specs.Noted.{Noted}
 -- ---- entries
 
 -- a change that has its record has its entry
-entry_in : (log : List AtomicRec) (x : Attempt) (n : Noted) → IsLogged log x n → IsIn (entries_of log) (committed_entry x.client x.epoch x.txn n)
-entry_in log x n of = (of.logged.0, get_map entry_of log of.logged.0 of.of of.logged.1 ∙ ap some same)
+entry_in : (log : List AtomicRec) (x : Attempt) (place : ℕ) (n : Noted) → IsLogged log x place n → IsIn (entries_of log) (committed_entry x.client x.epoch x.txn n)
+entry_in log x place n of = (of.logged.0, get_map entry_of log of.logged.0 of.of of.logged.1 ∙ ap some same)
   where
     some : Entry → Option Entry
     some e = Some e
@@ -144,7 +144,7 @@ module _ (st : Store) (now : ℕ) (w : Writing) (g : Home) where
   KeepsOwn = Keeps (entries_of st.book.log) w.home.client w.changes
 
   has_entries : HasCommitted st.book.log (attempt_of w) w.changes → HasEntries (entries_of st.book.log) w.home.client w.home.attempt w.changes
-  has_entries committed = record { epoch = w.home.head.epoch; each = λ n is. entry_in st.book.log (attempt_of w) n (committed n is) }
+  has_entries committed = record { epoch = w.home.head.epoch; each = λ n is. entry_in st.book.log (attempt_of w) is.0 n (committed is.0 n is.1) }
 
   keeps_at : (stage : Stage) (a : Reply) → KnowsCommitAt stage st now w g → KeepsOwn (next_at stage w a)
   keeps_at Waiting a never = absurd never

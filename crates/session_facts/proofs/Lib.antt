@@ -33,6 +33,7 @@ pub mod BookLemmas
 pub mod Steps
 pub mod AddedRows
 pub mod OpenedRuns
+pub mod CommitNumbers
 pub mod OpenedCalls
 pub mod LineLemmas
 pub mod SettlerLemmas

@@ -61,26 +61,23 @@ record_of st now x changes records base routes place r there =
       index_is = ap (λ (q : AtomicRec). q.index) of.is ∙ ap (λ k. k + 1) of.behind;
     }
 
--- one of the records is of the change
-pub record IsRecordFor (records : List AtomicRec) (n : Noted) : Type 0 where
+-- the record at a place is of the change
+pub record IsRecordFor (records : List AtomicRec) (place : ℕ) (n : Noted) : Type 0 where
   pub of : AtomicRec
-  pub is : IsIn records of
+  pub is : StandsAt records place of
   pub tree_is : of.tree ≡ n.tree
   pub change_is : of.change ≡ n.change
 
 -- each change has one
 pub record_for : (st : Store) (now : ℕ) (x : Attempt) (changes : List Noted) (records : List AtomicRec) (base : Head) → Routes st now x changes records base → (place : ℕ) (n : Noted)
-    → StandsAt changes place n → IsRecordFor records n
+    → StandsAt changes place n → IsRecordFor records place n
 record_for st now x changes records base routes place n there =
     let within = get_within changes place n there in
     let page = stands_below routes.pages place (let paged = routes.paged in omega (arith, within, paged)) in
     record {
       of = record_behind x.client base.epoch x.txn (length changes) base (take place (routed x.client base.epoch x.txn base changes routes.pages)) n page.0;
-      is = (
-        place,
-        subst (λ rs. StandsAt rs place (record_behind x.client base.epoch x.txn (length changes) base (take place (routed x.client base.epoch x.txn base changes routes.pages)) n page.0)) (sym routes.records_are)
-            (routed_behind-at x.client base.epoch x.txn (length changes) base [] changes routes.pages place n page.0 there page.1),
-      );
+      is = subst (λ rs. StandsAt rs place (record_behind x.client base.epoch x.txn (length changes) base (take place (routed x.client base.epoch x.txn base changes routes.pages)) n page.0)) (sym routes.records_are)
+          (routed_behind-at x.client base.epoch x.txn (length changes) base [] changes routes.pages place n page.0 there page.1);
       tree_is = refl;
       change_is = refl;
     }

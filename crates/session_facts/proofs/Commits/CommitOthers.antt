@@ -118,8 +118,8 @@ module _ (st su : Store) (now later : ℕ) (x : Attempt) (after : now ≤ later)
 
 -- what is committed stays so
 pub committed_on : (log more : List AtomicRec) (x : Attempt) (changes : List Noted) → ((r : AtomicRec) → IsIn log r → IsIn more r) → HasCommitted log x changes → HasCommitted more x changes
-committed_on log more x changes stays committed n is =
-    let of = committed n is in record { of = of.of; logged = stays of.of of.logged; is = of.is; tree_is = of.tree_is; change_is = of.change_is }
+committed_on log more x changes stays committed place n at =
+    let of = committed place n at in record { of = of.of; logged = stays of.of of.logged; is = of.is; index_is = of.index_is; tree_is = of.tree_is; change_is = of.change_is }
 
 -- ---- the whole
 

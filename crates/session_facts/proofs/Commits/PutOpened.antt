@@ -140,10 +140,10 @@ module _ (who : Caller) (book : Book) (order : List Entry) (s t : CloudState) (p
 
     -- each change has its record
     has_committed : HasCommitted su.book.log (attempt_of w) w.changes
-    has_committed n is =
-        let for = record_for st t.now (attempt_of w) w.changes w.records a.base a.routes is.0 n is.1 in
-        let of = has_opened.logged for.of for.is in
-        record { of = for.of; logged = of.0; is = of.1; tree_is = for.tree_is; change_is = for.change_is }
+    has_committed place n at =
+        let for = record_for st t.now (attempt_of w) w.changes w.records a.base a.routes place n at in
+        let of = has_opened.logged for.of (place, for.is) in
+        record { of = for.of; logged = of.0; is = of.1; index_is = has_opened.indexed place for.of for.is; tree_is = for.tree_is; change_is = for.change_is }
 
     messages : AreMessagesOf su (attempt_of w) w.ids
     messages = messages_stay st su (attempt_of w) w.ids (head_grows st client w.home.head recs (opens_later st client w.home.head recs opens_recs)) a.messages

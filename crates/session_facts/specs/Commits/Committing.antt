@@ -127,17 +127,18 @@ pub record HasOpened (st : Store) (now : ℕ) (x : Attempt) (records : List Atom
   pub newest : Lasts now x.lease → st.tally.head x.client ≡ opened
   pub all : (r : AtomicRec) → IsIn st.book.log r → IsOfAttempt x r → IsIn records r
 
--- a change has a record of the transaction in the log
-pub record IsLogged (log : List AtomicRec) (x : Attempt) (n : Noted) : Type 0 where
+-- a change has a record of the transaction in the log, with its place as index
+pub record IsLogged (log : List AtomicRec) (x : Attempt) (place : ℕ) (n : Noted) : Type 0 where
   pub of : AtomicRec
   pub logged : IsIn log of
   pub is : IsOfAttempt x of
+  pub index_is : of.index ≡ place + 1
   pub tree_is : of.tree ≡ n.tree
   pub change_is : of.change ≡ n.change
 
 -- the transaction committed each of the changes
 abbrev pub HasCommitted : List AtomicRec → Attempt → List Noted → Type 0
-HasCommitted log x changes = (n : Noted) → IsIn changes n → IsLogged log x n
+HasCommitted log x changes = (place : ℕ) (n : Noted) → StandsAt changes place n → IsLogged log x place n
 
 -- the first so many records were sent on, each with a copy in its queue
 abbrev pub AreSentOn : Store → List AtomicRec → ℕ → Type 0

@@ -11,14 +11,14 @@ loop-number-init g c = (looked_not _, subst (Collects _ 0) (sym c.new-trees.ensu
 pub loop-number-preserved : goal.loop-number-preserved
 loop-number-preserved g c = (
   looked_on _ _ _ c.loop-number.invariant.0 c.contents.ensures.looked,
-  collects_on _ c.loop-number.number c.in-Ok.tree c.in-Ok.ensures.ok c.loop-number-test.true c.loop-number.trees c.loop-number.invariant.1
+  collects_on _ c.loop-number.number c.in-Ok.tree c.in-Ok.ensures.ok (omega (arith, c.loop-number-test.true)) c.loop-number.trees c.loop-number.invariant.1
       c.in_ok-records.records (shown_behind _ _ _ _ c.loop-number.invariant.0 c.in_ok-records.ensures.found) _ c.in_ok-add_tree.ensures.ok,
 )
 
 pub returns-in_err-records-clause-found : goal.returns-in_err-records-clause-found
 returns-in_err-records-clause-found g c =
     let p = err_from_is_err_and c.from_residual.result c.from_residual.ensures.1 in
-    rw (p.1, p.2) (contents_stop _ c.loop-number.number c.in-Ok.tree c.in-Ok.ensures.ok c.loop-number-test.true c.loop-number.trees c.loop-number.invariant.1
+    rw (p.1, p.2) (contents_stop _ c.loop-number.number c.in-Ok.tree c.in-Ok.ensures.ok (omega (arith, c.loop-number-test.true)) c.loop-number.trees c.loop-number.invariant.1
     c.in_err-records.field-0.0 (shown_behind _ _ _ _ c.loop-number.invariant.0 c.in_err-records.ensures.found))
 
 pub returns-in_err-add_tree-clause-found : goal.returns-in_err-add_tree-clause-found

@@ -11,7 +11,7 @@ loop-number-init g c = (looked_not _, heads_none _)
 pub loop-number-preserved : goal.loop-number-preserved
 loop-number-preserved g c = (
   looked_on _ _ _ c.loop-number.invariant.0 c.peek.ensures.looked,
-  heads_on _ c.loop-number.number c.in-Ok.client c.in_ok-bytes.bytes c.in-Ok.ensures.ok c.loop-number-test.true c.loop-number.invariant.1
+  heads_on _ c.loop-number.number c.in-Ok.client c.in_ok-bytes.bytes c.in-Ok.ensures.ok (omega (arith, c.loop-number-test.true)) c.loop-number.invariant.1
       (object_behind _ _ _ c.in_ok-bytes.bytes c.loop-number.invariant.0 c.in_ok-bytes.ensures.newest c.in_ok-bytes.ensures.shown)
       c.in_ok-check_head.ensures.rests,
 )
@@ -24,7 +24,7 @@ returns-in_err-bytes-clause-found g c =
 pub returns-in_err-check_head-clause-found : goal.returns-in_err-check_head-clause-found
 returns-in_err-check_head-clause-found g c =
     let p = err_from_is_err_and c.from_residual-in_err-check_head.result c.from_residual-in_err-check_head.ensures.1 in
-    rw (p.1, p.2) (heads_stop _ c.loop-number.number c.in-Ok.client c.in_ok-bytes.bytes c.in-Ok.ensures.ok c.loop-number-test.true c.loop-number.invariant.1
+    rw (p.1, p.2) (heads_stop _ c.loop-number.number c.in-Ok.client c.in_ok-bytes.bytes c.in-Ok.ensures.ok (omega (arith, c.loop-number-test.true)) c.loop-number.invariant.1
     (object_behind _ _ _ c.in_ok-bytes.bytes c.loop-number.invariant.0 c.in_ok-bytes.ensures.newest c.in_ok-bytes.ensures.shown)
     c.in_err-check_head.field-0.0 c.in_err-check_head.ensures.stops)
 

@@ -25,7 +25,7 @@ use Rattle.page_ckpt.specs.Standing.{Stands as PageStands}
 use Rattle.page_ckpt.proofs.Leases.{came_stands as page_stands, stands_names as page_names, stands_gives as page_gives, stands_returns as page_returns}
 use Rattle.tree_ckpt.specs.Making.{Making, making_ask, MakingLeads}
 use Rattle.tree_ckpt.specs.Standing.{Stands as TreeStands}
-use Rattle.tree_ckpt.proofs.Standing.{came_stands as tree_stands, stands_names as tree_names, stands_gives as tree_gives, stands_returns as tree_returns}
+use Rattle.tree_ckpt.proofs.Leases.{came_stands as tree_stands, stands_names as tree_names, stands_gives as tree_gives, stands_returns as tree_returns}
 use Rattle.settle_run.specs.declared.part.Part.{Part}
 use Rattle.settle_run.specs.declared.part.Part.TheVariants.{Client, Tree, Page}
 use Rattle.settle_run.specs.declared.settled.Settled.{Settled}

@@ -49,7 +49,7 @@ pub record OnWay (tree level : ℕ) (low : List ℕ) (page : ℕ) (visited : Lis
 
 -- ---- a call more
 
-root_more : (tree : ℕ) (t : Tree) (c : Ask × Answer) (cs : Calls) → WasRoot tree t cs → WasRoot tree t (c ∷ cs)
+pub root_more : (tree : ℕ) (t : Tree) (c : Ask × Answer) (cs : Calls) → WasRoot tree t cs → WasRoot tree t (c ∷ cs)
 root_more tree t c cs (inl h) = inl (h.0, h.1, inr h.2)
 root_more tree t c cs (inr h) = inr (h.0, h.1, inr h.2)
 

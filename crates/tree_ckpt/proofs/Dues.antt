@@ -20,8 +20,8 @@ use Rattle.tree_ckpt.specs.Making.{Making, making_ask}
 use Rattle.tree_ckpt.specs.Causing.{Calls, WasGot, WasRoot, WasLeaf}
 use Rattle.tree_ckpt.specs.Due.{Due, LeafDue, NodeDue, RootDue, GetsLeaf, IsUp, IsDue, IsCutShort, WasBrought, WasLastButOne}
 use Rattle.tree_ckpt.specs.Stepped.{calls_with}
-use Rattle.tree_ckpt.proofs.Brought.{Charted, IsKept, chart_more}
-use Rattle.tree_ckpt.proofs.Causing.{KnowsAt, root_more, root_put}
+use Rattle.tree_ckpt.proofs.Brought.{Charted, IsKept, root_more, chart_more}
+use Rattle.tree_ckpt.proofs.Causes.{KnowsAt, root_put}
 use Rattle.tree_ckpt.proofs.Folds.{not_empty}
 use Rattle.tree_ckpt.proofs.Plots.{HasPut, chart_landed}
 use Rattle.tree_ckpt.proofs.Rises.{kept_at}

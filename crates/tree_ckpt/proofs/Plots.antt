@@ -53,20 +53,8 @@ pub record LeafSpends (f : Folding) (a : Answer) (t : Trouble) : Type 0 where
 pub spent_shows : (tree : ℕ) (cs : Calls) (ask : Ask) (a : Answer) (due : Due) (t : Trouble) → IsSpentFor due t → Shows tree cs ask a t
 spent_shows tree cs ask a due (trouble.Exhausted counter.Version) h = tt
 spent_shows tree cs ask a due (trouble.Exhausted counter.Pages) h = tt
-spent_shows tree cs ask a due (trouble.Exhausted counter.Epoch) h = absurd h
-spent_shows tree cs ask a due (trouble.Exhausted counter.Txn) h = absurd h
-spent_shows tree cs ask a due (trouble.Exhausted counter.Number) h = absurd h
-spent_shows tree cs ask a due trouble.Failed h = absurd h
-spent_shows tree cs ask a due (trouble.Late end now) h = absurd h
-spent_shows tree cs ask a due (trouble.Busy lock until) h = absurd h
-spent_shows tree cs ask a due (trouble.Absent page) h = absurd h
-spent_shows tree cs ask a due (trouble.NotALeaf page) h = absurd h
-spent_shows tree cs ask a due (trouble.Damaged where_it_is at) h = absurd h
-spent_shows tree cs ask a due (trouble.BadFence page expected found) h = absurd h
-spent_shows tree cs ask a due (trouble.Loop page) h = absurd h
-spent_shows tree cs ask a due (trouble.Waiting have need) h = absurd h
-spent_shows tree cs ask a due (trouble.Stale page least got) h = absurd h
-spent_shows tree cs ask a due trouble.Memory h = absurd h
+spent_shows tree cs ask a due (trouble.Exhausted what) h = absurd h
+spent_shows tree cs ask a due t h = absurd h
 
 module _ (tree : ℕ) (cs : Calls) (ask : Ask) (a : Answer) where
   -- ---- a leaf

@@ -15,13 +15,13 @@ use Rattle.tree_ckpt.specs.Making.{Making, making_ask, MakingLeads, KeepsLeases}
 use Rattle.tree_ckpt.specs.Standing.{Stands}
 use Rattle.tree_ckpt.specs.Meaning.{MeansDone}
 use Rattle.tree_ckpt.specs.Stepped.{Tells, Stepped}
-use Rattle.tree_ckpt.proofs.Causing.{KnowsAt, went_brought, took_tells}
-use Rattle.tree_ckpt.proofs.Doing.{went_done, took_done}
+use Rattle.tree_ckpt.proofs.Causes.{KnowsAt, went_brought, took_tells}
+use Rattle.tree_ckpt.proofs.Meaning.{went_done, took_done}
 use Rattle.tree_ckpt.proofs.Dues.{due_brought, cut_last_but_one}
-use Rattle.tree_ckpt.proofs.Exactly.{took_owes}
-use Rattle.tree_ckpt.proofs.Failing.{took_fails}
-use Rattle.tree_ckpt.proofs.Standing.{went_stands, stands_returns}
-use Rattle.tree_ckpt.proofs.Wellness.{took_well}
+use Rattle.tree_ckpt.proofs.Demands.{took_owes}
+use Rattle.tree_ckpt.proofs.Failing.{told_fails}
+use Rattle.tree_ckpt.proofs.Leases.{went_stands, stands_returns}
+use Rattle.tree_ckpt.proofs.Calm.{took_well}
 
 pub stepped_by : (who : Caller) (before after : Seen) (old new : Making) (turn : Turn CkptAnswer) (a : Answer) → Makes who (making_ask old) a before after
     → Took MakingLeads KeepsLeases old a new turn → (a ≡ call.Memory → turn ≡ Stopped trouble.Memory) → Stepped who before after old new turn
@@ -36,7 +36,7 @@ stepped_by who before after old new turn a made took memory = record {
       record {
         tells = tells;
         owes = λ t k. took_owes old new h a turn t stands knows made.fits took k;
-        fails = λ k. took_fails old new h a turn stands knows took k;
+        fails = λ k. told_fails old new h a turn tells k;
         brought = λ due is. due_brought old h a knows due is;
         cut_short = λ is. cut_last_but_one old h a knows is;
         done = done;

@@ -49,15 +49,7 @@ never_received (Release l) ms other fits = fits
 
 still_told : (ask : Ask) (a : Answer) (ids : List ℕ) → IsOther ask → Fits ask a → received_after ids a ≡ ids
 still_told ask (call.Received ms) ids other fits = absurd (never_received ask ms other fits)
-still_told ask (call.Got v) ids other fits = refl
-still_told ask (call.Sent id) ids other fits = refl
-still_told ask call.Done ids other fits = refl
-still_told ask (call.Given l) ids other fits = refl
-still_told ask (call.Held until) ids other fits = refl
-still_told ask (call.Renewed until) ids other fits = refl
-still_told ask (call.Late until now) ids other fits = refl
-still_told ask call.Failed ids other fits = refl
-still_told ask call.Memory ids other fits = refl
+still_told ask a ids other fits = refl
 
 other_at_work : (ask : Ask) → IsAtWork ask → IsOther ask
 other_at_work (Get name) h = tt

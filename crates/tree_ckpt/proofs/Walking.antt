@@ -133,15 +133,7 @@ stride_stops tree d (trouble.BadFence page expected found) same b =
     stride_kept d b.1.0 b.0 b.1.1
     ∙ (ap (go_on d) (fork_fence d b.1.0 b.1.2 b.1.4) ∙ ap (Stops d) (fence_same d.page page d.low expected b.1.0.low found b.2 b.3 b.1.3))
 stride_stops tree d (trouble.Loop page) same b = stride_inner d b.0 true b.1 ∙ ap (λ (p : ℕ). Stops d (trouble.Loop p)) (sym b.2)
-stride_stops tree d trouble.Failed same b = absurd b
-stride_stops tree d (trouble.Late end now) same b = absurd b
-stride_stops tree d (trouble.Busy lock until) same b = absurd b
-stride_stops tree d (trouble.Absent page) same b = absurd b
-stride_stops tree d (trouble.NotALeaf page) same b = absurd b
-stride_stops tree d (trouble.Exhausted what) same b = absurd b
-stride_stops tree d (trouble.Waiting have need) same b = absurd b
-stride_stops tree d (trouble.Stale page least got) same b = absurd b
-stride_stops tree d trouble.Memory same b = absurd b
+stride_stops tree d t same b = absurd b
 
 -- ---- all of them
 

@@ -160,16 +160,7 @@ module _ (tree : ℕ) (cs : Calls) (ask : Ask) (a : Answer) where
   breaks_at : (d : Descent) (n : Inner) (t : Trouble) → IsFresh d → WasKept d n → ForkBreaks d n t → BreaksAt tree d t
   breaks_at d n (trouble.Damaged where_it_is at) fresh kept b = (fresh, (n, kept, b.0), b.1, b.2)
   breaks_at d n (trouble.BadFence page expected found) fresh kept b = (fresh, (n, kept, b.0.0, b.0.1, b.0.2), b.1, b.2)
-  breaks_at d n trouble.Failed fresh kept b = absurd b
-  breaks_at d n (trouble.Late end now) fresh kept b = absurd b
-  breaks_at d n (trouble.Busy lock until) fresh kept b = absurd b
-  breaks_at d n (trouble.Absent page) fresh kept b = absurd b
-  breaks_at d n (trouble.NotALeaf page) fresh kept b = absurd b
-  breaks_at d n (trouble.Loop page) fresh kept b = absurd b
-  breaks_at d n (trouble.Exhausted what) fresh kept b = absurd b
-  breaks_at d n (trouble.Waiting have need) fresh kept b = absurd b
-  breaks_at d n (trouble.Stale page least got) fresh kept b = absurd b
-  breaks_at d n trouble.Memory fresh kept b = absurd b
+  breaks_at d n t fresh kept b = absurd b
 
   go_on_tells : (d : Descent) (n : Inner) (fork : Result Fork Trouble) (k : KeptNode) → kept_at d ≡ Some k → inner_of k.bytes ≡ Some n → IsFresh d → ForkTells d n fork
       → StridesOn d (go_on d fork)
@@ -270,16 +261,7 @@ module _ (tree : ℕ) (cs : Calls) (ask : Ask) (a : Answer) where
   breaks_node : (d : Descent) (bytes : List ℕ) (n : Inner) (t : Trouble) → a ≡ call.Got (Some bytes) → inner_of bytes ≡ Some n → ForkBreaks d n t → BreaksNode tree d a t
   breaks_node d bytes n (trouble.Damaged where_it_is at) e reads b = (b.1, inr (b.2, (n, (bytes, e, reads), b.0)))
   breaks_node d bytes n (trouble.BadFence page expected found) e reads b = (b.1, b.2, (n, (bytes, e, reads), b.0.0, b.0.1, b.0.2))
-  breaks_node d bytes n trouble.Failed e reads b = absurd b
-  breaks_node d bytes n (trouble.Late end now) e reads b = absurd b
-  breaks_node d bytes n (trouble.Busy lock until) e reads b = absurd b
-  breaks_node d bytes n (trouble.Absent page) e reads b = absurd b
-  breaks_node d bytes n (trouble.NotALeaf page) e reads b = absurd b
-  breaks_node d bytes n (trouble.Loop page) e reads b = absurd b
-  breaks_node d bytes n (trouble.Exhausted what) e reads b = absurd b
-  breaks_node d bytes n (trouble.Waiting have need) e reads b = absurd b
-  breaks_node d bytes n (trouble.Stale page least got) e reads b = absurd b
-  breaks_node d bytes n trouble.Memory e reads b = absurd b
+  breaks_node d bytes n t e reads b = absurd b
 
   got_node_tells : (d : Descent) (bytes : List ℕ) → KnowsWay tree d cs → WasGot (object.Page tree d.page) (Some bytes) cs
       → Brings (object.Page tree d.page) (Some bytes) (ask, a) → (o : Option Inner) → inner_of bytes ≡ o → GotTells d (got_node d bytes (forked_by d (inner_or d.chart.tree d.page (offset inner_format bytes) o)))

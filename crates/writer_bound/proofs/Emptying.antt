@@ -31,8 +31,8 @@ use Rattle.session_facts.proofs.Settled.TreeDrains.{SendsNothing}
 use Rattle.session_facts.proofs.Settled.TreeRuns.{work_sends}
 use Rattle.session_facts.specs.Settled.Runs.{waiting}
 use Rattle.session_facts.specs.Settled.Story.{Moment}
-use Rattle.tree_ckpt.proofs.Causing.{went_brought}
-use Rattle.tree_ckpt.proofs.Doing.{went_done, took_done}
+use Rattle.tree_ckpt.proofs.Causes.{went_brought}
+use Rattle.tree_ckpt.proofs.Meaning.{went_done, took_done}
 use Rattle.tree_ckpt.specs.Making.{Making, new_making, making_ask, MakingLeads}
 use Rattle.tree_ckpt.specs.Meaning.{IsDone as IsTreeDone, deletes_over, failed_count, one_less, Tried}
 use Rattle.tree_ckpt.specs.Standing.{Went}

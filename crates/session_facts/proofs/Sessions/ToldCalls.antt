@@ -26,8 +26,8 @@ use Rattle.session_facts.proofs.TreeCheckpoints.PiecesNamed.{works_is, done_name
 use Rattle.session_facts.specs.TreeCheckpoints.Checkpoint.{KnowsWork}
 use Rattle.session_facts.specs.TreeCheckpoints.Named.{AreTold, HasLanded, CameTold, NamesPieces}
 use Rattle.session_facts.specs.TreeCheckpoints.Nesting.{NestsOver, AreNested}
-use Rattle.tree_ckpt.proofs.Causing.{went_brought}
-use Rattle.tree_ckpt.proofs.Doing.{went_done, took_done}
+use Rattle.tree_ckpt.proofs.Causes.{went_brought}
+use Rattle.tree_ckpt.proofs.Meaning.{went_done, took_done}
 use Rattle.tree_ckpt.specs.Causing.{Calls}
 use Rattle.tree_ckpt.specs.Making.{Making, new_making, making_ask, MakingLeads, KeepsLeases}
 use Rattle.tree_ckpt.specs.Meaning.{IsDone, opening_calls}

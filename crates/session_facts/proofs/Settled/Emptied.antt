@@ -20,8 +20,8 @@ use Rattle.session_facts.proofs.Settled.Trails.{IsBetween, Trail, between_call}
 use Rattle.session_facts.proofs.Settled.TreeRuns.{delivers_of, work_sends}
 use Rattle.session_facts.specs.Settled.Runs.{AreDelivered, Drains, waiting}
 use Rattle.session_facts.specs.Settled.Story.{Moment}
-use Rattle.tree_ckpt.proofs.Causing.{went_brought}
-use Rattle.tree_ckpt.proofs.Doing.{went_done, took_done}
+use Rattle.tree_ckpt.proofs.Causes.{went_brought}
+use Rattle.tree_ckpt.proofs.Meaning.{went_done, took_done}
 use Rattle.tree_ckpt.specs.Causing.{Calls}
 use Rattle.tree_ckpt.specs.Making.{Making, making_ask, MakingLeads}
 use Rattle.tree_ckpt.specs.Meaning.{IsDone}

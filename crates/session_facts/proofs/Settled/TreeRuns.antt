@@ -32,8 +32,8 @@ use Rattle.session_facts.specs.TreeCheckpoints.Counting.{MadeFew}
 use Rattle.settle_run.specs.Parts.{recovers, makes, pages, PartLeads}
 use Rattle.settle_run.specs.declared.part.Part.{Part}
 use Rattle.settle_run.specs.declared.part.Part.TheVariants.{Client, Tree, Page}
-use Rattle.tree_ckpt.proofs.Causing.{went_brought}
-use Rattle.tree_ckpt.proofs.Doing.{DoneAt, went_done, took_done}
+use Rattle.tree_ckpt.proofs.Causes.{went_brought}
+use Rattle.tree_ckpt.proofs.Meaning.{DoneAt, went_done, took_done}
 use Rattle.tree_ckpt.specs.Causing.{Calls}
 use Rattle.tree_ckpt.specs.Making.{Making, new_making, making_ask, MakingLeads}
 use Rattle.tree_ckpt.specs.Meaning.{IsDone}

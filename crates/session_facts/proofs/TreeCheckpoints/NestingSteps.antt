@@ -49,7 +49,7 @@ use Rattle.session_facts.specs.Trees.Charts.{KnowsNode, KnowsNodes}
 use Rattle.session_facts.specs.Trees.Leaves.{IsGetting, IsReading, IsPutting, KnowsLeaf}
 use Rattle.split_plan.specs.declared.put_list.PagePut.{PagePut}
 use Rattle.split_plan.specs.Plan.{put_of, on_pages, leaf_bytes}
-use Rattle.tree_ckpt.proofs.Doing.{Amid, DoneAt}
+use Rattle.tree_ckpt.proofs.Meaning.{Amid, DoneAt}
 use Rattle.tree_ckpt.proofs.Lows.{ComesUpto}
 use Rattle.tree_ckpt.proofs.Sound.{leaf_no_node}
 use Rattle.tree_ckpt.proofs.Tours.{ToursAt, AtLeaf, Begins}

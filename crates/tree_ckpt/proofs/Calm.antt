@@ -25,7 +25,7 @@ use Rattle.tree_ckpt.specs.Meaning.{Tried, deletes_over, one_less, failed_count,
 use Rattle.tree_ckpt.specs.Well.{IsLeft, IsWell}
 use Rattle.tree_ckpt.specs.Stepped.{IsCaused, Tells}
 use Rattle.tree_ckpt.proofs.Brought.{link_more}
-use Rattle.tree_ckpt.proofs.Causing.{came_brought, took_tells}
+use Rattle.tree_ckpt.proofs.Causes.{came_brought, took_tells}
 
 -- ---- what is shown where the call went well
 
@@ -34,36 +34,20 @@ shown_left tree cs ask a trouble.Failed well s = subst GoesWell s well
 shown_left tree cs ask a (trouble.Late end now) well s = subst GoesWell s well
 shown_left tree cs ask a (trouble.Busy lock until) well s = subst GoesWell s.1 well
 shown_left tree cs ask a (trouble.Absent page) well s = (s.0, inl s.1, (s.2.0, (s.2.1, s.2.2)))
-shown_left tree cs ask a (trouble.NotALeaf page) well s = s
 shown_left tree cs ask a (trouble.Damaged where_it_is at) well s = tt
 shown_left tree cs ask a (trouble.BadFence page expected found) well s = tt
 shown_left tree cs ask a (trouble.Loop page) well s = tt
 shown_left tree cs ask a (trouble.Exhausted counter.Version) well s = tt
 shown_left tree cs ask a (trouble.Exhausted counter.Pages) well s = tt
-shown_left tree cs ask a (trouble.Exhausted counter.Epoch) well s = s
-shown_left tree cs ask a (trouble.Exhausted counter.Txn) well s = s
-shown_left tree cs ask a (trouble.Exhausted counter.Number) well s = s
-shown_left tree cs ask a (trouble.Waiting have need) well s = s
-shown_left tree cs ask a (trouble.Stale page least got) well s = s
+shown_left tree cs ask a (trouble.Exhausted what) well s = s
 shown_left tree cs ask a trouble.Memory well s = tt
+shown_left tree cs ask a t well s = s
 
 left_later : (tree : ℕ) (c : Ask × Answer) (cs : Calls) (t : Trouble) → IsLeft tree cs t → IsLeft tree (c ∷ cs) t
-left_later tree c cs trouble.Failed k = k
-left_later tree c cs (trouble.Late end now) k = k
-left_later tree c cs (trouble.Busy lock until) k = k
 left_later tree c cs (trouble.Absent page) k = (k.0, inr k.1, (k.2.0, (k.2.1.0, link_more tree k.2.0 k.2.1.0 page c cs k.2.1.1)))
-left_later tree c cs (trouble.NotALeaf page) k = k
-left_later tree c cs (trouble.Damaged where_it_is at) k = tt
-left_later tree c cs (trouble.BadFence page expected found) k = tt
-left_later tree c cs (trouble.Loop page) k = tt
 left_later tree c cs (trouble.Exhausted counter.Version) k = tt
-left_later tree c cs (trouble.Exhausted counter.Pages) k = tt
-left_later tree c cs (trouble.Exhausted counter.Epoch) k = k
-left_later tree c cs (trouble.Exhausted counter.Txn) k = k
-left_later tree c cs (trouble.Exhausted counter.Number) k = k
-left_later tree c cs (trouble.Waiting have need) k = k
-left_later tree c cs (trouble.Stale page least got) k = k
-left_later tree c cs trouble.Memory k = tt
+left_later tree c cs (trouble.Exhausted what) k = k
+left_later tree c cs t k = k
 
 told_left : (m : Making) (h : List Deed) (a : Answer) (t : Trouble) → GoesWell a → (kept_trouble m.work ≡ Some t → IsLeft m.tree (calls_of h) t)
     → IsCaused m h a t → IsLeft m.tree ((making_ask m, a) ∷ calls_of h) t
@@ -105,13 +89,7 @@ deletion_done : (queue : QueueName) (id : ℕ) (a : Answer) → HasGone (Delete 
 deletion_done queue id call.Done g = refl
 deletion_done queue id call.Failed g = absurd g.1
 deletion_done queue id call.Memory g = absurd (g.2 refl)
-deletion_done queue id (call.Got v) g = absurd g.0
-deletion_done queue id (call.Sent n) g = absurd g.0
-deletion_done queue id (call.Received ms) g = absurd g.0
-deletion_done queue id (call.Given l) g = absurd g.0
-deletion_done queue id (call.Held until) g = absurd g.0
-deletion_done queue id (call.Renewed until) g = absurd g.0
-deletion_done queue id (call.Late end now) g = absurd g.0
+deletion_done queue id a g = absurd g.0
 
 none_failed : (tree : ℕ) (tried : Tried) (rest : Calls) → HaveGone (deletes_over tree tried rest) → failed_count tried ≡ 0
 none_failed tree [] rest gone = refl
@@ -126,17 +104,7 @@ done_leaves_none release tree received h x gone done = done.left ∙ none_failed
 
 is_memory : (t : Trouble) → (t ≡ trouble.Memory) ⊎ (t ≢ trouble.Memory)
 is_memory trouble.Memory = inl refl
-is_memory trouble.Failed = inr (λ e. absurd (cc (e)))
-is_memory (trouble.Late end now) = inr (λ e. absurd (cc (e)))
-is_memory (trouble.Busy lock until) = inr (λ e. absurd (cc (e)))
-is_memory (trouble.Absent page) = inr (λ e. absurd (cc (e)))
-is_memory (trouble.NotALeaf page) = inr (λ e. absurd (cc (e)))
-is_memory (trouble.Damaged where_it_is at) = inr (λ e. absurd (cc (e)))
-is_memory (trouble.BadFence page expected found) = inr (λ e. absurd (cc (e)))
-is_memory (trouble.Loop page) = inr (λ e. absurd (cc (e)))
-is_memory (trouble.Exhausted what) = inr (λ e. absurd (cc (e)))
-is_memory (trouble.Waiting have need) = inr (λ e. absurd (cc (e)))
-is_memory (trouble.Stale page least got) = inr (λ e. absurd (cc (e)))
+is_memory t = inr (λ e. absurd (cc (e)))
 
 stop_well : (old new : Making) (h : List Deed) (a : Answer) (t : Trouble) → Went h old → AreCalm h → GoesWell a → Tells old h a new (Stopped t)
     → (t ≡ trouble.Memory) ⊎ (t ≢ trouble.Memory) → IsLeft old.tree ((making_ask old, a) ∷ calls_of h) t

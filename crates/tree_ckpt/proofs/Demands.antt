@@ -4,10 +4,11 @@ use Rattle.std.specs.Prelude.{◌==◌, ◌||◌, ◌&&◌, ◌+◌, not, is_som
 use Rattle.std.proofs.lemmas.Bool.{eq-eqb, ne_eqb}
 use Rattle.db_base.specs.declared.names.Lock.{Lock}
 use Rattle.db_base.specs.declared.names.Lock.TheVariants as lock
+use Rattle.db_base.specs.declared.names.ObjName.{ObjName}
 use Rattle.db_base.specs.declared.names.ObjName.TheVariants as object
 use Rattle.db_base.specs.declared.names.Place.TheVariants as place
+use Rattle.db_base.specs.declared.names.QueueName.{QueueName}
 use Rattle.db_base.specs.declared.names.QueueName.TheVariants as queue
-use Rattle.db_base.specs.declared.trouble.Trouble.{Trouble}
 use Rattle.db_base.specs.declared.trouble.Trouble.TheVariants as trouble
 use Rattle.db_base.specs.declared.trouble.Counter.TheVariants as counter
 use Rattle.byte_format.specs.Order.{below_bound, bytes_same, bytes_below}
@@ -17,50 +18,30 @@ use Rattle.leaf_view.specs.Lookup.{empty_leaf, page_at}
 use Rattle.leaf_edit.specs.Lacked.{lacked}
 use Rattle.node_codec.specs.Inner.{inner_of, inner_format}
 use Rattle.node_codec.specs.Tree.{Tree, tree_of, tree_format}
-use Rattle.log_codec.specs.declared.record.PuItem.{PuItem}
-use Rattle.cloud_trait.specs.declared.answer.Answer.{Answer}
 use Rattle.cloud_trait.specs.declared.answer.Answer.TheVariants as call
-use Rattle.cloud_trait.specs.declared.message.Message.{Message}
-use Rattle.cloud_trait.specs.declared.turn.CkptAnswer.{CkptAnswer}
-use Rattle.cloud_trait.specs.declared.turn.Turn.{Turn}
-use Rattle.cloud_trait.specs.declared.turn.Turn.TheVariants.{More, Ended, Stopped}
-use Rattle.cloud_trait.specs.Ask.{Take}
-use Rattle.cloud_trait.specs.Claim.{Claim}
-use Rattle.cloud_trait.specs.Machine.{Next, Goes, Ends, Stops, Took, Deed, calls_of}
-use Rattle.cloud_trait.specs.Views.{got_of, done_of}
-use Rattle.cloud_trait.specs.Weather.{Fits}
-use Rattle.split_plan.specs.declared.put_list.PagePut.{PagePut}
-use Rattle.ckpt_parts.specs.declared.intake.Intake.{Intake}
-use Rattle.ckpt_parts.specs.declared.leases.Leases.{Leases}
+use Rattle.cloud_trait.specs.Ask.{Ask, GetHeld, Receive, Take}
 use Rattle.ckpt_parts.specs.Deleting.{next_id}
 use Rattle.ckpt_parts.specs.Intakes.{has_items, message_damage, TakesItems}
 use Rattle.ckpt_parts.specs.Leasing.{newest_lease, without_newest}
 use Rattle.run_cursor.specs.Covered.{is_seen}
-use Rattle.tree_parts.specs.declared.chart.Chart.{Chart}
-use Rattle.tree_parts.specs.declared.kept.KeptNode.{KeptNode}
 use Rattle.tree_parts.specs.declared.link.Link.{Link}
 use Rattle.tree_parts.specs.Placing.{has_nothing}
 use Rattle.tree_parts.specs.Read.{damaged, leaf_or, tree_held}
 use Rattle.tree_parts.specs.Reserve.{version_spent, pages_spent, next_tree}
-use Rattle.tree_descent.specs.declared.descent.Descent.{Descent}
 use Rattle.tree_descent.specs.declared.fork.Fork.{Fork}
 use Rattle.tree_descent.specs.Descent.{fork_of, arrive, absent_node, with_node, got_node, descent_got}
-use Rattle.leaf_fold.specs.declared.folding.Folding.{Folding}
-use Rattle.leaf_fold.specs.declared.folding.Left.{Left}
 use Rattle.leaf_fold.specs.declared.folding.Left.TheVariants.{Right}
 use Rattle.leaf_fold.specs.declared.plan.LeafPlan.{LeafPlan}
 use Rattle.leaf_fold.specs.Plan.{leaf_plan}
 use Rattle.leaf_fold.specs.Folding.{folding_ask, turned, to_right, planned, handled_by, handle, leaf_got, leaf_put, leaf_at, leaf_side, leaf_found, bad_low}
-use Rattle.tree_rising.specs.declared.rising.Rising.{Rising}
 use Rattle.tree_rising.specs.Nodes.{node_plan}
 use Rattle.tree_rising.specs.Rising.{rising_ask, next_touched, touched_node, put_node, put_root, plan_of, last_plan, rise_at, rise, landed, after_put}
+use Rattle.tree_rising.specs.Rising as rising
 use Rattle.tree_rising.specs.Root.{risen_by}
-use Rattle.tree_moves.specs.declared.work.Held.{Held}
 use Rattle.tree_moves.specs.declared.work.Onward.TheVariants as onward
-use Rattle.tree_moves.specs.declared.work.Work.{Work}
 use Rattle.tree_moves.specs.declared.work.Work.TheVariants as work
 use Rattle.tree_moves.specs.Work.{work_ask, delete_ask, release_ask}
-use Rattle.tree_moves.specs.Moves.{Step, released_by, rising_on, descending_on, going_by, folding_on, tree_damage, tree_read, tree_got, intake_taken, Leads}
+use Rattle.tree_moves.specs.Moves.{Step, released_by, rising_on, descending_on, going_by, page_taken, folding_on, tree_taken, tree_damage, tree_read, tree_got, intake_taken, ReceivedBy, Leads}
 use Rattle.tree_ckpt.specs.Making.{Making, making_ask, MakingLeads, KeepsLeases}
 use Rattle.tree_ckpt.specs.Standing.{HasIds, HoldsOne, HoldsAt, Stands}
 use Rattle.tree_ckpt.specs.Causing.{Calls, GoesRight, ticks_of, kept_trouble}
@@ -68,7 +49,8 @@ use Rattle.tree_ckpt.specs.Way.{behind, BreaksFrom, from_root, BreaksWay}
 use Rattle.tree_ckpt.specs.Due.{Due, LeafDue, NodeDue, RootDue, IsSpent, HasNoPages, GetsLeaf, IsUp, IsDue, IsCutShort, Spends}
 use Rattle.tree_ckpt.specs.Demands.{Matters, Refuses, BreaksRoot, BreaksRecord, BreaksNode, BreaksLeaf, Demands}
 use Rattle.tree_ckpt.specs.Stepped.{Owes}
-use Rattle.tree_ckpt.proofs.Causing.{KnowsAt}
+use Rattle.tree_ckpt.proofs.Words.{Trouble, PuItem, Answer, Message, CkptAnswer, Turn, More, Ended, Stopped, Claim, Next, Goes, Ends, Stops, Took, Deed, calls_of, given_of, got_of, done_of, received_of, Fits, PagePut, Intake, Leases, Chart, KeptNode, Descent, Folding, Left, Rising, Held, Work}
+use Rattle.tree_ckpt.proofs.Causes.{KnowsAt}
 use Rattle.tree_ckpt.proofs.Spending.{leaf_plan_spent, leaf_plan_full, node_plan_spent, node_plan_full, last_plan_spent, last_plan_full}
 use Rattle.tree_ckpt.proofs.Walking.{page_same, damage_same, fence_same, fork_none, fork_some, fork_level, fork_fence, fork_promised, behind_keeps, root_upto, way_stops}
 
@@ -94,30 +76,6 @@ owes_same t u next e h = subst (NextOwes next) e h
 
 -- ---- calls that were refused
 
-no_delete_matters : (tree : ℕ) (ids : List ℕ) → HasIds ids → Matters (delete_ask tree (next_id ids)) → ⊥
-no_delete_matters tree [] has m = absurd has
-no_delete_matters tree (id ∷ ids) has m = m
-
-no_release_matters : (tree : ℕ) (lease : Option Claim) → HoldsOne lease → Matters (release_ask tree lease) → ⊥
-no_release_matters tree (Some l) has m = m
-no_release_matters tree None has m = absurd has
-
-no_delete_late : (tree : ℕ) (ids : List ℕ) (e n : ℕ) → Fits (delete_ask tree (next_id ids)) (call.Late e n) → ⊥
-no_delete_late tree [] e n fits = fits
-no_delete_late tree (id ∷ ids) e n fits = fits
-
-no_release_late : (tree : ℕ) (lease : Option Claim) (e n : ℕ) → Fits (release_ask tree lease) (call.Late e n) → ⊥
-no_release_late tree (Some l) e n fits = fits
-no_release_late tree None e n fits = fits
-
-no_delete_takes : (tree : ℕ) (ids : List ℕ) (lk : Lock) → HasIds ids → delete_ask tree (next_id ids) ≡ Take lk (ticks_of lk) → ⊥
-no_delete_takes tree [] lk has e = absurd has
-no_delete_takes tree (id ∷ ids) lk has e = absurd (cc (e))
-
-no_release_takes : (tree : ℕ) (lease : Option Claim) (lk : Lock) → HoldsOne lease → release_ask tree lease ≡ Take lk (ticks_of lk) → ⊥
-no_release_takes tree (Some l) lk has e = absurd (cc (e))
-no_release_takes tree None lk has e = absurd has
-
 -- a leaf's call takes no lock
 no_folding_takes : (f : Folding) (l : Claim) (lk : Lock) → folding_ask f l ≡ Take lk (ticks_of lk) → ⊥
 no_folding_takes f l lk e = on f.placing.reserved f.placing.puts e where
@@ -140,85 +98,70 @@ busy_same mine lk ticks until e = ap (λ (x : Lock). trouble.Busy x until) (take
   taken : Take mine ticks ≡ Take lk (ticks_of lk) → mine ≡ lk
   taken same = cc (same)
 
+-- what a call sees of an answer that refused it
+refused_view : {A : Type 0} (view : Answer → Result A Trouble) (ask : Ask) (a : Answer) (t : Trouble) → view call.Failed ≡ Err trouble.Failed
+    → ((end now : ℕ) → view (call.Late end now) ≡ Err (trouble.Late end now))
+    → ((lk : Lock) (until : ℕ) → ask ≡ Take lk (ticks_of lk) → view (call.Held until) ≡ Err (trouble.Busy lk until)) → Refuses ask a t → view a ≡ Err t
+refused_view view ask a trouble.Failed failed late busy k = ap view k.0 ∙ failed
+refused_view view ask a (trouble.Late end now) failed late busy k = ap view k ∙ late end now
+refused_view view ask a (trouble.Busy lk until) failed late busy k = ap view k.1 ∙ busy lk until k.0
+refused_view view ask a t failed late busy k = absurd k
+
+take_refused : (mine : Lock) (ticks : ℕ) (a : Answer) (t : Trouble) → Refuses (Take mine ticks) a t → given_of mine a ≡ Err t
+take_refused mine ticks a t k =
+    refused_view (given_of mine) (Take mine ticks) a t refl (λ end now. refl) (λ lk until asks. ap Err (busy_same mine lk ticks until asks)) k
+
+get_refused : (name : ObjName) (l : Claim) (a : Answer) (t : Trouble) → Refuses (GetHeld name l) a t → got_of a ≡ Err t
+get_refused name l a t k = refused_view got_of (GetHeld name l) a t refl (λ end now. refl) (λ lk until asks. absurd (cc (asks))) k
+
+receive_refused : (queue : QueueName) (a : Answer) (t : Trouble) → Refuses (Receive queue 256) a t → received_of a ≡ Err t
+receive_refused queue a t k = refused_view received_of (Receive queue 256) a t refl (λ end now. refl) (λ lk until asks. absurd (cc (asks))) k
+
 -- the leaf's work stops for such an answer, whatever its call is
-folding_stops : (h : Held) (f : Folding) (t : Trouble) (b : Bool) → NextOwes (folding_on h (cond b (Stops f t) (Stops f t))) t
-folding_stops h f t true = refl
-folding_stops h f t false = refl
+folding_refused : (h : Held) (f : Folding) (a : Answer) (t : Trouble) (b : Bool) → Refuses (folding_ask f h.lease) a t
+    → NextOwes (folding_on h (cond b (leaf_got f (got_of a)) (leaf_put f (done_of a)))) t
+folding_refused h f a t true k =
+    let e : got_of a ≡ Err t = refused_view got_of (folding_ask f h.lease) a t refl (λ end now. refl) (λ lk until asks. absurd (no_folding_takes f h.lease lk asks)) k in
+    subst (λ (g : Result (Option (List ℕ)) Trouble). NextOwes (folding_on h (leaf_got f g)) t) (sym e) refl
+folding_refused h f a t false k =
+    let e : done_of a ≡ Err t = refused_view done_of (folding_ask f h.lease) a t refl (λ end now. refl) (λ lk until asks. absurd (no_folding_takes f h.lease lk asks)) k in
+    subst (λ (d : Result (Unit {0}) Trouble). NextOwes (folding_on h (leaf_put f d)) t) (sym e) refl
 
-FailedBy : ℕ → Work → Step → Type 0
-FailedBy tree w next = HoldsAt tree w → Matters (work_ask tree w) → Leads tree w call.Failed next → NextOwes next trouble.Failed
+rising_refused : (h : Held) (r : Rising) (a : Answer) (t : Trouble) → Refuses (rising_ask r h.lease) a t → done_of a ≡ Err t
+rising_refused h r a t k = refused_view done_of (rising_ask r h.lease) a t refl (λ end now. refl) (λ lk until asks. absurd (no_rising_takes r h.lease lk asks)) k
 
-failed_by : (tree : ℕ) (w : Work) (next : Step) → FailedBy tree w next
-unfolding FailedBy
-failed_by tree work.TakingTree next own m e = owes_by trouble.Failed next _ e refl
-failed_by tree (work.GettingTree l) next own m e = owes_by trouble.Failed next _ e refl
-failed_by tree (work.Receiving l root) next own m e = owes_by trouble.Failed next _ e refl
-failed_by tree (work.Descending h d) next own m e = owes_by trouble.Failed next _ e refl
-failed_by tree (work.TakingPage h c) next own m e = owes_by trouble.Failed next _ e refl
-failed_by tree (work.Folding h f) next own m e = owes_by trouble.Failed next _ e (folding_stops h f trouble.Failed (has_nothing f.placing))
-failed_by tree (work.ReleasingPage h l o) next own m e = absurd m
-failed_by tree (work.LeftPage h o) next own m e = absurd own
-failed_by tree (work.Rising h r) next own m e = owes_by trouble.Failed next _ e refl
-failed_by tree (work.Deleting h applied) next own m e = absurd (no_delete_matters tree h.deletions.ids own.1 m)
-failed_by tree (work.Releasing held end) next own m e = absurd (no_release_matters tree (newest_lease held) own m)
-failed_by tree work.Finished next own m e = absurd own
+-- no deletion and no release is refused
+delete_goes : (tree : ℕ) (ids : List ℕ) (a : Answer) (t : Trouble) → HasIds ids → Fits (delete_ask tree (next_id ids)) a → Refuses (delete_ask tree (next_id ids)) a t → ⊥
+delete_goes tree [] a t has fits k = absurd has
+delete_goes tree (id ∷ ids) a trouble.Failed has fits k = k.1
+delete_goes tree (id ∷ ids) a (trouble.Late end now) has fits k = subst (Fits (delete_ask tree (Some id))) k fits
+delete_goes tree (id ∷ ids) a (trouble.Busy lk until) has fits k = absurd (cc (k.0))
+delete_goes tree (id ∷ ids) a t has fits k = k
 
-LateBy : ℕ → Work → ℕ → ℕ → Step → Type 0
-LateBy tree w end now next =
-    HoldsAt tree w → Fits (work_ask tree w) (call.Late end now) → Leads tree w (call.Late end now) next → NextOwes next (trouble.Late end now)
-
-late_by : (tree : ℕ) (w : Work) (end now : ℕ) (next : Step) → LateBy tree w end now next
-unfolding LateBy
-late_by tree work.TakingTree end now next own fits e = absurd fits
-late_by tree (work.GettingTree l) end now next own fits e = owes_by (trouble.Late end now) next _ e refl
-late_by tree (work.Receiving l root) end now next own fits e = absurd fits
-late_by tree (work.Descending h d) end now next own fits e = owes_by (trouble.Late end now) next _ e refl
-late_by tree (work.TakingPage h c) end now next own fits e = absurd fits
-late_by tree (work.Folding h f) end now next own fits e =
-    owes_by (trouble.Late end now) next _ e (folding_stops h f (trouble.Late end now) (has_nothing f.placing))
-late_by tree (work.ReleasingPage h l o) end now next own fits e = absurd fits
-late_by tree (work.LeftPage h o) end now next own fits e = absurd own
-late_by tree (work.Rising h r) end now next own fits e = owes_by (trouble.Late end now) next _ e refl
-late_by tree (work.Deleting h applied) end now next own fits e = absurd (no_delete_late tree h.deletions.ids end now fits)
-late_by tree (work.Releasing held x) end now next own fits e = absurd (no_release_late tree (newest_lease held) end now fits)
-late_by tree work.Finished end now next own fits e = absurd own
-
-BusyBy : ℕ → Work → Lock → ℕ → Step → Type 0
-BusyBy tree w lk until next =
-    HoldsAt tree w → work_ask tree w ≡ Take lk (ticks_of lk) → Leads tree w (call.Held until) next → NextOwes next (trouble.Busy lk until)
-
-busy_by : (tree : ℕ) (w : Work) (lk : Lock) (until : ℕ) (next : Step) → BusyBy tree w lk until next
-unfolding BusyBy
-busy_by tree work.TakingTree lk until next own asks e = owes_by (trouble.Busy lk until) next _ e (busy_same (lock.Tree tree) lk 60 until asks)
-busy_by tree (work.GettingTree l) lk until next own asks e = absurd (cc (asks))
-busy_by tree (work.Receiving l root) lk until next own asks e = absurd (cc (asks))
-busy_by tree (work.Descending h d) lk until next own asks e = absurd (cc (asks))
-busy_by tree (work.TakingPage h c) lk until next own asks e =
-    owes_by (trouble.Busy lk until) next _ e (ap Some (busy_same (lock.Page c.chart.tree c.page) lk 30 until asks))
-busy_by tree (work.Folding h f) lk until next own asks e = absurd (no_folding_takes f h.lease lk asks)
-busy_by tree (work.ReleasingPage h l o) lk until next own asks e = absurd (cc (asks))
-busy_by tree (work.LeftPage h o) lk until next own asks e = absurd own
-busy_by tree (work.Rising h r) lk until next own asks e = absurd (no_rising_takes r h.lease lk asks)
-busy_by tree (work.Deleting h applied) lk until next own asks e = absurd (no_delete_takes tree h.deletions.ids lk own.1 asks)
-busy_by tree (work.Releasing held x) lk until next own asks e = absurd (no_release_takes tree (newest_lease held) lk own asks)
-busy_by tree work.Finished lk until next own asks e = absurd own
+release_goes : (tree : ℕ) (lease : Option Claim) (a : Answer) (t : Trouble) → HoldsOne lease → Fits (release_ask tree lease) a → Refuses (release_ask tree lease) a t → ⊥
+release_goes tree None a t has fits k = absurd has
+release_goes tree (Some l) a trouble.Failed has fits k = k.1
+release_goes tree (Some l) a (trouble.Late end now) has fits k = subst (Fits (release_ask tree (Some l))) k fits
+release_goes tree (Some l) a (trouble.Busy lk until) has fits k = absurd (cc (k.0))
+release_goes tree (Some l) a t has fits k = k
 
 refused_owes : (tree : ℕ) (w : Work) (a : Answer) (next : Step) (t : Trouble) → HoldsAt tree w → Fits (work_ask tree w) a → Leads tree w a next
     → Refuses (work_ask tree w) a t → NextOwes next t
-unfolding FailedBy LateBy BusyBy
-refused_owes tree w a next trouble.Failed own fits leads k = failed_by tree w next own k.1 (subst (λ (x : Answer). Leads tree w x next) k.0 leads)
-refused_owes tree w a next (trouble.Late end now) own fits leads k =
-    late_by tree w end now next own (subst (Fits (work_ask tree w)) k fits) (subst (λ (x : Answer). Leads tree w x next) k leads)
-refused_owes tree w a next (trouble.Busy lk until) own fits leads k = busy_by tree w lk until next own k.0 (subst (λ (x : Answer). Leads tree w x next) k.1 leads)
-refused_owes tree w a next (trouble.Absent page) own fits leads k = absurd k
-refused_owes tree w a next (trouble.NotALeaf page) own fits leads k = absurd k
-refused_owes tree w a next (trouble.Damaged where_it_is at) own fits leads k = absurd k
-refused_owes tree w a next (trouble.BadFence page expected found) own fits leads k = absurd k
-refused_owes tree w a next (trouble.Loop page) own fits leads k = absurd k
-refused_owes tree w a next (trouble.Exhausted what) own fits leads k = absurd k
-refused_owes tree w a next (trouble.Waiting have need) own fits leads k = absurd k
-refused_owes tree w a next (trouble.Stale page least got) own fits leads k = absurd k
-refused_owes tree w a next trouble.Memory own fits leads k = absurd k
+refused_owes tree work.TakingTree a next t own fits e k = owes_by t next _ (e ∙ ap tree_taken (take_refused (lock.Tree tree) 60 a t k)) refl
+refused_owes tree (work.GettingTree l) a next t own fits e k = owes_by t next _ (e ∙ ap (tree_got tree l) (get_refused (object.Tree tree) l a t k)) refl
+refused_owes tree (work.Receiving l root) a next t own fits h k =
+    owes_by t next _ (subst (λ (g : Result (List Message) Trouble). ReceivedBy tree l root g next) (receive_refused (queue.TreePu tree) a t k) h) refl
+refused_owes tree (work.Descending h d) a next t own fits e k =
+    owes_by t next _ (e ∙ ap (λ (g : Result (Option (List ℕ)) Trouble). descending_on h (descent_got d g)) (get_refused (object.Page d.chart.tree d.page) h.lease a t k)) refl
+refused_owes tree (work.TakingPage h c) a next t own fits e k =
+    owes_by t next _ (e ∙ ap (page_taken h c) (take_refused (lock.Page c.chart.tree c.page) 30 a t k)) refl
+refused_owes tree (work.Folding h f) a next t own fits e k = owes_by t next _ e (folding_refused h f a t (has_nothing f.placing) k)
+refused_owes tree (work.ReleasingPage h l o) a next t own fits e k = absurd (release_goes tree (Some l) a t tt fits k)
+refused_owes tree (work.Rising h r) a next t own fits e k =
+    owes_by t next _ (e ∙ ap (λ (d : Result (Unit {0}) Trouble). rising_on h (rising.risen_by r d)) (rising_refused h r a t k)) refl
+refused_owes tree (work.Deleting h applied) a next t own fits e k = absurd (delete_goes tree h.deletions.ids a t own.1 fits k)
+refused_owes tree (work.Releasing held end) a next t own fits e k = absurd (release_goes tree (newest_lease held) a t own fits k)
+refused_owes tree w a next t own fits e k = absurd own
 
 -- ---- the tree object
 
@@ -232,17 +175,7 @@ root_owes tree w a next (trouble.Damaged where_it_is at) leads (here, (l, is, (b
     owes_same (tree_damage tree bytes) (trouble.Damaged where_it_is at) next
     (damage_same (place.Object (object.Tree tree)) where_it_is at (offset tree_format bytes) here there)
     (owes_by (tree_damage tree bytes) next _ two (root_stops tree l bytes none))
-root_owes tree w a next trouble.Failed leads k = absurd k
-root_owes tree w a next (trouble.Late end now) leads k = absurd k
-root_owes tree w a next (trouble.Busy lk until) leads k = absurd k
-root_owes tree w a next (trouble.Absent page) leads k = absurd k
-root_owes tree w a next (trouble.NotALeaf page) leads k = absurd k
-root_owes tree w a next (trouble.BadFence page expected found) leads k = absurd k
-root_owes tree w a next (trouble.Loop page) leads k = absurd k
-root_owes tree w a next (trouble.Exhausted what) leads k = absurd k
-root_owes tree w a next (trouble.Waiting have need) leads k = absurd k
-root_owes tree w a next (trouble.Stale page least got) leads k = absurd k
-root_owes tree w a next trouble.Memory leads k = absurd k
+root_owes tree w a next t leads k = absurd k
 
 -- ---- messages
 
@@ -258,17 +191,7 @@ record_owes tree w a next (trouble.Damaged where_it_is at) leads ((l, (root, is)
     owes_same (message_damage (queue.TreePu tree) bad) (trouble.Damaged where_it_is at) next
     (damage_same (place.Message (queue.TreePu tree) bad.id) where_it_is at _ here there)
     (intake_owes tree l root (tree_held root).cursor bad two.0 next (subst (λ (x : Result (List PuItem) Message). TakesItems (queue.TreePu tree) (tree_held root).cursor x two.0) read two.1) two.2)
-record_owes tree w a next trouble.Failed leads k = absurd k
-record_owes tree w a next (trouble.Late end now) leads k = absurd k
-record_owes tree w a next (trouble.Busy lk until) leads k = absurd k
-record_owes tree w a next (trouble.Absent page) leads k = absurd k
-record_owes tree w a next (trouble.NotALeaf page) leads k = absurd k
-record_owes tree w a next (trouble.BadFence page expected found) leads k = absurd k
-record_owes tree w a next (trouble.Loop page) leads k = absurd k
-record_owes tree w a next (trouble.Exhausted what) leads k = absurd k
-record_owes tree w a next (trouble.Waiting have need) leads k = absurd k
-record_owes tree w a next (trouble.Stale page least got) leads k = absurd k
-record_owes tree w a next trouble.Memory leads k = absurd k
+record_owes tree w a next t leads k = absurd k
 
 -- ---- inner nodes
 
@@ -307,15 +230,7 @@ node_owes tree h d a (trouble.BadFence page expected found) same (here, low, (n,
     node_by h d a (call.Got (Some bytes)) (trouble.BadFence page expected found) e
     (node_stops h d bytes (trouble.BadFence page expected found)
     (fork_some d bytes n some ∙ (fork_fence d n level fence ∙ ap Err (fence_same d.page page d.low expected n.low found here low is))))
-node_owes tree h d a trouble.Failed same k = absurd k
-node_owes tree h d a (trouble.Late end now) same k = absurd k
-node_owes tree h d a (trouble.Busy lk until) same k = absurd k
-node_owes tree h d a (trouble.NotALeaf page) same k = absurd k
-node_owes tree h d a (trouble.Loop page) same k = absurd k
-node_owes tree h d a (trouble.Exhausted what) same k = absurd k
-node_owes tree h d a (trouble.Waiting have need) same k = absurd k
-node_owes tree h d a (trouble.Stale page least got) same k = absurd k
-node_owes tree h d a trouble.Memory same k = absurd k
+node_owes tree h d a t same k = absurd k
 
 -- ---- leaves
 
@@ -390,16 +305,9 @@ leaf_owes tree h f a (trouble.Damaged where_it_is at) same (here, (bytes, (left,
 leaf_owes tree h f a (trouble.BadFence page expected found) same (here, low, (l, gets, is, fence)) =
     got_leaf_owes h f a l (trouble.BadFence page expected found) gets
     (leaf_fence h f l (trouble.BadFence page expected found) fence (fence_same f.page page f.low expected l.low found here low is))
-leaf_owes tree h f a trouble.Failed same k = absurd k
-leaf_owes tree h f a (trouble.Late end now) same k = absurd k
-leaf_owes tree h f a (trouble.Busy lk until) same k = absurd k
-leaf_owes tree h f a (trouble.NotALeaf page) same k = absurd k
 leaf_owes tree h f a (trouble.Loop page) same (l, high, gets, promised, right, beyond, seen) =
     got_leaf_owes h f a l (trouble.Loop page) gets (leaf_loops h f l high page promised right beyond seen)
-leaf_owes tree h f a (trouble.Exhausted what) same k = absurd k
-leaf_owes tree h f a (trouble.Waiting have need) same k = absurd k
-leaf_owes tree h f a (trouble.Stale page least got) same k = absurd k
-leaf_owes tree h f a trouble.Memory same k = absurd k
+leaf_owes tree h f a t same k = absurd k
 
 -- ---- the way over nodes that were got before
 
@@ -527,20 +435,8 @@ spent_owes : (tree : ℕ) (w : Work) (a : Answer) (next : Step) (t : Trouble) �
 spent_owes tree w a next (trouble.Exhausted counter.Version) leads (inl (due, is, s)) = due_owes tree w a next version_spent leads due is (spent_stops due s)
 spent_owes tree w a next (trouble.Exhausted counter.Version) leads (inr is) = short_owes tree w a next leads is
 spent_owes tree w a next (trouble.Exhausted counter.Pages) leads (due, is, s) = due_owes tree w a next pages_spent leads due is (full_stops due s)
-spent_owes tree w a next (trouble.Exhausted counter.Epoch) leads k = absurd k
-spent_owes tree w a next (trouble.Exhausted counter.Txn) leads k = absurd k
-spent_owes tree w a next (trouble.Exhausted counter.Number) leads k = absurd k
-spent_owes tree w a next trouble.Failed leads k = absurd k
-spent_owes tree w a next (trouble.Late end now) leads k = absurd k
-spent_owes tree w a next (trouble.Busy lk until) leads k = absurd k
-spent_owes tree w a next (trouble.Absent page) leads k = absurd k
-spent_owes tree w a next (trouble.NotALeaf page) leads k = absurd k
-spent_owes tree w a next (trouble.Damaged where_it_is at) leads k = absurd k
-spent_owes tree w a next (trouble.BadFence page expected found) leads k = absurd k
-spent_owes tree w a next (trouble.Loop page) leads k = absurd k
-spent_owes tree w a next (trouble.Waiting have need) leads k = absurd k
-spent_owes tree w a next (trouble.Stale page least got) leads k = absurd k
-spent_owes tree w a next trouble.Memory leads k = absurd k
+spent_owes tree w a next (trouble.Exhausted what) leads k = absurd k
+spent_owes tree w a next t leads k = absurd k
 
 -- ---- all
 
@@ -585,17 +481,7 @@ kept_owes tree (work.Releasing held end) a next t leads kept =
       kept_on : (x : Result CkptAnswer Trouble) → kept_trouble (work.Releasing held x) ≡ Some t → kept_trouble (work.Releasing (without_newest held) x) ≡ Some t
       kept_on (Ok x) e = absurd (cc (e))
       kept_on (Err u) e = e
-kept_owes tree work.TakingTree a next t leads kept = absurd (cc (kept))
-kept_owes tree (work.GettingTree l) a next t leads kept = absurd (cc (kept))
-kept_owes tree (work.Receiving l root) a next t leads kept = absurd (cc (kept))
-kept_owes tree (work.Descending h d) a next t leads kept = absurd (cc (kept))
-kept_owes tree (work.TakingPage h c) a next t leads kept = absurd (cc (kept))
-kept_owes tree (work.Folding h f) a next t leads kept = absurd (cc (kept))
-kept_owes tree (work.ReleasingPage h l o) a next t leads kept = absurd (cc (kept))
-kept_owes tree (work.LeftPage h o) a next t leads kept = absurd (cc (kept))
-kept_owes tree (work.Rising h r) a next t leads kept = absurd (cc (kept))
-kept_owes tree (work.Deleting h applied) a next t leads kept = absurd (cc (kept))
-kept_owes tree work.Finished a next t leads kept = absurd (cc (kept))
+kept_owes tree w a next t leads kept = absurd (cc (kept))
 
 step_owes : (m : Making) (h : List Deed) (a : Answer) (next : Step) (t : Trouble) → Stands m h → KnowsAt m.tree m.work (calls_of h) → Fits (making_ask m) a
     → Leads m.tree m.work a next → (kept_trouble m.work ≡ Some t) ⊎ Demands m.tree m.work a t → NextOwes next t

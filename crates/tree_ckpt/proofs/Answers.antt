@@ -1,11 +1,7 @@
 -- The answer that brought a value.
 use Rattle.std.proofs.Common.{◌≡◌, ℕ, List, Option, Ok}
-use Rattle.db_base.specs.declared.names.Lock.{Lock}
-use Rattle.cloud_trait.specs.declared.answer.Answer.{Answer}
 use Rattle.cloud_trait.specs.declared.answer.Answer.TheVariants as call
-use Rattle.cloud_trait.specs.declared.message.Message.{Message}
-use Rattle.cloud_trait.specs.Claim.{Claim}
-use Rattle.cloud_trait.specs.Views.{given_of, got_of, done_of, received_of}
+use Rattle.tree_ckpt.proofs.Words.{Lock, Answer, Message, Claim, given_of, got_of, received_of, done_of}
 
 pub got_is : (a : Answer) (v : Option (List ℕ)) → got_of a ≡ Ok v → a ≡ call.Got v
 got_is (call.Got w) v e = cc (e)

@@ -8,19 +8,14 @@ use Rattle.db_base.specs.declared.names.ObjName.TheVariants as object
 use Rattle.leaf_view.specs.Leaf.{Leaf}
 use Rattle.node_codec.specs.Inner.{Inner}
 use Rattle.node_codec.specs.Tree.{Tree}
-use Rattle.cloud_trait.specs.declared.answer.Answer.{Answer}
-use Rattle.cloud_trait.specs.Ask.{Ask}
 use Rattle.run_cursor.specs.Covered.{is_seen}
-use Rattle.tree_parts.specs.declared.chart.Chart.{Chart}
-use Rattle.tree_parts.specs.declared.kept.KeptNode.{KeptNode}
 use Rattle.tree_parts.specs.Kept.{place_of, with_kept}
 use Rattle.tree_parts.specs.Read.{damaged, tree_held}
-use Rattle.tree_descent.specs.declared.descent.Descent.{Descent}
-use Rattle.tree_descent.specs.declared.fork.Fork.{Fork}
 use Rattle.tree_descent.specs.Descent.{forked}
 use Rattle.tree_descent.specs.Fork.{bad_fence, forked_on}
 use Rattle.tree_ckpt.specs.Working.{HasLevel}
 use Rattle.tree_ckpt.specs.Causing.{Calls, WasGot, WasRoot, WasNode, WasLeaf, WasRead, IsLink}
+use Rattle.tree_ckpt.proofs.Words.{Answer, Ask, Chart, KeptNode, Descent, Fork}
 
 -- ---- what is known
 

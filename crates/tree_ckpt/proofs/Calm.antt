@@ -1,19 +1,10 @@
 -- A tree checkpoint whose calls go well.
 use Rattle.std.proofs.Common.{◌≡◌, ◌≢◌, ◌⊎◌, ℕ, List, [], ◌∷◌, Some, None, refl, sym, subst, inl, inr, ◌∙◌}
-use Rattle.db_base.specs.declared.names.QueueName.{QueueName}
 use Rattle.db_base.specs.declared.names.QueueName.TheVariants as queue
-use Rattle.db_base.specs.declared.trouble.Trouble.{Trouble}
 use Rattle.db_base.specs.declared.trouble.Trouble.TheVariants as trouble
 use Rattle.db_base.specs.declared.trouble.Counter.TheVariants as counter
-use Rattle.cloud_trait.specs.declared.answer.Answer.{Answer}
 use Rattle.cloud_trait.specs.declared.answer.Answer.TheVariants as call
-use Rattle.cloud_trait.specs.declared.turn.CkptAnswer.{CkptAnswer}
-use Rattle.cloud_trait.specs.declared.turn.Turn.{Turn}
-use Rattle.cloud_trait.specs.declared.turn.Turn.TheVariants.{More, Ended, Stopped}
-use Rattle.cloud_trait.specs.Ask.{Ask, Delete}
-use Rattle.cloud_trait.specs.Machine.{Deed, Came, calls_of}
-use Rattle.cloud_trait.specs.Views.{done_of}
-use Rattle.cloud_trait.specs.Weather.{Fits}
+use Rattle.cloud_trait.specs.Ask.{Delete}
 use Rattle.calm_calls.specs.Calm.{GoesWell, AreCalm}
 use Rattle.calm_calls.specs.Plenty.{HadMemory}
 use Rattle.calm_calls.proofs.CalmLemmas.{goes_well}
@@ -24,6 +15,7 @@ use Rattle.tree_ckpt.specs.Causing.{Calls, Shows, kept_trouble}
 use Rattle.tree_ckpt.specs.Meaning.{Tried, deletes_over, one_less, failed_count, IsDone, MeansDone}
 use Rattle.tree_ckpt.specs.Well.{IsLeft, IsWell}
 use Rattle.tree_ckpt.specs.Stepped.{IsCaused, Tells}
+use Rattle.tree_ckpt.proofs.Words.{Trouble, QueueName, Answer, CkptAnswer, Turn, More, Ended, Stopped, Deed, Came, calls_of, done_of, Fits, Ask}
 use Rattle.tree_ckpt.proofs.Brought.{link_more}
 use Rattle.tree_ckpt.proofs.Causes.{came_brought, took_tells}
 

@@ -2,9 +2,7 @@
 use Rattle.std.proofs.Common.{◌≡◌, ◌≢◌, ℕ, Bool, true, false, cond, List, [], ◌∷◌, length, Option, Some, None, Result, Ok, Err, refl, sym, ap, subst, ◌∙◌, inl, inr, ◌⊎◌, arith}
 use Rattle.std.specs.Prelude.{◌==◌, find}
 use Rattle.db_base.specs.Change.{key_of}
-use Rattle.db_base.specs.declared.names.Lock.{Lock}
 use Rattle.db_base.specs.declared.names.Lock.TheVariants as lock
-use Rattle.db_base.specs.declared.names.ObjName.{ObjName}
 use Rattle.db_base.specs.declared.names.ObjName.TheVariants as object
 use Rattle.db_base.specs.declared.names.Place.TheVariants as place
 use Rattle.db_base.specs.declared.names.QueueName.TheVariants as queue
@@ -15,7 +13,7 @@ use Rattle.node_codec.specs.Tree.{Tree}
 use Rattle.node_codec.proofs.NodeLemmas.{not_below_empty}
 use Rattle.log_codec.specs.Pu.{pu_offset}
 use Rattle.cloud_trait.specs.declared.answer.Answer.TheVariants as call
-use Rattle.cloud_trait.specs.Ask.{Ask, Take, GetHeld, PutHeld, Receive, Release}
+use Rattle.cloud_trait.specs.Ask.{Take, GetHeld, PutHeld, Receive, Release}
 use Rattle.ckpt_parts.specs.Intakes.{has_items, items_of, message_damage, TakesItems}
 use Rattle.ckpt_parts.specs.Leasing.{without_newest}
 use Rattle.run_cursor.specs.Covered.{is_seen}
@@ -36,13 +34,14 @@ use Rattle.tree_ckpt.specs.Way.{WasKept, behind, ComesOver, BreaksAt, BreaksFrom
 use Rattle.tree_ckpt.specs.Due.{Due, LeafDue, NodeDue, RootDue, IsUp, IsDue, Spends}
 use Rattle.tree_ckpt.specs.Demands.{Refuses, BreaksLeaf, Demands}
 use Rattle.tree_ckpt.specs.Stepped.{Tells}
-use Rattle.tree_ckpt.proofs.Words.{Trouble, PuItem, Answer, Message, CkptAnswer, Turn, More, Ended, Stopped, Claim, Next, Goes, Ends, Stops, Took, Deed, Came, calls_of, given_of, got_of, done_of, received_of, Fits, PagePut, Leases, Chart, KeptNode, Descent, Folding, Left, Rising, Coming, Held, Onward, Work}
+use Rattle.tree_ckpt.proofs.Words.{Trouble, Lock, ObjName, PuItem, Answer, Message, CkptAnswer, Turn, More, Ended, Stopped, Claim, Next, Goes, Ends, Stops, Took, Deed, Came, calls_of, given_of, got_of, received_of, done_of, Fits, Ask, PagePut, Leases, Chart, KeptNode, Descent, Folding, Left, Rising, Coming, Held, Onward, Work}
 use Rattle.tree_ckpt.proofs.Outcomes.{Seeks, Descends, Ascends, Fails, Comes, comes}
 use Rattle.tree_ckpt.proofs.Outcomes as step
 use Rattle.tree_ckpt.proofs.Brought.{Charted, OnWay, root_more, chart_more, way_more}
 use Rattle.tree_ckpt.proofs.Folds.{not_empty}
 use Rattle.tree_ckpt.proofs.Plots.{KnowsLeaf, LeafSpends, LeafTells, PlacedTells, HasPut, leaf_got_tells, leaf_put_tells}
-use Rattle.tree_ckpt.proofs.Rises.{IsRising, KnowsSpent, UpSpends, RiseTells, PutStops, PutTells, rise_tells, rise_put_tells}
+use Rattle.tree_ckpt.proofs.RiseOutcomes.{IsRising}
+use Rattle.tree_ckpt.proofs.Rises.{KnowsSpent, UpSpends, RiseTells, PutStops, PutTells, rise_tells, rise_put_tells}
 use Rattle.tree_ckpt.proofs.Spending.{IsSpentFor}
 use Rattle.tree_ckpt.proofs.Ways.{KnowsWay, WayTells, NodeBreaks, GotTells, down_tells, node_got_tells}
 

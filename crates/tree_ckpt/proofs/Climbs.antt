@@ -4,26 +4,12 @@ use Rattle.std.specs.Prelude.{◌==◌, ◌||◌, ◌&&◌, drop, not, is_some, 
 use Rattle.std.specs.List.{AllByRecursion}
 use Rattle.db_base.specs.declared.names.ObjName.TheVariants as object
 use Rattle.db_base.specs.declared.names.QueueName.TheVariants as queue
-use Rattle.db_base.specs.declared.trouble.Trouble.{Trouble}
-use Rattle.split_plan.specs.declared.put_list.PagePut.{PagePut}
-use Rattle.cloud_trait.specs.declared.answer.Answer.{Answer}
 use Rattle.cloud_trait.specs.declared.answer.Answer.TheVariants as call
-use Rattle.cloud_trait.specs.Ask.{Ask, GetHeld, PutHeld, Receive}
-use Rattle.cloud_trait.specs.Claim.{Claim}
-use Rattle.cloud_trait.specs.Machine.{Next, Goes, Ends, Stops}
-use Rattle.cloud_trait.specs.Views.{done_of}
-use Rattle.run_cursor.specs.Run.{Taken}
-use Rattle.tree_parts.specs.declared.chart.Chart.{Chart}
-use Rattle.tree_parts.specs.declared.kept.KeptNode.{KeptNode}
-use Rattle.tree_parts.specs.declared.link.Link.{Link}
-use Rattle.tree_parts.specs.declared.placing.Placing.{Placing}
+use Rattle.cloud_trait.specs.Ask.{GetHeld, PutHeld, Receive}
 use Rattle.tree_parts.specs.Kept.{links_at}
 use Rattle.tree_parts.specs.Placing.{put_in_hand, landed_root, landed_placing, has_nothing}
 use Rattle.tree_parts.specs.Reserve.{version_spent}
 use Rattle.tree_parts.specs.Read.{tree_held}
-use Rattle.tree_rising.specs.declared.node.NodePlan.{NodePlan}
-use Rattle.tree_rising.specs.declared.rising.Rising.{Rising}
-use Rattle.tree_rising.specs.declared.root.RootPlan.{RootPlan}
 use Rattle.node_codec.specs.Inner.{Inner, inner_of}
 use Rattle.node_codec.specs.Tree.{Tree}
 use Rattle.tree_rising.specs.Nodes.{node_plan, is_touched, touched_at}
@@ -33,12 +19,15 @@ use Rattle.tree_moves.specs.Work.{take_tree}
 use Rattle.tree_ckpt.specs.Causing.{Calls, WasGot}
 use Rattle.tree_ckpt.specs.Meaning.{Opening, opening_calls}
 use Rattle.tree_ckpt.specs.Working.{done_over, puts_of, Visit, visits_over, root_behind, links_behind, looks_of, AreVisits, lacked_on, Climb, climbs_over, root_above, links_above, AreClimbs, HasLevel, PutsNode, raised_root, PutsRoot, IsAmong, IsUnder, link_to, leaf_place, node_place, IsInRange, IsNamed, HasClimbed, HasRisen, IsOfRoot, IsPut, Worked, worked_calls, IsWorked}
+use Rattle.tree_ckpt.proofs.Words.{Trouble, Taken, Answer, Claim, Next, Goes, Ends, Stops, done_of, Ask, PagePut, Chart, KeptNode, Placing, Link, Rising, NodePlan, RootPlan}
 use Rattle.tree_ckpt.proofs.Answers.{done_is}
 use Rattle.tree_ckpt.proofs.Brought.{IsKept, AreKept}
 use Rattle.tree_ckpt.proofs.Covers.{AreHandled, all_handled}
 use Rattle.tree_ckpt.proofs.Folds.{not_empty}
 use Rattle.tree_ckpt.proofs.Pieces.{node_puts, root_puts}
-use Rattle.tree_ckpt.proofs.Rises.{IsRising, kept_at}
+use Rattle.tree_ckpt.proofs.RiseOutcomes.{IsRising, Rises, Lands, rises, lands}
+use Rattle.tree_ckpt.proofs.RiseOutcomes as step
+use Rattle.tree_ckpt.proofs.Rises.{kept_at}
 use Rattle.tree_ckpt.proofs.Tours.{AreNoted, RestsAt, put_in_turn, none_left}
 use Rattle.tree_ckpt.proofs.Named.{climbs_name, known_touches}
 use Rattle.tree_ckpt.proofs.Above.{right_known, new_known, new_page, named_above, climb_holds, leaf_holds, news_named}
@@ -144,9 +133,9 @@ module _ (lease : Claim) (r : Rising) (o : Opening) (work : Calls) (none : r.las
   under_now : AreUnder k.ups.climbs r.chart.nodes (rise.next_touched r)
   under_now = under_later k.ups.climbs r.chart.nodes r.at (touched_at r.chart.tree r.chart.links (drop r.at r.chart.nodes)) k.under
 
-  node_climbs : (n : KeptNode) → rise.touched_node r ≡ Some n → IsKept r.chart.tree n (visits_over r.chart.tree lease k.ups.visits []) → (p : Result NodePlan Trouble)
-      → node_plan (tree_held r.chart.root) r.chart.tree n r.chart.links ≡ p → UpClimbs lease (rise.put_node r (rise.next_touched r + 1) (n.level + 1) p) o work
-  node_climbs n there kept (Ok p) e =
+  node_climbs : (n : KeptNode) → rise.touched_node r ≡ Some n → IsKept r.chart.tree n (visits_over r.chart.tree lease k.ups.visits []) → (p : NodePlan)
+      → node_plan (tree_held r.chart.root) r.chart.tree n r.chart.links ≡ Ok p → UpClimbs lease (rise.put_node r (rise.next_touched r + 1) (n.level + 1) (Ok p)) o work
+  node_climbs n there kept p e =
       let stood : Option (List ℕ) = root_above (root_behind o.got k.ups.visits) k.ups.climbs in
       let links : List Link = links_above (links_behind k.ups.visits) k.ups.climbs in
       let below : Calls = climbs_over r.chart.tree lease k.ups.climbs (visits_over r.chart.tree lease k.ups.visits []) in
@@ -181,10 +170,9 @@ module _ (lease : Claim) (r : Rising) (o : Opening) (work : Calls) (none : r.las
             (done_over (puts_of r.chart.tree lease None p.placing) below) work last) (sym none)
             (ap (landed_root p.placing) k.root, ap (done_over (puts_of r.chart.tree lease None p.placing)) k.calls);
       }
-  node_climbs n there kept (Err t) e = tt
 
-  root_climbs : rise.touched_node r ≡ None → (p : Result RootPlan Trouble) → rise.last_plan r ≡ p → UpClimbs lease (rise.put_root r p) o work
-  root_climbs gone (Ok p) e =
+  root_climbs : rise.touched_node r ≡ None → (p : RootPlan) → rise.last_plan r ≡ Ok p → UpClimbs lease (rise.put_root r (Ok p)) o work
+  root_climbs gone p e =
       let stood : Option (List ℕ) = root_above (root_behind o.got k.ups.visits) k.ups.climbs in
       record {
         ups = record {
@@ -208,15 +196,12 @@ module _ (lease : Claim) (r : Rising) (o : Opening) (work : Calls) (none : r.las
           ap (done_over (puts_of r.chart.tree lease None p.placing)) k.calls,
         );
       }
-  root_climbs gone (Err t) e = tt
 
-  pub rise_climbs : UpClimbs lease (rise.rise r) o work
-  rise_climbs = on (rise.touched_node r) refl where
-    on : (n : Option KeptNode) → rise.touched_node r ≡ n → UpClimbs lease (rise.rise_at r (rise.next_touched r) n) o work
-    on (Some n) e =
-        node_climbs n e (kept_at r.chart.tree r.chart.nodes (rise.next_touched r) n (visits_over r.chart.tree lease k.ups.visits []) k.ups.kept e)
-        (node_plan (tree_held r.chart.root) r.chart.tree n r.chart.links) refl
-    on None e = root_climbs e (rise.last_plan r) refl
+  pub rise_climbs : {next : Next Rising (Unit {0})} → Rises r next → UpClimbs lease next o work
+  rise_climbs (step.node_due n p there e) =
+      node_climbs n there (kept_at r.chart.tree r.chart.nodes (rise.next_touched r) n (visits_over r.chart.tree lease k.ups.visits []) k.ups.kept there) p e
+  rise_climbs (step.root_due p gone e) = root_climbs gone p e
+  rise_climbs c = tt
 
 -- behind the last leaf
 pub begun_climbs : (lease : Claim) (c : Chart) (o : Opening) (work : Calls) → next_key c ≡ None → AreKept c.tree c.nodes work → RestsAt lease c o work
@@ -237,7 +222,7 @@ begun_climbs lease c o work all kept k = rise_climbs lease (rise.begun c) o work
   under = tt;
   root = k.root;
   calls = k.calls;
-})
+}) (rises (rise.begun c))
 
 -- ---- a put
 
@@ -267,14 +252,6 @@ none_in_hand p tree one two other none = on p.reserved p.puts none where
   on (Some bytes) puts e = absurd (cc (e))
   on None (x ∷ xs) e = absurd (let some : (length (x ∷ xs) == 0) ≡ false = not_empty (x ∷ xs) (omega arith) in cc)
   on None [] e = refl
-
-none_of : (last : Option (List ℕ)) → is_some last ≡ false → last ≡ None
-none_of (Some bytes) e = absurd (cc (e))
-none_of None e = refl
-
-neither : (a b : Bool) → (not a || b) ≡ false → (a ≡ true) × (b ≡ false)
-neither true b e = (refl, e)
-neither false b e = absurd (cc (e))
 
 some_last : (a b spent : Bool) → a ≡ true → (not a || (b && not spent)) ≡ true → (b ≡ true) × (spent ≡ false)
 some_last true true true e h = absurd (cc (h))
@@ -403,35 +380,23 @@ module _ (lease : Claim) (r : Rising) (o : Opening) (work : Calls) (k : Climbs l
     calls = sym (none_left (landed_placing r.placing) r.chart.tree lease None (put_call ∷ work) nothing) ∙ turn some ∙ up.1;
   }
 
-  after_climbs : has_nothing r.placing ≡ false → RiseClimbs lease r (rise.after_put (rise.landed r)) o (put_call ∷ work)
-  after_climbs some = on (not (has_nothing (landed_placing r.placing)) || is_some r.last) refl where
-    next : (b : Bool) → RiseClimbs lease r (cond b (Stops (rise.landed r) version_spent) (Goes (rise.landed r))) o (put_call ∷ work)
-    next true = tt
-    next false = landed_climbs some
-
-    on : (b : Bool) → (not (has_nothing (landed_placing r.placing)) || is_some r.last) ≡ b
-        → RiseClimbs lease r (cond b (rise.put_next (rise.landed r)) (rise.rise (rise.landed r))) o (put_call ∷ work)
-    on true e = next (has_nothing (landed_placing r.placing) && r.is_spent)
-    on false e =
-        let both = neither (has_nothing (landed_placing r.placing)) (is_some r.last) e in
-        goes_up lease r (rise.rise (rise.landed r)) o (put_call ∷ work)
-        (rise_climbs lease (rise.landed r) o (put_call ∷ work) (none_of r.last both.1) (ready_by some both.0 r.last both.1 k.placed k.upto))
-
-  landed_rises : IsRising r → RiseClimbs lease r (rise.put_landed r) o ((rise.rising_ask r lease, call.Done) ∷ work)
+  lands_climb : {done : Result (Unit {0}) Trouble} {next : Next Rising (Unit {0})} → IsRising r → done ≡ Ok tt → Lands r done next → RiseClimbs lease r next o (put_call ∷ work)
   unfolding put_call
-  landed_rises rising = on (has_nothing r.placing) refl where
-    on : (b : Bool) → has_nothing r.placing ≡ b
-        → RiseClimbs lease r (cond b (Ends r tt) (rise.after_put (rise.landed r))) o ((rise.rising_ask r lease, call.Done) ∷ work)
-    on true e =
-        subst (λ (ask : Ask). Risen lease r.chart.tree r.chart.run r.chart.applied o ((ask, call.Done) ∷ work))
-        (sym (none_in_hand r.placing r.chart.tree lease None (rise.last_ask r lease r.last) e))
-        (let both = some_last (has_nothing r.placing) (is_some r.last) r.is_spent e rising in last_climbs e both.1 r.last both.0 k.placed k.upto)
-    on false e = after_climbs e
+  lands_climb rising e (step.is_last x nothing) =
+      subst (λ (ask : Ask). Risen lease r.chart.tree r.chart.run r.chart.applied o ((ask, call.Done) ∷ work))
+      (sym (none_in_hand r.placing r.chart.tree lease None (rise.last_ask r lease r.last) nothing))
+      (let both = some_last (has_nothing r.placing) (is_some r.last) r.is_spent nothing rising in last_climbs nothing both.1 r.last both.0 k.placed k.upto)
+  lands_climb rising e (step.more x some up) = landed_climbs some
+  lands_climb {next = next} rising e (step.goes_on x some nothing between up) =
+      goes_up lease r next o (put_call ∷ work)
+      (rise_climbs lease (rise.landed r) o (put_call ∷ work) between (ready_by some nothing r.last (ap (λ (last : Option (List ℕ)). is_some last) between) k.placed k.upto) up)
+  lands_climb rising e c = tt
 
   risen_climbs : (a : Answer) → IsRising r → (done : Result (Unit {0}) Trouble) → done_of a ≡ done
       → RiseClimbs lease r (rise.risen_by r done) o ((rise.rising_ask r lease, a) ∷ work)
+  unfolding put_call
   risen_climbs a rising (Ok x) e =
-      subst (λ (b : Answer). RiseClimbs lease r (rise.put_landed r) o ((rise.rising_ask r lease, b) ∷ work)) (sym (done_is a x e)) (landed_rises rising)
+      subst (λ (b : Answer). RiseClimbs lease r (rise.put_landed r) o ((rise.rising_ask r lease, b) ∷ work)) (sym (done_is a x e)) (lands_climb rising refl (lands r (Ok tt)))
   risen_climbs a rising (Err t) e = tt
 
 pub rising_climbs : (lease : Claim) (r : Rising) (a : Answer) (o : Opening) (work : Calls) → IsRising r → Climbs lease r o work

@@ -2,12 +2,9 @@
 use Rattle.std.proofs.Common.{◌≡◌, ◌≢◌, ◌⊎◌, ℕ, Bool, true, false, cond, List, [], ◌∷◌, Option, Some, None, Result, Ok, Err, refl, sym, ap, subst, inl, inr, ◌∙◌}
 use Rattle.std.specs.Prelude.{◌==◌, ◌||◌, ◌&&◌, ◌+◌, not, is_some}
 use Rattle.std.proofs.lemmas.Bool.{eq-eqb, ne_eqb}
-use Rattle.db_base.specs.declared.names.Lock.{Lock}
 use Rattle.db_base.specs.declared.names.Lock.TheVariants as lock
-use Rattle.db_base.specs.declared.names.ObjName.{ObjName}
 use Rattle.db_base.specs.declared.names.ObjName.TheVariants as object
 use Rattle.db_base.specs.declared.names.Place.TheVariants as place
-use Rattle.db_base.specs.declared.names.QueueName.{QueueName}
 use Rattle.db_base.specs.declared.names.QueueName.TheVariants as queue
 use Rattle.db_base.specs.declared.trouble.Trouble.TheVariants as trouble
 use Rattle.db_base.specs.declared.trouble.Counter.TheVariants as counter
@@ -19,19 +16,16 @@ use Rattle.leaf_edit.specs.Lacked.{lacked}
 use Rattle.node_codec.specs.Inner.{inner_of, inner_format}
 use Rattle.node_codec.specs.Tree.{Tree, tree_of, tree_format}
 use Rattle.cloud_trait.specs.declared.answer.Answer.TheVariants as call
-use Rattle.cloud_trait.specs.Ask.{Ask, GetHeld, Receive, Take}
+use Rattle.cloud_trait.specs.Ask.{GetHeld, Receive, Take}
 use Rattle.ckpt_parts.specs.Deleting.{next_id}
 use Rattle.ckpt_parts.specs.Intakes.{has_items, message_damage, TakesItems}
 use Rattle.ckpt_parts.specs.Leasing.{newest_lease, without_newest}
 use Rattle.run_cursor.specs.Covered.{is_seen}
-use Rattle.tree_parts.specs.declared.link.Link.{Link}
 use Rattle.tree_parts.specs.Placing.{has_nothing}
 use Rattle.tree_parts.specs.Read.{damaged, leaf_or, tree_held}
 use Rattle.tree_parts.specs.Reserve.{version_spent, pages_spent, next_tree}
-use Rattle.tree_descent.specs.declared.fork.Fork.{Fork}
 use Rattle.tree_descent.specs.Descent.{fork_of, arrive, absent_node, with_node, got_node, descent_got}
 use Rattle.leaf_fold.specs.declared.folding.Left.TheVariants.{Right}
-use Rattle.leaf_fold.specs.declared.plan.LeafPlan.{LeafPlan}
 use Rattle.leaf_fold.specs.Plan.{leaf_plan}
 use Rattle.leaf_fold.specs.Folding.{folding_ask, turned, to_right, planned, handled_by, handle, leaf_got, leaf_put, leaf_at, leaf_side, leaf_found, bad_low}
 use Rattle.tree_rising.specs.Nodes.{node_plan}
@@ -49,7 +43,7 @@ use Rattle.tree_ckpt.specs.Way.{behind, BreaksFrom, from_root, BreaksWay}
 use Rattle.tree_ckpt.specs.Due.{Due, LeafDue, NodeDue, RootDue, IsSpent, HasNoPages, GetsLeaf, IsUp, IsDue, IsCutShort, Spends}
 use Rattle.tree_ckpt.specs.Demands.{Matters, Refuses, BreaksRoot, BreaksRecord, BreaksNode, BreaksLeaf, Demands}
 use Rattle.tree_ckpt.specs.Stepped.{Owes}
-use Rattle.tree_ckpt.proofs.Words.{Trouble, PuItem, Answer, Message, CkptAnswer, Turn, More, Ended, Stopped, Claim, Next, Goes, Ends, Stops, Took, Deed, calls_of, given_of, got_of, done_of, received_of, Fits, PagePut, Intake, Leases, Chart, KeptNode, Descent, Folding, Left, Rising, Held, Work}
+use Rattle.tree_ckpt.proofs.Words.{Trouble, Lock, ObjName, QueueName, PuItem, Answer, Message, CkptAnswer, Turn, More, Ended, Stopped, Claim, Next, Goes, Ends, Stops, Took, Deed, calls_of, given_of, got_of, received_of, done_of, Fits, Ask, PagePut, Intake, Leases, Chart, KeptNode, Link, Descent, Fork, Folding, Left, LeafPlan, Rising, Held, Work}
 use Rattle.tree_ckpt.proofs.Causes.{KnowsAt}
 use Rattle.tree_ckpt.proofs.Spending.{leaf_plan_spent, leaf_plan_full, node_plan_spent, node_plan_full, last_plan_spent, last_plan_full}
 use Rattle.tree_ckpt.proofs.Walking.{page_same, damage_same, fence_same, fork_none, fork_some, fork_level, fork_fence, fork_promised, behind_keeps, root_upto, way_stops}

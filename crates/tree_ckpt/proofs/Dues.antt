@@ -1,25 +1,19 @@
 -- What is due was got, or put by the checkpoint.
 use Rattle.std.proofs.Common.{◌≡◌, ℕ, true, false, List, [], ◌∷◌, Option, Some, None, refl, sym, ap, subst, ◌∙◌, inl, inr, arith}
 use Rattle.db_base.specs.declared.names.ObjName.TheVariants as object
-use Rattle.cloud_trait.specs.declared.answer.Answer.{Answer}
 use Rattle.cloud_trait.specs.declared.answer.Answer.TheVariants as call
-use Rattle.cloud_trait.specs.Ask.{Ask, GetHeld}
-use Rattle.cloud_trait.specs.Claim.{Claim}
-use Rattle.cloud_trait.specs.Machine.{Deed, calls_of}
+use Rattle.cloud_trait.specs.Ask.{GetHeld}
 use Rattle.leaf_view.specs.Leaf.{Leaf}
-use Rattle.split_plan.specs.declared.put_list.PagePut.{PagePut}
 use Rattle.tree_parts.specs.Placing.{has_nothing}
-use Rattle.leaf_fold.specs.declared.folding.Folding.{Folding}
 use Rattle.leaf_fold.specs.Folding.{folding_ask}
-use Rattle.tree_rising.specs.declared.rising.Rising.{Rising}
 use Rattle.tree_rising.specs.Rising.{rising_ask, landed, next_touched}
-use Rattle.tree_moves.specs.declared.work.Work.{Work}
 use Rattle.tree_moves.specs.declared.work.Work.TheVariants as work
 use Rattle.tree_moves.specs.Work.{work_ask}
 use Rattle.tree_ckpt.specs.Making.{Making, making_ask}
 use Rattle.tree_ckpt.specs.Causing.{Calls, WasGot, WasRoot, WasLeaf}
 use Rattle.tree_ckpt.specs.Due.{Due, LeafDue, NodeDue, RootDue, GetsLeaf, IsUp, IsDue, IsCutShort, WasBrought, WasLastButOne}
 use Rattle.tree_ckpt.specs.Stepped.{calls_with}
+use Rattle.tree_ckpt.proofs.Words.{Answer, Claim, Deed, calls_of, Ask, PagePut, Folding, Rising, Work}
 use Rattle.tree_ckpt.proofs.Brought.{Charted, IsKept, root_more, chart_more}
 use Rattle.tree_ckpt.proofs.Causes.{KnowsAt, root_put}
 use Rattle.tree_ckpt.proofs.Folds.{not_empty}

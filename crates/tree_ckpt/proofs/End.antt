@@ -4,55 +4,32 @@ use Rattle.std.specs.Prelude.{◌||◌, ◌&&◌, not, is_some}
 use Rattle.std.proofs.lemmas.Option.{slice_get_within}
 use Rattle.db_base.specs.declared.names.Lock.TheVariants as lock
 use Rattle.db_base.specs.declared.names.QueueName.TheVariants as queue
-use Rattle.db_base.specs.declared.trouble.Trouble.{Trouble}
-use Rattle.cloud_trait.specs.declared.answer.Answer.{Answer}
-use Rattle.cloud_trait.specs.declared.message.Message.{Message}
-use Rattle.cloud_trait.specs.declared.turn.CkptAnswer.{CkptAnswer}
-use Rattle.cloud_trait.specs.declared.turn.Turn.{Turn}
-use Rattle.cloud_trait.specs.declared.turn.Turn.TheVariants.{More}
-use Rattle.cloud_trait.specs.Claim.{Claim}
-use Rattle.cloud_trait.specs.Machine.{Next, Goes, Ends, Stops, Took}
-use Rattle.cloud_trait.specs.Views.{given_of, got_of, done_of, received_of}
-use Rattle.cloud_trait.specs.Weather.{Fits}
-use Rattle.log_codec.specs.declared.record.PuItem.{PuItem}
 use Rattle.node_codec.specs.Tree.{Tree, tree_of}
-use Rattle.split_plan.specs.declared.put_list.PagePut.{PagePut}
-use Rattle.ckpt_parts.specs.declared.intake.Intake.{Intake}
 use Rattle.ckpt_parts.specs.Deleting.{next_id, tried}
 use Rattle.ckpt_parts.specs.Intakes.{has_items, TakesIn}
 use Rattle.ckpt_parts.specs.Leasing.{claims_of, newest_lease, without_newest}
-use Rattle.tree_parts.specs.declared.chart.Chart.{Chart}
-use Rattle.tree_parts.specs.declared.kept.KeptNode.{KeptNode}
-use Rattle.tree_parts.specs.declared.placing.Placing.{Placing}
 use Rattle.tree_parts.specs.Placing.{has_nothing, landed_placing}
 use Rattle.tree_parts.specs.Reserve.{version_spent}
 use Rattle.tree_parts.specs.Read.{tree_held}
-use Rattle.tree_descent.specs.declared.descent.Descent.{Descent}
 use Rattle.tree_descent.specs.Descent.{descent_next}
 use Rattle.tree_descent.specs.Descent as way
-use Rattle.leaf_fold.specs.declared.folding.Folding.{Folding}
-use Rattle.leaf_fold.specs.declared.folding.Left.{Left}
 use Rattle.leaf_fold.specs.declared.folding.Left.TheVariants.{Right, Handled}
 use Rattle.leaf_fold.specs.Folding as fold
-use Rattle.tree_rising.specs.declared.node.NodePlan.{NodePlan}
-use Rattle.tree_rising.specs.declared.root.RootPlan.{RootPlan}
-use Rattle.tree_rising.specs.declared.rising.Rising.{Rising}
 use Rattle.tree_rising.specs.Nodes.{node_plan}
 use Rattle.tree_rising.specs.Rising as rise
-use Rattle.tree_moves.specs.declared.work.Coming.{Coming}
-use Rattle.tree_moves.specs.declared.work.Held.{Held}
-use Rattle.tree_moves.specs.declared.work.Onward.{Onward}
 use Rattle.tree_moves.specs.declared.work.Onward.TheVariants as onward
-use Rattle.tree_moves.specs.declared.work.Work.{Work}
 use Rattle.tree_moves.specs.declared.work.Work.TheVariants as work
 use Rattle.tree_moves.specs.Work.{work_ask, one_lease}
 use Rattle.tree_moves.specs.Moves.{Step, stopping, finished, released_by, deleting, deleting_by, deleted_by, went, rising_on, descending_on, root_entry, down_from, key_from_or_none, next_key, going, going_by, page_taken, folding_on, page_left, tree_taken, tree_read, tree_got, chart_of, started, intake_taken, ReceivedBy, Leads}
 use Rattle.tree_ckpt.specs.Ending.{most, above, unhandled, behind_key, from_on_or_none, a_key, puts_left, up_by, up_left, the_end, ids_in, on_the_way, calls_in, IsShort}
 use Rattle.tree_ckpt.specs.Making.{Making, making_ask, MakingLeads, KeepsLeases}
+use Rattle.tree_ckpt.proofs.Words.{Trouble, PuItem, Answer, Message, CkptAnswer, Turn, More, Claim, Next, Goes, Ends, Stops, Took, given_of, got_of, received_of, done_of, Fits, PagePut, Intake, Chart, KeptNode, Placing, Descent, Folding, Left, Rising, NodePlan, RootPlan, Coming, Held, Onward, Work}
 use Rattle.tree_ckpt.proofs.Charts.{GoesFurther, arrive_further, descent_further}
 use Rattle.tree_ckpt.proofs.Folds.{not_empty, GetLeaves, PutLeaves, got_leaves, put_leaves}
 use Rattle.tree_ckpt.proofs.Keys.{next_fewer, above_most}
 use Rattle.tree_ckpt.proofs.Receiving.{takes_length, received_most}
+use Rattle.tree_ckpt.proofs.RiseOutcomes.{Rises, Lands, lands}
+use Rattle.tree_ckpt.proofs.RiseOutcomes as step
 
 -- where a step goes on, fewer calls are left than this, unless a list is too long
 Below : ℕ → Step → Type 0
@@ -241,25 +218,18 @@ up_more n m (Goes r) more h = λ nodes puts. omega (arith, h nodes puts, more)
 up_more n m (Ends r x) more h = tt
 up_more n m (Stops r t) more h = tt
 
-finish_up : (r : Rising) (plan : Result RootPlan Trouble) → BelowUp (most + 3) (rise.put_root r plan)
+rises_up : {r : Rising} {next : Next Rising (Unit {0})} → r.last ≡ None → Rises r next → BelowUp ((most + 3) * (most - r.at) + (most + 3)) next
 unfolding BelowUp
-finish_up r (Ok p) = λ nodes puts. omega (arith, reserved_most p.placing puts)
-finish_up r (Err t) = tt
-
-node_up : (r : Rising) (at level : ℕ) (plan : Result NodePlan Trouble) → r.last ≡ None → r.at ≤ at → at < length r.chart.nodes
-    → BelowUp ((most + 3) * (most - r.at) + (most + 3)) (rise.put_node r (at + 1) level plan)
-unfolding BelowUp
-node_up r at level (Ok p) none from within = λ nodes puts.
-    omega (arith, nodes, from, within, reserved_most p.placing puts, ap (λ (last : Option (List ℕ)). up_by last (at + 1) (puts_left p.placing)) none)
-node_up r at level (Err t) none from within = tt
-
-rise_up : (r : Rising) → r.last ≡ None → BelowUp ((most + 3) * (most - r.at) + (most + 3)) (rise.rise r)
-rise_up r none = on (rise.touched_node r) refl where
-  on : (k : Option KeptNode) → rise.touched_node r ≡ k → BelowUp ((most + 3) * (most - r.at) + (most + 3)) (rise.rise_at r (rise.next_touched r) k)
-  on (Some k) e =
-      node_up r (rise.next_touched r) (k.level + 1) (node_plan (tree_held r.chart.root) r.chart.tree k r.chart.links) none (omega arith)
-      (slice_get_within r.chart.nodes (rise.next_touched r) k e)
-  on None e = up_more (most + 3) ((most + 3) * (most - r.at) + (most + 3)) (rise.finish r) (omega arith) (finish_up r (rise.last_plan r))
+rises_up {r = r} none (step.node_due k p there e) = λ nodes puts.
+    omega (
+      arith,
+      nodes,
+      slice_get_within r.chart.nodes (rise.next_touched r) k there,
+      reserved_most p.placing puts,
+      ap (λ (last : Option (List ℕ)). up_by last (rise.next_touched r + 1) (puts_left p.placing)) none,
+    )
+rises_up none (step.root_due p gone e) = λ nodes puts. omega (arith, reserved_most p.placing puts)
+rises_up none c = tt
 
 one_fewer : (p : Placing) → has_nothing p ≡ false → puts_left (landed_placing p) + 1 ≤ puts_left p
 one_fewer p e = on p.reserved p.puts e where
@@ -273,38 +243,16 @@ fewer_up : (last : Option (List ℕ)) (at n m : ℕ) → n + 1 ≤ m → up_by l
 fewer_up None at n m h = omega (arith, h)
 fewer_up (Some bytes) at n m h = omega (arith, h)
 
-none_of : (last : Option (List ℕ)) → is_some last ≡ false → last ≡ None
-none_of None e = refl
-none_of (Some bytes) e = absurd (cc (e))
-
-or_right : (a b : Bool) → (a || b) ≡ false → b ≡ false
-or_right true b e = absurd (cc (e))
-or_right false b e = e
-
 up_none : (last : Option (List ℕ)) (at puts : ℕ) → last ≡ None → (most + 3) * (most - at) + (most + 3) ≤ up_by last at puts
 up_none None at puts e = omega arith
 up_none (Some bytes) at puts e = absurd (cc (e))
 
-landed_up : (r : Rising) → has_nothing r.placing ≡ false → BelowUp (up_left r) (rise.after_put (rise.landed r))
+lands_up : {r : Rising} {done : Result (Unit {0}) Trouble} {next : Next Rising (Unit {0})} → Lands r done next → BelowUp (up_left r) next
 unfolding BelowUp
-landed_up r e = on (not (has_nothing (landed_placing r.placing)) || is_some r.last) refl where
-  next : (b : Bool) → BelowUp (up_left r) (cond b (Stops (rise.landed r) version_spent) (Goes (rise.landed r)))
-  next true = tt
-  next false = λ nodes puts. fewer_up r.last r.at (puts_left (landed_placing r.placing)) (puts_left r.placing) (one_fewer r.placing e)
-
-  on : (b : Bool) → (not (has_nothing (landed_placing r.placing)) || is_some r.last) ≡ b → BelowUp (up_left r) (cond b (rise.put_next (rise.landed r)) (rise.rise (rise.landed r)))
-  on true f = next (has_nothing (landed_placing r.placing) && r.is_spent)
-  on false f =
-      let none : r.last ≡ None = none_of r.last (or_right (not (has_nothing (landed_placing r.placing))) (is_some r.last) f) in
-      up_more ((most + 3) * (most - r.at) + (most + 3)) (up_left r) (rise.rise (rise.landed r)) (up_none r.last r.at (puts_left r.placing) none) (rise_up (rise.landed r) none)
-
-risen_up : (r : Rising) (done : Result (Unit {0}) Trouble) → BelowUp (up_left r) (rise.risen_by r done)
-unfolding BelowUp
-risen_up r (Ok x) = on (has_nothing r.placing) refl where
-  on : (b : Bool) → has_nothing r.placing ≡ b → BelowUp (up_left r) (cond b (Ends r tt) (rise.after_put (rise.landed r)))
-  on true e = tt
-  on false e = landed_up r e
-risen_up r (Err t) = tt
+lands_up {r = r} (step.more x some up) = λ nodes puts. fewer_up r.last r.at (puts_left (landed_placing r.placing)) (puts_left r.placing) (one_fewer r.placing some)
+lands_up {r = r} {next = next} (step.goes_on x some nothing between up) =
+    up_more ((most + 3) * (most - r.at) + (most + 3)) (up_left r) next (up_none r.last r.at (puts_left r.placing) between) (rises_up between up)
+lands_up c = tt
 
 -- ---- deletions and releases
 
@@ -387,7 +335,7 @@ below_at tree (work.Folding k f) a next fits e = below_by _ next _ e (below_fold
 below_at tree (work.ReleasingPage k l o) a next fits e = below_by _ next _ e (below_left k l o)
 below_at tree (work.LeftPage k o) a next fits e = below_by _ next _ e (below_gone k o)
 below_at tree (work.Rising k r) a next fits e =
-    below_by _ next _ e (below_rising _ (up_left r) k (rise.rising_next r a) (risen_up r (done_of a)) (omega arith) (omega arith))
+    below_by _ next _ e (below_rising _ (up_left r) k (rise.rising_next r a) (lands_up (lands r (done_of a))) (omega arith) (omega arith))
 below_at tree (work.Deleting k applied) a next fits e = below_by _ next _ e (below_deleted k applied (done_of a))
 below_at tree (work.Releasing held end) a next fits e = below_by _ next _ e (below_released held.first held.second end)
 below_at tree work.Finished a next fits e = below_by _ next _ e tt

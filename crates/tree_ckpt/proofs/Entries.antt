@@ -9,17 +9,13 @@ use Rattle.byte_format.proofs.OrderLemmas.{same_is}
 use Rattle.node_codec.specs.Inner.{Inner, node_of_root}
 use Rattle.node_codec.specs.Node.{Entry, raised, with_entry}
 use Rattle.node_codec.specs.Tree.{Tree, with_child}
-use Rattle.split_plan.specs.declared.entry_list.NewEntry.{NewEntry}
-use Rattle.split_plan.specs.declared.put_list.PagePut.{PagePut}
 use Rattle.split_plan.specs.Cut.{IsCut}
 use Rattle.split_plan.specs.Part.{NodePart, entry_key, part_of_node}
 use Rattle.split_plan.specs.Plan.{put_of, on_pages, node_bytes}
-use Rattle.tree_parts.specs.declared.link.Link.{Link}
-use Rattle.tree_parts.specs.declared.placing.Placing.{Placing}
 use Rattle.tree_rising.specs.Nodes.{goes_to, with_links}
 use Rattle.tree_rising.specs.Root.{is_named, with_named}
-use Rattle.tree_rising.specs.declared.root.RootPlan.{RootPlan}
 use Rattle.tree_ckpt.specs.Working.{IsAmong, PutsEntry, PutsPieces, PutsRoot, HasRisen, IsNamed, IsInRange, IsOfRoot, linked_node, raised_root}
+use Rattle.tree_ckpt.proofs.Words.{PagePut, NewEntry, Placing, Link, RootPlan}
 
 -- ---- lists
 

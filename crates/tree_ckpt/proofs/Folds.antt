@@ -3,39 +3,26 @@ use Rattle.std.proofs.Common.{◌≡◌, ◌<◌, ◌≤◌, ◌+◌, ◌-◌, �
 use Rattle.std.specs.Prelude.{◌==◌, ◌||◌, ◌&&◌, map, is_none}
 use Rattle.std.proofs.lemmas.Bool.{ne_eqb}
 use Rattle.std.proofs.lemmas.List.{length-map, length-reverse}
-use Rattle.byte_format.specs.Order.{bytes_below, bytes_same}
-use Rattle.db_base.specs.declared.trouble.Trouble.{Trouble}
-use Rattle.db_base.specs.declared.trouble.Trouble.TheVariants as trouble
-use Rattle.cloud_trait.specs.declared.answer.Answer.{Answer}
-use Rattle.cloud_trait.specs.Machine.{Goes, Ends, Stops}
-use Rattle.cloud_trait.specs.Views.{got_of, done_of}
+use Rattle.byte_format.specs.Order.{below_bound}
 use Rattle.leaf_view.specs.Leaf.{Leaf}
-use Rattle.leaf_view.specs.Lookup.{empty_leaf, page_at}
 use Rattle.leaf_edit.specs.Applied.{applied}
-use Rattle.leaf_edit.specs.Lacked.{lacked}
-use Rattle.log_codec.specs.declared.record.PuItem.{PuItem}
 use Rattle.node_codec.specs.Tree.{Tree}
-use Rattle.run_cursor.specs.Covered.{is_seen}
-use Rattle.split_plan.specs.declared.put_list.PagePut.{PagePut}
 use Rattle.split_plan.specs.Cut.{cut_by}
 use Rattle.split_plan.specs.Part.{LeafPart, record_key, part_of_leaf}
 use Rattle.split_plan.specs.Plan.{put_of, on_pages, leaf_bytes, leaf_pieces}
 use Rattle.split_plan.specs.Sizes.{count_of, cuts_of}
-use Rattle.tree_parts.specs.declared.chart.Chart.{Chart}
-use Rattle.tree_parts.specs.declared.link.Link.{Link}
-use Rattle.tree_parts.specs.declared.reserve.Reserved.{Reserved}
 use Rattle.tree_parts.specs.Kept.{links_at}
 use Rattle.tree_parts.specs.Placing.{has_nothing, has_one_page, puts_after}
-use Rattle.tree_parts.specs.Read.{leaf_read, tree_held}
+use Rattle.tree_parts.specs.Read.{tree_held}
 use Rattle.tree_parts.specs.Reserve.{reservation, version_spent}
-use Rattle.leaf_fold.specs.declared.folding.Folding.{Folding}
 use Rattle.leaf_fold.specs.declared.folding.Left.TheVariants.{Right, Handled}
-use Rattle.leaf_fold.specs.declared.plan.LeafPlan.{LeafPlan}
 use Rattle.leaf_fold.specs.Plan as plan
-use Rattle.leaf_fold.specs.Folding.{Step, turned, to_right, planned, handled_by, handle, leaf_side, leaf_at, leaf_found, leaf_got, bad_low, landed, counted, leaf_put, folding_next}
+use Rattle.leaf_fold.specs.Folding.{Step, leaf_got, landed, counted, leaf_put, folding_next}
 use Rattle.tree_ckpt.specs.Ending.{unhandled, behind_key, puts_left, from_on_or_none}
 use Rattle.tree_ckpt.specs.Standing.{IsPlanned}
-use Rattle.tree_ckpt.proofs.Fences.{HasSides, leaf_sides}
+use Rattle.tree_ckpt.proofs.Words.{Trouble, PuItem, Answer, Goes, Ends, Stops, got_of, done_of, PagePut, Chart, Reserved, Folding, LeafPlan}
+use Rattle.tree_ckpt.proofs.LeafOutcomes.{Reads, reads}
+use Rattle.tree_ckpt.proofs.LeafOutcomes as step
 use Rattle.tree_ckpt.proofs.Keys.{from_above}
 
 -- the records above the key at hand are what is left at most
@@ -57,10 +44,6 @@ GetLeaves f (Goes g) = IsHandled f g.chart × (0 < length g.placing.puts)
 GetLeaves f (Ends g (Right low page)) = IsTurned f.chart g.chart
 GetLeaves f (Ends g Handled) = IsHandled f g.chart
 GetLeaves f (Stops g t) = Unit {0}
-
-either : (f : Folding) (b : Bool) (x y : Step) → (b ≡ true → GetLeaves f x) → (b ≡ false → GetLeaves f y) → GetLeaves f (cond b x y)
-either f true x y h k = h refl
-either f false x y h k = k refl
 
 -- ---- a leaf is put in one piece at least
 
@@ -99,54 +82,22 @@ plan_some root page l run p e = on (l.version == 18446744073709551615) e where
 
 -- ---- the get
 
--- the keys below the high key are handled, where the key at hand is one of them
-HandledTo : Folding → Option (List ℕ) → Type 0
-HandledTo f high = from_on_or_none high f.chart.run.items ≤ behind_key f.chart
+-- the keys below the high key are handled, and the key in hand is one of them
+handled_left : (f : Folding) (high : Option (List ℕ)) → below_bound f.chart.key high ≡ true → from_on_or_none high f.chart.run.items ≤ behind_key f.chart
+handled_left f None below = omega arith
+handled_left f (Some high) below = from_above f.chart.key high f.chart.run.items below
 
-planned_leaves : (f : Folding) (high : Option (List ℕ)) (items : List PuItem) (p : Result LeafPlan Trouble) → ((q : LeafPlan) → p ≡ Ok q → 0 < length q.placing.puts)
-    → HandledTo f high → GetLeaves f (planned f high items p)
-unfolding HandledTo
-planned_leaves f high items (Ok p) some to =
+reads_leave : {f : Folding} {g : Result (Option (List ℕ)) Trouble} {next : Step} → Reads f g next → GetLeaves f next
+reads_leave {f = f} (step.passes got l high right behind new) =
+    record { run = refl; key = refl; nodes = refl; links = length-append f.chart.links (record { level = 1; low = high; page = right } ∷ []) }
+reads_leave {f = f} (step.spares got l here none) = record { left = handled_left f l.high here.below; nodes = omega arith; links = omega arith }
+reads_leave {f = f} (step.plans got l x xs p here some e) =
     let more : length (f.chart.links ++ links_at 1 p.entries) ≡ length f.chart.links + length (links_at 1 p.entries) = length-append f.chart.links (links_at 1 p.entries) in
-    (record { left = to; nodes = omega arith; links = omega (arith, more) }, some p refl)
-planned_leaves f high items (Err t) some to = tt
-
-handled_leaves : (f : Folding) (l : Leaf) (items : List PuItem) → HandledTo f l.high → GetLeaves f (handled_by f l items)
-unfolding HandledTo
-handled_leaves f l [] to = record { left = to; nodes = omega arith; links = omega arith }
-handled_leaves f l (x ∷ xs) to =
-    planned_leaves f l.high (x ∷ xs) (plan.leaf_plan (tree_held f.chart.root) f.page l f.chart.run.items)
-    (plan_some (tree_held f.chart.root) f.page l f.chart.run.items) to
-
-right_leaves : (f : Folding) (high : List ℕ) (right : ℕ) → GetLeaves f (to_right f high right)
-right_leaves f high right =
-    let link : Link = record { level = 1; low = high; page = right } in
-    either f ((right == f.page) || is_seen f.visited right) (Stops f (trouble.Loop right)) (Ends (turned f high right) (Right high right))
-    (λ seen. tt) (λ new. record { run = refl; key = refl; nodes = refl; links = length-append f.chart.links (link ∷ []) })
-
-side_leaves : (f : Folding) (l : Leaf) (high : Option (List ℕ)) (right : Option ℕ) → l.high ≡ high → (right ≡ None → high ≡ None) → GetLeaves f (leaf_side f l high right)
-unfolding HandledTo
-side_leaves f l None right e sides = handled_leaves f l (lacked l 0 f.chart.run.items) (subst (HandledTo f) (sym e) (omega arith))
-side_leaves f l (Some high) None e sides = absurd (let none : Some high ≡ None = sides refl in cc)
-side_leaves f l (Some high) (Some right) e sides =
-    either f (bytes_below f.chart.key high) (handle f l) (to_right f high right)
-    (λ below. handled_leaves f l (lacked l 0 f.chart.run.items) (subst (HandledTo f) (sym e) (from_above f.chart.key high f.chart.run.items below)))
-    (λ beyond. right_leaves f high right)
-
-at_leaves : (f : Folding) (l : Leaf) → HasSides l.right l.high → GetLeaves f (leaf_at f l)
-at_leaves f l sides =
-    either f (bytes_same l.low f.low) (leaf_side f l l.high (page_at l.right)) (Stops f (bad_low f l.low))
-    (λ same. side_leaves f l l.high (page_at l.right) refl sides) (λ other. tt)
-
-found_leaves : (f : Folding) (found : Result Leaf Trouble) → ((l : Leaf) → found ≡ Ok l → HasSides l.right l.high) → GetLeaves f (leaf_found f found)
-found_leaves f (Ok l) sides = at_leaves f l (sides l refl)
-found_leaves f (Err t) sides = tt
+    (record { left = handled_left f l.high here.below; nodes = omega arith; links = omega (arith, more) }, plan_some (tree_held f.chart.root) f.page l f.chart.run.items p e)
+reads_leave c = tt
 
 pub got_leaves : (f : Folding) (got : Result (Option (List ℕ)) Trouble) → GetLeaves f (leaf_got f got)
-got_leaves f (Ok (Some bytes)) = found_leaves f (leaf_read f.chart.tree f.page bytes) (leaf_sides f.chart.tree f.page bytes)
-got_leaves f (Ok None) =
-    either f (f.page == 1) (leaf_at f empty_leaf) (Stops f (trouble.Absent f.page)) (λ first. at_leaves f empty_leaf (λ none. refl)) (λ other. tt)
-got_leaves f (Err t) = tt
+got_leaves f got = reads_leave (reads f got)
 
 -- ---- a put
 

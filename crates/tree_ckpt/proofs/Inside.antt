@@ -15,19 +15,15 @@ use Rattle.leaf_view.specs.Lookup.{holds}
 use Rattle.leaf_view.proofs.Split.{records_fit}
 use Rattle.leaf_edit.specs.Applied.{applied}
 use Rattle.leaf_edit.specs.Lacked.{is_lacked, lacked}
+use Rattle.tree_ckpt.proofs.Words.{PuItem, NewEntry, Placing, Link, LeafPlan}
 use Rattle.tree_ckpt.proofs.Keyed.{edited_by-keys}
-use Rattle.log_codec.specs.declared.record.PuItem.{PuItem}
-use Rattle.leaf_fold.specs.declared.plan.LeafPlan.{LeafPlan}
 use Rattle.node_codec.specs.Inner.{Inner, inner_of}
 use Rattle.node_codec.specs.Node.{Entry, entry, may_stand, follows, with_entry}
-use Rattle.split_plan.specs.declared.entry_list.NewEntry.{NewEntry}
 use Rattle.split_plan.specs.Cut.{IsCut, IsNewPart, first_key_of}
 use Rattle.split_plan.specs.Part.{Part, entry_key, record_key, part_of_leaf, part_of_node}
 use Rattle.split_plan.specs.Plan.{entry_of, on_pages, node_bytes}
 use Rattle.split_plan.specs.Sizes.{count_of, sizes_of, cuts_of, CanCut}
 use Rattle.split_plan.proofs.Counting.{can-cuts, cuts-and-last}
-use Rattle.tree_parts.specs.declared.link.Link.{Link}
-use Rattle.tree_parts.specs.declared.placing.Placing.{Placing}
 use Rattle.tree_parts.specs.Kept.{links_at}
 use Rattle.tree_rising.specs.Nodes.{goes_to, with_links}
 use Rattle.node_codec.specs.Tree.{Tree}

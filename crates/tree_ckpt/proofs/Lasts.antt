@@ -1,26 +1,20 @@
 -- The tree object that is put last has a cursor that is raised to the run's top.
 use Rattle.std.proofs.Common.{◌≡◌, ◌+◌, ℕ, Bool, true, false, cond, List, [], ◌∷◌, length, Option, Some, None, Result, Ok, Err, refl, sym, subst, ◌∙◌}
 use Rattle.std.specs.Prelude.{◌==◌, ◌||◌, ◌&&◌, not, nat_lt, is_some}
-use Rattle.db_base.specs.declared.trouble.Trouble.{Trouble}
 use Rattle.node_codec.specs.Node.{raised, with_entry}
 use Rattle.node_codec.specs.Tree.{Tree, tree_bytes, with_child}
-use Rattle.cloud_trait.specs.Machine.{Goes, Ends, Stops}
-use Rattle.run_cursor.specs.Run.{Taken}
 use Rattle.split_plan.specs.Plan.{root_above}
 use Rattle.split_plan.specs.Sizes.{count_of}
-use Rattle.tree_parts.specs.declared.kept.KeptNode.{KeptNode}
-use Rattle.tree_parts.specs.declared.link.Link.{Link}
-use Rattle.tree_parts.specs.declared.reserve.Reserved.{Reserved}
 use Rattle.tree_parts.specs.Placing.{has_nothing}
 use Rattle.tree_parts.specs.Read.{tree_held}
 use Rattle.tree_parts.specs.Reserve.{version_spent, pages_spent, reservation}
-use Rattle.tree_rising.specs.declared.node.NodePlan.{NodePlan}
-use Rattle.tree_rising.specs.declared.rising.Rising.{Rising}
-use Rattle.tree_rising.specs.declared.root.RootPlan.{RootPlan}
 use Rattle.tree_rising.specs.Nodes.{node_plan}
 use Rattle.tree_rising.specs.Root.{is_named, with_named, new_pages, lowered, cut_at, cut_by, cut_behind, root_cut, root_plan, uncut}
 use Rattle.tree_rising.specs.Root as root
 use Rattle.tree_rising.specs.Rising.{Step, next_touched, touched_node, put_node, plan_of, last_plan, put_root, rise_at, rise, landed, put_next, after_put, risen_by}
+use Rattle.tree_ckpt.proofs.Words.{Trouble, Taken, Goes, Ends, Stops, KeptNode, Link, Reserved, Rising, NodePlan, RootPlan}
+use Rattle.tree_ckpt.proofs.RiseOutcomes.{Rises, Lands, rises, lands}
+use Rattle.tree_ckpt.proofs.RiseOutcomes as step
 
 -- bytes of a tree object whose cursor is raised to the run's top
 abbrev pub IsLastRoot : Taken → List ℕ → Type 0
@@ -95,19 +89,14 @@ UpKeeps r (Goes e) = (e.chart.run ≡ r.chart.run) × LastIs e
 UpKeeps r (Ends e x) = Unit {0}
 UpKeeps r (Stops e t) = Unit {0}
 
-node_keeps : (r : Rising) (next level : ℕ) (p : Result NodePlan Trouble) → LastIs r → UpKeeps r (put_node r next level p)
-node_keeps r next level (Ok p) last = (refl, last)
-node_keeps r next level (Err t) last = tt
-
-root_keeps : (r : Rising) (p : Result RootPlan Trouble) → PlanLasts r.chart.run p → UpKeeps r (put_root r p)
-root_keeps r (Ok p) lasts = (refl, λ bytes e. let same : p.last ≡ bytes = cc (e) in subst (IsLastRoot r.chart.run) same lasts)
-root_keeps r (Err t) lasts = tt
+rises_keep : {r : Rising} {next : Step} → LastIs r → Rises r next → UpKeeps r next
+rises_keep last (step.node_due k p at e) = (refl, last)
+rises_keep {r = r} last (step.root_due p none e) =
+    (refl, λ bytes f. let same : p.last ≡ bytes = cc (f) in subst (IsLastRoot r.chart.run) same (subst (PlanLasts r.chart.run) e (last_lasts r)))
+rises_keep last c = tt
 
 pub rise_keeps : (r : Rising) → LastIs r → UpKeeps r (rise r)
-rise_keeps r last = on (touched_node r) where
-  on : (o : Option KeptNode) → UpKeeps r (rise_at r (next_touched r) o)
-  on (Some n) = node_keeps r (next_touched r + 1) (n.level + 1) (node_plan (tree_held r.chart.root) r.chart.tree n r.chart.links) last
-  on None = root_keeps r (last_plan r) (last_lasts r)
+rise_keeps r last = rises_keep last (rises r)
 
 -- the same from where a put landed
 from_landed : (r : Rising) (next : Step) → UpKeeps (landed r) next → UpKeeps r next
@@ -115,17 +104,10 @@ from_landed r (Goes e) h = h
 from_landed r (Ends e x) h = tt
 from_landed r (Stops e t) h = tt
 
+lands_keep : {r : Rising} {done : Result (Unit {0}) Trouble} {next : Step} → LastIs r → Lands r done next → UpKeeps r next
+lands_keep last (step.more x some up) = (refl, last)
+lands_keep {r = r} {next = next} last (step.goes_on x some nothing between up) = from_landed r next (rises_keep last up)
+lands_keep last c = tt
+
 pub risen_keeps : (r : Rising) (done : Result (Unit {0}) Trouble) → LastIs r → UpKeeps r (risen_by r done)
-risen_keeps r (Err t) last = tt
-risen_keeps r (Ok x) last = on (has_nothing r.placing) where
-  next : (b : Bool) → UpKeeps (landed r) (cond b (Stops (landed r) version_spent) (Goes (landed r)))
-  next true = tt
-  next false = (refl, last)
-
-  further : (b : Bool) → UpKeeps (landed r) (cond b (put_next (landed r)) (rise (landed r)))
-  further true = next (has_nothing (landed r).placing && r.is_spent)
-  further false = rise_keeps (landed r) last
-
-  on : (b : Bool) → UpKeeps r (cond b (Ends r tt) (after_put (landed r)))
-  on true = tt
-  on false = from_landed r (after_put (landed r)) (further (not (has_nothing (landed r).placing) || is_some r.last))
+risen_keeps r done last = lands_keep last (lands r done)

@@ -1,15 +1,10 @@
 -- A step of the code is one of the machine.
 use Rattle.std.proofs.Common.{◌≡◌, ℕ, refl, sym, subst, ap, ◌∙◌}
-use Rattle.cloud_trait.specs.declared.answer.Answer.{Answer}
-use Rattle.cloud_trait.specs.declared.turn.CkptAnswer.{CkptAnswer}
-use Rattle.cloud_trait.specs.declared.turn.Turn.{Turn}
-use Rattle.cloud_trait.specs.declared.turn.Turn.TheVariants.{More, Ended, Stopped}
-use Rattle.cloud_trait.specs.Machine.{Goes, Ends, Stops, Took}
-use Rattle.tree_moves.specs.declared.work.Work.{Work}
 use Rattle.tree_moves.specs.declared.work.Work.TheVariants.{Finished}
 use Rattle.tree_moves.specs.Work.{claims_in, handed}
 use Rattle.tree_moves.specs.Moves.{Absorbs, MovesTo}
 use Rattle.tree_ckpt.specs.Making.{Making, with_received, with_work, handed_over, AbsorbsBy, WentBy, SameLeases, MakingLeads, KeepsLeases}
+use Rattle.tree_ckpt.proofs.Words.{Answer, CkptAnswer, Turn, More, Ended, Stopped, Goes, Ends, Stops, Took, Work}
 
 -- where the work goes, the checkpoint goes
 pub went_by : (old mid new : Making) (a : Answer) (tree : ℕ) (w v : Work) (turn : Turn CkptAnswer) → tree ≡ old.tree → w ≡ old.work → mid ≡ with_work old Finished

@@ -1,11 +1,10 @@
 -- Which leases a tree checkpoint holds after each of its calls, which it names and gives back.
 use Rattle.std.proofs.Common.{◌≡◌, ◌≢◌, ℕ, List, [], ◌∷◌, Option, Some, None, Result, Ok, Err, refl, sym, subst, ap, ◌∙◌}
 use Rattle.std.specs.Prelude.{unwrap_or}
-use Rattle.db_base.specs.declared.names.Lock.{Lock}
 use Rattle.db_base.specs.declared.names.Lock.TheVariants as lock
 use Rattle.db_base.specs.declared.names.ObjName.TheVariants as object
 use Rattle.cloud_trait.specs.declared.answer.Answer.TheVariants as call
-use Rattle.cloud_trait.specs.Ask.{Ask, Take, GetHeld}
+use Rattle.cloud_trait.specs.Ask.{Take, GetHeld}
 use Rattle.ckpt_parts.specs.Deleting.{next_id}
 use Rattle.ckpt_parts.specs.Leasing.{claims_of, newest_lease, without_newest, outstanding, outstanding_after}
 use Rattle.tree_parts.specs.Placing.{put_in_hand, put_first, put_next}
@@ -16,7 +15,7 @@ use Rattle.tree_moves.specs.Work.{work_ask, delete_ask, release_ask, claims_in}
 use Rattle.tree_moves.specs.Moves.{Step, Leads}
 use Rattle.tree_ckpt.specs.Making.{Making, new_making, making_ask, MakingLeads, KeepsLeases}
 use Rattle.tree_ckpt.specs.Standing.{Went, OfTree, OfLeaf, HasIds, HoldsOne, HoldsAt, StandsAt, Stands, Names, GivesBack, AreReturned}
-use Rattle.tree_ckpt.proofs.Words.{Trouble, Answer, CkptAnswer, Turn, More, Ended, Stopped, Claim, Next, Goes, Ends, Stops, Took, Deed, Came, given_of, Fits, PagePut, Leases, Chart, Placing, Descent, Folding, Left, Rising, Held, Work}
+use Rattle.tree_ckpt.proofs.Words.{Trouble, Lock, Answer, CkptAnswer, Turn, More, Ended, Stopped, Claim, Next, Goes, Ends, Stops, Took, Deed, Came, given_of, Fits, Ask, PagePut, Leases, Chart, Placing, Descent, Folding, Left, Rising, Held, Work}
 use Rattle.tree_ckpt.proofs.Outcomes.{Seeks, Descends, Ascends, Clears, Fails, Comes, comes, has_ids}
 use Rattle.tree_ckpt.proofs.Outcomes as step
 use Rattle.tree_ckpt.proofs.Folds.{PlansAfter, plans_after}

@@ -2,6 +2,8 @@ pub mod Leading
 pub mod Leaving
 pub mod Words
 pub mod Outcomes
+pub mod LeafOutcomes
+pub mod RiseOutcomes
 pub mod Leases
 pub mod Receiving
 pub mod Keys

@@ -2,26 +2,19 @@
 use Rattle.std.proofs.Common.{◌≡◌, ℕ, zero, suc, Bool, true, false, cond, List, [], ◌∷◌, length, Option, Some, None, Result, Ok, Err, refl}
 use Rattle.std.specs.Prelude.{◌==◌, ◌&&◌, not}
 use Rattle.byte_format.specs.Order.{bytes_below, bytes_same}
-use Rattle.db_base.specs.declared.trouble.Trouble.{Trouble}
 use Rattle.db_base.specs.declared.trouble.Trouble.TheVariants as trouble
-use Rattle.cloud_trait.specs.declared.answer.Answer.{Answer}
-use Rattle.cloud_trait.specs.Machine.{Next, Goes, Ends, Stops}
-use Rattle.cloud_trait.specs.Views.{got_of}
 use Rattle.node_codec.specs.Inner.{Inner}
 use Rattle.node_codec.specs.Node.{Entry, child_of, later_of, page_at}
 use Rattle.run_cursor.specs.Covered.{is_seen}
-use Rattle.tree_parts.specs.declared.chart.Chart.{Chart}
-use Rattle.tree_parts.specs.declared.kept.KeptNode.{KeptNode}
 use Rattle.tree_parts.specs.Read.{damaged, inner_read, tree_held}
-use Rattle.tree_descent.specs.declared.descent.Descent.{Descent}
 use Rattle.tree_descent.specs.declared.descent.Reach.{Reach}
 use Rattle.tree_descent.specs.declared.descent.Reach.TheVariants.{Node, Leaf}
-use Rattle.tree_descent.specs.declared.fork.Fork.{Fork}
 use Rattle.tree_descent.specs.declared.fork.Fork.TheVariants.{Right, Down}
 use Rattle.tree_descent.specs.Fork.{bad_fence, down_to, fork_at, forked_on}
 use Rattle.tree_descent.specs.Fork as fork
 use Rattle.tree_descent.specs.Descent.{begun, forked_by, passed, fork_of, go_on, stride_at, kept_at, stride, follow, walk, arrived, arrive, with_node, got_node, descent_got, descent_next}
 use Rattle.tree_moves.specs.Moves.{entry_or, root_entry}
+use Rattle.tree_ckpt.proofs.Words.{Trouble, Answer, Next, Goes, Ends, Stops, got_of, Chart, KeptNode, Descent, Fork}
 
 -- a low key is not above a key
 abbrev pub IsUpto : List ℕ → List ℕ → Type 0

@@ -3,15 +3,13 @@ use Rattle.std.proofs.Common.{◌≡◌, ◌+◌, ℕ, Bool, true, false, cond, 
 use Rattle.std.specs.Prelude.{◌==◌, ◌||◌, ◌&&◌, not, is_some, unwrap_or}
 use Rattle.db_base.specs.declared.names.Lock.TheVariants as lock
 use Rattle.db_base.specs.declared.names.ObjName.TheVariants as object
-use Rattle.db_base.specs.declared.names.QueueName.{QueueName}
 use Rattle.db_base.specs.declared.names.QueueName.TheVariants as queue
 use Rattle.node_codec.specs.Tree.{Tree, tree_of, tree_bytes}
-use Rattle.run_cursor.specs.Run.{Taken}
 use Rattle.run_cursor.specs.Covered.{covered_ids}
 use Rattle.leaf_edit.specs.Merging.{Rises}
 use Rattle.leaf_edit.proofs.InOrder.{Rises-sorted}
 use Rattle.cloud_trait.specs.declared.answer.Answer.TheVariants as call
-use Rattle.cloud_trait.specs.Ask.{Ask, GetHeld, Receive, Delete, Release, PutHeld}
+use Rattle.cloud_trait.specs.Ask.{GetHeld, Receive, Delete, Release, PutHeld}
 use Rattle.ckpt_parts.specs.Deleting.{Deleting, to_delete, next_id, tried}
 use Rattle.ckpt_parts.specs.Intakes.{has_items, items_of, intake_of, TakesIn, TakesItems}
 use Rattle.ckpt_parts.specs.Leasing.{newest_lease, without_newest}
@@ -21,8 +19,6 @@ use Rattle.tree_parts.specs.Read.{tree_held}
 use Rattle.tree_descent.specs.Descent.{descent_ask, descent_next}
 use Rattle.leaf_fold.specs.Folding.{folding_ask, folding_next}
 use Rattle.leaf_fold.specs.Folding as fold
-use Rattle.tree_rising.specs.declared.node.NodePlan.{NodePlan}
-use Rattle.tree_rising.specs.declared.root.RootPlan.{RootPlan}
 use Rattle.tree_rising.specs.Nodes.{node_plan}
 use Rattle.tree_rising.specs.Rising as rise
 use Rattle.tree_moves.specs.declared.work.Onward.TheVariants as onward
@@ -36,7 +32,7 @@ use Rattle.tree_ckpt.specs.Working.{Visit, Worked, WorksBy, leaf_place, below_ro
 use Rattle.tree_ckpt.specs.Meaning.{Opening, opening_calls, IsOpened, IsAtWork, AreAtWork, IsRootPut, Works, Tried, deletes_over, tried_before, one_more, one_less, went_count, failed_count, IsDone, MeansDone}
 use Rattle.leaf_fold.specs.declared.folding.Left.TheVariants.{Right, Handled}
 use Rattle.tree_descent.specs.Descent.{begun}
-use Rattle.tree_ckpt.proofs.Words.{Trouble, PuItem, Answer, Message, CkptAnswer, Turn, More, Ended, Stopped, Claim, Next, Goes, Ends, Stops, Took, Deed, Came, calls_of, done_of, PagePut, Intake, Leases, Chart, KeptNode, Descent, Folding, Left, Rising, Coming, Held, Onward, Work}
+use Rattle.tree_ckpt.proofs.Words.{Trouble, QueueName, PuItem, Taken, Answer, Message, CkptAnswer, Turn, More, Ended, Stopped, Claim, Next, Goes, Ends, Stops, Took, Deed, Came, calls_of, done_of, Ask, PagePut, Intake, Leases, Chart, KeptNode, Descent, Folding, Left, Rising, NodePlan, RootPlan, Coming, Held, Onward, Work}
 use Rattle.tree_ckpt.proofs.Outcomes.{Seeks, Descends, Ascends, Clears, Comes, comes, has_ids}
 use Rattle.tree_ckpt.proofs.Outcomes as step
 use Rattle.tree_ckpt.proofs.Brought.{AreKept, Charted, chart_more}
@@ -51,7 +47,9 @@ use Rattle.tree_ckpt.proofs.Telling.{went_told}
 use Rattle.tree_ckpt.proofs.Turns.{place_of, begun_turned}
 use Rattle.tree_ckpt.proofs.Tours.{RestsAt, ToursAt, WayTours, AtLeaf, VisitsAt, LeavesUpto, LeafTours, rests_tours, first_rests, way_tours, descent_tours, leaf_tours, taken_tours, left_rests}
 use Rattle.tree_ckpt.proofs.Folds.{not_empty}
-use Rattle.tree_ckpt.proofs.Rises.{IsRising}
+use Rattle.tree_ckpt.proofs.RiseOutcomes.{IsRising, Lands, lands}
+use Rattle.tree_ckpt.proofs.RiseOutcomes as climb
+use Rattle.tree_ckpt.proofs.Answers.{done_is}
 
 -- ---- what is known
 
@@ -240,26 +238,6 @@ rising_begun tree h r cs (Stops e t) keeps k = tt
 
 -- ---- the way up
 
--- the work between two puts of the way up does not end it
-abbrev GoesUp : Next Rising (Unit {0}) → Type 0
-GoesUp (Goes r) = Unit {0}
-GoesUp (Ends r x) = ⊥
-GoesUp (Stops r t) = Unit {0}
-
-node_up : (r : Rising) (next level : ℕ) (p : Result NodePlan Trouble) → GoesUp (rise.put_node r next level p)
-node_up r next level (Ok p) = tt
-node_up r next level (Err t) = tt
-
-root_up : (r : Rising) (p : Result RootPlan Trouble) → GoesUp (rise.put_root r p)
-root_up r (Ok p) = tt
-root_up r (Err t) = tt
-
-rise_up : (r : Rising) → GoesUp (rise.rise r)
-rise_up r = on (rise.touched_node r) where
-  on : (o : Option KeptNode) → GoesUp (rise.rise_at r (rise.next_touched r) o)
-  on (Some n) = node_up r (rise.next_touched r + 1) (n.level + 1) (node_plan (tree_held r.chart.root) r.chart.tree n r.chart.links)
-  on None = root_up r (rise.last_plan r)
-
 -- a put of the tree object that was done
 abbrev IsPutOf : ℕ → Claim → List ℕ → Ask × Answer → Type 0
 IsPutOf tree l bytes c = c ≡ (PutHeld (object.Tree tree) bytes l None, call.Done)
@@ -270,40 +248,32 @@ UpEnds r l a (Goes e) = Unit {0}
 UpEnds r l a (Ends e x) = (bytes : List ℕ) × IsPutOf r.chart.tree l bytes (rise.rising_ask r l, a) × (r.last ≡ Some bytes)
 UpEnds r l a (Stops e t) = Unit {0}
 
-up_goes : (r : Rising) (l : Claim) (a : Answer) (next : Next Rising (Unit {0})) → GoesUp next → UpEnds r l a next
-up_goes r l a (Goes e) h = tt
-up_goes r l a (Ends e x) h = absurd h
-up_goes r l a (Stops e t) h = tt
+-- no lie of an empty run where there is one
+never_empty : {X : Type 0} (b : Bool) → b ≡ true → b ≡ false → X
+never_empty true e f = absurd (cc (f))
+never_empty false e f = absurd (cc (e))
 
-after_up : (r : Rising) → GoesUp (rise.after_put r)
-after_up r = on (not (has_nothing r.placing) || is_some r.last) where
-  next : (b : Bool) → GoesUp (cond b (Stops r version_spent) (Goes r))
-  next true = tt
-  next false = tt
-
-  on : (b : Bool) → GoesUp (cond b (rise.put_next r) (rise.rise r))
-  on true = next (has_nothing r.placing && r.is_spent)
-  on false = rise_up r
-
-landed_ends : (l : Claim) (r : Rising) → IsRising r → UpEnds r l call.Done (rise.put_landed r)
-landed_ends l r some = on r.placing.reserved r.placing.puts r.last some where
+-- the last call of the way up is such a put
+last_put : (l : Claim) (r : Rising) → IsRising r → has_nothing r.placing ≡ true → UpEnds r l call.Done (Ends r tt)
+last_put l r some nothing = on r.placing.reserved r.placing.puts r.last some nothing where
   with_placing : Option (List ℕ) → List PagePut → Option (List ℕ) → Rising
   with_placing reserved puts last = record r { placing = record { reserved = reserved; puts = puts }; last = last }
 
-  goes : (p : Rising) (b : Bool) → b ≡ false → UpEnds p l call.Done (cond b (Ends p tt) (rise.after_put (rise.landed p)))
-  goes p true e = absurd (cc (e))
-  goes p false e = up_goes p l call.Done (rise.after_put (rise.landed p)) (after_up (rise.landed p))
+  on : (reserved : Option (List ℕ)) (puts : List PagePut) (last : Option (List ℕ)) → IsRising (with_placing reserved puts last) → has_nothing (with_placing reserved puts last).placing ≡ true
+      → UpEnds (with_placing reserved puts last) l call.Done (Ends (with_placing reserved puts last) tt)
+  on (Some bytes) puts last some nothing = absurd (cc (nothing))
+  on None (x ∷ xs) last some nothing = absurd (let one : (length (x ∷ xs) == 0) ≡ false = not_empty (x ∷ xs) (omega arith) in never_empty (length (x ∷ xs) == 0) nothing one)
+  on None [] (Some bytes) some nothing = (bytes, refl, refl)
+  on None [] None some nothing = absurd (cc (some))
 
-  on : (reserved : Option (List ℕ)) (puts : List PagePut) (last : Option (List ℕ)) → IsRising (with_placing reserved puts last)
-      → UpEnds (with_placing reserved puts last) l call.Done (rise.put_landed (with_placing reserved puts last))
-  on (Some bytes) puts last some = goes (with_placing (Some bytes) puts last) false refl
-  on None (x ∷ xs) last some = goes (with_placing None (x ∷ xs) last) (length (x ∷ xs) == 0) (not_empty (x ∷ xs) (omega arith))
-  on None [] (Some bytes) some = (bytes, refl, refl)
-  on None [] None some = absurd (cc (some))
+rises_end : {up : Rising} {next : Next Rising (Unit {0})} (r : Rising) (l : Claim) (a : Answer) → climb.Rises up next → UpEnds r l a next
+rises_end r l a (climb.node_due k p at e) = tt
+rises_end r l a c = tt
 
-up_ends : (l : Claim) (r : Rising) (a : Answer) → IsRising r → UpEnds r l a (rise.rising_next r a)
-up_ends l r call.Done some = landed_ends l r some
-up_ends l r a some = tt
+lands_end : {r : Rising} {done : Result (Unit {0}) Trouble} {next : Next Rising (Unit {0})} (l : Claim) (a : Answer) → IsRising r → done_of a ≡ done → Lands r done next → UpEnds r l a next
+lands_end {r = r} l a some e (climb.is_last x nothing) = subst (λ (b : Answer). UpEnds r l b (Ends r tt)) (sym (done_is a x e)) (last_put l r some nothing)
+lands_end {r = r} l a some e (climb.goes_on x more nothing between on) = rises_end r l a on
+lands_end l a some e c = tt
 
 amid_late : (tree : ℕ) (h : Held) (run : Taken) (Is : Opening → Calls → Type 0) (c : Ask × Answer) (cs : Calls) (applied : ℕ) (k : Amid tree h run Is cs)
     → IsRootPut tree h.lease run c → Risen h.lease tree run applied k.opening (c ∷ k.work) → Late tree h.lease h.deletions applied (c ∷ cs)
@@ -435,7 +405,7 @@ ascends_done {tree = tree} {w = w} {a = a} {h = h} cs k d (step.begins_up {c = c
 ascends_done {tree = tree} cs k d (step.goes_up h r a) =
     rising_done tree h a cs r (rise.rising_next r a) d.0 d.1
     (put_at_work r.placing.reserved r.placing.puts r.chart.tree h.lease None (rise.last_ask r h.lease r.last) (last_at_work r h.lease r.last)) k.0.same
-    (risen_keeps r (done_of a) d.1) (up_ends h.lease r a k.1) (λ o w same is. rising_climbs h.lease r a o w k.1 is)
+    (risen_keeps r (done_of a) d.1) (lands_end h.lease a k.1 refl (lands r (done_of a))) (λ o w same is. rising_climbs h.lease r a o w k.1 is)
 
 clears_done : {tree : ℕ} {w : Work} {a : Answer} {h : Held} {applied : ℕ} (cs : Calls) → KnowsAt tree w cs → DoneAt tree w cs → Clears tree w a h applied
     → Late tree h.lease h.deletions applied ((work_ask tree w, a) ∷ cs)

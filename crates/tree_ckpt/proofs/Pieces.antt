@@ -4,11 +4,9 @@ use Rattle.std.specs.Prelude.{◌==◌, ◌&&◌, nat_lt, map, reverse, drop, re
 use Rattle.std.specs.List.{AllByRecursion}
 use Rattle.std.proofs.Math.Nat.{div-add-mod}
 use Rattle.std.proofs.lemmas.Bool.{eqb-true, eqb-false, ltb-true, ltb-false}
-use Rattle.db_base.specs.declared.trouble.Trouble.{Trouble}
 use Rattle.byte_format.specs.Whole.{offset}
 use Rattle.leaf_view.specs.Leaf.{Leaf}
 use Rattle.leaf_edit.specs.Applied.{applied}
-use Rattle.log_codec.specs.declared.record.PuItem.{PuItem}
 use Rattle.node_codec.specs.Inner.{Inner, inner_of, inner_format, node_of_root}
 use Rattle.node_codec.specs.Node.{Entry, raised}
 use Rattle.node_codec.specs.Tree.{Tree, tree_bytes}
@@ -18,20 +16,15 @@ use Rattle.split_plan.specs.Plan.{put_of, entry_of, on_pages, leaf_bytes, node_b
 use Rattle.split_plan.specs.Sizes.{count_of, sizes_of, cuts_of}
 use Rattle.split_plan.proofs.Counting.{least-count, length-cuts}
 use Rattle.split_plan.proofs.Cutting.{pieces-are-a-cut}
-use Rattle.tree_parts.specs.declared.kept.KeptNode.{KeptNode}
-use Rattle.tree_parts.specs.declared.link.Link.{Link}
-use Rattle.tree_parts.specs.declared.reserve.Reserved.{Reserved}
 use Rattle.tree_parts.specs.Read.{inner_or}
 use Rattle.tree_parts.specs.Reserve.{reservation, reserved_by, next_tree, version_spent, pages_spent}
-use Rattle.leaf_fold.specs.declared.plan.LeafPlan.{LeafPlan}
 use Rattle.leaf_fold.specs.Plan as fold
-use Rattle.tree_rising.specs.declared.node.NodePlan.{NodePlan}
 use Rattle.tree_rising.specs.Nodes as nodes
-use Rattle.tree_rising.specs.declared.root.RootPlan.{RootPlan}
 use Rattle.leaf_fold.specs.Folding.{no_placing}
 use Rattle.tree_rising.specs.Rising.{plan_of}
 use Rattle.tree_rising.specs.Root.{raised_root as planned_root, risen_by, lowered, cut_at, cut_behind, cut_by as cut_by_count, root_cut, root_plan, uncut}
 use Rattle.tree_ckpt.specs.Working.{Reserves, PutsPieces, PutsLeaf, PutsNode, linked_node, raised_root, PutsWhole, PutsBelow, PutsRoot}
+use Rattle.tree_ckpt.proofs.Words.{Trouble, PuItem, KeptNode, Link, Reserved, LeafPlan, NodePlan, RootPlan}
 use Rattle.tree_ckpt.proofs.Spending.{named_numbered}
 
 -- ---- no piece is long

@@ -6,33 +6,26 @@ use Rattle.byte_format.specs.Order.{below_bound, bytes_below, bytes_same}
 use Rattle.byte_format.specs.Whole.{whole, offset}
 use Rattle.db_base.specs.declared.names.ObjName.TheVariants as object
 use Rattle.db_base.specs.declared.names.Place.TheVariants as place
-use Rattle.db_base.specs.declared.trouble.Trouble.{Trouble}
 use Rattle.db_base.specs.declared.trouble.Trouble.TheVariants as trouble
 use Rattle.db_base.specs.declared.trouble.Counter.TheVariants as counter
 use Rattle.leaf_view.specs.Leaf.{Leaf, leaf}
 use Rattle.leaf_view.specs.Lookup.{empty_leaf, page_at}
 use Rattle.leaf_edit.specs.Lacked.{lacked}
-use Rattle.log_codec.specs.declared.record.PuItem.{PuItem}
-use Rattle.cloud_trait.specs.declared.answer.Answer.{Answer}
 use Rattle.cloud_trait.specs.declared.answer.Answer.TheVariants as call
-use Rattle.cloud_trait.specs.Ask.{Ask}
-use Rattle.cloud_trait.specs.Machine.{Goes, Ends, Stops}
 use Rattle.run_cursor.specs.Covered.{is_seen}
 use Rattle.ckpt_parts.specs.Intakes.{has_items}
-use Rattle.tree_parts.specs.declared.chart.Chart.{Chart}
-use Rattle.tree_parts.specs.declared.placing.Placing.{Placing}
 use Rattle.tree_parts.specs.Placing.{root_after, landed_root, has_one_page}
-use Rattle.tree_parts.specs.Read.{leaf_or, tree_held}
-use Rattle.leaf_fold.specs.declared.folding.Folding.{Folding}
+use Rattle.tree_parts.specs.Read.{tree_held}
 use Rattle.leaf_fold.specs.declared.folding.Left.TheVariants.{Right, Handled}
-use Rattle.leaf_fold.specs.declared.plan.LeafPlan.{LeafPlan}
-use Rattle.leaf_fold.specs.Plan as plan
-use Rattle.leaf_fold.specs.Folding.{Step, turned, to_right, planned, handled_by, handle, leaf_side, leaf_at, leaf_found, leaf_got, bad_low, landed, counted, placed}
+use Rattle.leaf_fold.specs.Folding.{Step, leaf_got, landed, counted, placed}
 use Rattle.tree_ckpt.specs.Causing.{Calls, Brings, WasGot, WasPut, WasRoot, WasLeaf, WasRead, IsLink, Shows}
+use Rattle.tree_ckpt.specs.Working.{HoldsLeaf}
 use Rattle.tree_ckpt.specs.Due.{Due, LeafDue, GetsLeaf}
 use Rattle.tree_ckpt.specs.Demands.{BreaksLeaf}
+use Rattle.tree_ckpt.proofs.Words.{Trouble, PuItem, Answer, Goes, Ends, Stops, Ask, Chart, Placing, Folding}
 use Rattle.tree_ckpt.proofs.Brought.{Charted, AreRead, OnWay, read_behind, seen_read}
-use Rattle.tree_ckpt.proofs.Fences.{HasSides, read_sides}
+use Rattle.tree_ckpt.proofs.LeafOutcomes.{IsBehind, Reads, reads}
+use Rattle.tree_ckpt.proofs.LeafOutcomes as step
 use Rattle.tree_ckpt.proofs.Spending.{IsSpentFor, PlanTells, leaf_plan_tells}
 
 -- at a leaf under its lease
@@ -70,23 +63,6 @@ module _ (tree : ℕ) (cs : Calls) (ask : Ask) (a : Answer) where
   LeafTells f (Ends g Handled) = Charted tree g.chart cs
   LeafTells f (Stops g t) = Shows tree cs ask a t × LeafBreaks f t
 
-  planned_tells : (f : Folding) → KnowsLeaf tree f cs → (l : Leaf) (items : List PuItem) → GetsLeaf f.page a l → bytes_same l.low f.low ≡ true → below_bound f.chart.key l.high ≡ true
-      → has_items (lacked l 0 f.chart.run.items) ≡ true → (p : Result LeafPlan Trouble) → PlanTells (LeafDue (tree_held f.chart.root) l f.chart.run.items) p
-      → LeafTells f (planned f l.high items p)
-  planned_tells f k l items gets promised stays lacks (Ok p) h = record { chart = record { same = k.chart.same; root = k.chart.root; nodes = k.chart.nodes }; way = k.way }
-  planned_tells f k l items gets promised stays lacks (Err t) h = (
-    spent_shows tree cs ask a (LeafDue (tree_held f.chart.root) l f.chart.run.items) t h,
-    inr (record { l = l; gets = gets; promised = promised; stays = stays; lacks = lacks; spent = h }),
-  )
-
-  handled_tells : (f : Folding) (l : Leaf) → KnowsLeaf tree f cs → GetsLeaf f.page a l → bytes_same l.low f.low ≡ true → below_bound f.chart.key l.high ≡ true → LeafTells f (handle f l)
-  handled_tells f l k gets promised stays = on (lacked l 0 f.chart.run.items) refl where
-    on : (items : List PuItem) → lacked l 0 f.chart.run.items ≡ items → LeafTells f (handled_by f l items)
-    on [] e = record { same = k.chart.same; root = k.chart.root; nodes = k.chart.nodes }
-    on (x ∷ xs) e =
-        planned_tells f k l (x ∷ xs) gets promised stays (ap has_items e) (plan.leaf_plan (tree_held f.chart.root) f.page l f.chart.run.items)
-        (leaf_plan_tells (tree_held f.chart.root) f.page l f.chart.run.items)
-
   -- a leaf with a high key was read
   leaf_read_from : (page : ℕ) (l : Leaf) (high : List ℕ) → WasLeaf tree page l cs → l.high ≡ Some high → WasRead tree page cs
   leaf_read_from page l high (inl w) h = (w.0, w.2)
@@ -105,59 +81,62 @@ module _ (tree : ℕ) (cs : Calls) (ask : Ask) (a : Answer) where
   either_seen f right false e true g h = inr g
   either_seen f right false e false g h = absurd (cc (h))
 
-  right_tells : (f : Folding) (l : Leaf) (high : List ℕ) (right : ℕ) → KnowsLeaf tree f cs → WasLeaf tree f.page l cs → GetsLeaf f.page a l → bytes_same l.low f.low ≡ true
-      → l.high ≡ Some high → page_at l.right ≡ Some right → bytes_below f.chart.key high ≡ false → LeafTells f (to_right f high right)
-  right_tells f l high right k w gets promised h r beyond = on ((right == f.page) || is_seen f.visited right) refl where
-    link : IsLink tree 0 high right cs
-    link = inr (inr (f.page, l, w, refl, (h, r)))
+  -- the leaf was got
+  leaf_gets : (page : ℕ) (l : Leaf) (got : Option (List ℕ)) → HoldsLeaf page l got → a ≡ call.Got got → GetsLeaf page a l
+  leaf_gets page l (Some bytes) e brought = inl (bytes, brought, e)
+  leaf_gets page l None e brought = inr (e.0, brought, e.1)
 
-    here : WasRead tree f.page cs
-    here = leaf_read_from f.page l high w h
+  was_leaf : (page : ℕ) (l : Leaf) (got : Option (List ℕ)) → HoldsLeaf page l got → WasGot (object.Page tree page) got cs → WasLeaf tree page l cs
+  was_leaf page l (Some bytes) e got = inl (bytes, e, got)
+  was_leaf page l None e got = inr (e.0, e.1, got)
 
-    on : (b : Bool) → ((right == f.page) || is_seen f.visited right) ≡ b → LeafTells f (cond b (Stops f (trouble.Loop right)) (Ends (turned f high right) (Right high right)))
-    on true e = (
-      (either_read f right k.way.seen here (right == f.page) refl (is_seen f.visited right) refl e, (0, high, link)),
-      inl (l, high, gets, promised, (h, r), beyond, either_seen f right (right == f.page) refl (is_seen f.visited right) refl e),
-    )
-    on false e = (
-      record { same = k.chart.same; root = k.chart.root; nodes = k.chart.nodes },
-      record { link = link; seen = read_behind tree f.visited f.page cs k.way.seen here },
-    )
+  -- where it is left by its right link, the link is known
+  right_link : (f : Folding) (got : Option (List ℕ)) (l : Leaf) (high : List ℕ) (right : ℕ) → IsBehind f got l high right → WasGot (object.Page tree f.page) got cs
+      → IsLink tree 0 high right cs × WasRead tree f.page cs
+  right_link f got l high right behind g =
+      let w : WasLeaf tree f.page l cs = was_leaf f.page l got behind.holds g in
+      (inr (inr (f.page, l, w, refl, behind.goes)), leaf_read_from f.page l high w behind.goes.0)
 
-  side_tells : (f : Folding) (l : Leaf) → KnowsLeaf tree f cs → WasLeaf tree f.page l cs → GetsLeaf f.page a l → bytes_same l.low f.low ≡ true → HasSides l.right l.high
-      → (high : Option (List ℕ)) → l.high ≡ high → (right : Option ℕ) → page_at l.right ≡ right → LeafTells f (leaf_side f l high right)
-  side_tells f l k w gets promised sides None h right r = handled_tells f l k gets promised (ap (below_bound f.chart.key) h)
-  side_tells f l k w gets promised sides (Some high) h None r = absurd (let none : None ≡ Some high = sym (sides r) ∙ h in cc (none))
-  side_tells f l k w gets promised sides (Some high) h (Some right) r = on (bytes_below f.chart.key high) refl where
-    on : (b : Bool) → bytes_below f.chart.key high ≡ b → LeafTells f (cond b (handle f l) (to_right f high right))
-    on true e = handled_tells f l k gets promised (ap (below_bound f.chart.key) h ∙ e)
-    on false e = right_tells f l high right k w gets promised h r e
-
-  at_tells : (f : Folding) (l : Leaf) → KnowsLeaf tree f cs → WasLeaf tree f.page l cs → GetsLeaf f.page a l → HasSides l.right l.high → LeafTells f (leaf_at f l)
-  at_tells f l k w gets sides = on (bytes_same l.low f.low) refl where
-    on : (b : Bool) → bytes_same l.low f.low ≡ b → LeafTells f (cond b (leaf_side f l l.high (page_at l.right)) (Stops f (bad_low f l.low)))
-    on true e = side_tells f l k w gets e sides l.high refl (page_at l.right) refl
-    on false e = ((e, (0, k.way.link, inr (l, w, refl))), inl (refl, refl, (l, gets, refl, e)))
+  reads_tell : {f : Folding} {next : Step} (got : Option (List ℕ)) → KnowsLeaf tree f cs → WasGot (object.Page tree f.page) got cs → Brings (object.Page tree f.page) got (ask, a)
+      → a ≡ call.Got got → Reads f (Ok got) next → LeafTells f next
+  reads_tell {f = f} got k g new brought (step.absent other) = ((eqb-false f.page 1 other, new, (0, f.low, k.way.link)), inl (refl, eqb-false f.page 1 other, brought))
+  reads_tell {f = f} got k g new brought (step.wrong bytes left e) = (
+    inl (object.Page f.chart.tree f.page, refl, (k.chart.same, inl (bytes, new, inl (left, e, refl)))),
+    inl (ap (λ (t : ℕ). place.Object (object.Page t f.page)) k.chart.same, (bytes, (left, brought, e, refl))),
+  )
+  reads_tell {f = f} got k g new brought (step.misled same l holds low) =
+      ((low, (0, k.way.link, inr (l, was_leaf f.page l got holds g, refl))), inl (refl, refl, (l, leaf_gets f.page l got holds brought, refl, low)))
+  reads_tell {f = f} got k g new brought (step.loops same l high right behind seen) =
+      let link = right_link f got l high right behind g in (
+        (either_read f right k.way.seen link.1 (right == f.page) refl (is_seen f.visited right) refl seen, (0, high, link.0)),
+        inl (
+          l,
+          high,
+          leaf_gets f.page l got behind.holds brought,
+          behind.promised,
+          behind.goes,
+          behind.beyond,
+          either_seen f right (right == f.page) refl (is_seen f.visited right) refl seen,
+        ),
+      )
+  reads_tell {f = f} got k g new brought (step.passes same l high right behind fresh) =
+      let link = right_link f got l high right behind g in (
+        record { same = k.chart.same; root = k.chart.root; nodes = k.chart.nodes },
+        record { link = link.0; seen = read_behind tree f.visited f.page cs k.way.seen link.1 },
+      )
+  reads_tell got k g new brought (step.spares same l here none) = record { same = k.chart.same; root = k.chart.root; nodes = k.chart.nodes }
+  reads_tell got k g new brought (step.plans same l x xs p here some e) =
+      record { chart = record { same = k.chart.same; root = k.chart.root; nodes = k.chart.nodes }; way = k.way }
+  reads_tell {f = f} got k g new brought (step.unplanned same l x xs t here some e) =
+      let spent : IsSpentFor (LeafDue (tree_held f.chart.root) l f.chart.run.items) t =
+      subst (PlanTells (LeafDue (tree_held f.chart.root) l f.chart.run.items)) e (leaf_plan_tells (tree_held f.chart.root) f.page l f.chart.run.items) in (
+        spent_shows tree cs ask a (LeafDue (tree_held f.chart.root) l f.chart.run.items) t spent,
+        inr (record { l = l; gets = leaf_gets f.page l got here.holds brought; promised = here.promised; stays = here.below; lacks = ap has_items some; spent = spent }),
+      )
 
   pub leaf_got_tells : (f : Folding) (got : Option (List ℕ)) → KnowsLeaf tree f cs → WasGot (object.Page tree f.page) got cs → Brings (object.Page tree f.page) got (ask, a)
       → LeafTells f (leaf_got f (Ok got))
-  leaf_got_tells f (Some bytes) k got new = on (whole leaf bytes) refl where
-    brought : a ≡ call.Got (Some bytes)
-    brought = ap (λ (c : Ask × Answer). c.1) new.1
-
-    on : (r : Result Leaf ℕ) → whole leaf bytes ≡ r → LeafTells f (leaf_found f (leaf_or f.chart.tree f.page (offset leaf bytes) r))
-    on (Ok l) e = at_tells f l k (inl (bytes, e, got)) (inl (bytes, brought, e)) (read_sides bytes l e)
-    on (Err left) e = (
-      inl (object.Page f.chart.tree f.page, refl, (k.chart.same, inl (bytes, new, inl (left, e, refl)))),
-      inl (ap (λ (t : ℕ). place.Object (object.Page t f.page)) k.chart.same, (bytes, (left, brought, e, refl))),
-    )
-  leaf_got_tells f None k got new = on (f.page == 1) refl where
-    brought : a ≡ call.Got None
-    brought = ap (λ (c : Ask × Answer). c.1) new.1
-
-    on : (b : Bool) → (f.page == 1) ≡ b → LeafTells f (cond b (leaf_at f empty_leaf) (Stops f (trouble.Absent f.page)))
-    on true e = at_tells f empty_leaf k (inr (eqb-true f.page 1 e, refl, got)) (inr (eqb-true f.page 1 e, brought, refl)) (λ none. refl)
-    on false e = ((eqb-false f.page 1 e, new, (0, f.low, k.way.link)), inl (refl, eqb-false f.page 1 e, brought))
+  leaf_got_tells f got k g new = reads_tell got k g new (ap (λ (c : Ask × Answer). c.1) new.1) (reads f (Ok got))
 
   -- ---- puts
 

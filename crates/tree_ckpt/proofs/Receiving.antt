@@ -2,20 +2,13 @@
 use Rattle.std.proofs.Common.{◌≡◌, ℕ, ◌≤◌, ◌+◌, Bool, true, false, cond, List, [], ◌∷◌, ◌++◌, length, Option, Some, None, Result, Ok, Err, refl, sym, ap, subst, arith}
 use Rattle.std.specs.Prelude.{map, filter}
 use Rattle.std.proofs.lemmas.List.{length-map}
-use Rattle.db_base.specs.declared.names.QueueName.{QueueName}
-use Rattle.log_codec.specs.declared.record.PuItem.{PuItem}
 use Rattle.log_codec.specs.declared.record.PuRec.{PuRec}
 use Rattle.log_codec.specs.Pu.{pu_of}
-use Rattle.run_cursor.specs.Run.{Taken}
 use Rattle.run_cursor.specs.Covered.{covered_ids, new_ones, is_seen, is_covered}
-use Rattle.cloud_trait.specs.declared.answer.Answer.{Answer}
 use Rattle.cloud_trait.specs.declared.answer.Answer.TheVariants as call
-use Rattle.cloud_trait.specs.declared.message.Message.{Message}
 use Rattle.cloud_trait.specs.Ask.{Receive}
-use Rattle.cloud_trait.specs.Views.{received_of}
-use Rattle.cloud_trait.specs.Weather.{Fits}
-use Rattle.ckpt_parts.specs.declared.intake.Intake.{Intake}
 use Rattle.ckpt_parts.specs.Intakes.{item_with, with_first, items_of, intake_of, TakesIn, TakesItems}
+use Rattle.tree_ckpt.proofs.Words.{QueueName, PuItem, Taken, Answer, Message, received_of, Fits, Intake}
 
 -- a receive brings 256 messages at most, an item is read of each, and an id at most is deleted for each item
 

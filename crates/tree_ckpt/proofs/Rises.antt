@@ -2,42 +2,31 @@
 use Rattle.std.proofs.Common.{◌≡◌, ◌<◌, ◌+◌, ℕ, zero, suc, Bool, true, false, cond, List, [], ◌∷◌, length, Option, Some, None, Result, Ok, Err, refl, ap, subst, ◌∙◌, inl, inr, ◌⊎◌, arith}
 use Rattle.std.specs.Prelude.{◌==◌, ◌||◌, ◌&&◌, ◌-◌, not, is_none, is_some, slice_get, map}
 use Rattle.std.proofs.lemmas.List.{length-map, length-reverse}
-use Rattle.db_base.specs.declared.trouble.Trouble.{Trouble}
 use Rattle.node_codec.specs.Inner.{Inner, inner_of}
 use Rattle.node_codec.specs.Tree.{Tree}
-use Rattle.cloud_trait.specs.declared.answer.Answer.{Answer}
-use Rattle.cloud_trait.specs.Ask.{Ask}
-use Rattle.cloud_trait.specs.Machine.{Goes, Ends, Stops}
 use Rattle.split_plan.specs.Cut.{cut_by as pieces_by}
 use Rattle.split_plan.specs.Part.{NodePart, entry_key, part_of_node}
 use Rattle.split_plan.specs.Plan.{put_of, on_pages, node_bytes, node_pieces}
 use Rattle.split_plan.specs.Sizes.{count_of, cuts_of}
-use Rattle.tree_parts.specs.declared.kept.KeptNode.{KeptNode}
-use Rattle.tree_parts.specs.declared.placing.Placing.{Placing}
-use Rattle.tree_parts.specs.declared.reserve.Reserved.{Reserved}
 use Rattle.tree_parts.specs.Placing.{has_nothing}
 use Rattle.tree_parts.specs.Read.{inner_read, tree_held}
 use Rattle.tree_parts.specs.Reserve.{version_spent, reservation}
-use Rattle.tree_rising.specs.declared.node.NodePlan.{NodePlan}
-use Rattle.tree_rising.specs.declared.rising.Rising.{Rising}
-use Rattle.tree_rising.specs.declared.root.RootPlan.{RootPlan}
 use Rattle.tree_rising.specs.Nodes as nodes
 use Rattle.tree_rising.specs.Rising.{Step, next_touched, touched_node, put_node, last_plan, put_root, rise_at, rise, landed, after_put, put_landed}
 use Rattle.tree_ckpt.specs.Causing.{Calls, Shows}
 use Rattle.tree_ckpt.specs.Due.{NodeDue, RootDue, WasLastButOne}
+use Rattle.tree_ckpt.proofs.Words.{Trouble, Answer, Goes, Ends, Stops, Ask, KeptNode, Placing, Reserved, Rising, NodePlan, RootPlan}
 use Rattle.tree_ckpt.proofs.Brought.{IsKept, AreKept, Charted}
 use Rattle.tree_ckpt.proofs.Folds.{not_empty}
 use Rattle.tree_ckpt.proofs.Plots.{HasPut, spent_shows, chart_landed}
+use Rattle.tree_ckpt.proofs.RiseOutcomes.{IsRising, Rises, Lands, rises, lands}
+use Rattle.tree_ckpt.proofs.RiseOutcomes as step
 use Rattle.tree_ckpt.proofs.Spending.{IsSpentFor, PlanTells, CutsShort, node_plan_tells, last_plan_tells, last_plan_short}
 
 pub kept_at : (tree : ℕ) (ks : List KeptNode) (at : ℕ) (k : KeptNode) (cs : Calls) → AreKept tree ks cs → slice_get ks at ≡ Some k → IsKept tree k cs
 kept_at tree [] at k cs h e = absurd (cc (e))
 kept_at tree (x ∷ xs) zero k cs h e = let same : x ≡ k = cc (e) in subst (λ (n : KeptNode). IsKept tree n cs) same h.0
 kept_at tree (x ∷ xs) (suc at) k cs h e = kept_at tree xs at k cs h.1 e
-
--- something is to be put on the way up
-abbrev pub IsRising : Rising → Type 0
-IsRising r = (not (has_nothing r.placing) || (is_some r.last && not r.is_spent)) ≡ true
 
 -- where the last version is reserved, the tree object stood at the last version but one
 abbrev pub KnowsSpent : ℕ → Rising → Calls → Type 0
@@ -100,16 +89,6 @@ module _ (tree : ℕ) (cs : Calls) (ask : Ask) (a : Answer) where
   RiseTells up (Ends r x) = Unit {0}
   RiseTells up (Stops r t) = Shows tree cs ask a t × UpSpends up t
 
-  put_node_tells : (r : Rising) (next level : ℕ) (k : KeptNode) (n : Inner) (p : Result NodePlan Trouble) → Charted tree r.chart cs → KnowsSpent tree r cs → touched_node r ≡ Some k
-      → inner_of k.bytes ≡ Some n → PlanTells (NodeDue (tree_held r.chart.root) n r.chart.links) p → NodeHasPage p → RiseTells r (put_node r next level p)
-  put_node_tells r next level k n (Ok p) c spent at reads h some = (
-    record { same = c.same; root = c.root; nodes = c.nodes },
-    ap (λ (b : Bool). not b || (is_some r.last && not r.is_spent)) (page_is p.placing some),
-    spent,
-  )
-  put_node_tells r next level k n (Err t) c spent at reads h some =
-      (spent_shows tree cs ask a (NodeDue (tree_held r.chart.root) n r.chart.links) t h, inl (k, n, at, reads, h))
-
   either_true : (b : Bool) → (b || true) ≡ true
   either_true true = refl
   either_true false = refl
@@ -120,26 +99,31 @@ module _ (tree : ℕ) (cs : Calls) (ask : Ask) (a : Answer) where
   root_rises p false e some = ap (λ (b : Bool). not (has_nothing p.placing) || not b) e ∙ either_true (not (has_nothing p.placing))
   root_rises p true e some = ap (λ (b : Bool). not b || not p.is_spent) (page_is p.placing (some e))
 
-  put_root_tells : (r : Rising) (p : Result RootPlan Trouble) → Charted tree r.chart cs → touched_node r ≡ None
-      → PlanTells (RootDue (tree_held r.chart.root) r.chart.links r.chart.run.top) p → CutsShort (tree_held r.chart.root) p → RiseTells r (put_root r p)
-  put_root_tells r (Ok p) c none h short = (
+  rises_tell : {r : Rising} {next : Step} → Charted tree r.chart cs → KnowsSpent tree r cs → Rises r next → RiseTells r next
+  rises_tell {r = r} c spent (step.node_due k p at e) = (
     record { same = c.same; root = c.root; nodes = c.nodes },
-    root_rises p p.is_spent refl (λ e. (short e).1),
-    λ e. (tree_held r.chart.root, c.root, (short e).0),
+    ap (λ (b : Bool). not b || (is_some r.last && not r.is_spent))
+        (page_is p.placing (subst NodeHasPage e (of_some (tree_held r.chart.root) k.page (nodes.linked_by r.chart.links (inner_read r.chart.tree k.page k.bytes))))),
+    spent,
   )
-  put_root_tells r (Err t) c none h short = (spent_shows tree cs ask a (RootDue (tree_held r.chart.root) r.chart.links r.chart.run.top) t h, inr (none, h))
+  rises_tell {r = r} c spent (step.no_node k t at e) =
+      let kept : IsKept tree k cs = kept_at tree r.chart.nodes (next_touched r) k cs c.nodes at in
+      let h : IsSpentFor (NodeDue (tree_held r.chart.root) kept.1.0 r.chart.links) t =
+      subst (PlanTells (NodeDue (tree_held r.chart.root) kept.1.0 r.chart.links)) e (node_plan_tells (tree_held r.chart.root) r.chart.tree k kept.1.0 r.chart.links kept.1.1) in
+      (spent_shows tree cs ask a (NodeDue (tree_held r.chart.root) kept.1.0 r.chart.links) t h, inl (k, kept.1.0, at, kept.1.1, h))
+  rises_tell {r = r} c spent (step.root_due p none e) =
+      let short : CutsShort (tree_held r.chart.root) (Ok p) = subst (CutsShort (tree_held r.chart.root)) e (last_plan_short (tree_held r.chart.root) r.chart.links r.chart.run.top) in (
+        record { same = c.same; root = c.root; nodes = c.nodes },
+        root_rises p p.is_spent refl (λ f. (short f).1),
+        λ f. (tree_held r.chart.root, c.root, (short f).0),
+      )
+  rises_tell {r = r} c spent (step.no_root t none e) =
+      let h : IsSpentFor (RootDue (tree_held r.chart.root) r.chart.links r.chart.run.top) t =
+      subst (PlanTells (RootDue (tree_held r.chart.root) r.chart.links r.chart.run.top)) e (last_plan_tells (tree_held r.chart.root) r.chart.links r.chart.run.top) in
+      (spent_shows tree cs ask a (RootDue (tree_held r.chart.root) r.chart.links r.chart.run.top) t h, inr (none, h))
 
   pub rise_tells : (r : Rising) → Charted tree r.chart cs → KnowsSpent tree r cs → RiseTells r (rise r)
-  rise_tells r c spent = on (touched_node r) refl where
-    on : (o : Option KeptNode) → touched_node r ≡ o → RiseTells r (rise_at r (next_touched r) o)
-    on (Some k) e =
-        let kept : IsKept tree k cs = kept_at tree r.chart.nodes (next_touched r) k cs c.nodes e in
-        put_node_tells r (next_touched r + 1) (k.level + 1) k kept.1.0 (nodes.node_plan (tree_held r.chart.root) r.chart.tree k r.chart.links) c spent e kept.1.1
-        (node_plan_tells (tree_held r.chart.root) r.chart.tree k kept.1.0 r.chart.links kept.1.1)
-        (of_some (tree_held r.chart.root) k.page (nodes.linked_by r.chart.links (inner_read r.chart.tree k.page k.bytes)))
-    on None e =
-        put_root_tells r (last_plan r) c e (last_plan_tells (tree_held r.chart.root) r.chart.links r.chart.run.top)
-        (last_plan_short (tree_held r.chart.root) r.chart.links r.chart.run.top)
+  rise_tells r c spent = rises_tell c spent (rises r)
 
   -- behind the last put of a node, or behind the pieces of a tree object for which no version is left
   abbrev pub PutStops : Rising → Trouble → Type 0
@@ -152,33 +136,18 @@ module _ (tree : ℕ) (cs : Calls) (ask : Ask) (a : Answer) where
   PutTells r (Ends n x) = Unit {0}
   PutTells r (Stops n t) = Shows tree cs ask a t × PutStops r t
 
+  put_tells : (r : Rising) (next : Step) → has_nothing r.placing ≡ false → has_nothing (landed r).placing ≡ true → r.last ≡ None → RiseTells (landed r) next → PutTells r next
+  put_tells r (Goes n) some nothing between h = h
+  put_tells r (Ends n x) some nothing between h = h
+  put_tells r (Stops n t) some nothing between h = (h.0, (some, nothing, inl (between, h.1)))
+
+  lands_tell : {r : Rising} {next : Step} (done : Result (Unit {0}) Trouble) → done ≡ Ok tt → Charted tree (landed r).chart cs → KnowsSpent tree r cs → Lands r done next → PutTells r next
+  lands_tell done e after spent (step.not_put t) = absurd (cc (e))
+  lands_tell done e after spent (step.is_last x nothing) = tt
+  lands_tell done e after spent (step.more x some up) = (after, up, spent)
+  lands_tell done e after spent (step.cut_short x some nothing behind short) = (tt, (some, nothing, inr (behind, short, refl)))
+  lands_tell {r = r} {next = next} done e after spent (step.goes_on x some nothing between up) =
+      put_tells r next some nothing between (rises_tell after spent up)
+
   pub rise_put_tells : (r : Rising) → Charted tree r.chart cs → KnowsSpent tree r cs → HasPut tree cs ask a r.placing.reserved → PutTells r (put_landed r)
-  rise_put_tells r k spent put = on (has_nothing r.placing) refl where
-    after : Charted tree (landed r).chart cs
-    after = chart_landed tree cs ask a r.chart r.placing k put
-
-    put_tells : has_nothing r.placing ≡ false → has_nothing (landed r).placing ≡ true → r.last ≡ None → (x : Step) → RiseTells (landed r) x → PutTells r x
-    put_tells some nothing between (Goes n) h = h
-    put_tells some nothing between (Ends n x) h = h
-    put_tells some nothing between (Stops n t) h = (h.0, (some, nothing, inl (between, h.1)))
-
-    -- behind the last piece
-    last_tells : has_nothing r.placing ≡ false → has_nothing (landed r).placing ≡ true → is_some r.last ≡ true → (b : Bool) → r.is_spent ≡ b
-        → PutTells r (cond b (Stops (landed r) version_spent) (Goes (landed r)))
-    last_tells some nothing behind true e = (tt, (some, nothing, inr (behind, e, refl)))
-    last_tells some nothing behind false e = (
-      after,
-      ap (λ (b : Bool). not (has_nothing (landed r).placing) || (b && not r.is_spent)) behind
-          ∙ (ap (λ (b : Bool). not (has_nothing (landed r).placing) || not b) e ∙ either_true (not (has_nothing (landed r).placing))),
-      spent,
-    )
-
-    further : has_nothing r.placing ≡ false → (b : Bool) → has_nothing (landed r).placing ≡ b → (last : Option (List ℕ)) → r.last ≡ last
-        → PutTells r (cond (not b || is_some last) (cond (b && r.is_spent) (Stops (landed r) version_spent) (Goes (landed r))) (rise (landed r)))
-    further some false e last between = (after, ap (λ (b : Bool). not b || (is_some r.last && not r.is_spent)) e, spent)
-    further some true e (Some bytes) between = last_tells some e (ap (λ (o : Option (List ℕ)). is_some o) between) r.is_spent refl
-    further some true e None between = put_tells some e between (rise (landed r)) (rise_tells (landed r) after spent)
-
-    on : (b : Bool) → has_nothing r.placing ≡ b → PutTells r (cond b (Ends r tt) (after_put (landed r)))
-    on true e = tt
-    on false e = further e (has_nothing (landed r).placing) refl r.last refl
+  rise_put_tells r k spent put = lands_tell (Ok tt) refl (chart_landed tree cs ask a r.chart r.placing k put) spent (lands r (Ok tt))

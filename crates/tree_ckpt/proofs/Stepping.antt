@@ -1,13 +1,8 @@
 -- A step of a tree checkpoint, by the one answer of its call.
 use Rattle.std.proofs.Common.{◌≡◌}
 use Rattle.db_base.specs.declared.trouble.Trouble.TheVariants as trouble
-use Rattle.cloud_trait.specs.declared.answer.Answer.{Answer}
 use Rattle.cloud_trait.specs.declared.answer.Answer.TheVariants as call
-use Rattle.cloud_trait.specs.declared.turn.CkptAnswer.{CkptAnswer}
-use Rattle.cloud_trait.specs.declared.turn.Turn.{Turn}
-use Rattle.cloud_trait.specs.declared.turn.Turn.TheVariants.{Stopped}
 use Rattle.cloud_trait.specs.Caller.{Caller}
-use Rattle.cloud_trait.specs.Machine.{Took, calls_of}
 use Rattle.cloud_trait.specs.Seen.{Seen}
 use Rattle.cloud_trait.specs.Weather.{Makes}
 use Rattle.calm_calls.proofs.CalmLemmas.{goes_well}
@@ -15,6 +10,7 @@ use Rattle.tree_ckpt.specs.Making.{Making, making_ask, MakingLeads, KeepsLeases}
 use Rattle.tree_ckpt.specs.Standing.{Stands}
 use Rattle.tree_ckpt.specs.Meaning.{MeansDone}
 use Rattle.tree_ckpt.specs.Stepped.{Tells, Stepped}
+use Rattle.tree_ckpt.proofs.Words.{Answer, CkptAnswer, Turn, Stopped, Took, calls_of}
 use Rattle.tree_ckpt.proofs.Causes.{KnowsAt, went_brought, took_tells}
 use Rattle.tree_ckpt.proofs.Meaning.{went_done, took_done}
 use Rattle.tree_ckpt.proofs.Dues.{due_brought, cut_last_but_one}

@@ -1,19 +1,14 @@
 -- A tree checkpoint tells the ids of its one receive.
 use Rattle.std.proofs.Common.{◌≡◌, ℕ, List, [], ◌∷◌, ◌++◌, refl, sym, ap, subst, ◌∙◌}
 use Rattle.db_base.specs.declared.names.QueueName.TheVariants as queue
-use Rattle.cloud_trait.specs.declared.answer.Answer.{Answer}
 use Rattle.cloud_trait.specs.declared.answer.Answer.TheVariants as call
-use Rattle.cloud_trait.specs.declared.message.Message.{Message}
-use Rattle.cloud_trait.specs.Ask.{Ask, Get, GetHeld, PutHeld, Send, Receive, Delete, Take, Renew, Release}
-use Rattle.cloud_trait.specs.Claim.{Claim}
-use Rattle.cloud_trait.specs.Machine.{Deed, Came, calls_of}
-use Rattle.cloud_trait.specs.Weather.{Fits}
+use Rattle.cloud_trait.specs.Ask.{Get, GetHeld, PutHeld, Send, Receive, Delete, Take, Renew, Release}
 use Rattle.ckpt_parts.specs.Intakes.{ids_of}
-use Rattle.run_cursor.specs.Run.{Taken}
 use Rattle.tree_ckpt.specs.Making.{Making, new_making, making_ask, received_after, MakingLeads}
 use Rattle.tree_ckpt.specs.Standing.{Went}
 use Rattle.tree_ckpt.specs.Causing.{Calls}
 use Rattle.tree_ckpt.specs.Meaning.{Opening, opening_calls, IsAtWork, AreAtWork, Works, Tried, deletes_over}
+use Rattle.tree_ckpt.proofs.Words.{Taken, Answer, Message, Claim, Deed, Came, calls_of, Fits, Ask}
 
 -- what the newest receive brought
 abbrev told_by : Calls → List ℕ

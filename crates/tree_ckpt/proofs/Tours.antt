@@ -8,42 +8,26 @@ use Rattle.byte_format.specs.Whole.{whole, offset}
 use Rattle.byte_format.proofs.OrderLemmas.{same_is}
 use Rattle.db_base.specs.declared.names.Lock.TheVariants as lock
 use Rattle.db_base.specs.declared.names.ObjName.TheVariants as object
-use Rattle.db_base.specs.declared.trouble.Trouble.{Trouble}
 use Rattle.db_base.specs.declared.trouble.Trouble.TheVariants as trouble
 use Rattle.leaf_view.specs.Leaf.{Leaf, leaf}
 use Rattle.leaf_view.specs.Lookup.{empty_leaf, page_at, holds}
 use Rattle.leaf_edit.specs.Lacked.{lacked}
-use Rattle.log_codec.specs.declared.record.PuItem.{PuItem}
-use Rattle.cloud_trait.specs.declared.answer.Answer.{Answer}
 use Rattle.cloud_trait.specs.declared.answer.Answer.TheVariants as call
-use Rattle.cloud_trait.specs.Ask.{Ask, GetHeld, Take, Release}
-use Rattle.cloud_trait.specs.Claim.{Claim}
-use Rattle.cloud_trait.specs.Machine.{Next, Goes, Ends, Stops}
-use Rattle.cloud_trait.specs.Views.{got_of, done_of}
+use Rattle.cloud_trait.specs.Ask.{GetHeld, Take, Release}
 use Rattle.run_cursor.specs.Covered.{is_seen}
-use Rattle.run_cursor.specs.Run.{Taken}
-use Rattle.split_plan.specs.declared.put_list.PagePut.{PagePut}
 use Rattle.ckpt_parts.specs.Intakes.{has_items}
-use Rattle.tree_parts.specs.declared.chart.Chart.{Chart}
-use Rattle.tree_parts.specs.declared.kept.KeptNode.{KeptNode}
-use Rattle.tree_parts.specs.declared.link.Link.{Link}
-use Rattle.tree_parts.specs.declared.placing.Placing.{Placing}
 use Rattle.tree_parts.specs.Kept.{links_at, with_kept}
 use Rattle.node_codec.specs.Inner.{Inner, inner_of, inner_format}
 use Rattle.tree_parts.specs.Placing.{put_in_hand, landed_root, landed_placing, has_nothing, has_one_page}
 use Rattle.tree_parts.specs.Read.{inner_or, leaf_or, tree_held}
-use Rattle.tree_descent.specs.declared.descent.Descent.{Descent}
 use Rattle.tree_descent.specs.Descent.{descent_ask, descent_got, descent_next, got_node, fork_of, forked_by}
-use Rattle.tree_descent.specs.declared.fork.Fork.{Fork}
-use Rattle.leaf_fold.specs.declared.folding.Folding.{Folding}
-use Rattle.leaf_fold.specs.declared.folding.Left.{Left}
 use Rattle.leaf_fold.specs.declared.folding.Left.TheVariants.{Right, Handled}
-use Rattle.leaf_fold.specs.declared.plan.LeafPlan.{LeafPlan}
 use Rattle.leaf_fold.specs.Plan.{leaf_plan}
 use Rattle.leaf_fold.specs.Folding as fold
 use Rattle.tree_ckpt.specs.Causing.{Calls, WasGot, GoesRight}
 use Rattle.tree_ckpt.specs.Meaning.{Opening}
 use Rattle.tree_ckpt.specs.Working.{done_over, puts_of, Visit, held_over, visits_over, AreLooks, HoldsLeaf, IsLeft, IsFor, IsVisit, Place, leaf_place, IsLeftFor, IsStart, IsCome, IsWay, IsOver, IsAmong, root_behind, links_behind, looks_of, AreVisits, lacked_on, IsSettled, PutsLeaf, AreTurns, Outcome, Planned, Spared, Passed}
+use Rattle.tree_ckpt.proofs.Words.{Trouble, PuItem, Taken, Answer, Claim, Next, Goes, Ends, Stops, got_of, done_of, Ask, PagePut, Chart, KeptNode, Placing, Link, Descent, Fork, Folding, Left, LeafPlan}
 use Rattle.tree_ckpt.proofs.Answers.{got_is, done_is}
 use Rattle.tree_ckpt.proofs.Brought.{AreKept, kept_more}
 use Rattle.tree_ckpt.proofs.Turns.{Turned, WayTurned, place_of, turns_more, turns_both, way_more, way_both, node_got, descent_turned}
@@ -53,7 +37,8 @@ use Rattle.tree_ckpt.proofs.Charts.{IsFurther, GoesFurther, descent_further}
 use Rattle.tree_ckpt.proofs.Covers.{IsLeast, AreHandledTo, none_handled, handled_more, handled_here, low_upto}
 use Rattle.tree_ckpt.proofs.Folds.{not_empty, plan_some}
 use Rattle.tree_ckpt.proofs.Pieces.{leaf_puts}
-use Rattle.tree_ckpt.proofs.Fences.{HasSides, read_sides}
+use Rattle.tree_ckpt.proofs.LeafOutcomes.{Reads, reads}
+use Rattle.tree_ckpt.proofs.LeafOutcomes as step
 use Rattle.tree_ckpt.proofs.Lows.{IsUpto, ComesUpto, WayUpto, descent_upto}
 
 -- ---- between leaves
@@ -475,10 +460,11 @@ module _ (lease : Claim) (f : Folding) (got : Option (List ℕ)) (l : Leaf) (o :
     (refl, refl),
   )
 
-  planned_tours : IsUpto l.low f.chart.key → holds l f.chart.key ≡ true → (items : List PuItem) → lacked l 0 f.chart.run.items ≡ items → has_items items ≡ true → (p : Result LeafPlan Trouble)
-      → leaf_plan (tree_held f.chart.root) f.page l f.chart.run.items ≡ p → LeafTours lease (fold.planned f l.high items p) o work
+  -- it is to be put as planned
+  planned : IsUpto l.low f.chart.key → holds l f.chart.key ≡ true → (items : List PuItem) → lacked l 0 f.chart.run.items ≡ items → has_items items ≡ true → (p : LeafPlan)
+      → leaf_plan (tree_held f.chart.root) f.page l f.chart.run.items ≡ Ok p → AtLeaf lease (fold.put_planned (fold.handled_to f l.high) items p) o work
   unfolding visit_with visit_calls
-  planned_tours low here items same some (Ok p) e = inr (record {
+  planned low here items same some p e = inr (record {
     visits = k.tours.rests.visits;
     are = k.tours.rests.are;
     visit = visit_with (Planned p);
@@ -496,73 +482,46 @@ module _ (lease : Claim) (f : Folding) (got : Option (List ℕ)) (l : Leaf) (o :
     calls = ap (done_over (puts_of f.chart.tree lease (Some f.lease) p.placing)) got_calls;
     some = plan_some (tree_held f.chart.root) f.page l f.chart.run.items p e;
   })
-  planned_tours low here items same some (Err t) e = tt
-
-  handled_tours : IsUpto l.low f.chart.key → holds l f.chart.key ≡ true → (items : List PuItem) → lacked l 0 f.chart.run.items ≡ items → LeafTours lease (fold.handled_by f l items) o work
-  handled_tours low here [] same = (spared low here (ap has_items same), tt)
-  handled_tours low here (x ∷ xs) same = planned_tours low here (x ∷ xs) same refl (leaf_plan (tree_held f.chart.root) f.page l f.chart.run.items) refl
-
-  right_tours : (high : List ℕ) (right : ℕ) → GoesRight l.high (page_at l.right) high right → IsUpto high f.chart.key → LeafTours lease (fold.to_right f high right) o work
-  right_tours high right goes upto = on ((right == f.page) || is_seen f.visited right) where
-    on : (b : Bool) → LeafTours lease (cond b (Stops f (trouble.Loop right)) (Ends (fold.turned f high right) (Right high right))) o work
-    on true = tt
-    on false =
-        let left = passed (record { level = 1; low = high; page = right }) refl upto goes in
-        (left.0, (k.tours.least, upto, left.1))
 
   -- a key that is not below its low key and is below its high key is in its range
-  in_range : IsUpto l.low f.chart.key → (high : Option (List ℕ)) → l.high ≡ high → below_bound f.chart.key high ≡ true → holds l f.chart.key ≡ true
-  in_range low high h below =
-      ap (λ (b : Bool). not b && below_bound f.chart.key l.high) low ∙ (ap (below_bound f.chart.key) h ∙ below)
-
-  -- there is no high key without a right page
-  sides : HasSides l.right l.high
-  sides = on got k.holds where
-    on : (g : Option (List ℕ)) → HoldsLeaf f.page l g → HasSides l.right l.high
-    on (Some bytes) e = read_sides bytes l e
-    on None e = λ none. ap (λ (m : Leaf). m.high) e.1
-
-  side_tours : IsUpto l.low f.chart.key → (high : Option (List ℕ)) → l.high ≡ high → (right : Option ℕ) → page_at l.right ≡ right → LeafTours lease (fold.leaf_side f l high right) o work
-  side_tours low None h right e = handled_tours low (in_range low None h refl) (lacked l 0 f.chart.run.items) refl
-  side_tours low (Some high) h None e = absurd (let none : None ≡ Some high = sym (sides e) ∙ h in cc (none))
-  side_tours low (Some high) h (Some right) e = on (bytes_below f.chart.key high) refl where
-    on : (b : Bool) → bytes_below f.chart.key high ≡ b → LeafTours lease (cond b (fold.handle f l) (fold.to_right f high right)) o work
-    on true under = handled_tours low (in_range low (Some high) h under) (lacked l 0 f.chart.run.items) refl
-    on false under = right_tours high right (h, e) under
-
-at_tours : (lease : Claim) (f : Folding) (got : Option (List ℕ)) (l : Leaf) (o : Opening) (work : Calls) → IsGot lease f got l o work → LeafTours lease (fold.leaf_at f l) o work
-at_tours lease f got l o work k = on (bytes_same l.low f.low) refl where
-  on : (b : Bool) → bytes_same l.low f.low ≡ b → LeafTours lease (cond b (fold.leaf_side f l l.high (page_at l.right)) (Stops f (fold.bad_low f l.low))) o work
-  on true same =
-      side_tours lease f got l o work k (same_is l.low f.low same) (low_upto l f.low f.chart.key same k.upto) l.high refl (page_at l.right) refl
-  on false same = tt
+  in_range : IsUpto l.low f.chart.key → below_bound f.chart.key l.high ≡ true → holds l f.chart.key ≡ true
+  in_range low below = ap (λ (b : Bool). not b && below_bound f.chart.key l.high) low ∙ below
 
 -- the get of a leaf that is taken
 abbrev get_of : Folding → Ask
 get_of f = GetHeld (object.Page f.chart.tree f.page) f.lease
 
+got_now : (lease : Claim) (f : Folding) (got : Option (List ℕ)) (l : Leaf) (o : Opening) (work : Calls) → Begins lease f o work → HoldsLeaf f.page l got
+    → IsGot lease f got l o ((get_of f, call.Got got) ∷ work)
+got_now lease f got l o work k e =
+    record { before = k.before; tours = k.tours; upto = k.upto; holds = e; calls = ap (λ (cs : Calls). (get_of f, call.Got got) ∷ cs) k.calls }
+
+reads_tour : {f : Folding} {next : Next Folding Left} (lease : Claim) (got : Option (List ℕ)) (o : Opening) (work : Calls) → Begins lease f o work → Reads f (Ok got) next
+    → LeafTours lease next o ((get_of f, call.Got got) ∷ work)
+reads_tour {f = f} lease got o work k (step.passes same l high right behind new) =
+    let now : IsGot lease f got l o ((get_of f, call.Got got) ∷ work) = got_now lease f got l o work k behind.holds in
+    let left = passed lease f got l o ((get_of f, call.Got got) ∷ work) now (same_is l.low f.low behind.promised) (record { level = 1; low = high; page = right }) refl behind.beyond behind.goes in
+    (left.0, (now.tours.least, behind.beyond, left.1))
+reads_tour {f = f} lease got o work k (step.spares same l here none) =
+    let low : IsUpto l.low f.chart.key = low_upto l f.low f.chart.key here.promised k.upto in
+    let now : IsGot lease f got l o ((get_of f, call.Got got) ∷ work) = got_now lease f got l o work k here.holds in
+    let promised : l.low ≡ f.low = same_is l.low f.low here.promised in (
+      spared lease f got l o ((get_of f, call.Got got) ∷ work) now promised low
+          (in_range lease f got l o ((get_of f, call.Got got) ∷ work) now promised low here.below) (ap has_items none),
+      tt,
+    )
+reads_tour {f = f} lease got o work k (step.plans same l x xs p here some e) =
+    let low : IsUpto l.low f.chart.key = low_upto l f.low f.chart.key here.promised k.upto in
+    let now : IsGot lease f got l o ((get_of f, call.Got got) ∷ work) = got_now lease f got l o work k here.holds in
+    let promised : l.low ≡ f.low = same_is l.low f.low here.promised in
+    planned lease f got l o ((get_of f, call.Got got) ∷ work) now promised low
+    (in_range lease f got l o ((get_of f, call.Got got) ∷ work) now promised low here.below) (x ∷ xs) some refl p e
+reads_tour lease got o work k c = tt
+
 got_tours : (lease : Claim) (f : Folding) (a : Answer) (o : Opening) (work : Calls) → Begins lease f o work → (g : Result (Option (List ℕ)) Trouble) → got_of a ≡ g
     → LeafTours lease (fold.leaf_got f g) o ((get_of f, a) ∷ work)
-got_tours lease f a o work k (Ok (Some bytes)) e = on (whole leaf bytes) refl where
-  on : (r : Result Leaf ℕ) → whole leaf bytes ≡ r → LeafTours lease (fold.leaf_found f (leaf_or f.chart.tree f.page (offset leaf bytes) r)) o ((get_of f, a) ∷ work)
-  on (Ok l) is = at_tours lease f (Some bytes) l o ((get_of f, a) ∷ work) (record {
-    before = k.before;
-    tours = k.tours;
-    upto = k.upto;
-    holds = is;
-    calls = ap (λ (x : Answer). (get_of f, x) ∷ work) (got_is a (Some bytes) e) ∙ ap (λ (cs : Calls). (get_of f, call.Got (Some bytes)) ∷ cs) k.calls;
-  })
-  on (Err left) is = tt
-got_tours lease f a o work k (Ok None) e = on (f.page == 1) refl where
-  on : (b : Bool) → (f.page == 1) ≡ b → LeafTours lease (cond b (fold.leaf_at f empty_leaf) (Stops f (trouble.Absent f.page))) o ((get_of f, a) ∷ work)
-  on true one = at_tours lease f None empty_leaf o ((get_of f, a) ∷ work) (record {
-    before = k.before;
-    tours = k.tours;
-    upto = k.upto;
-    holds = (eqb-true f.page 1 one, refl);
-    calls = ap (λ (x : Answer). (get_of f, x) ∷ work) (got_is a None e) ∙ ap (λ (cs : Calls). (get_of f, call.Got None) ∷ cs) k.calls;
-  })
-  on false one = tt
+got_tours lease f a o work k (Ok got) e =
+    subst (λ (x : Answer). LeafTours lease (fold.leaf_got f (Ok got)) o ((get_of f, x) ∷ work)) (sym (got_is a got e)) (reads_tour lease got o work k (reads f (Ok got)))
 got_tours lease f a o work k (Err t) e = tt
 
 -- ---- the puts

@@ -7,23 +7,14 @@ use Rattle.byte_format.specs.Order.{bytes_below, bytes_same, below_bound}
 use Rattle.byte_format.specs.Whole.{offset}
 use Rattle.byte_format.proofs.OrderLemmas.{same_is}
 use Rattle.db_base.specs.declared.names.ObjName.TheVariants as object
-use Rattle.db_base.specs.declared.trouble.Trouble.{Trouble}
 use Rattle.db_base.specs.declared.trouble.Trouble.TheVariants as trouble
-use Rattle.cloud_trait.specs.declared.answer.Answer.{Answer}
-use Rattle.cloud_trait.specs.Ask.{Ask}
-use Rattle.cloud_trait.specs.Machine.{Next, Goes, Ends, Stops}
 use Rattle.node_codec.specs.Inner.{Inner, inner_of, inner_format}
 use Rattle.node_codec.specs.Node.{Entry, child_of, page_at}
 use Rattle.run_cursor.specs.Covered.{is_seen}
-use Rattle.tree_parts.specs.declared.chart.Chart.{Chart}
-use Rattle.tree_parts.specs.declared.kept.KeptNode.{KeptNode}
-use Rattle.tree_parts.specs.declared.link.Link.{Link}
 use Rattle.tree_parts.specs.Kept.{with_kept}
 use Rattle.tree_parts.specs.Read.{damaged, inner_or}
-use Rattle.tree_descent.specs.declared.descent.Descent.{Descent}
 use Rattle.tree_descent.specs.declared.descent.Reach.{Reach}
 use Rattle.tree_descent.specs.declared.descent.Reach.TheVariants.{Node, Leaf}
-use Rattle.tree_descent.specs.declared.fork.Fork.{Fork}
 use Rattle.tree_descent.specs.declared.fork.Fork.TheVariants.{Right, Down}
 use Rattle.tree_descent.specs.Fork.{bad_fence, down_to, fork_at, forked_on}
 use Rattle.tree_descent.specs.Fork as fork
@@ -31,6 +22,7 @@ use Rattle.tree_descent.specs.Descent.{begun, forked, forked_by, passed, fork_of
 use Rattle.tree_moves.specs.Moves.{entry_or, root_entry}
 use Rattle.tree_ckpt.specs.Causing.{Calls, WasGot, WasNode, GoesRight}
 use Rattle.tree_ckpt.specs.Working.{IsAmong, AreTurns, Place, below_root, link_to, LeadsOn, IsWay}
+use Rattle.tree_ckpt.proofs.Words.{Trouble, Answer, Next, Goes, Ends, Stops, Ask, Chart, KeptNode, Link, Descent, Fork}
 use Rattle.tree_ckpt.proofs.Fences.{HasSides}
 use Rattle.tree_ckpt.proofs.Sound.{no_page, node_sound}
 use Rattle.tree_ckpt.proofs.Brought.{IsKept, AreKept, kept_found, kept_with, forked_level}

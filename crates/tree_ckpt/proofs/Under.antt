@@ -3,23 +3,18 @@ use Rattle.std.proofs.Common.{◌≡◌, ◌≤◌, ◌+◌, ◌-◌, ◌⊎◌,
 use Rattle.byte_format.specs.Order.{bytes_below, below_bound}
 use Rattle.leaf_edit.proofs.InOrder.{below_upto}
 use Rattle.db_base.specs.declared.names.Lock.TheVariants as lock
-use Rattle.db_base.specs.declared.names.ObjName.{ObjName}
 use Rattle.db_base.specs.declared.names.ObjName.TheVariants as object
 use Rattle.node_codec.specs.Inner.{Inner, inner_of}
 use Rattle.node_codec.specs.Node.{Entry, child_of}
 use Rattle.node_codec.specs.Tree.{Tree}
 use Rattle.node_codec.proofs.NodeLemmas.{in_range_parts}
-use Rattle.cloud_trait.specs.declared.answer.Answer.{Answer}
 use Rattle.cloud_trait.specs.declared.answer.Answer.TheVariants as call
-use Rattle.cloud_trait.specs.Ask.{Ask, GetHeld, PutHeld, Take, Release}
-use Rattle.cloud_trait.specs.Claim.{Claim}
-use Rattle.run_cursor.specs.Run.{Taken}
-use Rattle.split_plan.specs.declared.put_list.PagePut.{PagePut}
+use Rattle.cloud_trait.specs.Ask.{GetHeld, PutHeld, Take, Release}
 use Rattle.tree_moves.specs.Moves.{entry_or}
-use Rattle.tree_parts.specs.declared.link.Link.{Link}
 use Rattle.tree_parts.specs.Read.{tree_held}
 use Rattle.tree_ckpt.specs.Causing.{Calls, WasGot, WasNode}
 use Rattle.tree_ckpt.specs.Working.{Place, child_place, below_root, leaf_place, link_to, LeadsOn, IsWay, IsLeftFor, IsStart, IsCome, Visit, Outcome, Planned, Spared, Passed, IsVisit, AreVisits, IsAmong, IsOver, node_place, IsUnder, IsFollowed, HoldsLeaf, IsLeft, IsFor, placing_of, root_behind, looks_of, visits_over, done_over, page_puts, reserved_before, Climb, AreClimbs, root_above}
+use Rattle.tree_ckpt.proofs.Words.{ObjName, Taken, Answer, Claim, Ask, PagePut, Link}
 use Rattle.tree_ckpt.proofs.Entries.{among_either}
 use Rattle.tree_ckpt.proofs.Named.{same_node}
 use Rattle.tree_ckpt.proofs.Lows.{IsUpto, child_upto, entry_upto}

@@ -7,23 +7,15 @@ use Rattle.byte_format.specs.Whole.{offset}
 use Rattle.byte_format.proofs.OrderLemmas.{same_is}
 use Rattle.db_base.specs.declared.names.ObjName.TheVariants as object
 use Rattle.db_base.specs.declared.names.Place.TheVariants as place
-use Rattle.db_base.specs.declared.trouble.Trouble.{Trouble}
 use Rattle.db_base.specs.declared.trouble.Trouble.TheVariants as trouble
 use Rattle.node_codec.specs.Inner.{Inner, inner_of, inner_format}
 use Rattle.node_codec.specs.Node.{Entry, child_of, later_of, page_at}
 use Rattle.node_codec.proofs.NodeLemmas.{not_below_empty}
-use Rattle.cloud_trait.specs.declared.answer.Answer.{Answer}
 use Rattle.cloud_trait.specs.declared.answer.Answer.TheVariants as call
-use Rattle.cloud_trait.specs.Ask.{Ask}
-use Rattle.cloud_trait.specs.Machine.{Next, Goes, Ends, Stops}
 use Rattle.run_cursor.specs.Covered.{is_seen}
-use Rattle.tree_parts.specs.declared.chart.Chart.{Chart}
-use Rattle.tree_parts.specs.declared.kept.KeptNode.{KeptNode}
 use Rattle.tree_parts.specs.Read.{damaged, inner_or, tree_held}
-use Rattle.tree_descent.specs.declared.descent.Descent.{Descent}
 use Rattle.tree_descent.specs.declared.descent.Reach.{Reach}
 use Rattle.tree_descent.specs.declared.descent.Reach.TheVariants.{Node, Leaf}
-use Rattle.tree_descent.specs.declared.fork.Fork.{Fork}
 use Rattle.tree_descent.specs.declared.fork.Fork.TheVariants.{Right, Down}
 use Rattle.tree_descent.specs.Fork.{bad_fence, down_to, fork_at, forked_on}
 use Rattle.tree_descent.specs.Descent.{begun, forked, forked_by, fork_of, passed, go_on, stride_at, kept_at, stride, follow, walk, arrived, arrive, absent_node, with_node, got_node, descent_got}
@@ -31,6 +23,7 @@ use Rattle.tree_moves.specs.Moves.{entry_or, root_entry, down_from}
 use Rattle.tree_ckpt.specs.Causing.{Calls, Brings, WasGot, WasNode, WasRead, Shows}
 use Rattle.tree_ckpt.specs.Way.{IsFresh, WasKept, IsPromised, behind, LeadsOver, ComesOver, BreaksAt, BreaksFrom, from_root}
 use Rattle.tree_ckpt.specs.Demands.{BreaksNode}
+use Rattle.tree_ckpt.proofs.Words.{Trouble, Answer, Next, Goes, Ends, Stops, Ask, Chart, KeptNode, Descent, Fork}
 use Rattle.tree_ckpt.proofs.Brought.{IsKept, Charted, OnWay, read_behind, seen_read, kept_with, kept_found}
 use Rattle.tree_ckpt.proofs.Passed.{unseen, unseen_most, unseen_less}
 

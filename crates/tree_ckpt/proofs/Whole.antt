@@ -8,13 +8,11 @@ use Rattle.std.proofs.lemmas.List.Folds.{list_any-append}
 use Rattle.byte_format.specs.Order.{bytes_below, below_bound}
 use Rattle.byte_format.specs.Whole.{offset}
 use Rattle.node_codec.specs.Inner.{Inner, inner_of, inner_format}
-use Rattle.split_plan.specs.declared.entry_list.NewEntry.{NewEntry}
-use Rattle.tree_parts.specs.declared.kept.KeptNode.{KeptNode}
-use Rattle.tree_parts.specs.declared.link.Link.{Link}
 use Rattle.tree_parts.specs.Kept.{stands_before, place_of, with_kept, links_at}
 use Rattle.tree_parts.specs.Read.{inner_or, inner_read}
 use Rattle.tree_rising.specs.Nodes.{goes_to, is_touched, touched_by, touches, touched_at}
 use Rattle.tree_ckpt.specs.Working.{Climb, links_above, IsPut, HasLevel}
+use Rattle.tree_ckpt.proofs.Words.{NewEntry, KeptNode, Link}
 
 -- ---- level by level
 

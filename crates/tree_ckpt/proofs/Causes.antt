@@ -9,7 +9,6 @@ use Rattle.db_base.specs.declared.names.QueueName.TheVariants as queue
 use Rattle.db_base.specs.declared.trouble.Trouble.TheVariants as trouble
 use Rattle.db_base.specs.declared.trouble.Counter.TheVariants as counter
 use Rattle.node_codec.specs.Inner.{Inner}
-use Rattle.node_codec.specs.Tree.{Tree}
 use Rattle.node_codec.proofs.NodeLemmas.{not_below_empty}
 use Rattle.log_codec.specs.Pu.{pu_offset}
 use Rattle.cloud_trait.specs.declared.answer.Answer.TheVariants as call

@@ -1,15 +1,11 @@
 -- What is known of a tree only grows while a key is worked on.
-use Rattle.std.proofs.Common.{◌≡◌, ◌≤◌, ◌+◌, ℕ, zero, suc, Bool, true, false, cond, List, [], ◌∷◌, ◌++◌, length, length-append, Option, Some, None, Result, Ok, Err, refl, ◌∙◌, arith}
-use Rattle.std.specs.Prelude.{◌==◌}
+use Rattle.std.proofs.Common.{◌≡◌, ◌≤◌, ◌+◌, ℕ, Bool, true, false, cond, List, [], ◌∷◌, ◌++◌, length, length-append, Option, Some, None, Result, Ok, Err, refl, ◌∙◌, arith}
 use Rattle.std.proofs.lemmas.List.Edits.{length-insert}
-use Rattle.db_base.specs.declared.trouble.Trouble.TheVariants as trouble
-use Rattle.run_cursor.specs.Covered.{is_seen}
 use Rattle.tree_parts.specs.Kept.{stands_before, place_of, with_kept}
-use Rattle.tree_descent.specs.declared.descent.Reach.{Reach}
-use Rattle.tree_descent.specs.declared.descent.Reach.TheVariants.{Node, Leaf}
 use Rattle.tree_descent.specs.declared.fork.Fork.TheVariants.{Right, Down}
-use Rattle.tree_descent.specs.Descent.{passed, fork_of, go_on, stride_at, kept_at, stride, follow, walk, arrived, arrive, with_node, got_node, descent_got, descent_next}
+use Rattle.tree_descent.specs.Descent.{passed, fork_of, arrive, with_node, got_node, descent_got, descent_next}
 use Rattle.tree_ckpt.proofs.Words.{Trouble, Answer, Next, Goes, Ends, Stops, got_of, Chart, KeptNode, Descent, Fork}
+use Rattle.tree_ckpt.proofs.WayKeeps.{Arrives, arrive_keeps}
 
 -- a chart of the same tree, run and key with no fewer links, and so many nodes more at least
 pub record IsFurther (more : ℕ) (c e : Chart) : Type 0 where
@@ -43,10 +39,6 @@ GoesFurther n c (Goes e) = IsFurther n c e.chart
 GoesFurther n c (Ends e x) = IsFurther n c e.chart
 GoesFurther n c (Stops e t) = Unit {0}
 
-either : {A : Type 0} (n : ℕ) (c : Chart) (b : Bool) (x y : Next Descent A) → GoesFurther n c x → GoesFurther n c y → GoesFurther n c (cond b x y)
-either n c true x y h k = h
-either n c false x y h k = k
-
 passed_further : (d : Descent) (fork : Fork) → IsFurther 0 d.chart (passed d fork).chart
 passed_further d (Right low page) =
     let one : length (d.chart.links ++ record { level = d.level + 1; low = low; page = page } ∷ []) ≡ length d.chart.links + 1 =
@@ -54,43 +46,15 @@ passed_further d (Right low page) =
     record { tree = refl; root = refl; applied = refl; run = refl; from = refl; key = refl; nodes = omega arith; links = omega (arith, one) }
 passed_further d (Down low page) = further_itself d.chart
 
-go_on_further : (d : Descent) (fork : Result Fork Trouble) → GoesFurther 0 d.chart (go_on d fork)
-go_on_further d (Ok fork) = passed_further d fork
-go_on_further d (Err t) = tt
-
-stride_at_further : (d : Descent) (k : Option KeptNode) → GoesFurther 0 d.chart (stride_at d k)
-stride_at_further d (Some k) = go_on_further d (fork_of d k.bytes)
-stride_at_further d None = further_itself d.chart
-
-stride_further : (d : Descent) → GoesFurther 0 d.chart (stride d)
-stride_further d =
-    either 0 d.chart (d.level == 0) (Ends d Leaf) (cond (is_seen d.visited d.page) (Stops d (trouble.Loop d.page)) (stride_at d (kept_at d)))
-    (further_itself d.chart)
-    (either 0 d.chart (is_seen d.visited d.page) (Stops d (trouble.Loop d.page)) (stride_at d (kept_at d)) tt (stride_at_further d (kept_at d)))
-
-follow_further : (c : Chart) (next : Descent → Next Descent Reach) → ((e : Descent) → GoesFurther 0 e.chart (next e)) → (s : Next Descent Reach)
-    → GoesFurther 0 c s → GoesFurther 0 c (follow next s)
-follow_further c next each (Goes e) h = on (next e) (each e) where
-  on : (s : Next Descent Reach) → GoesFurther 0 e.chart s → GoesFurther 0 c s
-  on (Goes x) f = further_on 0 0 c e.chart x.chart h f
-  on (Ends x reach) f = further_on 0 0 c e.chart x.chart h f
-  on (Stops x t) f = tt
-follow_further c next each (Ends e reach) h = h
-follow_further c next each (Stops e t) h = tt
-
-walk_further : (n : ℕ) (d : Descent) → GoesFurther 0 d.chart (walk n d)
-unfolding walk
-walk_further zero d = follow_further d.chart (λ e. Stops e (trouble.Loop e.page)) (λ e. tt) (stride d) (stride_further d)
-walk_further (suc n) d = follow_further d.chart (walk n) (walk_further n) (stride d) (stride_further d)
-
-arrived_further : (n : ℕ) (c : Chart) (s : Next Descent Reach) → GoesFurther n c s → GoesFurther n c (arrived s)
-arrived_further n c (Goes d) h = h
-arrived_further n c (Ends d Node) h = h
-arrived_further n c (Ends d Leaf) h = h
-arrived_further n c (Stops d t) h = tt
+arrives_further : (c : Chart) (s : Next Descent (Unit {0})) → Arrives (λ (e : Descent). IsFurther 0 c e.chart) s → GoesFurther 0 c s
+arrives_further c (Goes d) h = h
+arrives_further c (Ends d x) h = h.0
+arrives_further c (Stops d t) h = tt
 
 pub arrive_further : (d : Descent) → GoesFurther 0 d.chart (arrive d)
-arrive_further d = arrived_further 0 d.chart (walk (length d.chart.nodes) d) (walk_further (length d.chart.nodes) d)
+arrive_further d =
+    arrives_further d.chart (arrive d)
+    (arrive_keeps (λ (e : Descent). IsFurther 0 d.chart e.chart) (λ e k f h at is. further_on 0 0 d.chart e.chart (passed e f).chart h (passed_further e f)) d (further_itself d.chart))
 
 -- ---- a node that is got is one more
 

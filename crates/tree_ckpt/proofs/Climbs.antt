@@ -1,5 +1,5 @@
 -- How the work of a tree checkpoint goes up.
-use Rattle.std.proofs.Common.{◌≡◌, ◌≤◌, ◌+◌, ℕ, Bool, true, false, cond, List, [], ◌∷◌, ◌++◌, length, Option, Some, None, Result, Ok, Err, refl, sym, ap, subst, ◌∙◌, inl, inr, arith}
+use Rattle.std.proofs.Common.{◌≡◌, ◌≤◌, ◌+◌, ℕ, Bool, true, false, List, [], ◌∷◌, ◌++◌, length, Option, Some, None, Result, Ok, Err, refl, sym, ap, subst, ◌∙◌, inl, inr, arith}
 use Rattle.std.specs.Prelude.{◌==◌, ◌||◌, ◌&&◌, drop, not, is_some, slice_get, unwrap_or}
 use Rattle.std.specs.List.{AllByRecursion}
 use Rattle.db_base.specs.declared.names.ObjName.TheVariants as object
@@ -8,7 +8,6 @@ use Rattle.cloud_trait.specs.declared.answer.Answer.TheVariants as call
 use Rattle.cloud_trait.specs.Ask.{GetHeld, PutHeld, Receive}
 use Rattle.tree_parts.specs.Kept.{links_at}
 use Rattle.tree_parts.specs.Placing.{put_in_hand, landed_root, landed_placing, has_nothing}
-use Rattle.tree_parts.specs.Reserve.{version_spent}
 use Rattle.tree_parts.specs.Read.{tree_held}
 use Rattle.node_codec.specs.Inner.{Inner, inner_of}
 use Rattle.node_codec.specs.Tree.{Tree}

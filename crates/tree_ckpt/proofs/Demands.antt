@@ -41,7 +41,7 @@ use Rattle.tree_ckpt.specs.Standing.{HasIds, HoldsOne, HoldsAt, Stands}
 use Rattle.tree_ckpt.specs.Causing.{Calls, GoesRight, ticks_of, kept_trouble}
 use Rattle.tree_ckpt.specs.Way.{behind, BreaksFrom, from_root, BreaksWay}
 use Rattle.tree_ckpt.specs.Due.{Due, LeafDue, NodeDue, RootDue, IsSpent, HasNoPages, GetsLeaf, IsUp, IsDue, IsCutShort, Spends}
-use Rattle.tree_ckpt.specs.Demands.{Matters, Refuses, BreaksRoot, BreaksRecord, BreaksNode, BreaksLeaf, Demands}
+use Rattle.tree_ckpt.specs.Demands.{Refuses, BreaksRoot, BreaksRecord, BreaksNode, BreaksLeaf, Demands}
 use Rattle.tree_ckpt.specs.Stepped.{Owes}
 use Rattle.tree_ckpt.proofs.Words.{Trouble, Lock, ObjName, QueueName, PuItem, Answer, Message, CkptAnswer, Turn, More, Ended, Stopped, Claim, Next, Goes, Ends, Stops, Took, Deed, calls_of, given_of, got_of, received_of, done_of, Fits, Ask, PagePut, Intake, Leases, Chart, KeptNode, Link, Descent, Fork, Folding, Left, LeafPlan, Rising, Held, Work}
 use Rattle.tree_ckpt.proofs.Causes.{KnowsAt}

@@ -1,6 +1,5 @@
 -- A tree checkpoint ends: each step that goes on leaves fewer calls.
 use Rattle.std.proofs.Common.{◌≡◌, ◌<◌, ◌≤◌, ◌+◌, ◌-◌, ◌*◌, ℕ, Bool, true, false, cond, List, [], ◌∷◌, length, Option, Some, None, Result, Ok, Err, refl, sym, ap, subst, ◌∙◌, arith}
-use Rattle.std.specs.Prelude.{◌||◌, ◌&&◌, not, is_some}
 use Rattle.std.proofs.lemmas.Option.{slice_get_within}
 use Rattle.db_base.specs.declared.names.Lock.TheVariants as lock
 use Rattle.db_base.specs.declared.names.QueueName.TheVariants as queue
@@ -9,13 +8,11 @@ use Rattle.ckpt_parts.specs.Deleting.{next_id, tried}
 use Rattle.ckpt_parts.specs.Intakes.{has_items, TakesIn}
 use Rattle.ckpt_parts.specs.Leasing.{claims_of, newest_lease, without_newest}
 use Rattle.tree_parts.specs.Placing.{has_nothing, landed_placing}
-use Rattle.tree_parts.specs.Reserve.{version_spent}
 use Rattle.tree_parts.specs.Read.{tree_held}
 use Rattle.tree_descent.specs.Descent.{descent_next}
 use Rattle.tree_descent.specs.Descent as way
 use Rattle.leaf_fold.specs.declared.folding.Left.TheVariants.{Right, Handled}
 use Rattle.leaf_fold.specs.Folding as fold
-use Rattle.tree_rising.specs.Nodes.{node_plan}
 use Rattle.tree_rising.specs.Rising as rise
 use Rattle.tree_moves.specs.declared.work.Onward.TheVariants as onward
 use Rattle.tree_moves.specs.declared.work.Work.TheVariants as work
@@ -23,7 +20,7 @@ use Rattle.tree_moves.specs.Work.{work_ask, one_lease}
 use Rattle.tree_moves.specs.Moves.{Step, stopping, finished, released_by, deleting, deleting_by, deleted_by, went, rising_on, descending_on, root_entry, down_from, key_from_or_none, next_key, going, going_by, page_taken, folding_on, page_left, tree_taken, tree_read, tree_got, chart_of, started, intake_taken, ReceivedBy, Leads}
 use Rattle.tree_ckpt.specs.Ending.{most, above, unhandled, behind_key, from_on_or_none, a_key, puts_left, up_by, up_left, the_end, ids_in, on_the_way, calls_in, IsShort}
 use Rattle.tree_ckpt.specs.Making.{Making, making_ask, MakingLeads, KeepsLeases}
-use Rattle.tree_ckpt.proofs.Words.{Trouble, PuItem, Answer, Message, CkptAnswer, Turn, More, Claim, Next, Goes, Ends, Stops, Took, given_of, got_of, received_of, done_of, Fits, PagePut, Intake, Chart, KeptNode, Placing, Descent, Folding, Left, Rising, NodePlan, RootPlan, Coming, Held, Onward, Work}
+use Rattle.tree_ckpt.proofs.Words.{Trouble, PuItem, Answer, Message, CkptAnswer, Turn, More, Claim, Next, Goes, Ends, Stops, Took, given_of, got_of, received_of, done_of, Fits, PagePut, Intake, Chart, KeptNode, Placing, Descent, Folding, Left, Rising, Coming, Held, Onward, Work}
 use Rattle.tree_ckpt.proofs.Charts.{GoesFurther, arrive_further, descent_further}
 use Rattle.tree_ckpt.proofs.Folds.{not_empty, GetLeaves, PutLeaves, got_leaves, put_leaves}
 use Rattle.tree_ckpt.proofs.Keys.{next_fewer, above_most}

@@ -1,5 +1,5 @@
 -- No failed deletion or release brings a tree checkpoint a trouble.
-use Rattle.std.proofs.Common.{◌≡◌, ◌≢◌, Option, Some, None, List, refl, sym, subst, inl, inr, ◌∙◌}
+use Rattle.std.proofs.Common.{◌≡◌, ◌≢◌, Some, None, List, sym, subst, inl, inr, ◌∙◌}
 use Rattle.db_base.specs.declared.trouble.Trouble.TheVariants as trouble
 use Rattle.tree_ckpt.specs.Making.{Making, making_ask}
 use Rattle.tree_ckpt.specs.Causing.{kept_trouble}

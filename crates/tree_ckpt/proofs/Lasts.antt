@@ -1,18 +1,16 @@
 -- The tree object that is put last has a cursor that is raised to the run's top.
 use Rattle.std.proofs.Common.{◌≡◌, ◌+◌, ℕ, Bool, true, false, cond, List, [], ◌∷◌, length, Option, Some, None, Result, Ok, Err, refl, sym, subst, ◌∙◌}
-use Rattle.std.specs.Prelude.{◌==◌, ◌||◌, ◌&&◌, not, nat_lt, is_some}
+use Rattle.std.specs.Prelude.{◌==◌, ◌&&◌, nat_lt}
 use Rattle.node_codec.specs.Node.{raised, with_entry}
 use Rattle.node_codec.specs.Tree.{Tree, tree_bytes, with_child}
 use Rattle.split_plan.specs.Plan.{root_above}
 use Rattle.split_plan.specs.Sizes.{count_of}
-use Rattle.tree_parts.specs.Placing.{has_nothing}
 use Rattle.tree_parts.specs.Read.{tree_held}
 use Rattle.tree_parts.specs.Reserve.{version_spent, pages_spent, reservation}
-use Rattle.tree_rising.specs.Nodes.{node_plan}
 use Rattle.tree_rising.specs.Root.{is_named, with_named, new_pages, lowered, cut_at, cut_by, cut_behind, root_cut, root_plan, uncut}
 use Rattle.tree_rising.specs.Root as root
-use Rattle.tree_rising.specs.Rising.{Step, next_touched, touched_node, put_node, plan_of, last_plan, put_root, rise_at, rise, landed, put_next, after_put, risen_by}
-use Rattle.tree_ckpt.proofs.Words.{Trouble, Taken, Goes, Ends, Stops, KeptNode, Link, Reserved, Rising, NodePlan, RootPlan}
+use Rattle.tree_rising.specs.Rising.{Step, plan_of, last_plan, rise, landed, risen_by}
+use Rattle.tree_ckpt.proofs.Words.{Trouble, Taken, Goes, Ends, Stops, Link, Reserved, Rising, RootPlan}
 use Rattle.tree_ckpt.proofs.RiseOutcomes.{Rises, Lands, rises, lands}
 use Rattle.tree_ckpt.proofs.RiseOutcomes as step
 

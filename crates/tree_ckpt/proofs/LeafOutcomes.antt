@@ -9,14 +9,14 @@ use Rattle.leaf_view.specs.Leaf.{Leaf, leaf}
 use Rattle.leaf_view.specs.Lookup.{empty_leaf, page_at}
 use Rattle.leaf_edit.specs.Lacked.{lacked}
 use Rattle.run_cursor.specs.Covered.{is_seen}
-use Rattle.tree_parts.specs.Placing.{has_nothing, has_one_page}
+use Rattle.tree_parts.specs.Placing.{has_one_page}
 use Rattle.tree_parts.specs.Read.{damaged, leaf_or, tree_held}
 use Rattle.leaf_fold.specs.declared.folding.Left.TheVariants.{Right, Handled}
 use Rattle.leaf_fold.specs.Plan.{leaf_plan}
-use Rattle.leaf_fold.specs.Folding.{Step, turned, handled_to, put_planned, planned, handled_by, handle, to_right, leaf_side, leaf_at, leaf_found, leaf_got, bad_low, landed, counted, leaf_put, folding_next}
+use Rattle.leaf_fold.specs.Folding.{Step, turned, handled_to, put_planned, planned, handled_by, handle, to_right, leaf_side, leaf_at, leaf_found, leaf_got, bad_low, landed, counted, leaf_put}
 use Rattle.tree_ckpt.specs.Causing.{GoesRight}
 use Rattle.tree_ckpt.specs.Working.{HoldsLeaf}
-use Rattle.tree_ckpt.proofs.Words.{Trouble, PuItem, Answer, Goes, Ends, Stops, got_of, done_of, Folding, LeafPlan}
+use Rattle.tree_ckpt.proofs.Words.{Trouble, PuItem, Goes, Ends, Stops, Folding, LeafPlan}
 use Rattle.tree_ckpt.proofs.Fences.{HasSides, read_sides}
 
 -- This leaf was got and is what the link to it promised, and the key in hand is below its high key ..

@@ -4,6 +4,7 @@ pub mod Words
 pub mod Outcomes
 pub mod LeafOutcomes
 pub mod RiseOutcomes
+pub mod WayKeeps
 pub mod Leases
 pub mod Receiving
 pub mod Keys

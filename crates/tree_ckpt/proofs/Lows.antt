@@ -1,20 +1,17 @@
 -- The way down leads to no page whose low key is above the key.
-use Rattle.std.proofs.Common.{◌≡◌, ℕ, zero, suc, Bool, true, false, cond, List, [], ◌∷◌, length, Option, Some, None, Result, Ok, Err, refl}
+use Rattle.std.proofs.Common.{◌≡◌, ℕ, Bool, true, false, cond, List, [], ◌∷◌, Option, Some, None, Result, Ok, Err, refl, subst}
 use Rattle.std.specs.Prelude.{◌==◌, ◌&&◌, not}
 use Rattle.byte_format.specs.Order.{bytes_below, bytes_same}
-use Rattle.db_base.specs.declared.trouble.Trouble.TheVariants as trouble
 use Rattle.node_codec.specs.Inner.{Inner}
 use Rattle.node_codec.specs.Node.{Entry, child_of, later_of, page_at}
-use Rattle.run_cursor.specs.Covered.{is_seen}
 use Rattle.tree_parts.specs.Read.{damaged, inner_read, tree_held}
-use Rattle.tree_descent.specs.declared.descent.Reach.{Reach}
-use Rattle.tree_descent.specs.declared.descent.Reach.TheVariants.{Node, Leaf}
 use Rattle.tree_descent.specs.declared.fork.Fork.TheVariants.{Right, Down}
 use Rattle.tree_descent.specs.Fork.{bad_fence, down_to, fork_at, forked_on}
 use Rattle.tree_descent.specs.Fork as fork
-use Rattle.tree_descent.specs.Descent.{begun, forked_by, passed, fork_of, go_on, stride_at, kept_at, stride, follow, walk, arrived, arrive, with_node, got_node, descent_got, descent_next}
+use Rattle.tree_descent.specs.Descent.{begun, forked_by, passed, fork_of, arrive, with_node, got_node, descent_got, descent_next}
 use Rattle.tree_moves.specs.Moves.{entry_or, root_entry}
-use Rattle.tree_ckpt.proofs.Words.{Trouble, Answer, Next, Goes, Ends, Stops, got_of, Chart, KeptNode, Descent, Fork}
+use Rattle.tree_ckpt.proofs.Words.{Trouble, Answer, Next, Goes, Ends, Stops, got_of, Chart, Descent, Fork}
+use Rattle.tree_ckpt.proofs.WayKeeps.{Arrives, arrive_keeps}
 
 -- a low key is not above a key
 abbrev pub IsUpto : List ℕ → List ℕ → Type 0
@@ -99,41 +96,15 @@ passed_upto : (d : Descent) (f : Fork) → ForkUpto d.chart.key f → ComesUpto 
 passed_upto d (Right low page) h = h
 passed_upto d (Down low page) h = h
 
-go_on_upto : (d : Descent) (f : Result Fork Trouble) → FoundUpto d.chart.key f → WayUpto (go_on d f)
-go_on_upto d (Ok f) h = passed_upto d f h
-go_on_upto d (Err t) h = tt
-
-stride_at_upto : (d : Descent) (k : Option KeptNode) → ComesUpto d → WayUpto (stride_at d k)
-stride_at_upto d (Some k) h = go_on_upto d (fork_of d k.bytes) (found_upto d k.bytes)
-stride_at_upto d None h = h
-
-either_way : {A : Type 0} (b : Bool) (x y : Next Descent A) → WayUpto x → WayUpto y → WayUpto (cond b x y)
-either_way true x y h k = h
-either_way false x y h k = k
-
-stride_upto : (d : Descent) → ComesUpto d → WayUpto (stride d)
-stride_upto d h =
-    either_way (d.level == 0) (Ends d Leaf) (cond (is_seen d.visited d.page) (Stops d (trouble.Loop d.page)) (stride_at d (kept_at d))) h
-    (either_way (is_seen d.visited d.page) (Stops d (trouble.Loop d.page)) (stride_at d (kept_at d)) tt (stride_at_upto d (kept_at d) h))
-
-follow_upto : (next : Descent → Next Descent Reach) → ((e : Descent) → ComesUpto e → WayUpto (next e)) → (s : Next Descent Reach) → WayUpto s → WayUpto (follow next s)
-follow_upto next each (Goes e) h = each e h
-follow_upto next each (Ends e reach) h = h
-follow_upto next each (Stops e t) h = tt
-
-walk_upto : (n : ℕ) (d : Descent) → ComesUpto d → WayUpto (walk n d)
-unfolding walk
-walk_upto zero d h = follow_upto (λ e. Stops e (trouble.Loop e.page)) (λ e k. tt) (stride d) (stride_upto d h)
-walk_upto (suc n) d h = follow_upto (walk n) (walk_upto n) (stride d) (stride_upto d h)
-
-arrived_upto : (s : Next Descent Reach) → WayUpto s → WayUpto (arrived s)
-arrived_upto (Goes d) h = h
-arrived_upto (Ends d Node) h = h
-arrived_upto (Ends d Leaf) h = h
-arrived_upto (Stops d t) h = tt
+arrives_upto : (s : Next Descent (Unit {0})) → Arrives ComesUpto s → WayUpto s
+arrives_upto (Goes d) h = h
+arrives_upto (Ends d x) h = h.0
+arrives_upto (Stops d t) h = tt
 
 arrive_upto : (d : Descent) → ComesUpto d → WayUpto (arrive d)
-arrive_upto d h = arrived_upto (walk (length d.chart.nodes) d) (walk_upto (length d.chart.nodes) d h)
+arrive_upto d h =
+    arrives_upto (arrive d)
+    (arrive_keeps ComesUpto (λ e k f upto at is. passed_upto e f (subst (FoundUpto e.chart.key) is (found_upto e k.bytes))) d h)
 
 -- from the tree object
 pub begun_upto : (c : Chart) → WayUpto (arrive (begun c (root_entry c).0 (root_entry c).1))

@@ -1,25 +1,22 @@
 -- What a tree checkpoint knows of its calls.
-use Rattle.std.proofs.Common.{◌≡◌, ◌+◌, ℕ, Bool, true, false, cond, List, [], ◌∷◌, ◌++◌, length, Option, Some, None, Result, Ok, Err, refl, sym, ap, subst, ◌∙◌, inl, inr, arith}
-use Rattle.std.specs.Prelude.{◌==◌, ◌||◌, ◌&&◌, not, is_some, unwrap_or}
-use Rattle.db_base.specs.declared.names.Lock.TheVariants as lock
+use Rattle.std.proofs.Common.{◌≡◌, ◌+◌, ℕ, Bool, true, false, List, [], ◌∷◌, ◌++◌, length, Option, Some, None, Result, Ok, Err, refl, sym, ap, subst, ◌∙◌, inl, inr, arith}
+use Rattle.std.specs.Prelude.{◌==◌, unwrap_or}
 use Rattle.db_base.specs.declared.names.ObjName.TheVariants as object
 use Rattle.db_base.specs.declared.names.QueueName.TheVariants as queue
-use Rattle.node_codec.specs.Tree.{Tree, tree_of, tree_bytes}
+use Rattle.node_codec.specs.Tree.{tree_bytes}
 use Rattle.run_cursor.specs.Covered.{covered_ids}
 use Rattle.leaf_edit.specs.Merging.{Rises}
 use Rattle.leaf_edit.proofs.InOrder.{Rises-sorted}
 use Rattle.cloud_trait.specs.declared.answer.Answer.TheVariants as call
 use Rattle.cloud_trait.specs.Ask.{GetHeld, Receive, Delete, Release, PutHeld}
 use Rattle.ckpt_parts.specs.Deleting.{Deleting, to_delete, next_id, tried}
-use Rattle.ckpt_parts.specs.Intakes.{has_items, items_of, intake_of, TakesIn, TakesItems}
+use Rattle.ckpt_parts.specs.Intakes.{has_items, items_of, intake_of, TakesItems}
 use Rattle.ckpt_parts.specs.Leasing.{newest_lease, without_newest}
 use Rattle.tree_parts.specs.Placing.{has_nothing, put_first, put_next}
-use Rattle.tree_parts.specs.Reserve.{version_spent}
 use Rattle.tree_parts.specs.Read.{tree_held}
 use Rattle.tree_descent.specs.Descent.{descent_ask, descent_next}
 use Rattle.leaf_fold.specs.Folding.{folding_ask, folding_next}
 use Rattle.leaf_fold.specs.Folding as fold
-use Rattle.tree_rising.specs.Nodes.{node_plan}
 use Rattle.tree_rising.specs.Rising as rise
 use Rattle.tree_moves.specs.declared.work.Onward.TheVariants as onward
 use Rattle.tree_moves.specs.declared.work.Work.TheVariants as work
@@ -32,14 +29,14 @@ use Rattle.tree_ckpt.specs.Working.{Visit, Worked, WorksBy, leaf_place, below_ro
 use Rattle.tree_ckpt.specs.Meaning.{Opening, opening_calls, IsOpened, IsAtWork, AreAtWork, IsRootPut, Works, Tried, deletes_over, tried_before, one_more, one_less, went_count, failed_count, IsDone, MeansDone}
 use Rattle.leaf_fold.specs.declared.folding.Left.TheVariants.{Right, Handled}
 use Rattle.tree_descent.specs.Descent.{begun}
-use Rattle.tree_ckpt.proofs.Words.{Trouble, QueueName, PuItem, Taken, Answer, Message, CkptAnswer, Turn, More, Ended, Stopped, Claim, Next, Goes, Ends, Stops, Took, Deed, Came, calls_of, done_of, Ask, PagePut, Intake, Leases, Chart, KeptNode, Descent, Folding, Left, Rising, NodePlan, RootPlan, Coming, Held, Onward, Work}
+use Rattle.tree_ckpt.proofs.Words.{Trouble, QueueName, PuItem, Taken, Answer, Message, CkptAnswer, Turn, More, Ended, Stopped, Claim, Next, Goes, Ends, Stops, Took, Deed, Came, calls_of, done_of, Ask, PagePut, Intake, Leases, Chart, Descent, Folding, Left, Rising, Coming, Held, Onward, Work}
 use Rattle.tree_ckpt.proofs.Outcomes.{Seeks, Descends, Ascends, Clears, Comes, comes, has_ids}
 use Rattle.tree_ckpt.proofs.Outcomes as step
 use Rattle.tree_ckpt.proofs.Brought.{AreKept, Charted, chart_more}
 use Rattle.tree_ckpt.proofs.Charts.{GoesFurther, arrive_further, descent_further}
 use Rattle.tree_ckpt.proofs.Leaving.{LeavesLeaf, next_leaves}
 use Rattle.tree_ckpt.proofs.Lasts.{IsLastRoot, LastIs, UpKeeps, none_last, rise_keeps, risen_keeps}
-use Rattle.tree_ckpt.proofs.Causes.{KnowsOnward, KnowsAt, came_brought}
+use Rattle.tree_ckpt.proofs.Causes.{KnowsAt, came_brought}
 use Rattle.tree_ckpt.proofs.Climbs.{kept_at_work, Climbs, UpClimbs, RiseClimbs, Risen, begun_climbs, rising_climbs}
 use Rattle.tree_ckpt.proofs.Covers.{IsLeast, least_is}
 use Rattle.tree_ckpt.proofs.Lows.{IsUpto, ComesUpto, begun_upto}

@@ -1,15 +1,13 @@
 -- Why the work at a leaf stops: what the calls brought, and what the leaf breaks or has spent.
-use Rattle.std.proofs.Common.{◌≡◌, ℕ, Bool, true, false, cond, List, [], ◌∷◌, Option, Some, None, Result, Ok, Err, refl, sym, ap, subst, ◌∙◌, inl, inr, ◌⊎◌}
+use Rattle.std.proofs.Common.{◌≡◌, ℕ, Bool, true, false, cond, List, Option, Some, None, Ok, refl, sym, ap, subst, ◌∙◌, inl, inr, ◌⊎◌}
 use Rattle.std.specs.Prelude.{◌==◌, ◌||◌}
 use Rattle.std.proofs.lemmas.Bool.{eqb-true, eqb-false}
-use Rattle.byte_format.specs.Order.{below_bound, bytes_below, bytes_same}
-use Rattle.byte_format.specs.Whole.{whole, offset}
+use Rattle.byte_format.specs.Order.{below_bound, bytes_same}
 use Rattle.db_base.specs.declared.names.ObjName.TheVariants as object
 use Rattle.db_base.specs.declared.names.Place.TheVariants as place
 use Rattle.db_base.specs.declared.trouble.Trouble.TheVariants as trouble
 use Rattle.db_base.specs.declared.trouble.Counter.TheVariants as counter
-use Rattle.leaf_view.specs.Leaf.{Leaf, leaf}
-use Rattle.leaf_view.specs.Lookup.{empty_leaf, page_at}
+use Rattle.leaf_view.specs.Leaf.{Leaf}
 use Rattle.leaf_edit.specs.Lacked.{lacked}
 use Rattle.cloud_trait.specs.declared.answer.Answer.TheVariants as call
 use Rattle.run_cursor.specs.Covered.{is_seen}
@@ -22,7 +20,7 @@ use Rattle.tree_ckpt.specs.Causing.{Calls, Brings, WasGot, WasPut, WasRoot, WasL
 use Rattle.tree_ckpt.specs.Working.{HoldsLeaf}
 use Rattle.tree_ckpt.specs.Due.{Due, LeafDue, GetsLeaf}
 use Rattle.tree_ckpt.specs.Demands.{BreaksLeaf}
-use Rattle.tree_ckpt.proofs.Words.{Trouble, PuItem, Answer, Goes, Ends, Stops, Ask, Chart, Placing, Folding}
+use Rattle.tree_ckpt.proofs.Words.{Trouble, Answer, Goes, Ends, Stops, Ask, Chart, Placing, Folding}
 use Rattle.tree_ckpt.proofs.Brought.{Charted, AreRead, OnWay, read_behind, seen_read}
 use Rattle.tree_ckpt.proofs.LeafOutcomes.{IsBehind, Reads, reads}
 use Rattle.tree_ckpt.proofs.LeafOutcomes as step

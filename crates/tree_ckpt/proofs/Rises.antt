@@ -1,5 +1,5 @@
 -- Why the way up stops: what is due there has something spent.
-use Rattle.std.proofs.Common.{◌≡◌, ◌<◌, ◌+◌, ℕ, zero, suc, Bool, true, false, cond, List, [], ◌∷◌, length, Option, Some, None, Result, Ok, Err, refl, ap, subst, ◌∙◌, inl, inr, ◌⊎◌, arith}
+use Rattle.std.proofs.Common.{◌≡◌, ◌<◌, ◌+◌, ℕ, zero, suc, Bool, true, false, List, [], ◌∷◌, length, Option, Some, None, Result, Ok, Err, refl, ap, subst, ◌∙◌, inl, inr, ◌⊎◌, arith}
 use Rattle.std.specs.Prelude.{◌==◌, ◌||◌, ◌&&◌, ◌-◌, not, is_none, is_some, slice_get, map}
 use Rattle.std.proofs.lemmas.List.{length-map, length-reverse}
 use Rattle.node_codec.specs.Inner.{Inner, inner_of}
@@ -12,7 +12,7 @@ use Rattle.tree_parts.specs.Placing.{has_nothing}
 use Rattle.tree_parts.specs.Read.{inner_read, tree_held}
 use Rattle.tree_parts.specs.Reserve.{version_spent, reservation}
 use Rattle.tree_rising.specs.Nodes as nodes
-use Rattle.tree_rising.specs.Rising.{Step, next_touched, touched_node, put_node, last_plan, put_root, rise_at, rise, landed, after_put, put_landed}
+use Rattle.tree_rising.specs.Rising.{Step, next_touched, touched_node, rise, landed, put_landed}
 use Rattle.tree_ckpt.specs.Causing.{Calls, Shows}
 use Rattle.tree_ckpt.specs.Due.{NodeDue, RootDue, WasLastButOne}
 use Rattle.tree_ckpt.proofs.Words.{Trouble, Answer, Goes, Ends, Stops, Ask, KeptNode, Placing, Reserved, Rising, NodePlan, RootPlan}

@@ -1,25 +1,23 @@
 -- How the work of a tree checkpoint goes from leaf to leaf.
 use Rattle.std.proofs.Common.{◌≡◌, ◌<◌, ◌+◌, ℕ, Bool, true, false, cond, List, [], ◌∷◌, ◌++◌, length, Option, Some, None, Result, Ok, Err, refl, sym, ap, subst, ◌∙◌, inl, inr, ◌⊎◌, arith, append_assoc}
-use Rattle.std.specs.Prelude.{◌==◌, ◌||◌, ◌&&◌, not, is_none, unwrap_or}
+use Rattle.std.specs.Prelude.{◌==◌, ◌&&◌, not, is_none, unwrap_or}
 use Rattle.std.proofs.lemmas.Bool.{eqb-true}
 use Rattle.std.proofs.lemmas.List.{append-nil}
-use Rattle.byte_format.specs.Order.{below_bound, bytes_below, bytes_same}
-use Rattle.byte_format.specs.Whole.{whole, offset}
+use Rattle.byte_format.specs.Order.{below_bound}
+use Rattle.byte_format.specs.Whole.{offset}
 use Rattle.byte_format.proofs.OrderLemmas.{same_is}
 use Rattle.db_base.specs.declared.names.Lock.TheVariants as lock
 use Rattle.db_base.specs.declared.names.ObjName.TheVariants as object
-use Rattle.db_base.specs.declared.trouble.Trouble.TheVariants as trouble
-use Rattle.leaf_view.specs.Leaf.{Leaf, leaf}
-use Rattle.leaf_view.specs.Lookup.{empty_leaf, page_at, holds}
+use Rattle.leaf_view.specs.Leaf.{Leaf}
+use Rattle.leaf_view.specs.Lookup.{page_at, holds}
 use Rattle.leaf_edit.specs.Lacked.{lacked}
 use Rattle.cloud_trait.specs.declared.answer.Answer.TheVariants as call
 use Rattle.cloud_trait.specs.Ask.{GetHeld, Take, Release}
-use Rattle.run_cursor.specs.Covered.{is_seen}
 use Rattle.ckpt_parts.specs.Intakes.{has_items}
 use Rattle.tree_parts.specs.Kept.{links_at, with_kept}
 use Rattle.node_codec.specs.Inner.{Inner, inner_of, inner_format}
 use Rattle.tree_parts.specs.Placing.{put_in_hand, landed_root, landed_placing, has_nothing, has_one_page}
-use Rattle.tree_parts.specs.Read.{inner_or, leaf_or, tree_held}
+use Rattle.tree_parts.specs.Read.{inner_or, tree_held}
 use Rattle.tree_descent.specs.Descent.{descent_ask, descent_got, descent_next, got_node, fork_of, forked_by}
 use Rattle.leaf_fold.specs.declared.folding.Left.TheVariants.{Right, Handled}
 use Rattle.leaf_fold.specs.Plan.{leaf_plan}

@@ -1,5 +1,5 @@
 -- What is noted on the way down are right links of nodes that were got.
-use Rattle.std.proofs.Common.{◌≡◌, ℕ, zero, suc, ◌+◌, ◌-◌, Bool, true, false, cond, List, [], ◌∷◌, ◌++◌, length, Option, Some, None, Result, Ok, Err, refl, sym, ap, subst, ◌∙◌, inl, inr, append_assoc}
+use Rattle.std.proofs.Common.{◌≡◌, ℕ, ◌+◌, ◌-◌, Bool, true, false, cond, List, [], ◌∷◌, ◌++◌, Option, Some, None, Result, Ok, Err, refl, sym, ap, subst, ◌∙◌, inl, inr, append_assoc}
 use Rattle.std.specs.Prelude.{◌==◌, ◌&&◌, not}
 use Rattle.std.proofs.lemmas.Bool.{eqb-true}
 use Rattle.std.proofs.lemmas.List.{append-nil}
@@ -7,25 +7,22 @@ use Rattle.byte_format.specs.Order.{bytes_below, bytes_same, below_bound}
 use Rattle.byte_format.specs.Whole.{offset}
 use Rattle.byte_format.proofs.OrderLemmas.{same_is}
 use Rattle.db_base.specs.declared.names.ObjName.TheVariants as object
-use Rattle.db_base.specs.declared.trouble.Trouble.TheVariants as trouble
 use Rattle.node_codec.specs.Inner.{Inner, inner_of, inner_format}
 use Rattle.node_codec.specs.Node.{Entry, child_of, page_at}
-use Rattle.run_cursor.specs.Covered.{is_seen}
 use Rattle.tree_parts.specs.Kept.{with_kept}
 use Rattle.tree_parts.specs.Read.{damaged, inner_or}
-use Rattle.tree_descent.specs.declared.descent.Reach.{Reach}
-use Rattle.tree_descent.specs.declared.descent.Reach.TheVariants.{Node, Leaf}
 use Rattle.tree_descent.specs.declared.fork.Fork.TheVariants.{Right, Down}
 use Rattle.tree_descent.specs.Fork.{bad_fence, down_to, fork_at, forked_on}
 use Rattle.tree_descent.specs.Fork as fork
-use Rattle.tree_descent.specs.Descent.{begun, forked, forked_by, passed, fork_of, go_on, stride_at, kept_at, stride, follow, walk, arrived, arrive, with_node, got_node}
+use Rattle.tree_descent.specs.Descent.{begun, forked, forked_by, passed, fork_of, kept_at, arrive, with_node, got_node}
 use Rattle.tree_moves.specs.Moves.{entry_or, root_entry}
 use Rattle.tree_ckpt.specs.Causing.{Calls, WasGot, WasNode, GoesRight}
 use Rattle.tree_ckpt.specs.Working.{IsAmong, AreTurns, Place, below_root, link_to, LeadsOn, IsWay}
-use Rattle.tree_ckpt.proofs.Words.{Trouble, Answer, Next, Goes, Ends, Stops, Ask, Chart, KeptNode, Link, Descent, Fork}
+use Rattle.tree_ckpt.proofs.Words.{Trouble, Answer, Next, Ask, Chart, KeptNode, Link, Descent, Fork}
 use Rattle.tree_ckpt.proofs.Fences.{HasSides}
 use Rattle.tree_ckpt.proofs.Sound.{no_page, node_sound}
 use Rattle.tree_ckpt.proofs.Brought.{IsKept, AreKept, kept_found, kept_with, forked_level}
+use Rattle.tree_ckpt.proofs.WayKeeps.{Arrives, arrive_keeps}
 
 -- ---- lists of turns
 
@@ -84,15 +81,7 @@ module _ (tree : ℕ) (cs : Calls) (links : List Link) (nodes : List KeptNode) (
 
   -- where it goes on, and where it ends at a leaf
   abbrev pub WayTurned : Next Descent (Unit {0}) → Type 0
-  WayTurned (Goes d) = Turned d
-  WayTurned (Ends d x) = Turned d × (d.level ≡ 0)
-  WayTurned (Stops d t) = Unit {0}
-
-  abbrev StrideTurned : Next Descent Reach → Type 0
-  StrideTurned (Goes d) = Turned d
-  StrideTurned (Ends d Node) = Turned d
-  StrideTurned (Ends d Leaf) = Turned d × (d.level ≡ 0)
-  StrideTurned (Stops d t) = Unit {0}
+  WayTurned next = Arrives Turned next
 
   -- ---- a node
 
@@ -190,48 +179,15 @@ module _ (tree : ℕ) (cs : Calls) (links : List Link) (nodes : List KeptNode) (
     seen = λ m b. inr (k.seen m b);
   }
 
-  go_on_turned : (d : Descent) (f : Result Fork Trouble) → Turned d → FoundTurns d f → StrideTurned (go_on d f)
-  go_on_turned d (Ok f) k h = passed_turned d h.0 f k h.1
-  go_on_turned d (Err t) k h = tt
-
-  stride_at_turned : (d : Descent) (o : Option KeptNode) → kept_at d ≡ o → Turned d → StrideTurned (stride_at d o)
-  stride_at_turned d (Some n) e k =
+  over_turned : (d : Descent) (n : KeptNode) (f : Fork) → Turned d → kept_at d ≡ Some n → fork_of d n.bytes ≡ Ok f → Turned (passed d f)
+  over_turned d n f k e is =
       let found : IsKept tree n cs × (n.page ≡ d.page) = kept_found tree d.page d.chart.nodes n cs k.kept e in
-      go_on_turned d (fork_of d n.bytes) k
-      (found_turns d n.bytes (subst (λ (page : ℕ). WasGot (object.Page tree page) (Some n.bytes) cs) found.1 found.0.0))
-  stride_at_turned d None e k = k
-
-  either_turned : (b : Bool) (x y : Next Descent Reach) → StrideTurned x → StrideTurned y → StrideTurned (cond b x y)
-  either_turned true x y h k = h
-  either_turned false x y h k = k
-
-  stride_turned : (d : Descent) → Turned d → StrideTurned (stride d)
-  stride_turned d k = on (d.level == 0) refl where
-    on : (b : Bool) → (d.level == 0) ≡ b
-        → StrideTurned (cond b (Ends d Leaf) (cond (is_seen d.visited d.page) (Stops d (trouble.Loop d.page)) (stride_at d (kept_at d))))
-    on true e = (k, eqb-true d.level 0 e)
-    on false e = either_turned (is_seen d.visited d.page) (Stops d (trouble.Loop d.page)) (stride_at d (kept_at d)) tt (stride_at_turned d (kept_at d) refl k)
-
-  follow_turned : (next : Descent → Next Descent Reach) → ((e : Descent) → Turned e → StrideTurned (next e)) → (s : Next Descent Reach) → StrideTurned s
-      → StrideTurned (follow next s)
-  follow_turned next each (Goes e) h = each e h
-  follow_turned next each (Ends e Node) h = h
-  follow_turned next each (Ends e Leaf) h = h
-  follow_turned next each (Stops e t) h = tt
-
-  walk_turned : (n : ℕ) (d : Descent) → Turned d → StrideTurned (walk n d)
-  unfolding walk
-  walk_turned zero d h = follow_turned (λ e. Stops e (trouble.Loop e.page)) (λ e k. tt) (stride d) (stride_turned d h)
-  walk_turned (suc n) d h = follow_turned (walk n) (walk_turned n) (stride d) (stride_turned d h)
-
-  arrived_turned : (s : Next Descent Reach) → StrideTurned s → WayTurned (arrived s)
-  arrived_turned (Goes d) h = h
-  arrived_turned (Ends d Node) h = h
-  arrived_turned (Ends d Leaf) h = h
-  arrived_turned (Stops d t) h = tt
+      let turns : FoundTurns d (Ok f) =
+      subst (FoundTurns d) is (found_turns d n.bytes (subst (λ (page : ℕ). WasGot (object.Page tree page) (Some n.bytes) cs) found.1 found.0.0)) in
+      passed_turned d turns.0 f k turns.1
 
   arrive_turned : (d : Descent) → Turned d → WayTurned (arrive d)
-  arrive_turned d h = arrived_turned (walk (length d.chart.nodes) d) (walk_turned (length d.chart.nodes) d h)
+  arrive_turned d h = arrive_keeps Turned over_turned d h
 
 -- the node that is got
 abbrev pub node_got : Descent → List ℕ → KeptNode

@@ -4,10 +4,9 @@ use Rattle.std.specs.Prelude.{◌==◌, not}
 use Rattle.std.specs.Int.{w8, w64}
 use Rattle.byte_format.specs.Format.{Format, ◌>>=◌, greatest, number, text, behind, ◌then◌, seen_as, mark_at, option_at, list_of}
 use Rattle.byte_format.specs.HighKey.{key_above, high_key}
-use Rattle.byte_format.specs.Whole.{whole, offset}
+use Rattle.byte_format.specs.Whole.{whole}
 use Rattle.leaf_view.specs.Leaf.{Leaf, Head, Heads, head_of, head_parts, leaf, leaf_head, leaf_of, leaf_parts, done_item, record_item}
 use Rattle.leaf_view.specs.Lookup.{page_at}
-use Rattle.tree_parts.specs.Read.{leaf_read, leaf_or}
 
 -- no high key without a right page
 abbrev pub HasSides : ℕ → Option (List ℕ) → Type 0
@@ -90,9 +89,3 @@ read_sides bytes l e =
     let sides : HasSides s.0.0.0.right s.0.0.0.high = head_sides bytes (s.0.0.0, t.0) t.1 in
     let read : HasSides w.0.0.right w.0.0.high = subst (λ (k : Leaf). HasSides k.right k.high) s.2 sides in
     subst (λ (k : Leaf). HasSides k.right k.high) w.2 read
-
-pub leaf_sides : (tree page : ℕ) (bytes : List ℕ) (l : Leaf) → leaf_read tree page bytes ≡ Ok l → HasSides l.right l.high
-leaf_sides tree page bytes l e = on (whole leaf bytes) refl e where
-  on : (r : Result Leaf ℕ) → whole leaf bytes ≡ r → leaf_or tree page (offset leaf bytes) r ≡ Ok l → HasSides l.right l.high
-  on (Ok k) f g = let same : k ≡ l = cc (g) in subst (λ (m : Leaf). HasSides m.right m.high) same (read_sides bytes k f)
-  on (Err left) f g = absurd (cc (g))

@@ -12,6 +12,7 @@ use Rattle.leaf_view.specs.Leaf.{Leaf}
 use Rattle.leaf_view.specs.Lookup.{page_at, holds}
 use Rattle.leaf_edit.specs.Lacked.{lacked}
 use Rattle.cloud_trait.specs.declared.answer.Answer.TheVariants as call
+use Rattle.cloud_trait.proofs.ViewLemmas.{got_of-ok}
 use Rattle.cloud_trait.specs.Ask.{GetHeld, Take, Release}
 use Rattle.ckpt_parts.specs.Intakes.{has_items}
 use Rattle.tree_parts.specs.Kept.{links_at, with_kept}
@@ -26,7 +27,7 @@ use Rattle.tree_ckpt.specs.Causing.{Calls, WasGot, GoesRight}
 use Rattle.tree_ckpt.specs.Meaning.{Opening}
 use Rattle.tree_ckpt.specs.Working.{done_over, puts_of, Visit, held_over, visits_over, AreLooks, HoldsLeaf, IsLeft, IsFor, IsVisit, Place, leaf_place, IsLeftFor, IsStart, IsCome, IsWay, IsOver, IsAmong, root_behind, links_behind, looks_of, AreVisits, lacked_on, IsSettled, PutsLeaf, AreTurns, Outcome, Planned, Spared, Passed}
 use Rattle.tree_ckpt.proofs.Words.{Trouble, PuItem, Taken, Answer, Claim, Next, Goes, Ends, Stops, got_of, done_of, Ask, PagePut, Chart, KeptNode, Placing, Link, Descent, Fork, Folding, Left, LeafPlan}
-use Rattle.tree_ckpt.proofs.Answers.{got_is, done_is}
+use Rattle.tree_ckpt.proofs.Answers.{done_is}
 use Rattle.tree_ckpt.proofs.Brought.{AreKept, kept_more}
 use Rattle.tree_ckpt.proofs.Turns.{Turned, WayTurned, place_of, turns_more, turns_both, way_more, way_both, node_got, descent_turned}
 use Rattle.tree_ckpt.proofs.Entries.{among_front, among_back}
@@ -209,7 +210,7 @@ descent_tours lease d a o work kept k = on (got_of a) refl (descent_further d a)
   read : (bytes : List ℕ) → got_of a ≡ Ok (Some bytes) → GoesFurther 1 d.chart (got_node d bytes (fork_of d bytes)) → WayUpto (got_node d bytes (fork_of d bytes))
       → (n : Option Inner) → inner_of bytes ≡ n → WayTours lease (got_node d bytes (fork_of d bytes)) o ((ask, a) ∷ work)
   read bytes e f upto (Some n) spelt =
-      let is : a ≡ call.Got (Some bytes) = got_is a (Some bytes) e in
+      let is : a ≡ call.Got (Some bytes) = got_of-ok a (Some bytes) e in
       way_tours lease 1 d.chart (with_kept (node_got d bytes) d.chart.nodes) (place_of d) (n ∷ []) (got_node d bytes (fork_of d bytes)) o ((ask, a) ∷ work) f upto
       (descent_turned d.chart.tree ((ask, a) ∷ work) d bytes n spelt (kept_more d.chart.tree d.chart.nodes (ask, a) work kept) (inl (lease, ap (λ (x : Answer). (ask, x)) is))) (record {
         before = k.before;
@@ -519,7 +520,7 @@ reads_tour lease got o work k c = tt
 got_tours : (lease : Claim) (f : Folding) (a : Answer) (o : Opening) (work : Calls) → Begins lease f o work → (g : Result (Option (List ℕ)) Trouble) → got_of a ≡ g
     → LeafTours lease (fold.leaf_got f g) o ((get_of f, a) ∷ work)
 got_tours lease f a o work k (Ok got) e =
-    subst (λ (x : Answer). LeafTours lease (fold.leaf_got f (Ok got)) o ((get_of f, x) ∷ work)) (sym (got_is a got e)) (reads_tour lease got o work k (reads f (Ok got)))
+    subst (λ (x : Answer). LeafTours lease (fold.leaf_got f (Ok got)) o ((get_of f, x) ∷ work)) (sym (got_of-ok a got e)) (reads_tour lease got o work k (reads f (Ok got)))
 got_tours lease f a o work k (Err t) e = tt
 
 -- ---- the puts

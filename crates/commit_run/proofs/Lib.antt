@@ -1,11 +1,11 @@
 pub mod Leading
-pub mod Aiming
-pub mod Walking
+pub mod Outcomes
 pub mod Served
 pub mod Holding
 pub mod Knowing
 pub mod Planning
 pub mod Finding
+pub mod Pages
 pub mod Ending
 pub mod Walked
 pub mod Meaning

@@ -1,35 +1,18 @@
 -- Why a step ends a commit with nothing committed.
-use Rattle.std.proofs.Common.{◌≡◌, ◌+◌, ℕ, Bool, true, false, List, [], ◌∷◌, ◌++◌, length, Option, Some, None, Result, Ok, Err, refl, ap, sym, subst, ◌∙◌, inl, inr, ◌⊎◌}
+use Rattle.std.proofs.Common.{◌≡◌, ℕ, Bool, true, false, List, length, Result, Err, refl, ap, sym, subst, ◌∙◌, inl, inr, ◌⊎◌}
 use Rattle.std.specs.Prelude.{slice_get}
-use Rattle.db_base.specs.declared.trouble.Trouble.{Trouble}
 use Rattle.db_base.specs.declared.trouble.Trouble.TheVariants as trouble
 use Rattle.db_base.specs.declared.trouble.Counter.TheVariants as counter
-use Rattle.db_base.specs.declared.trouble.CommitAnswer.{CommitAnswer}
-use Rattle.log_codec.specs.declared.record.AtomicRec.{AtomicRec}
-use Rattle.txn_buffer.specs.Noted.{Noted}
-use Rattle.cloud_trait.specs.declared.answer.Answer.{Answer}
 use Rattle.cloud_trait.specs.declared.answer.Answer.TheVariants as answer
-use Rattle.cloud_trait.specs.declared.turn.Turn.{Turn}
-use Rattle.cloud_trait.specs.declared.turn.Turn.TheVariants.{More, Ended, Stopped}
-use Rattle.cloud_trait.specs.Ask.{Get}
-use Rattle.cloud_trait.specs.Machine.{Next, Goes, Ends, Stops, LeadsBy, Took}
+use Rattle.cloud_trait.specs.declared.turn.Turn.TheVariants.{Ended}
 use Rattle.cloud_trait.specs.Views.{trouble_of, sent_of, done_of}
 use Rattle.cloud_trait.specs.Weather.{Fits}
-use Rattle.recover_run.specs.declared.home.Home.{Home}
-use Rattle.page_cache.specs.Cache.{Cache}
-use Rattle.tree_walk.specs.Walk.{Walk, object_of, walk_next}
 use Rattle.tree_walk.proofs.Causing.{StopsBeside, next_stops}
-use Rattle.commit_writes.specs.declared.stage.Stage.{Stage}
-use Rattle.commit_writes.specs.declared.stage.Stage.TheVariants.{Waiting, Logging, Opening, Sending, Settling, Deleting, Finished}
-use Rattle.commit_writes.specs.Writing.{Writing, log_or_open, send_or_settle, delete_or_end, logged_by, opened_by, sent_by, settled_by, deleted_by, writing_next}
-use Rattle.commit_writes.specs.Writing.{next_at as written_at}
-use Rattle.commit_run.specs.declared.hand.Hand.TheVariants.{Writes, First, Change}
-use Rattle.commit_run.specs.Draft.{Draft, planned}
-use Rattle.commit_run.specs.Run.{Run, held, new_run, wrote, walked, run_ready, run_next, Led, KeepsHome}
-use Rattle.commit_run.specs.Trips.{left_by_turn}
+use Rattle.commit_run.proofs.Words.{Trouble, CommitAnswer, Noted, Answer, Turn, More, Stopped, Get, Next, Goes, Ends, Stops, LeadsBy, Took, Home, Cache, Walk, object_of, walk_next, Writing, writing_next, Writes, First, Change, Draft, planned, Run, held, new_run, wrote, walked, run_ready, run_next, Led, KeepsHome, left_by_turn}
 use Rattle.commit_run.proofs.Outcomes as step
-use Rattle.commit_run.proofs.Outcomes.{NextRun, Plans, Behind, Comes, Starts, comes, starts}
-use Rattle.commit_run.proofs.Pages.{used_same}
+use Rattle.commit_run.proofs.Outcomes.{NextRun, Plans, Behind, Comes, Starts, used_kept, comes, starts}
+use Rattle.commit_run.proofs.Wrote as wrote_so
+use Rattle.commit_run.proofs.Wrote.{Wrote, wrote_by}
 use Rattle.commit_run.specs.Causing.{StopsNext, PassesNumber, ShowsWalk, ShowsIn, TellsOf, Tells, Causes, ShowsReady, CausesReady}
 
 -- where a turn ends with nothing committed, its trouble is so, by where it leads
@@ -44,7 +27,7 @@ Shown shows (Stops n t) = Unit {0}
 plan_shown : (shows : Run → Trouble → Type 0) (changes : List Noted) (d : Draft) (c : Cache) (x : NextRun) → ((n : Run) (t : Trouble) → StopsNext changes c t → shows n t) → ((n : Run) (t : Trouble) → PassesNumber n t → shows n t)
     → d.writes.changes ≡ changes → Plans d c x → Shown shows x
 plan_shown shows changes d c x next number same (step.seeks n y is (step.walks m e ok aims)) = tt
-plan_shown shows changes d c x next number same (step.seeks n y is (step.stops m t e link)) =
+plan_shown shows changes d c x next number same (step.seeks n y is (step.stops m t e link other)) =
     next _ t (length (planned d).plan.pages, n, ap (λ (cs : List Noted). slice_get cs (length (planned d).plan.pages)) (sym same) ∙ is, (m, e, link))
 plan_shown shows changes d c x next number same (step.seeks n y is (step.lacks m e)) = tt
 plan_shown shows changes d c x next number same (step.full none e) = number _ (trouble.Exhausted counter.Number) (refl, e)
@@ -55,9 +38,9 @@ abbrev pub WalkCause : Walk → Cache → Answer → List Noted → Run → Trou
 WalkCause w c a changes n t = ShowsWalk (w, c) a changes n t
 
 behind_shown : (d : Draft) (w : Walk) (c : Cache) (a : Answer) (first : Bool) (e : Draft) (k : Cache) → Behind d w c a first e k → (e.writes.changes ≡ d.writes.changes) × ((left_by_turn (walk_next (w, c) a)).1 ≡ k)
-behind_shown d w c a first e k (step.at_leaf one m page ended aims) = ((used_same d.writes m.1 m.0.used).0, ap (λ (x : Next (Walk × Cache) ℕ). (left_by_turn x).1) ended)
-behind_shown d w c a first e k (step.at_stale m t stopped is) = ((used_same d.writes m.1 m.0.used).0, ap (λ (x : Next (Walk × Cache) ℕ). (left_by_turn x).1) stopped)
-behind_shown d w c a first e k (step.passed_over m t stopped is) = ((used_same d.writes m.1 m.0.used).0, ap (λ (x : Next (Walk × Cache) ℕ). (left_by_turn x).1) stopped)
+behind_shown d w c a first e k (step.at_leaf one m page ended aims) = ((used_kept d.writes m.1 m.0.used).changes, ap (λ (x : Next (Walk × Cache) ℕ). (left_by_turn x).1) ended)
+behind_shown d w c a first e k (step.at_stale m t stopped is) = ((used_kept d.writes m.1 m.0.used).changes, ap (λ (x : Next (Walk × Cache) ℕ). (left_by_turn x).1) stopped)
+behind_shown d w c a first e k (step.passed_over m t stopped is) = ((used_kept d.writes m.1 m.0.used).changes, ap (λ (x : Next (Walk × Cache) ℕ). (left_by_turn x).1) stopped)
 
 or_else : {A B : Type 0} → A ⊎ B → (A → ⊥) → B
 or_else (inl a) never = absurd (never a)
@@ -79,7 +62,7 @@ walked_shown first d w c a fits = comes_shown first d w c a (walked first d w c 
 start_shown : (home : Home) (changes : List Noted) (c : Cache) (x : NextRun) → Starts home changes c x → Shown (ShowsReady (new_run home changes, c)) x
 start_shown home changes c x (step.spent e) = inl (refl, e)
 start_shown home changes c x (step.long to y left long (step.walks m e is aims)) = tt
-start_shown home changes c x (step.long to y left long (step.stops m t e link)) = inr (inl (to, long, m, e, link))
+start_shown home changes c x (step.long to y left long (step.stops m t e link other)) = inr (inl (to, long, m, e, link))
 start_shown home changes c x (step.long to y left long (step.lacks m e)) = tt
 start_shown home changes c x (step.few y left few p) =
     plan_shown (ShowsReady (new_run home changes, c)) changes (step.taken home changes) c x (λ n t h. inr (inr (inl h))) (λ n t h. inr (inr (inr h))) refl p
@@ -111,51 +94,19 @@ WriteShown a (Goes w) = Unit {0}
 WriteShown a (Ends w x) = TellsOf (λ t. t ≡ trouble_of a) x
 WriteShown a (Stops w t) = Unit {0}
 
-log_shown : (a : Answer) (w : Writing) (o : Option AtomicRec) → WriteShown a (log_or_open w o)
-log_shown a w (Some r) = tt
-log_shown a w None = tt
-
-send_shown : (a : Answer) (w : Writing) (o : Option AtomicRec) → WriteShown a (send_or_settle w o)
-send_shown a w (Some r) = tt
-send_shown a w None = tt
-
-delete_shown : (a : Answer) (w : Writing) (o : Option ℕ) → WriteShown a (delete_or_end w o)
-delete_shown a w (Some id) = tt
-delete_shown a w None = tt
-
-logged_shown : (a : Answer) (w : Writing) (r : Result ℕ Trouble) → sent_of a ≡ r → WriteShown a (logged_by w r)
-logged_shown a w (Ok id) e = log_shown a (record w { ids = w.ids ++ id ∷ []; place = w.place + 1 }) (slice_get w.records (w.place + 1))
-logged_shown a w (Err trouble.Memory) e = tt
-logged_shown a w (Err t) e = sent_trouble a t e
-
-opened_shown : (a : Answer) (w : Writing) (r : Result (Unit {0}) Trouble) → done_of a ≡ r → WriteShown a (opened_by w r)
-opened_shown a w (Ok u) e = send_shown a (record w { place = 0 }) (slice_get w.records 0)
-opened_shown a w (Err (trouble.Late end now)) e = done_trouble a (trouble.Late end now) e
-opened_shown a w (Err trouble.Memory) e = tt
-opened_shown a w (Err t) e = tt
-
-sent_shown : (a : Answer) (w : Writing) (r : Result ℕ Trouble) → WriteShown a (sent_by w r)
-sent_shown a w (Ok id) = send_shown a (record w { place = w.place + 1 }) (slice_get w.records (w.place + 1))
-sent_shown a w (Err trouble.Memory) = tt
-sent_shown a w (Err t) = tt
-
-settled_shown : (a : Answer) (w : Writing) (r : Result (Unit {0}) Trouble) → WriteShown a (settled_by w r)
-settled_shown a w (Ok u) = delete_shown a (record w { place = 0 }) (slice_get w.ids 0)
-settled_shown a w (Err trouble.Memory) = tt
-settled_shown a w (Err t) = tt
-
-deleted_shown : (a : Answer) (w : Writing) (r : Result (Unit {0}) Trouble) → WriteShown a (deleted_by w r)
-deleted_shown a w (Err trouble.Memory) = tt
-deleted_shown a w r = delete_shown a (record w { place = w.place + 1 }) (slice_get w.ids (w.place + 1))
-
-write_shown : (stage : Stage) (w : Writing) (a : Answer) → WriteShown a (written_at stage w a)
-write_shown Waiting w a = tt
-write_shown Logging w a = logged_shown a w (sent_of a) refl
-write_shown Opening w a = opened_shown a w (done_of a) refl
-write_shown Sending w a = sent_shown a w (sent_of a)
-write_shown Settling w a = settled_shown a w (done_of a)
-write_shown Deleting w a = deleted_shown a w (done_of a)
-write_shown Finished w a = tt
+write_shown : (w : Writing) (a : Answer) (x : Next Writing CommitAnswer) → Wrote w a x → WriteShown a x
+write_shown w a x (wrote_so.logs id r at) = tt
+write_shown w a x (wrote_so.opens id at) = tt
+write_shown w a x (wrote_so.not_logged t at e other) = sent_trouble a t e
+write_shown w a x (wrote_so.late end now at e) = done_trouble a (trouble.Late end now) e
+write_shown w a x (wrote_so.doubts t at e other) = tt
+write_shown w a x (wrote_so.sends n r at) = tt
+write_shown w a x (wrote_so.settles n at) = tt
+write_shown w a x (wrote_so.stays_open t at other) = tt
+write_shown w a x (wrote_so.deletes n id at) = tt
+write_shown w a x (wrote_so.ends n at) = tt
+write_shown w a x wrote_so.lacks = tt
+write_shown w a x (wrote_so.idles at) = tt
 
 wrote_shown : (d : Draft) (c : Cache) (a : Answer) (changes : List Noted) (x : Next Writing CommitAnswer) → WriteShown a x → Shown (ShowsIn Writes c a changes) (wrote d c x)
 wrote_shown d c a changes (Goes w) h = tt
@@ -174,7 +125,7 @@ pub write_causes : (d : Draft) (c : Cache) (a : Answer) (n : Run × Cache) (turn
     → Causes (record { draft = d; hand = Writes }, c) a n turn
 write_causes d c a n turn took =
     took_tells (ShowsIn Writes c a d.writes.changes) (record { draft = d; hand = Writes }, c) a n turn
-    (wrote_shown d c a d.writes.changes (writing_next d.writes a) (write_shown d.writes.stage d.writes a)) took
+    (wrote_shown d c a d.writes.changes (writing_next d.writes a) (write_shown d.writes a (writing_next d.writes a) (wrote_by d.writes a))) took
 
 pub walk_causes : (first : Bool) (d : Draft) (w : Walk) (c : Cache) (a : Answer) (n : Run × Cache) (turn : Turn CommitAnswer) → Fits (Get (object_of w)) a
     → Took (LeadsBy run_next) KeepsHome (record { draft = d; hand = held first w }, c) a n turn → Causes (record { draft = d; hand = held first w }, c) a n turn

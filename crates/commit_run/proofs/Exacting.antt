@@ -1,35 +1,21 @@
 -- Which answer each call of a whole commit demands, what it names, and that it ends well where it is calm.
-use Rattle.std.proofs.Common.{◌≡◌, ◌≤◌, ◌+◌, ℕ, Bool, true, false, List, [], ◌∷◌, ◌++◌, length, Option, Some, None, refl, ap, sym, subst, ◌∙◌, inl, inr, ◌⊎◌, arith}
-use Rattle.std.specs.Prelude.{slice_get, if◌then◌else◌}
+use Rattle.std.proofs.Common.{◌≡◌, ◌≤◌, ◌+◌, ℕ, Bool, true, false, List, [], ◌∷◌, ◌++◌, length, Some, refl, ap, sym, subst, ◌∙◌, inl, inr, ◌⊎◌, arith}
+use Rattle.std.specs.Prelude.{if◌then◌else◌}
 use Rattle.std.specs.List.{AllByRecursion}
 use Rattle.db_base.specs.declared.names.ObjName.TheVariants as object
 use Rattle.db_base.specs.declared.names.QueueName.TheVariants as queue
-use Rattle.db_base.specs.declared.trouble.Trouble.{Trouble}
 use Rattle.db_base.specs.declared.trouble.Trouble.TheVariants as trouble
 use Rattle.db_base.specs.declared.trouble.Counter.TheVariants as counter
-use Rattle.db_base.specs.declared.trouble.CommitAnswer.{CommitAnswer}
-use Rattle.db_base.specs.declared.trouble.CommitAnswer.TheVariants.{Committed, NotCommitted, InDoubt, CommittedOpen}
-use Rattle.log_codec.specs.declared.record.AtomicRec.{AtomicRec}
-use Rattle.txn_buffer.specs.Noted.{Noted}
-use Rattle.cloud_trait.specs.declared.answer.Answer.{Answer}
+use Rattle.db_base.specs.declared.trouble.CommitAnswer.TheVariants.{Committed, InDoubt, CommittedOpen}
 use Rattle.cloud_trait.specs.declared.answer.Answer.TheVariants as answer
-use Rattle.cloud_trait.specs.declared.turn.Turn.{Turn}
-use Rattle.cloud_trait.specs.declared.turn.Turn.TheVariants.{More, Ended, Stopped}
-use Rattle.cloud_trait.specs.Ask.{Ask, Get, PutHeld, Send, Delete, PutsNothing}
+use Rattle.cloud_trait.specs.declared.turn.Turn.TheVariants.{Ended}
+use Rattle.cloud_trait.specs.Ask.{PutHeld, Send, Delete, PutsNothing}
 use Rattle.cloud_trait.specs.Caller.{Caller}
 use Rattle.cloud_trait.specs.Seen.{Seen}
-use Rattle.cloud_trait.specs.Machine.{Next, Goes, Ends, Stops, LeadsBy, Took, Deed}
 use Rattle.cloud_trait.specs.Weather.{Fits, Makes}
 use Rattle.calm_calls.specs.Calm.{GoesWell, IsCalm, AreCalm, ComesNext, AreAlone}
 use Rattle.calm_calls.proofs.CalmLemmas.{goes_well}
-use Rattle.recover_run.specs.declared.home.Home.{Home}
-use Rattle.page_cache.specs.Cache.{Cache}
-use Rattle.tree_walk.specs.Causing.{LinkShows}
-use Rattle.tree_walk.specs.Walk.{Walk, new_walk, walk_ask, walk_ready, walk_next}
-use Rattle.commit_writes.specs.declared.stage.Stage.{Stage}
-use Rattle.commit_writes.specs.declared.stage.Stage.TheVariants.{Waiting, Logging, Opening, Sending, Settling, Deleting, Finished}
-use Rattle.commit_writes.specs.Writing.{Writing, waiting, numbered, is_spent, writing_ask}
-use Rattle.commit_writes.specs.Calls.{Calls, told}
+use Rattle.commit_writes.specs.Writing.{numbered}
 use Rattle.commit_writes.specs.Exact.{IsPut, NonePut, WasOpened, deletions_in, deletions, DemandsNot, Demands, Exactly}
 use Rattle.commit_writes.specs.Meaning.{MeansTurn as WritesTurn}
 use Rattle.commit_writes.specs.Names.{IsSentTo, IsOwnCall}
@@ -44,21 +30,16 @@ use Rattle.commit_writes.proofs.Meaning.{only_memory}
 use Rattle.commit_writes.proofs.Meaning.{went_knows as writes_know}
 use Rattle.commit_writes.proofs.Counting.{opened_put}
 use Rattle.commit_writes.proofs.Exacting.{names_at}
-use Rattle.commit_writes.proofs.RoutedLaws.{routed_some, routed_length}
-use Rattle.commit_run.specs.declared.hand.Hand.{Hand}
-use Rattle.commit_run.specs.declared.hand.Hand.TheVariants.{Writes, First, Change}
-use Rattle.commit_run.specs.Draft.{Draft, new_draft, pruned_behind}
-use Rattle.commit_run.specs.Run.{Run, held, new_run, home_of, asks, ask_at, target_of, written, refused, troubled, by_turn, is_stale, stale_at, walk_turned, walked, begin_walks, run_ready, run_next, Led, KeepsHome}
+use Rattle.commit_writes.proofs.RoutedLaws.{routed_some}
 use Rattle.commit_run.specs.Causing.{TellsOf, ShowsReady, CausesReady}
 use Rattle.commit_run.specs.Demanding.{DemandsNext}
 use Rattle.commit_run.specs.Exact.{IsOfCalls, StopsIn, Exact, IsRefusing, ExactReady}
-use Rattle.commit_run.specs.Meaning.{walked_home, IsRefused, Refuses, MeansWalks}
+use Rattle.commit_run.specs.Meaning.{IsRefused, Refuses}
 use Rattle.commit_run.specs.Names.{Names}
 use Rattle.commit_run.specs.Plain.{IsPlain}
 use Rattle.commit_run.specs.Stepped.{MeansWrites, MeansIn, Whole, Stepped}
-use Rattle.commit_run.specs.Trips.{left_by_turn, Trip, uses_of}
 use Rattle.commit_run.specs.Well.{IsMet, IsWell, EndsWell}
-use Rattle.commit_run.specs.Within.{Went, GetsNothing}
+use Rattle.commit_run.proofs.Words.{Trouble, CommitAnswer, NotCommitted, AtomicRec, Noted, Answer, Turn, More, Stopped, Ask, Get, Next, Goes, Ends, Stops, LeadsBy, Took, Deed, Home, Cache, LinkShows, Walk, new_walk, walk_ask, walk_next, Stage, Waiting, Logging, Opening, Sending, Settling, Deleting, Finished, Writing, waiting, is_spent, writing_ask, Calls, told, routed_length, Hand, Writes, First, Change, Draft, new_draft, pruned_behind, Run, held, new_run, home_of, asks, ask_at, target_of, written, refused, troubled, by_turn, is_stale, stale_at, walk_turned, walked, begin_walks, run_ready, run_next, Led, KeepsHome, walked_home, MeansWalks, left_by_turn, Trip, uses_of, Went, GetsNothing}
 use Rattle.commit_run.proofs.Causing.{Shown, WalkCause, walked_shown, write_causes, walk_causes, ready_causes}
 use Rattle.commit_run.proofs.Knowing.{KnowsHeld, KnowsWrites, KnowsAt}
 use Rattle.commit_run.proofs.Leading.{wrote_took}

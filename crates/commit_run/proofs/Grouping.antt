@@ -2,30 +2,16 @@
 use Rattle.std.proofs.Common.{◌≡◌, ◌≤◌, ◌+◌, ℕ, Bool, true, false, List, [], ◌∷◌, ◌++◌, length, Option, Some, None, refl, ap, sym, subst, ◌∙◌, arith}
 use Rattle.std.specs.Prelude.{slice_get}
 use Rattle.std.specs.List.{AllByRecursion}
-use Rattle.db_base.specs.declared.trouble.CommitAnswer.{CommitAnswer}
-use Rattle.log_codec.specs.declared.record.AtomicRec.{AtomicRec}
-use Rattle.txn_buffer.specs.Noted.{Noted}
-use Rattle.cloud_trait.specs.declared.answer.Answer.{Answer}
-use Rattle.cloud_trait.specs.Machine.{Next, Goes, Ends, Stops, LeadsBy, Came, Deed, IsMade, Follows}
-use Rattle.recover_run.specs.declared.home.Home.{Home}
-use Rattle.page_cache.specs.Cache.{Cache}
-use Rattle.tree_walk.specs.Walk.{Walk, IsWalk, sought, new_walk, walk_ask, walk_ready, walk_next}
+use Rattle.cloud_trait.specs.Machine.{IsMade, Follows}
 use Rattle.tree_walk.specs.Walk.{asks as walk_asks}
 use Rattle.tree_walk.proofs.Leaves.{ends_at}
-use Rattle.commit_writes.specs.Writing.{Writing, waiting, with_attempt, send_ask, delete_ask, begun, writing_ask, writing_next}
+use Rattle.commit_writes.specs.Writing.{send_ask, delete_ask}
 use Rattle.commit_writes.specs.Writing.{ask_at as written_ask}
-use Rattle.commit_writes.specs.declared.stage.Stage.{Stage}
-use Rattle.commit_writes.specs.declared.stage.Stage.TheVariants.{Waiting, Logging, Opening, Sending, Settling, Deleting, Finished}
-use Rattle.commit_writes.specs.Calls.{Calls, told}
 use Rattle.commit_writes.proofs.Counting.{went_within}
-use Rattle.commit_writes.proofs.RoutedLaws.{routed_length}
-use Rattle.commit_run.specs.declared.hand.Hand.{Hand}
-use Rattle.commit_run.specs.declared.hand.Hand.TheVariants.{Writes, First, Change}
-use Rattle.commit_run.specs.Draft.{Draft, IsWithin as KnowsNoMore, pruned_behind, planned}
-use Rattle.commit_run.specs.Run.{Run, held, new_run, target_of, next_target, asks, ask_at, written, wrote, walked, run_ready, next_at, run_next}
-use Rattle.commit_run.specs.Trips.{Use, used_in, uses_of}
-use Rattle.commit_run.specs.Meaning.{walked_home}
-use Rattle.commit_run.specs.Within.{AreOfWalk, joined, GetsNothing, IsNoGet, IsWithin, Within}
+use Rattle.commit_run.specs.Draft.{IsWithin as KnowsNoMore}
+use Rattle.commit_run.specs.Run.{next_at}
+use Rattle.commit_run.specs.Within.{AreOfWalk, joined, IsNoGet, IsWithin, Within}
+use Rattle.commit_run.proofs.Words.{CommitAnswer, AtomicRec, Noted, Answer, Next, Goes, Ends, Stops, LeadsBy, Came, Deed, Home, Cache, Walk, IsWalk, sought, new_walk, walk_ask, walk_ready, walk_next, Writing, waiting, with_attempt, begun, writing_ask, writing_next, Stage, Waiting, Logging, Opening, Sending, Settling, Deleting, Finished, Calls, told, routed_length, Hand, Writes, First, Change, Draft, pruned_behind, planned, Run, held, new_run, target_of, next_target, asks, ask_at, written, wrote, walked, run_ready, run_next, Use, used_in, uses_of, walked_home, GetsNothing}
 use Rattle.commit_run.proofs.Knowing.{KnowsHeld, KnowsAt}
 use Rattle.commit_run.proofs.Holding.{all_known, one_left, same_target}
 use Rattle.commit_run.proofs.Planning.{planned_within}
@@ -124,7 +110,7 @@ begun_groups n h first d c to x g (step.walks m e is aims) =
       few_kept : (b : Bool) → WalkInHand (few_before b d) h (m.0, m.1) → WalkInHand (few_before b (pruned_behind d m.0 m.1)) h (m.0, m.1)
       few_kept true k = k
       few_kept false k = k
-begun_groups n h first d c to x g (step.stops m t e link) = tt
+begun_groups n h first d c to x g (step.stops m t e link other) = tt
 begun_groups n h first d c to x g (step.lacks m e) = tt
 
 -- ---- planning on

@@ -4,20 +4,15 @@ use Rattle.std.specs.Prelude.{slice_get, if◌then◌else◌}
 use Rattle.std.specs.Option.{option_map}
 use Rattle.std.proofs.lemmas.Option.{slice_get_within}
 use Rattle.route_plan.proofs.Places.{past_none}
-use Rattle.db_base.specs.declared.trouble.Trouble.{Trouble}
 use Rattle.db_base.specs.declared.trouble.Trouble.TheVariants as trouble
-use Rattle.db_base.specs.declared.trouble.CommitAnswer.{CommitAnswer}
-use Rattle.txn_buffer.specs.Noted.{Noted}
-use Rattle.cloud_trait.specs.declared.turn.Turn.{Turn}
-use Rattle.cloud_trait.specs.declared.turn.Turn.TheVariants.{More, Ended, Stopped}
-use Rattle.cloud_trait.specs.Machine.{Next}
-use Rattle.page_cache.specs.Cache.{Cache}
+use Rattle.cloud_trait.specs.declared.turn.Turn.TheVariants.{Ended}
 use Rattle.commit_writes.specs.Writing.{routing}
 use Rattle.tree_walk.specs.Moves.{Moves}
-use Rattle.tree_walk.specs.Walk.{Walk, HasAim, sought, new_walk, walk_ready}
+use Rattle.tree_walk.specs.Walk.{HasAim}
 use Rattle.tree_walk.proofs.Walking.{IsTo, WalksBeside, ready_walks}
-use Rattle.commit_run.specs.Draft.{Draft, IsWithin, pruned_behind}
-use Rattle.commit_run.specs.Run.{Run, held, IsHeld, Led, target_of, next_target, wrote, seek, troubled, is_stale, stale_at, begun_turn, walk_stopped}
+use Rattle.commit_run.specs.Draft.{IsWithin}
+use Rattle.commit_run.specs.Run.{IsHeld, walk_stopped}
+use Rattle.commit_run.proofs.Words.{Trouble, CommitAnswer, Noted, Turn, More, Stopped, Next, Cache, Walk, sought, new_walk, walk_ready, Draft, pruned_behind, Run, held, Led, target_of, next_target, wrote, seek, troubled, is_stale, stale_at, begun_turn}
 use Rattle.commit_run.proofs.Outcomes.{next_change}
 
 -- what a walk looks for

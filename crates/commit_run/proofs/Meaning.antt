@@ -1,36 +1,20 @@
 -- What a step of a commit means by its whole run.
-use Rattle.std.proofs.Common.{◌≡◌, ℕ, Bool, true, false, List, [], ◌∷◌, ◌++◌, refl, ap, sym, subst, ◌∙◌, ◌⊎◌, inl, inr, arith}
+use Rattle.std.proofs.Common.{◌≡◌, Bool, true, false, List, [], ◌∷◌, ◌++◌, refl, ap, sym, subst, ◌∙◌, inl, inr, arith}
 use Rattle.std.proofs.lemmas.List.{append_assoc, append-nil}
-use Rattle.db_base.specs.declared.trouble.Trouble.{Trouble}
 use Rattle.db_base.specs.declared.trouble.Trouble.TheVariants as trouble
 use Rattle.db_base.specs.declared.trouble.Counter.TheVariants as counter
-use Rattle.db_base.specs.declared.trouble.CommitAnswer.{CommitAnswer}
-use Rattle.db_base.specs.declared.trouble.CommitAnswer.TheVariants.{NotCommitted}
-use Rattle.txn_buffer.specs.Noted.{Noted}
-use Rattle.cloud_trait.specs.declared.answer.Answer.{Answer}
-use Rattle.cloud_trait.specs.declared.turn.Turn.{Turn}
-use Rattle.cloud_trait.specs.declared.turn.Turn.TheVariants.{More, Ended, Stopped}
-use Rattle.cloud_trait.specs.Ask.{Ask}
-use Rattle.cloud_trait.specs.Machine.{Next, Goes, Ends, Stops, LeadsBy, Took, Came, Deed, IsMade, Follows}
-use Rattle.recover_run.specs.declared.home.Home.{Home}
-use Rattle.page_cache.specs.Cache.{Cache}
-use Rattle.tree_walk.specs.Walk.{Walk, walk_ask}
-use Rattle.commit_writes.specs.Writing.{Writing, waiting, is_spent, passes, writing_ask, writing_next}
-use Rattle.commit_writes.specs.Calls.{Calls, told}
+use Rattle.cloud_trait.specs.declared.turn.Turn.TheVariants.{Ended}
+use Rattle.cloud_trait.specs.Machine.{IsMade, Follows}
 use Rattle.commit_writes.proofs.Meaning.{only_memory}
 use Rattle.commit_writes.proofs.Meaning.{came_knows as writes_know}
-use Rattle.commit_run.specs.declared.hand.Hand.{Hand}
-use Rattle.commit_run.specs.declared.hand.Hand.TheVariants.{Writes, First, Change}
-use Rattle.commit_run.specs.Draft.{Draft, new_draft}
-use Rattle.commit_run.specs.Run.{Run, held, new_run, home_of, asks, ask_at, written, wrote, refused, run_ready, next_at, run_next, Led, KeepsHome}
-use Rattle.commit_run.specs.Trips.{uses_of}
-use Rattle.commit_run.specs.Meaning.{walked_home, IsWriting, MeansWalks, MeansReady}
-use Rattle.commit_run.specs.Within.{Went}
+use Rattle.commit_run.specs.Run.{next_at}
+use Rattle.commit_run.specs.Meaning.{IsWriting, MeansReady}
+use Rattle.commit_run.proofs.Words.{Trouble, CommitAnswer, NotCommitted, Noted, Answer, Turn, More, Stopped, Ask, Next, Goes, Ends, Stops, LeadsBy, Took, Came, Deed, Home, Cache, Walk, walk_ask, Writing, waiting, is_spent, passes, writing_ask, writing_next, Calls, told, Hand, Writes, First, Change, Draft, new_draft, Run, held, new_run, home_of, asks, ask_at, written, wrote, refused, run_ready, run_next, Led, KeepsHome, uses_of, walked_home, MeansWalks, Went}
 use Rattle.commit_run.proofs.Knowing.{KnowsOver, KnowsHeld, KnowsWrites, KnowsHand, KnowsNext, KnowsAt}
 use Rattle.commit_run.proofs.Planning.{no_leaves}
 use Rattle.commit_run.proofs.Reading.{begins_read}
 use Rattle.commit_run.proofs.Outcomes as step
-use Rattle.commit_run.proofs.Outcomes.{NextRun, Starts, starts}
+use Rattle.commit_run.proofs.Outcomes.{NextRun, Starts, BeginsWith, spent_at, starts, ready_leads}
 use Rattle.commit_run.proofs.Walked.{begins_walk, plans_by, turned_by}
 
 -- ---- at the beginning
@@ -57,23 +41,14 @@ start_knows home changes c x left s = on x s where
 pub ready_knows : (home : Home) (changes : List Noted) (c : Cache) → is_spent home ≡ false → KnowsNext home changes c [] (run_ready (new_run home changes, c))
 ready_knows home changes c left = start_knows home changes c (run_ready (new_run home changes, c)) left (starts home changes c)
 
--- .. or it is
-abbrev pub spent_at : Home → List Noted → Cache → NextRun
-spent_at home changes c = refused (new_draft (waiting home changes)) c (trouble.Exhausted counter.Txn)
-
-spent_or : (home : Home) (changes : List Noted) (c : Cache) (x : NextRun) → Starts home changes c x → ((is_spent home ≡ true) × (x ≡ spent_at home changes c)) ⊎ (is_spent home ≡ false)
-spent_or home changes c x (step.spent e) = inl (e, refl)
-spent_or home changes c x (step.long to y left e b) = inr left
-spent_or home changes c x (step.few y left e p) = inr left
-
 never_goes : (d : Draft) (c : Cache) (t : Trouble) (n : Run × Cache) → refused d c t ≡ Goes n → ⊥
 never_goes d c t n e = absurd (cc (e))
 
 goes_unspent : (home : Home) (changes : List Noted) (c : Cache) (start : Run × Cache) → run_ready (new_run home changes, c) ≡ Goes start → is_spent home ≡ false
-goes_unspent home changes c start goes = on (spent_or home changes c (run_ready (new_run home changes, c)) (starts home changes c)) where
-  on : ((is_spent home ≡ true) × (run_ready (new_run home changes, c) ≡ spent_at home changes c)) ⊎ (is_spent home ≡ false) → is_spent home ≡ false
+goes_unspent home changes c start goes = on (ready_leads home changes c) where
+  on : BeginsWith home changes c (run_ready (new_run home changes, c)) → is_spent home ≡ false
   on (inl (e, is)) = absurd (never_goes (new_draft (waiting home changes)) c (trouble.Exhausted counter.Txn) start (sym is ∙ goes))
-  on (inr left) = left
+  on (inr so) = so.0
 
 starts_knows : (home : Home) (changes : List Noted) (c : Cache) (start : Run × Cache) → run_ready (new_run home changes, c) ≡ Goes start
     → KnowsHand home changes c [] start.0.draft start.0.hand start.1
@@ -220,17 +195,17 @@ pub ready_means : (home : Home) (changes : List Noted) (c : Cache) (old : Run) (
     → MeansReady home changes c (home_of n.0) turn
 unfolding answer_in home_in
 ready_means home changes c old n turn new led =
-    on (spent_or home changes c next (starts home changes c)) turn (subst (λ (r : Run). Led (run_ready (r, c)) n turn) new led) where
+    on (ready_leads home changes c) turn (subst (λ (r : Run). Led (run_ready (r, c)) n turn) new led) where
       next : NextRun
       next = run_ready (new_run home changes, c)
 
       ended : (a : CommitAnswer) → spent_at home changes c ≡ Ends n a → (a ≡ NotCommitted (trouble.Exhausted counter.Txn)) × (home_of n.0 ≡ home)
       ended a e = (sym (ap (answer_in a) e), sym (ap (home_in home) e))
 
-      on : ((is_spent home ≡ true) × (next ≡ spent_at home changes c)) ⊎ (is_spent home ≡ false) → (t : Turn CommitAnswer) → Led next n t → MeansReady home changes c (home_of n.0) t
+      on : BeginsWith home changes c next → (t : Turn CommitAnswer) → Led next n t → MeansReady home changes c (home_of n.0) t
       on (inl (e, is)) More h = absurd (never_goes (new_draft (waiting home changes)) c (trouble.Exhausted counter.Txn) n (sym is ∙ h))
       on (inl (e, is)) (Ended a) h = let so : (a ≡ NotCommitted (trouble.Exhausted counter.Txn)) × (home_of n.0 ≡ home) = ended a (sym is ∙ h) in inl (e, so.0, so.1)
       on (inl (e, is)) (Stopped t) h = only_memory t (λ other. absurd (never_stops (new_draft (waiting home changes)) c (trouble.Exhausted counter.Txn) n t (sym is ∙ h other)))
-      on (inr left) More h = led_means home changes c [] next n More (ready_knows home changes c left) h
-      on (inr left) (Ended a) h = inr (left, led_means home changes c [] next n (Ended a) (ready_knows home changes c left) h)
-      on (inr left) (Stopped t) h = (led_means home changes c [] next n (Stopped t) (ready_knows home changes c left) h).means
+      on (inr so) More h = led_means home changes c [] next n More (ready_knows home changes c so.0) h
+      on (inr so) (Ended a) h = inr (so.0, led_means home changes c [] next n (Ended a) (ready_knows home changes c so.0) h)
+      on (inr so) (Stopped t) h = (led_means home changes c [] next n (Stopped t) (ready_knows home changes c so.0) h).means

@@ -1,26 +1,19 @@
 -- What a step of the walk in hand comes to, and a commit's begin, whatever branches led there.
-use Rattle.std.proofs.Common.{◌≡◌, ◌≢◌, ℕ, Bool, true, false, List, length, Option, Some, None, refl}
+use Rattle.std.proofs.Common.{◌≡◌, ◌≢◌, ◌≤◌, ℕ, Bool, true, false, List, length, Option, Some, None, refl, ◌∙◌, ◌⊎◌, inl, inr}
 use Rattle.std.specs.Prelude.{slice_get, if◌then◌else◌}
 use Rattle.std.specs.Option.{option_map}
-use Rattle.db_base.specs.declared.trouble.Trouble.{Trouble}
+use Rattle.db_base.specs.declared.names.ObjName.TheVariants as object
 use Rattle.db_base.specs.declared.trouble.Trouble.TheVariants as trouble
 use Rattle.db_base.specs.declared.trouble.Counter.TheVariants as counter
-use Rattle.db_base.specs.declared.trouble.CommitAnswer.{CommitAnswer}
-use Rattle.log_codec.specs.declared.record.AtomicRec.{AtomicRec}
-use Rattle.txn_buffer.specs.Noted.{Noted}
-use Rattle.cloud_trait.specs.declared.answer.Answer.{Answer}
-use Rattle.cloud_trait.specs.declared.turn.Turn.TheVariants.{Stopped}
-use Rattle.cloud_trait.specs.Machine.{Next, Goes, Ends, Stops}
-use Rattle.recover_run.specs.declared.home.Home.{Home}
-use Rattle.page_cache.specs.Cache.{Cache}
-use Rattle.tree_walk.specs.Causing.{LinkShows}
-use Rattle.tree_walk.specs.Walk.{Walk, IsWalk, new_walk, walk_ready, walk_next, goes_on, rested, beside}
+use Rattle.page_cache.specs.Held.{root_at}
+use Rattle.route_plan.proofs.Places.{past_none}
+use Rattle.tree_walk.specs.Walk.{goes_on, rested, beside}
 use Rattle.tree_walk.proofs.Causing.{ready_shows}
 use Rattle.tree_walk.proofs.Leaves.{Unended, through_unended}
 use Rattle.tree_walk.proofs.Walking.{IsTo, WalksBeside, next_walks, ready_walks}
-use Rattle.commit_writes.specs.Writing.{Writing, waiting, with_attempt, is_spent, routed_of, passes, begun, log_or_open, not_committed}
-use Rattle.commit_run.specs.Draft.{Draft, new_draft, pruned_behind, planned, leaf_noted, paged}
-use Rattle.commit_run.specs.Run.{Run, new_run, target_of, long_target, walking, written, wrote, refused, troubled, by_turn, begun_turn, walk_to, seek, plan_on, is_stale, stale_at, walk_turned, walked, long_walk, begin_walks, run_ready}
+use Rattle.commit_run.specs.Draft.{pruned_by_root, pruned_by_kept, pruned_with}
+use Rattle.commit_run.specs.Run.{walking, walk_to, long_walk}
+use Rattle.commit_run.proofs.Words.{ObjName, Trouble, CommitAnswer, Leaf, Tree, AtomicRec, Noted, Answer, Stopped, Next, Goes, Ends, Stops, Home, Cache, leaf_at, LinkShows, Walk, IsWalk, new_walk, walk_ready, walk_next, Writing, waiting, with_attempt, is_spent, routed_of, passes, begun, log_or_open, not_committed, Draft, new_draft, pruned_behind, planned, leaf_noted, paged, Run, new_run, target_of, long_target, written, wrote, refused, troubled, by_turn, begun_turn, seek, plan_on, is_stale, stale_at, walk_turned, walked, begin_walks, run_ready}
 
 abbrev pub NextRun : Type 0
 NextRun = Next (Run × Cache) CommitAnswer
@@ -35,7 +28,7 @@ lacking d c = Stops (written d d.writes, c) trouble.Memory
 pub data Begins (first : Bool) (d : Draft) (k : Cache) (to : ℕ × List ℕ) : NextRun → Type 0 where
   walks : (m : Walk × Cache) → walk_ready (new_walk to.0 (Some to.1) first, k) ≡ Goes m → IsWalk m.0 → IsTo to.0 (Some to.1) m.0
       → Begins first d k to (walking first (pruned_behind d m.0 m.1) m.0 m.1)
-  stops : (m : Walk × Cache) (t : Trouble) → walk_ready (new_walk to.0 (Some to.1) first, k) ≡ Stops m t → LinkShows k (new_walk to.0 (Some to.1) first) m.0 t
+  stops : (m : Walk × Cache) (t : Trouble) → walk_ready (new_walk to.0 (Some to.1) first, k) ≡ Stops m t → LinkShows k (new_walk to.0 (Some to.1) first) m.0 t → t ≢ trouble.Memory
       → Begins first d k to (refused (pruned_behind d m.0 m.1) m.1 t)
   lacks : (m : Walk × Cache) → walk_ready (new_walk to.0 (Some to.1) first, k) ≡ Stops m trouble.Memory → Begins first d k to (lacking (pruned_behind d m.0 m.1) m.1)
 
@@ -97,7 +90,7 @@ begins : (first : Bool) (d : Draft) (k : Cache) (to : ℕ × List ℕ) → Begin
 begins first d k to = on (walk_ready (new_walk to.0 (Some to.1) first, k)) refl (ready_walks to.0 (Some to.1) first k) where
   stopped : (m : Walk × Cache) (t : Trouble) → walk_ready (new_walk to.0 (Some to.1) first, k) ≡ Stops m t → Begins first d k to (troubled (pruned_behind d m.0 m.1) m.1 t)
   stopped m trouble.Memory e = lacks m e
-  stopped m t e = stops m t e (ready_shows (new_walk to.0 (Some to.1) first) k m (Stopped t) (λ other. e) t refl (λ memory. cc))
+  stopped m t e = stops m t e (ready_shows (new_walk to.0 (Some to.1) first) k m (Stopped t) (λ other. e) t refl (λ memory. cc)) (λ memory. cc)
 
   on : (x : Next (Walk × Cache) ℕ) → walk_ready (new_walk to.0 (Some to.1) first, k) ≡ x → WalksBeside to.0 (Some to.1) x → Begins first d k to (by_turn (begun_turn first d) x)
   on (Goes m) e is = walks m e is.0 is.1
@@ -153,3 +146,93 @@ starts home changes c = on (is_spent home) refl where
       → Starts home changes c (if b then refused (new_draft (waiting home changes)) c (trouble.Exhausted counter.Txn) else begin_walks (new_draft (if b then waiting home changes else waiting (with_attempt home) changes)) c)
   on true e = spent e
   on false e = begun_by e (long_target home.head.pending) refl
+
+-- ---- in short, where only that is asked which local work leaves as it was
+
+-- of what will be written all but the pending entries of the head
+pub record HasKept (w v : Writing) : Type 0 where
+  pub changes : v.changes ≡ w.changes
+  pub ids : v.ids ≡ w.ids
+  pub client : v.home.client ≡ w.home.client
+  pub lease : v.home.lease ≡ w.home.lease
+  pub epoch : v.home.head.epoch ≡ w.home.head.epoch
+  pub attempt : v.home.attempt ≡ w.home.attempt
+
+kept : (w : Writing) → HasKept w w
+kept w = record { changes = refl; ids = refl; client = refl; lease = refl; epoch = refl; attempt = refl }
+
+kept_on : {u v w : Writing} → HasKept u v → HasKept v w → HasKept u w
+kept_on a b = record {
+  changes = b.changes ∙ a.changes;
+  ids = b.ids ∙ a.ids;
+  client = b.client ∙ a.client;
+  lease = b.lease ∙ a.lease;
+  epoch = b.epoch ∙ a.epoch;
+  attempt = b.attempt ∙ a.attempt;
+}
+
+root_kept : (w : Writing) (tree : ℕ) (o : Option Tree) → HasKept w (pruned_by_root w tree o)
+root_kept w tree None = kept w
+root_kept w tree (Some root) = record { changes = refl; ids = refl; client = refl; lease = refl; epoch = refl; attempt = refl }
+
+leaf_kept : (w : Writing) (tree : ℕ) (o : Option Leaf) → HasKept w (pruned_by_kept w tree o)
+leaf_kept w tree None = kept w
+leaf_kept w tree (Some leaf) = record { changes = refl; ids = refl; client = refl; lease = refl; epoch = refl; attempt = refl }
+
+pub used_kept : (w : Writing) (c : Cache) (used : Option ObjName) → HasKept w (pruned_with w c used)
+used_kept w c None = kept w
+used_kept w c (Some (object.Head client)) = kept w
+used_kept w c (Some (object.Tree tree)) = root_kept w tree (root_at c (object.Tree tree))
+used_kept w c (Some (object.Page tree page)) = leaf_kept w tree (leaf_at c (object.Page tree page))
+
+-- Local work leads to a walk, to the first write, or to an end with nothing committed.
+pub data Leads (w : Writing) : NextRun → Type 0 where
+  walks : (first : Bool) (e : Draft) (v : Walk) (k : Cache) → HasKept w e.writes → Leads w (walking first e v k)
+  writes : (e : Draft) (k : Cache) (v : Writing) → HasKept w e.writes → length e.writes.changes ≤ length e.plan.pages → begun e.writes (records_of e) ≡ Goes v
+      → Leads w (Goes (written e v, k))
+  refuses : (e : Draft) (k : Cache) (t : Trouble) → HasKept w e.writes → t ≢ trouble.Memory → Leads w (refused e k t)
+  lacks : (e : Draft) (k : Cache) → HasKept w e.writes → Leads w (lacking e k)
+
+begins_lead : (w : Writing) (first : Bool) (d : Draft) (k : Cache) (to : ℕ × List ℕ) (x : NextRun) → HasKept w d.writes → Begins first d k to x → Leads w x
+begins_lead w first d k to x h (walks m e is aims) = walks first (pruned_behind d m.0 m.1) m.0 m.1 (kept_on h (used_kept d.writes m.1 m.0.used))
+begins_lead w first d k to x h (stops m t e link other) = refuses (pruned_behind d m.0 m.1) m.1 t (kept_on h (used_kept d.writes m.1 m.0.used)) other
+begins_lead w first d k to x h (lacks m e) = lacks (pruned_behind d m.0 m.1) m.1 (kept_on h (used_kept d.writes m.1 m.0.used))
+
+plans_lead : (w : Writing) (d : Draft) (k : Cache) (x : NextRun) → HasKept w d.writes → Plans d k x → Leads w x
+plans_lead w d k x h (seeks n y is b) = begins_lead w false (planned d) k (target_of n) x h b
+plans_lead w d k x h (full none e) = refuses (planned d) k (trouble.Exhausted counter.Number) h (λ memory. cc)
+plans_lead w d k x h (writes v none fits e) = writes (planned d) k v h (past_none d.writes.changes (length (planned d).plan.pages) none) e
+
+pub turned_leads : (d : Draft) (first : Bool) (n : Next (Walk × Cache) ℕ) → Leads d.writes (by_turn (walk_turned first d) n)
+turned_leads d first (Goes m) = walks first (pruned_behind d m.0 m.1) m.0 m.1 (used_kept d.writes m.1 m.0.used)
+turned_leads d first (Ends m page) = plans_lead d.writes (leaf_noted (pruned_behind d m.0 m.1) m.0 m.1 page) m.1 _ (used_kept d.writes m.1 m.0.used) (plans_on (leaf_noted (pruned_behind d m.0 m.1) m.0 m.1 page) m.1)
+turned_leads d first (Stops m t) = on (is_stale t) where
+  so : HasKept d.writes (pruned_behind d m.0 m.1).writes
+  so = used_kept d.writes m.1 m.0.used
+
+  stale : (b : Bool) → Leads d.writes (stale_at b (pruned_behind d m.0 m.1) m.1)
+  stale true = plans_lead d.writes (pruned_behind d m.0 m.1) m.1 _ so (plans_on (pruned_behind d m.0 m.1) m.1)
+  stale false = plans_lead d.writes (paged (pruned_behind d m.0 m.1) 1) m.1 _ so (plans_on (paged (pruned_behind d m.0 m.1) 1) m.1)
+
+  other : (u : Trouble) → Leads d.writes (troubled (pruned_behind d m.0 m.1) m.1 u)
+  other trouble.Memory = lacks (pruned_behind d m.0 m.1) m.1 so
+  other u = refuses (pruned_behind d m.0 m.1) m.1 u so (λ memory. cc)
+
+  on : (b : Bool) → Leads d.writes (if b then stale_at first (pruned_behind d m.0 m.1) m.1 else troubled (pruned_behind d m.0 m.1) m.1 t)
+  on true = stale first
+  on false = other t
+
+abbrev pub spent_at : Home → List Noted → Cache → NextRun
+spent_at home changes c = refused (new_draft (waiting home changes)) c (trouble.Exhausted counter.Txn)
+
+-- at the beginning no attempt number is left, or it leads on with the next one
+abbrev pub BeginsWith : Home → List Noted → Cache → NextRun → Type 0
+BeginsWith home changes c x = ((is_spent home ≡ true) × (x ≡ spent_at home changes c)) ⊎ ((is_spent home ≡ false) × Leads (taken home changes).writes x)
+
+start_leads : (home : Home) (changes : List Noted) (c : Cache) (x : NextRun) → Starts home changes c x → BeginsWith home changes c x
+start_leads home changes c x (spent e) = inl (e, refl)
+start_leads home changes c x (long to y left e b) = inr (left, begins_lead (taken home changes).writes true (taken home changes) c to x (kept (taken home changes).writes) b)
+start_leads home changes c x (few y left e p) = inr (left, plans_lead (taken home changes).writes (taken home changes) c x (kept (taken home changes).writes) p)
+
+pub ready_leads : (home : Home) (changes : List Noted) (c : Cache) → BeginsWith home changes c (run_ready (new_run home changes, c))
+ready_leads home changes c = start_leads home changes c (run_ready (new_run home changes, c)) (starts home changes c)

@@ -2,46 +2,16 @@
 use Rattle.std.proofs.Common.{◌≡◌, ◌≤◌, ◌<◌, ◌+◌, ℕ, Bool, true, false, List, [], ◌∷◌, ◌++◌, length, drop, Option, Some, None, refl, ap, sym, subst, ◌∙◌, arith, length-append}
 use Rattle.std.specs.Prelude.{slice_get}
 use Rattle.std.specs.Option.{option_map}
-use Rattle.db_base.specs.declared.names.ObjName.{ObjName}
-use Rattle.db_base.specs.declared.names.ObjName.TheVariants as object
-use Rattle.leaf_view.specs.Leaf.{Leaf}
 use Rattle.leaf_view.specs.Lookup.{holds}
-use Rattle.node_codec.specs.Tree.{Tree}
-use Rattle.txn_buffer.specs.Noted.{Noted}
-use Rattle.page_cache.specs.Cache.{Cache}
-use Rattle.page_cache.specs.Held.{leaf_at, root_at}
-use Rattle.tree_walk.specs.Walk.{Walk, IsAtLeaf, sought, object_of}
-use Rattle.commit_plan.specs.Ended.{ended_of}
 use Rattle.commit_plan.specs.Ended.{page_at as ended_page}
-use Rattle.commit_plan.specs.Plan.{Plan, pages_of}
-use Rattle.commit_writes.specs.Writing.{Writing}
-use Rattle.commit_run.specs.Draft.{Draft, IsWithin, pruned_by_root, pruned_by_kept, pruned_with, pruned_behind, planned, with_kept, leaf_noted, paged}
-use Rattle.commit_run.specs.Run.{target_of, next_target}
-use Rattle.commit_run.proofs.Holding.{one_left}
+use Rattle.commit_plan.specs.Plan.{Plan}
+use Rattle.commit_run.specs.Draft.{IsWithin, with_kept}
+use Rattle.commit_run.proofs.Words.{Leaf, Noted, Cache, leaf_at, Walk, IsAtLeaf, sought, object_of, ended_of, pages_of, Draft, pruned_behind, planned, leaf_noted, paged, target_of, next_target}
+use Rattle.commit_run.proofs.Outcomes.{HasKept, used_kept}
 use Rattle.commit_run.proofs.Finding.{held_spans, found_last, next_found}
 
--- ---- what pruning leaves
-
--- the changes and the messages are the same
-abbrev pub IsSame : Writing → Writing → Type 0
-IsSame w v = (v.changes ≡ w.changes) × (v.ids ≡ w.ids)
-
-root_same : (w : Writing) (tree : ℕ) (o : Option Tree) → IsSame w (pruned_by_root w tree o)
-root_same w tree None = (refl, refl)
-root_same w tree (Some root) = (refl, refl)
-
-leaf_same : (w : Writing) (tree : ℕ) (o : Option Leaf) → IsSame w (pruned_by_kept w tree o)
-leaf_same w tree None = (refl, refl)
-leaf_same w tree (Some leaf) = (refl, refl)
-
-pub used_same : (w : Writing) (c : Cache) (used : Option ObjName) → IsSame w (pruned_with w c used)
-used_same w c None = (refl, refl)
-used_same w c (Some (object.Head client)) = (refl, refl)
-used_same w c (Some (object.Tree tree)) = root_same w tree (root_at c (object.Tree tree))
-used_same w c (Some (object.Page tree page)) = leaf_same w tree (leaf_at c (object.Page tree page))
-
 behind_target : (d : Draft) (w : Walk) (c : Cache) → next_target (pruned_behind d w c) ≡ next_target d
-behind_target d w c = ap (λ (cs : List Noted). option_map target_of (slice_get cs (length d.plan.pages))) (used_same d.writes c w.used).0
+behind_target d w c = ap (λ (cs : List Noted). option_map target_of (slice_get cs (length d.plan.pages))) (used_kept d.writes c w.used).changes
 
 -- ---- a walk ended at a leaf that holds its key: the next change's leaf is known
 
@@ -68,18 +38,18 @@ known_then false d = length d.plan.pages + 1
 
 -- a draft behind the walk in hand: of the same changes, with as many known leaves
 pub record IsBehind (first : Bool) (d e : Draft) : Type 0 where
-  pub same : IsSame d.writes e.writes
+  pub same : HasKept d.writes e.writes
   pub within : IsWithin e
   pub known : known_then first d ≤ length (planned e).plan.pages
 
 pub noted_behind : (first : Bool) (d : Draft) (w : Walk) (c : Cache) (page : ℕ) → IsWithin d → (first ≡ false → next_target d ≡ Some (w.tree, sought w)) → IsAtLeaf w c page
     → IsBehind first d (leaf_noted (pruned_behind d w c) w c page)
-noted_behind first d w c page within target at = record { same = same; within = omega (arith, within, pages, ap length same.0); known = on first target } where
+noted_behind first d w c page within target at = record { same = same; within = omega (arith, within, pages, ap length same.changes); known = on first target } where
   e : Draft
   e = leaf_noted (pruned_behind d w c) w c page
 
-  same : IsSame d.writes e.writes
-  same = used_same d.writes c w.used
+  same : HasKept d.writes e.writes
+  same = used_kept d.writes c w.used
 
   pages : length e.plan.pages ≡ length d.plan.pages
   pages = ap length (noted_pages d.plan w.tree page (leaf_at c (object_of w)))
@@ -91,11 +61,11 @@ noted_behind first d w c page within target at = record { same = same; within = 
 
 pub paged_behind : (d : Draft) (w : Walk) (c : Cache) → length d.plan.pages < length d.writes.changes → IsBehind false d (paged (pruned_behind d w c) 1)
 paged_behind d w c room =
-    let same : IsSame d.writes (pruned_behind d w c).writes = used_same d.writes c w.used in
+    let same : HasKept d.writes (pruned_behind d w c).writes = used_kept d.writes c w.used in
     let pages : length (d.plan.pages ++ 1 ∷ []) ≡ length d.plan.pages + 1 = length-append d.plan.pages (1 ∷ []) in
-    record { same = same; within = omega (arith, room, pages, ap length same.0); known = omega (arith, pages, planned_more (paged (pruned_behind d w c) 1) 0 (omega arith)) }
+    record { same = same; within = omega (arith, room, pages, ap length same.changes); known = omega (arith, pages, planned_more (paged (pruned_behind d w c) 1) 0 (omega arith)) }
 
 pub pruned_past : (d : Draft) (w : Walk) (c : Cache) → IsWithin d → IsBehind true d (pruned_behind d w c)
 pruned_past d w c within =
-    let same : IsSame d.writes (pruned_behind d w c).writes = used_same d.writes c w.used in
-    record { same = same; within = omega (arith, within, ap length same.0); known = omega (arith, planned_more (pruned_behind d w c) 0 (omega arith)) }
+    let same : HasKept d.writes (pruned_behind d w c).writes = used_kept d.writes c w.used in
+    record { same = same; within = omega (arith, within, ap length same.changes); known = omega (arith, planned_more (pruned_behind d w c) 0 (omega arith)) }

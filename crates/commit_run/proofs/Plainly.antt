@@ -1,37 +1,21 @@
 -- A commit that needs no walk makes none, and three calls for each change and two.
-use Rattle.std.proofs.Common.{◌≡◌, ◌≤◌, ◌+◌, ◌*◌, ℕ, Bool, true, false, List, [], ◌∷◌, ◌++◌, length, Option, Some, None, refl, ap, sym, subst, ◌∙◌, arith, length-append}
+use Rattle.std.proofs.Common.{◌≡◌, ◌+◌, ◌*◌, ℕ, Bool, true, false, List, [], ◌∷◌, ◌++◌, length, Option, Some, None, refl, ap, sym, subst, ◌∙◌, arith, length-append}
 use Rattle.std.specs.Prelude.{if◌then◌else◌, ◌||◌}
 use Rattle.std.specs.List.{AllByRecursion}
 use Rattle.std.specs.Option.{option_map_or}
 use Rattle.std.proofs.lemmas.Option.{slice_get_within}
-use Rattle.db_base.specs.declared.trouble.CommitAnswer.{CommitAnswer}
 use Rattle.db_base.specs.declared.trouble.CommitAnswer.TheVariants.{Committed}
-use Rattle.head_codec.specs.declared.lists.Pending.{Pending}
-use Rattle.log_codec.specs.declared.record.AtomicRec.{AtomicRec}
-use Rattle.txn_buffer.specs.Noted.{Noted}
-use Rattle.cloud_trait.specs.declared.answer.Answer.{Answer}
 use Rattle.cloud_trait.specs.declared.answer.Answer.TheVariants.{Done}
-use Rattle.cloud_trait.specs.declared.turn.Turn.{Turn}
 use Rattle.cloud_trait.specs.declared.turn.Turn.TheVariants.{Ended}
-use Rattle.cloud_trait.specs.Ask.{Ask}
-use Rattle.cloud_trait.specs.Machine.{Next, Goes, Ends, Stops, LeadsBy, Came, Deed}
-use Rattle.recover_run.specs.declared.home.Home.{Home}
-use Rattle.page_cache.specs.Cache.{Cache}
-use Rattle.tree_walk.specs.Walk.{Walk}
-use Rattle.commit_plan.specs.Plan.{page_without, pages_of}
-use Rattle.commit_writes.specs.Writing.{Writing, writing_ask, writing_next}
-use Rattle.commit_writes.specs.Calls.{Calls, told, logged_calls, posted_calls, deleted_calls, put_of, opened_of, settled_of, all_logged, all_opened, all_posted, all_settled}
+use Rattle.commit_writes.specs.Calls.{logged_calls, posted_calls, deleted_calls, put_of, opened_of, settled_of, all_logged, all_opened, all_posted, all_settled}
 use Rattle.commit_writes.specs.Meaning.{IsCommitted, MeansTurn}
 use Rattle.commit_writes.proofs.Counting.{length_told}
-use Rattle.commit_writes.proofs.RoutedLaws.{routed_length}
-use Rattle.commit_run.specs.declared.hand.Hand.{Hand}
-use Rattle.commit_run.specs.declared.hand.Hand.TheVariants.{Writes, First, Change}
-use Rattle.commit_run.specs.Draft.{Draft}
-use Rattle.commit_run.specs.Run.{Run, held, new_run, long_target, wrote, asks, ask_at, run_ready, next_at, run_next}
+use Rattle.commit_run.specs.Run.{next_at}
 use Rattle.commit_run.specs.Meaning.{home_in}
 use Rattle.commit_run.specs.Plain.{IsPlainChange, IsPlain, GoesPlainly}
 use Rattle.commit_run.specs.Stepped.{MeansWrites}
-use Rattle.commit_run.specs.Within.{Went, GetsNothing, IsNoGet}
+use Rattle.commit_run.specs.Within.{IsNoGet}
+use Rattle.commit_run.proofs.Words.{CommitAnswer, Pending, AtomicRec, Noted, Answer, Turn, Ask, Next, Goes, Ends, Stops, LeadsBy, Came, Deed, Home, Cache, Walk, page_without, pages_of, Writing, writing_ask, writing_next, Calls, told, routed_length, Hand, Writes, First, Change, Draft, Run, held, new_run, long_target, wrote, asks, ask_at, run_ready, run_next, Went, GetsNothing}
 use Rattle.commit_run.proofs.Grouping.{no_get}
 use Rattle.commit_run.proofs.Outcomes as step
 use Rattle.commit_run.proofs.Outcomes.{NextRun, Starts, starts}

@@ -1,16 +1,10 @@
 -- A walk that ends does so at the leaf that its newest get answered.
 use Rattle.std.proofs.Common.{◌≡◌, ℕ, List, Option, Some, ap, sym, ◌∙◌}
 use Rattle.db_base.specs.declared.names.ObjName.TheVariants as object
-use Rattle.leaf_view.specs.Leaf.{Leaf}
-use Rattle.cloud_trait.specs.declared.answer.Answer.{Answer}
-use Rattle.cloud_trait.specs.declared.answer.Answer.TheVariants.{Got}
-use Rattle.cloud_trait.specs.Ask.{Get}
-use Rattle.cloud_trait.specs.Machine.{Ends}
-use Rattle.page_cache.specs.Cache.{Cache, kept_at}
-use Rattle.page_cache.specs.Held.{leaf_at, as_leaf}
-use Rattle.tree_walk.specs.Walk.{Walk, IsWalk, IsAtLeaf, object_of, walk_ask, walk_next}
+use Rattle.page_cache.specs.Cache.{kept_at}
 use Rattle.tree_walk.proofs.Leaves.{ends_at}
 use Rattle.tree_walk.proofs.Serving.{next_keeps}
+use Rattle.commit_run.proofs.Words.{Leaf, Answer, Got, Get, Ends, Cache, leaf_at, as_leaf, Walk, IsWalk, IsAtLeaf, object_of, walk_ask, walk_next}
 
 -- the leaf at which a walk ended, by the answer of its newest get
 pub record IsServed (w : Walk) (a : Answer) (n : Walk × Cache) (page : ℕ) : Type 0 where

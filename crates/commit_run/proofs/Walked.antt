@@ -1,39 +1,23 @@
 -- What each turn of a walk makes of what is known.
 use Rattle.std.proofs.Common.{◌≡◌, ◌≤◌, ℕ, zero, suc, Bool, true, false, List, [], ◌∷◌, ◌++◌, length, drop, Option, Some, None, unwrap_or, refl, ap, sym, subst, ◌∙◌, inl, inr, arith, length-append}
-use Rattle.std.specs.Prelude.{slice_get, if◌then◌else◌}
+use Rattle.std.specs.Prelude.{slice_get}
 use Rattle.std.specs.Option.{option_map}
 use Rattle.std.proofs.lemmas.List.{append-nil}
-use Rattle.db_base.specs.declared.names.ObjName.{ObjName}
 use Rattle.db_base.specs.declared.names.ObjName.TheVariants as object
-use Rattle.db_base.specs.declared.trouble.Trouble.{Trouble}
 use Rattle.db_base.specs.declared.trouble.Trouble.TheVariants as trouble
 use Rattle.db_base.specs.declared.trouble.Counter.TheVariants as counter
 use Rattle.head_codec.specs.declared.head.Head.{Head}
-use Rattle.leaf_view.specs.Leaf.{Leaf}
-use Rattle.node_codec.specs.Tree.{Tree}
-use Rattle.log_codec.specs.declared.record.AtomicRec.{AtomicRec}
-use Rattle.txn_buffer.specs.Noted.{Noted}
-use Rattle.cloud_trait.specs.declared.answer.Answer.{Answer}
-use Rattle.cloud_trait.specs.declared.turn.Turn.TheVariants.{Stopped}
-use Rattle.cloud_trait.specs.Ask.{Ask, Get}
-use Rattle.cloud_trait.specs.Machine.{Next, Goes, Ends, Stops}
-use Rattle.recover_run.specs.declared.home.Home.{Home}
-use Rattle.page_cache.specs.Cache.{Cache}
-use Rattle.page_cache.specs.Held.{leaf_at, root_at}
-use Rattle.tree_walk.specs.Causing.{LinkShows}
-use Rattle.tree_walk.specs.Walk.{Walk, sought, object_of, new_walk, walk_ask, walk_ready, walk_next}
-use Rattle.commit_plan.specs.Ended.{ended_of}
-use Rattle.commit_writes.specs.Writing.{Writing, waiting, with_head, pruned, begun, routed_of, passes}
-use Rattle.commit_writes.specs.Calls.{Calls}
-use Rattle.commit_run.specs.Draft.{Draft, pruned_by_root, pruned_by_kept, pruned_with, pruned_behind, planned, with_kept, leaf_noted, paged}
-use Rattle.commit_run.specs.Run.{held, target_of, next_target, long_target, refused, is_stale, walked}
-use Rattle.commit_run.specs.Trips.{Use, OfTree, OfLeaf, use_of_root, use_of_leaf, used_in, left_by_turn, used_by_turn, Trip, uses_of, IsAimed, AreWalks}
-use Rattle.commit_run.specs.Meaning.{pruned_once, pruned_by, walked_home, IsLeafOf, AreLeaves, IsRouted, WhyNot}
+use Rattle.page_cache.specs.Held.{root_at}
+use Rattle.commit_writes.specs.Writing.{with_head, pruned}
+use Rattle.commit_run.specs.Draft.{pruned_by_root, pruned_by_kept, pruned_with, with_kept}
+use Rattle.commit_run.specs.Trips.{OfTree, OfLeaf, use_of_root, use_of_leaf, IsAimed}
+use Rattle.commit_run.specs.Meaning.{pruned_once, pruned_by, IsLeafOf}
+use Rattle.commit_run.proofs.Words.{ObjName, Trouble, Leaf, Tree, Noted, Answer, Ask, Get, Next, Goes, Ends, Stops, Home, Cache, leaf_at, LinkShows, Walk, sought, object_of, new_walk, walk_ask, walk_next, ended_of, Writing, waiting, begun, routed_of, passes, Calls, Draft, pruned_behind, planned, leaf_noted, paged, held, target_of, next_target, is_stale, walked, Use, used_in, left_by_turn, used_by_turn, Trip, uses_of, AreWalks, walked_home, AreLeaves}
 use Rattle.commit_run.proofs.Knowing.{KeepsRead, IsGotAt, KnowsDraft, KnowsOver, KnowsHeld, KnowsHand, KnowsNext}
 use Rattle.commit_run.proofs.Planning.{get_last, all_more, ended_more, leaves_more, leaves_append, pages_leaves, planned_within}
 use Rattle.commit_run.proofs.Holding.{one_left, all_known, same_target}
 use Rattle.commit_run.proofs.Outcomes as step
-use Rattle.commit_run.proofs.Outcomes.{NextRun, next_change, records_of, Begins, Plans, Behind, Comes, comes}
+use Rattle.commit_run.proofs.Outcomes.{NextRun, records_of, Begins, Plans, Behind, Comes, comes}
 use Rattle.commit_run.proofs.Served.{IsServed, end_served}
 use Rattle.commit_run.proofs.Reading.{LeavesRead, ready_read, next_read}
 use Rattle.commit_run.proofs.Tripping.{uses_last, behind_last, begun_trip, walks_begin, gone_on, uses_on, walks_on}
@@ -166,7 +150,7 @@ module _ (home : Home) (changes : List Noted) (c : Cache) (calls : Calls) where
           to = same;
           aimed = λ no. target_same home changes o.trips o.trips (uses_of (o.trips ++ trip ∷ [])) (uses_of o.trips) (pruned_behind d m.0 m.1) d p o.draft refl ∙ (aimed no ∙ ap Some same);
         })
-    on y (step.stops m t e link) = record {
+    on y (step.stops m t e link other) = record {
       trips = o.trips ++ trip ∷ [];
       walks = walks;
       means = record {

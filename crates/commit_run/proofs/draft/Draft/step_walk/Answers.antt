@@ -1,8 +1,8 @@
 use Rattle.commit_run.proofs.Holding.{steps_held}
 use Rattle.commit_run.proofs.Leading.{walk_leads, keeps_head}
-use Rattle.commit_run.proofs.Demanding.{walk_demands}
+use Rattle.commit_run.proofs.Demands.{walk_demands}
 use Rattle.commit_run.proofs.Exacting.{walk_stepped}
-use Rattle.commit_run.proofs.Ending.{walk_less}
+use Rattle.commit_run.proofs.End.{walk_less}
 use Rattle.commit_run.proofs.draft.Draft.step_walk.Goals as goal
 
 pub walked-requires-clause-aimed : goal.walked-requires-clause-aimed

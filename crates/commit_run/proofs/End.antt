@@ -1,31 +1,21 @@
 -- A commit ends: each step leaves fewer calls than were left before it.
 use Rattle.std.proofs.Common.{◌≡◌, ◌≢◌, ◌≤◌, ◌<◌, ◌+◌, ◌-◌, ◌*◌, ◌^◌, ℕ, Bool, true, false, List, length, Option, Some, None, refl, ap, sym, subst, ◌∙◌, arith}
 use Rattle.std.specs.Prelude.{slice_get, if◌then◌else◌}
-use Rattle.std.specs.Option.{option_map}
 use Rattle.std.proofs.lemmas.Option.{slice_get_within}
-use Rattle.db_base.specs.declared.trouble.Trouble.{Trouble}
 use Rattle.db_base.specs.declared.trouble.Trouble.TheVariants as trouble
-use Rattle.db_base.specs.declared.trouble.CommitAnswer.{CommitAnswer}
-use Rattle.log_codec.specs.declared.record.AtomicRec.{AtomicRec}
-use Rattle.txn_buffer.specs.Noted.{Noted}
-use Rattle.cloud_trait.specs.declared.turn.Turn.{Turn}
-use Rattle.cloud_trait.specs.declared.turn.Turn.TheVariants.{More, Ended, Stopped}
-use Rattle.cloud_trait.specs.Machine.{Next, Goes, Ends, Stops}
-use Rattle.recover_run.specs.declared.home.Home.{Home}
-use Rattle.page_cache.specs.Cache.{Cache}
-use Rattle.tree_walk.specs.Walk.{Walk, HasAim, IsAtLeaf, sought}
+use Rattle.cloud_trait.specs.declared.turn.Turn.TheVariants.{Ended}
+use Rattle.tree_walk.specs.Walk.{HasAim}
 use Rattle.tree_walk.specs.Walk.{calls_left as walk_left}
 use Rattle.commit_writes.specs.Ending.{calls_left as writes_left}
-use Rattle.commit_writes.specs.Writing.{Writing, begun, log_or_open}
-use Rattle.commit_writes.proofs.RoutedLaws.{routed_length}
-use Rattle.commit_run.specs.Draft.{Draft, IsWithin, pruned_behind, planned, leaf_noted, paged}
-use Rattle.commit_run.specs.Run.{Run, IsHeld, held, new_run, target_of, next_target, troubled, plan_on, is_stale, stale_at, walk_stopped, walk_turned, run_ready, Led}
+use Rattle.commit_run.specs.Draft.{IsWithin}
+use Rattle.commit_run.specs.Run.{IsHeld, walk_stopped}
 use Rattle.commit_run.specs.Ending.{walk_calls, written_calls, unknown, walks_and_writes, left_at, calls_left, most_calls}
+use Rattle.commit_run.proofs.Words.{Trouble, CommitAnswer, AtomicRec, Noted, Turn, More, Stopped, Next, Goes, Ends, Stops, Home, Cache, Walk, IsAtLeaf, sought, Writing, begun, log_or_open, routed_length, Draft, pruned_behind, planned, leaf_noted, paged, Run, held, new_run, target_of, next_target, troubled, plan_on, is_stale, stale_at, walk_turned, run_ready, Led}
 use Rattle.commit_run.proofs.Planning.{planned_within}
 use Rattle.commit_run.proofs.Holding.{same_target, all_known, one_left}
 use Rattle.commit_run.proofs.Outcomes as step
-use Rattle.commit_run.proofs.Outcomes.{NextRun, Begins, Plans, Starts, records_of, plans_on, starts}
-use Rattle.commit_run.proofs.Pages.{IsSame, used_same, known_then, IsBehind, noted_behind, paged_behind, pruned_past}
+use Rattle.commit_run.proofs.Outcomes.{NextRun, Begins, Plans, Starts, HasKept, used_kept, records_of, plans_on, starts}
+use Rattle.commit_run.proofs.Pages.{known_then, IsBehind, noted_behind, paged_behind, pruned_past}
 
 -- where a turn goes on, no more calls are left than this
 abbrev pub AtMost : ℕ → NextRun → Type 0
@@ -46,17 +36,17 @@ more_walks : (a b k : ℕ) → a ≤ b → a * walk_calls + k ≤ b * walk_calls
 more_walks a b k h = omega (arith, h)
 
 -- the changes and the messages are the same
-same_written : (w v : Writing) → IsSame w v → written_calls v ≡ written_calls w
-same_written w v same = omega (arith, ap length same.0, ap length same.1)
+same_written : (w v : Writing) → HasKept w v → written_calls v ≡ written_calls w
+same_written w v same = omega (arith, ap length same.changes, ap length same.ids)
 
 -- ---- a walk begins
 
 -- with so many walks behind it
-held_left : (first : Bool) (d e : Draft) (w : Walk) (walks : ℕ) → IsSame d.writes e.writes → e.plan ≡ d.plan → (first ≡ true → unknown d + 1 ≤ walks) → (first ≡ false → (unknown d - 1) + 1 ≤ walks)
+held_left : (first : Bool) (d e : Draft) (w : Walk) (walks : ℕ) → HasKept d.writes e.writes → e.plan ≡ d.plan → (first ≡ true → unknown d + 1 ≤ walks) → (first ≡ false → (unknown d - 1) + 1 ≤ walks)
     → left_at (held first w) e ≤ walks_and_writes walks d.writes
 held_left first d e w walks same plan long most = on first long most where
   changes : unknown e ≡ unknown d
-  changes = ap (λ (cs : List Noted). length cs - length e.plan.pages) same.0 ∙ ap (λ p. length d.writes.changes - length p.pages) plan
+  changes = ap (λ (cs : List Noted). length cs - length e.plan.pages) same.changes ∙ ap (λ p. length d.writes.changes - length p.pages) plan
 
   on : (b : Bool) → (b ≡ true → unknown d + 1 ≤ walks) → (b ≡ false → (unknown d - 1) + 1 ≤ walks) → left_at (held b w) e ≤ walks_and_writes walks d.writes
   on true long most =
@@ -68,8 +58,8 @@ held_left first d e w walks same plan long most = on first long most where
 
 begun_most : (first : Bool) (d : Draft) (k : Cache) (to : ℕ × List ℕ) (x : NextRun) (walks : ℕ) → (first ≡ true → unknown d + 1 ≤ walks) → (first ≡ false → (unknown d - 1) + 1 ≤ walks) → Begins first d k to x
     → AtMost (walks_and_writes walks d.writes) x
-begun_most first d k to x walks long most (step.walks m e is aims) = held_left first d (pruned_behind d m.0 m.1) m.0 walks (used_same d.writes m.1 m.0.used) refl long most
-begun_most first d k to x walks long most (step.stops m t e link) = tt
+begun_most first d k to x walks long most (step.walks m e is aims) = held_left first d (pruned_behind d m.0 m.1) m.0 walks (used_kept d.writes m.1 m.0.used) refl long most
+begun_most first d k to x walks long most (step.stops m t e link other) = tt
 begun_most first d k to x walks long most (step.lacks m e) = tt
 
 -- ---- the first record is written
@@ -125,16 +115,16 @@ plan_below left first d e c b =
       room a k u v e = omega (arith, e)
 
       fewer : (b : Bool) → known_then b d ≤ length (planned e).plan.pages → unknown (planned e) ≤ behind_of b d
-      fewer true h = omega (arith, h, ap length b.same.0)
-      fewer false h = omega (arith, h, ap length b.same.0)
+      fewer true h = omega (arith, h, ap length b.same.changes)
+      fewer false h = omega (arith, h, ap length b.same.changes)
 
 goes_below : (left : ℕ) (first : Bool) (d : Draft) (w : Walk) (c : Cache) → walk_left w < left → left_at (held first w) (pruned_behind d w c) < with_walk left first d
 goes_below left first d w c less = on first where
-  same : IsSame d.writes (pruned_behind d w c).writes
-  same = used_same d.writes c w.used
+  same : HasKept d.writes (pruned_behind d w c).writes
+  same = used_kept d.writes c w.used
 
   unknown_so : unknown (pruned_behind d w c) ≡ unknown d
-  unknown_so = ap (λ (cs : List Noted). length cs - length d.plan.pages) same.0
+  unknown_so = ap (λ (cs : List Noted). length cs - length d.plan.pages) same.changes
 
   less_walk : (a b k u v : ℕ) → a < b → u ≡ v → (a + 1) + (k + u) < (b + 1) + (k + v)
   less_walk a b k u v h e = omega (arith, h, e)

@@ -1,35 +1,21 @@
 -- Which answer each call of a whole commit demands, what it names, and that it ends well where it is calm.
-use Rattle.std.proofs.Common.{◌≡◌, ◌≤◌, ◌+◌, ℕ, Bool, true, false, List, [], ◌∷◌, ◌++◌, length, Option, Some, None, refl, ap, sym, subst, ◌∙◌, inl, inr, ◌⊎◌, arith}
-use Rattle.std.specs.Prelude.{slice_get, if◌then◌else◌}
+use Rattle.std.proofs.Common.{◌≡◌, ◌≤◌, ◌+◌, ℕ, Bool, true, false, List, [], ◌∷◌, ◌++◌, length, Some, refl, ap, sym, subst, ◌∙◌, inl, inr, ◌⊎◌, arith}
+use Rattle.std.specs.Prelude.{if◌then◌else◌}
 use Rattle.std.specs.List.{AllByRecursion}
 use Rattle.db_base.specs.declared.names.ObjName.TheVariants as object
 use Rattle.db_base.specs.declared.names.QueueName.TheVariants as queue
-use Rattle.db_base.specs.declared.trouble.Trouble.{Trouble}
 use Rattle.db_base.specs.declared.trouble.Trouble.TheVariants as trouble
 use Rattle.db_base.specs.declared.trouble.Counter.TheVariants as counter
-use Rattle.db_base.specs.declared.trouble.CommitAnswer.{CommitAnswer}
-use Rattle.db_base.specs.declared.trouble.CommitAnswer.TheVariants.{Committed, NotCommitted, InDoubt, CommittedOpen}
-use Rattle.log_codec.specs.declared.record.AtomicRec.{AtomicRec}
-use Rattle.txn_buffer.specs.Noted.{Noted}
-use Rattle.cloud_trait.specs.declared.answer.Answer.{Answer}
+use Rattle.db_base.specs.declared.trouble.CommitAnswer.TheVariants.{Committed, InDoubt, CommittedOpen}
 use Rattle.cloud_trait.specs.declared.answer.Answer.TheVariants as answer
-use Rattle.cloud_trait.specs.declared.turn.Turn.{Turn}
-use Rattle.cloud_trait.specs.declared.turn.Turn.TheVariants.{More, Ended, Stopped}
-use Rattle.cloud_trait.specs.Ask.{Ask, Get, PutHeld, Send, Delete, PutsNothing}
+use Rattle.cloud_trait.specs.declared.turn.Turn.TheVariants.{Ended}
+use Rattle.cloud_trait.specs.Ask.{PutHeld, Send, Delete, PutsNothing}
 use Rattle.cloud_trait.specs.Caller.{Caller}
 use Rattle.cloud_trait.specs.Seen.{Seen}
-use Rattle.cloud_trait.specs.Machine.{Next, Goes, Ends, Stops, LeadsBy, Took, Deed}
 use Rattle.cloud_trait.specs.Weather.{Fits, Makes}
 use Rattle.calm_calls.specs.Calm.{GoesWell, IsCalm, AreCalm, ComesNext, AreAlone}
 use Rattle.calm_calls.proofs.CalmLemmas.{goes_well}
-use Rattle.recover_run.specs.declared.home.Home.{Home}
-use Rattle.page_cache.specs.Cache.{Cache}
-use Rattle.tree_walk.specs.Causing.{LinkShows}
-use Rattle.tree_walk.specs.Walk.{Walk, new_walk, walk_ask, walk_ready, walk_next}
-use Rattle.commit_writes.specs.declared.stage.Stage.{Stage}
-use Rattle.commit_writes.specs.declared.stage.Stage.TheVariants.{Waiting, Logging, Opening, Sending, Settling, Deleting, Finished}
-use Rattle.commit_writes.specs.Writing.{Writing, waiting, numbered, is_spent, routing, passes, routed_of, begun, log_or_open, not_committed, writing_ask}
-use Rattle.commit_writes.specs.Calls.{Calls, told}
+use Rattle.commit_writes.specs.Writing.{numbered}
 use Rattle.commit_writes.specs.Exact.{IsPut, NonePut, WasOpened, deletions_in, deletions, DemandsNot, Demands, Exactly}
 use Rattle.commit_writes.specs.Meaning.{MeansTurn as WritesTurn}
 use Rattle.commit_writes.specs.Names.{IsSentTo, IsOwnCall}
@@ -44,21 +30,16 @@ use Rattle.commit_writes.proofs.Meaning.{only_memory}
 use Rattle.commit_writes.proofs.Meaning.{went_knows as writes_know}
 use Rattle.commit_writes.proofs.Counting.{opened_put}
 use Rattle.commit_writes.proofs.Exacting.{names_at}
-use Rattle.commit_writes.proofs.RoutedLaws.{routed_some, routed_length}
-use Rattle.commit_run.specs.declared.hand.Hand.{Hand}
-use Rattle.commit_run.specs.declared.hand.Hand.TheVariants.{Writes, First, Change}
-use Rattle.commit_run.specs.Draft.{Draft, new_draft, planned, pruned_behind, leaf_noted, paged}
-use Rattle.commit_run.specs.Run.{Run, held, new_run, home_of, asks, ask_at, target_of, next_target, written, wrote, refused, troubled, by_turn, begun_turn, walk_to, seek, plan_on, is_stale, stale_at, walk_turned, walked, begin_walks, run_ready, run_next, Led, KeepsHome}
+use Rattle.commit_writes.proofs.RoutedLaws.{routed_some}
 use Rattle.commit_run.specs.Causing.{TellsOf, ShowsReady, CausesReady}
 use Rattle.commit_run.specs.Demanding.{DemandsNext}
 use Rattle.commit_run.specs.Exact.{IsOfCalls, StopsIn, Exact, IsRefusing, ExactReady}
-use Rattle.commit_run.specs.Meaning.{walked_home, Refuses, MeansWalks}
+use Rattle.commit_run.specs.Meaning.{IsRefused, Refuses}
 use Rattle.commit_run.specs.Names.{Names}
 use Rattle.commit_run.specs.Plain.{IsPlain}
 use Rattle.commit_run.specs.Stepped.{MeansWrites, MeansIn, Whole, Stepped}
-use Rattle.commit_run.specs.Trips.{left_by_turn, Trip, uses_of}
 use Rattle.commit_run.specs.Well.{IsMet, IsWell, EndsWell}
-use Rattle.commit_run.specs.Within.{Went, GetsNothing}
+use Rattle.commit_run.proofs.Words.{Trouble, CommitAnswer, NotCommitted, AtomicRec, Noted, Answer, Turn, More, Stopped, Ask, Get, Next, Goes, Ends, Stops, LeadsBy, Took, Deed, Home, Cache, LinkShows, Walk, new_walk, walk_ask, walk_next, Stage, Waiting, Logging, Opening, Sending, Settling, Deleting, Finished, Writing, waiting, is_spent, writing_ask, Calls, told, routed_length, Hand, Writes, First, Change, Draft, new_draft, pruned_behind, Run, held, new_run, home_of, asks, ask_at, target_of, written, refused, troubled, by_turn, is_stale, stale_at, walk_turned, walked, begin_walks, run_ready, run_next, Led, KeepsHome, walked_home, MeansWalks, left_by_turn, Trip, uses_of, Went, GetsNothing}
 use Rattle.commit_run.proofs.Causing.{Shown, WalkCause, walked_shown, write_causes, walk_causes, ready_causes}
 use Rattle.commit_run.proofs.Knowing.{KnowsHeld, KnowsWrites, KnowsAt}
 use Rattle.commit_run.proofs.Leading.{wrote_took}
@@ -73,56 +54,8 @@ abbrev pub IsNot : CommitAnswer → Type 0
 IsNot (NotCommitted t) = Unit {0}
 IsNot x = ⊥
 
-abbrev pub EndsNot : Next (Run × Cache) CommitAnswer → Type 0
-EndsNot (Goes n) = Unit {0}
-EndsNot (Ends n x) = IsNot x
-EndsNot (Stops n t) = Unit {0}
-
-troubled_not : (d : Draft) (c : Cache) (t : Trouble) → EndsNot (troubled d c t)
-troubled_not d c trouble.Memory = tt
-troubled_not d c t = tt
-
-routed_not : (d : Draft) (c : Cache) → EndsNot (wrote d c (routing d.writes d.plan.pages))
-routed_not d c = on (passes records) where
-  records : List AtomicRec
-  records = routed_of d.writes.home d.writes.changes d.plan.pages
-
-  begins : (o : Option AtomicRec) → EndsNot (wrote d c (log_or_open (record d.writes { records = records; place = 0 }) o))
-  begins (Some r) = tt
-  begins None = tt
-
-  on : (b : Bool) → EndsNot (wrote d c (if b then not_committed d.writes (trouble.Exhausted counter.Number) else begun d.writes records))
-  on true = tt
-  on false = begins (slice_get records 0)
-
-walk_not : (first : Bool) (d : Draft) (c : Cache) (to : ℕ × List ℕ) → EndsNot (walk_to first d c to)
-walk_not first d c to = on (walk_ready (new_walk to.0 (Some to.1) first, c)) where
-  on : (x : Next (Walk × Cache) ℕ) → EndsNot (by_turn (begun_turn first d) x)
-  on (Goes m) = tt
-  on (Ends m page) = tt
-  on (Stops m t) = troubled_not (pruned_behind d m.0 m.1) m.1 t
-
-seek_not : (d : Draft) (c : Cache) (o : Option (ℕ × List ℕ)) → EndsNot (seek d c o)
-seek_not d c (Some to) = walk_not false d c to
-seek_not d c None = routed_not d c
-
-plan_not : (d : Draft) (c : Cache) → EndsNot (plan_on d c)
-plan_not d c = seek_not (planned d) c (next_target (planned d))
-
-stale_not : (first : Bool) (d : Draft) (c : Cache) → EndsNot (stale_at first d c)
-stale_not true d c = plan_not d c
-stale_not false d c = plan_not (paged d 1) c
-
-walked_not : (first : Bool) (d : Draft) (w : Walk) (c : Cache) (a : Answer) → EndsNot (walked first d w c a)
-walked_not first d w c a = on (walk_next (w, c) a) where
-  stops : (m : Walk × Cache) (t : Trouble) (b : Bool) → EndsNot (if b then stale_at first (pruned_behind d m.0 m.1) m.1 else troubled (pruned_behind d m.0 m.1) m.1 t)
-  stops m t true = stale_not first (pruned_behind d m.0 m.1) m.1
-  stops m t false = troubled_not (pruned_behind d m.0 m.1) m.1 t
-
-  on : (x : Next (Walk × Cache) ℕ) → EndsNot (by_turn (walk_turned first d) x)
-  on (Goes m) = tt
-  on (Ends m page) = plan_not (leaf_noted (pruned_behind d m.0 m.1) m.0 m.1 page) m.1
-  on (Stops m t) = stops m t (is_stale t)
+not_by : (home : Home) (changes : List Noted) (c : Cache) (calls : Calls) (left : Home) (turn : Turn CommitAnswer) → MeansWalks home changes c calls left turn → (x : CommitAnswer) → turn ≡ Ended x → IsNot x
+not_by home changes c calls left turn m x e = let so : IsRefused home changes m.trips left x = subst (Refuses home changes m.trips left) e m.means in subst IsNot (sym so.is) tt
 
 -- ---- what the get of a walk demands
 
@@ -187,17 +120,17 @@ walk_took false d w c a n (Ended x) took = took
 walk_took false d w c a n (Stopped t) took = took
 
 get_exactly : (k n : ℕ) (cs : Calls) (first : Bool) (d : Draft) (w : Walk) (c : Cache) (a : Answer) (m : Run × Cache) (turn : Turn CommitAnswer) → NonePut cs → Fits (walk_ask w) a → StepsWalk first d w c a m turn
-    → (x : CommitAnswer) → IsOfCalls x → Exactly (Demands k n cs (walk_ask w) a x) x turn
-get_exactly k n cs first d w c a m More none fits took x of = record {
+    → ((x : CommitAnswer) → turn ≡ Ended x → IsNot x) → (x : CommitAnswer) → IsOfCalls x → Exactly (Demands k n cs (walk_ask w) a x) x turn
+get_exactly k n cs first d w c a m More none fits took not x of = record {
   only = λ e. absurd (more_not x e);
   always = λ y. absurd (subst (EndsSo x) took (get_demands k n cs first d w c a none x y));
 }
-get_exactly k n cs first d w c a m (Ended z) none fits took x of = record {
-  only = λ e. get_shows k n cs w c a d.writes.changes m.0 none x (subst IsNot (the_answer z x e) (subst EndsNot took (walked_not first d w c a)))
+get_exactly k n cs first d w c a m (Ended z) none fits took not x of = record {
+  only = λ e. get_shows k n cs w c a d.writes.changes m.0 none x (not x e)
       (subst (TellsOf (WalkCause w c a d.writes.changes m.0)) (the_answer z x e) (subst (Shown (WalkCause w c a d.writes.changes)) took (walked_shown first d w c a fits))) of;
   always = λ y. inl (ap Ended (subst (EndsSo x) took (get_demands k n cs first d w c a none x y)));
 }
-get_exactly k n cs first d w c a m (Stopped t) none fits took x of = record {
+get_exactly k n cs first d w c a m (Stopped t) none fits took not x of = record {
   only = λ e. absurd (stopped_not t x e);
   always = λ y. inr (ap Stopped (only_memory t (λ other. absurd (subst (EndsSo x) (took.0 other) (get_demands k n cs first d w c a none x y)))));
 }
@@ -245,11 +178,11 @@ walk_refuses first d w c a n turn took t s =
 
 walk_exact : (home : Home) (changes : List Noted) (begin : Cache) (h : List Deed) (first : Bool) (d : Draft) (w : Walk) (c : Cache) (a : Answer) (n : Run × Cache) (turn : Turn CommitAnswer) → Fits (walk_ask w) a
     → Took (LeadsBy run_next) KeepsHome (record { draft = d; hand = held first w }, c) a n turn → KnowsHeld home changes begin (told h) d first (w, c)
-    → Exact home changes h (asks (record { draft = d; hand = held first w }, c)) a turn
-walk_exact home changes begin h first d w c a n turn fits took k x of =
+    → ((x : CommitAnswer) → turn ≡ Ended x → IsNot x) → Exact home changes h (asks (record { draft = d; hand = held first w }, c)) a turn
+walk_exact home changes begin h first d w c a n turn fits took k not x of =
     subst (λ (q : Ask). Exactly (Demands (length changes) (home.attempt + 1) (told h) q a x) x turn) (walk_asks_get first d w c)
     (get_exactly (length changes) (home.attempt + 1) (told h) first d w c a n turn (gets_none (told h) (walks_get home changes begin (k.earlier ++ k.trip ∷ []) (told h) k.walks)) fits
-    (walk_took first d w c a n turn took) x of)
+    (walk_took first d w c a n turn took) not x of)
 
 -- ---- what the writes demand, behind the gets of the walks
 
@@ -395,11 +328,11 @@ get_well w c a changes n InDoubt goes is tells = is
 get_well w c a changes n (CommittedOpen t) goes is tells = is
 
 walk_well : (first : Bool) (d : Draft) (w : Walk) (c : Cache) (a : Answer) (m : Run × Cache) (turn : Turn CommitAnswer) → GoesWell a → Fits (walk_ask w) a → StepsWalk first d w c a m turn
-    → ((t : Trouble) → turn ≡ Stopped t → t ≡ trouble.Memory) → EndsWell turn
-walk_well first d w c a m More goes fits took stops = tt
-walk_well first d w c a m (Ended x) goes fits took stops =
-    get_well w c a d.writes.changes m.0 x goes (subst EndsNot took (walked_not first d w c a)) (subst (Shown (WalkCause w c a d.writes.changes)) took (walked_shown first d w c a fits))
-walk_well first d w c a m (Stopped t) goes fits took stops = stops t refl
+    → ((x : CommitAnswer) → turn ≡ Ended x → IsNot x) → ((t : Trouble) → turn ≡ Stopped t → t ≡ trouble.Memory) → EndsWell turn
+walk_well first d w c a m More goes fits took not stops = tt
+walk_well first d w c a m (Ended x) goes fits took not stops =
+    get_well w c a d.writes.changes m.0 x goes (not x refl) (subst (Shown (WalkCause w c a d.writes.changes)) took (walked_shown first d w c a fits))
+walk_well first d w c a m (Stopped t) goes fits took not stops = stops t refl
 
 turn_memory : (home : Home) (changes : List Noted) (trips : List Trip) (left : Home) (turn : Turn CommitAnswer) → Refuses home changes trips left turn → (t : Trouble) → turn ≡ Stopped t → t ≡ trouble.Memory
 turn_memory home changes trips left turn means t e = subst (Refuses home changes trips left) e means
@@ -437,14 +370,17 @@ walk_whole : (home : Home) (changes : List Noted) (begin : Cache) (h : List Deed
     → (IsPlain home changes → ⊥) → Whole home changes begin h (deed_of who (asks (record { draft = d; hand = held first w }, c)) a before after) (record { draft = d; hand = held first w }, c) n turn
 walk_whole home changes begin h first d w c who before after a n turn made took k walks = record {
   means = in_hand first means;
-  exact = λ some. walk_exact home changes begin h first d w c a n turn made.fits took k;
+  exact = λ some. walk_exact home changes begin h first d w c a n turn made.fits took k ended_not;
   well = λ some calm.
       walk_well first d w c a n turn (goes_well (deed_of who (walk_ask w) a before after) made (subst (λ (q : Ask). IsCalm (deed_of who q a before after)) (sym (walk_asks_get first d w c)) calm)) made.fits
-      (walk_took first d w c a n turn took) (turn_memory home changes means.trips (home_of n.0) turn means.means);
+      (walk_took first d w c a n turn took) ended_not (turn_memory home changes means.trips (home_of n.0) turn means.means);
   plain = λ plain. absurd (walks plain);
 } where
   means : MeansWalks home changes begin (told h ++ (walk_ask w, a) ∷ []) (home_of n.0) turn
   means = walk_means home changes begin (told h ++ (walk_ask w, a) ∷ []) (walked first d w c a) (record { draft = d; hand = held first w }, c) a n turn (turned_by home changes begin (told h) first d w c a k) (walk_took first d w c a n turn took)
+
+  ended_not : (x : CommitAnswer) → turn ≡ Ended x → IsNot x
+  ended_not = not_by home changes begin (told h ++ (walk_ask w, a) ∷ []) (home_of n.0) turn means
 
   in_hand : (b : Bool) → MeansWalks home changes begin (told h ++ (walk_ask w, a) ∷ []) (home_of n.0) turn
       → MeansIn (held b w) home changes begin h (deed_of who (asks (record { draft = d; hand = held b w }, c)) a before after) d.writes (home_of n.0) turn

@@ -4,14 +4,9 @@ use Rattle.std.specs.Prelude.{slice_get, find, if◌then◌else◌, ◌&&◌}
 use Rattle.std.specs.Option.{option_map, option_map_or}
 use Rattle.std.proofs.lemmas.Bool.{eq-eqb}
 use Rattle.byte_format.specs.Order.{bytes_below, below_bound}
-use Rattle.db_base.specs.Change.{key_of}
-use Rattle.head_codec.specs.declared.lists.Pending.{Pending}
-use Rattle.leaf_view.specs.Leaf.{Leaf}
 use Rattle.leaf_view.specs.Lookup.{holds}
-use Rattle.txn_buffer.specs.Noted.{Noted}
-use Rattle.commit_plan.specs.Ended.{Ended, ended_of, spans, page_at}
-use Rattle.commit_plan.specs.Plan.{seeks, page_without, pages_of}
-use Rattle.commit_run.specs.Run.{target_of}
+use Rattle.commit_plan.specs.Ended.{Ended, spans, page_at}
+use Rattle.commit_run.proofs.Words.{key_of, Pending, Leaf, Noted, ended_of, seeks, page_without, pages_of, target_of}
 
 -- a leaf spans the keys that it holds
 pub held_spans : (tree page : ℕ) (key : List ℕ) (leaf : Leaf) → holds leaf key ≡ true → spans tree key (ended_of tree page leaf) ≡ true

@@ -1,41 +1,24 @@
 -- The calls of a commit in groups: those of each of its walks, and those behind them.
-use Rattle.std.proofs.Common.{◌≡◌, ◌≤◌, ◌<◌, ◌+◌, ℕ, Bool, true, false, List, [], ◌∷◌, ◌++◌, length, drop, Option, Some, None, refl, ap, sym, subst, ◌∙◌, arith, length-append}
-use Rattle.std.specs.Prelude.{slice_get, if◌then◌else◌}
+use Rattle.std.proofs.Common.{◌≡◌, ◌≤◌, ◌+◌, ℕ, Bool, true, false, List, [], ◌∷◌, ◌++◌, length, Option, Some, None, refl, ap, sym, subst, ◌∙◌, arith}
+use Rattle.std.specs.Prelude.{slice_get}
 use Rattle.std.specs.List.{AllByRecursion}
-use Rattle.db_base.specs.declared.trouble.Trouble.{Trouble}
-use Rattle.db_base.specs.declared.trouble.Trouble.TheVariants as trouble
-use Rattle.db_base.specs.declared.trouble.Counter.TheVariants as counter
-use Rattle.db_base.specs.declared.trouble.CommitAnswer.{CommitAnswer}
-use Rattle.log_codec.specs.declared.record.AtomicRec.{AtomicRec}
-use Rattle.txn_buffer.specs.Noted.{Noted}
-use Rattle.cloud_trait.specs.Machine.{Next, Goes, Ends, Stops, LeadsBy, Came, Deed, IsMade, Follows}
-use Rattle.recover_run.specs.declared.home.Home.{Home}
-use Rattle.page_cache.specs.Cache.{Cache}
-use Rattle.page_cache.specs.Held.{leaf_at}
-use Rattle.tree_walk.specs.Walk.{Walk, IsAtLeaf, sought, object_of, new_walk, walk_ask, walk_ready, walk_next}
+use Rattle.cloud_trait.specs.Machine.{IsMade, Follows}
 use Rattle.tree_walk.specs.Walk.{asks as walk_asks}
 use Rattle.tree_walk.proofs.Leaves.{ends_at}
-use Rattle.commit_plan.specs.Plan.{pages_of}
-use Rattle.commit_writes.specs.Writing.{Writing, waiting, is_spent, send_ask, delete_ask, begun, log_or_open, routed_of, routing, passes, not_committed, writing_ask, writing_next}
+use Rattle.commit_writes.specs.Writing.{send_ask, delete_ask}
 use Rattle.commit_writes.specs.Writing.{ask_at as written_ask}
-use Rattle.commit_writes.specs.declared.stage.Stage.{Stage}
-use Rattle.commit_writes.specs.declared.stage.Stage.TheVariants.{Waiting, Logging, Opening, Sending, Settling, Deleting, Finished}
-use Rattle.commit_writes.specs.Calls.{Calls, told}
 use Rattle.commit_writes.proofs.Counting.{went_within}
-use Rattle.commit_writes.proofs.RoutedLaws.{routed_length}
-use Rattle.commit_run.specs.declared.hand.Hand.{Hand}
-use Rattle.commit_run.specs.declared.hand.Hand.TheVariants.{Writes, First, Change}
-use Rattle.commit_run.specs.Draft.{Draft, IsWithin as KnowsNoMore, new_draft, pruned_behind, planned, leaf_noted, paged}
-use Rattle.commit_run.specs.Run.{Run, held, new_run, next_target, asks, ask_at, written, wrote, refused, troubled, by_turn, begun_turn, walk_to, seek, plan_on, is_stale, stale_at, walk_turned, walked, long_walk, long_target, begin_walks, run_ready, next_at, run_next}
-use Rattle.commit_run.specs.Trips.{Use, used_in, Trip, uses_of}
-use Rattle.commit_run.specs.Meaning.{walked_home}
-use Rattle.commit_run.specs.Within.{AreOfWalk, joined, GetsNothing, IsNoGet, IsWithin, Within}
-use Rattle.commit_run.proofs.Knowing.{KnowsDraft, KnowsHeld, KnowsAt}
-use Rattle.commit_run.proofs.Holding.{all_known, one_left}
+use Rattle.commit_run.specs.Draft.{IsWithin as KnowsNoMore}
+use Rattle.commit_run.specs.Run.{next_at}
+use Rattle.commit_run.specs.Within.{AreOfWalk, joined, IsNoGet, IsWithin, Within}
+use Rattle.commit_run.proofs.Words.{CommitAnswer, AtomicRec, Noted, Answer, Next, Goes, Ends, Stops, LeadsBy, Came, Deed, Home, Cache, Walk, IsWalk, sought, new_walk, walk_ask, walk_ready, walk_next, Writing, waiting, with_attempt, begun, writing_ask, writing_next, Stage, Waiting, Logging, Opening, Sending, Settling, Deleting, Finished, Calls, told, routed_length, Hand, Writes, First, Change, Draft, pruned_behind, planned, Run, held, new_run, target_of, next_target, asks, ask_at, written, wrote, walked, run_ready, run_next, Use, used_in, uses_of, walked_home, GetsNothing}
+use Rattle.commit_run.proofs.Knowing.{KnowsHeld, KnowsAt}
+use Rattle.commit_run.proofs.Holding.{all_known, one_left, same_target}
 use Rattle.commit_run.proofs.Planning.{planned_within}
-use Rattle.commit_run.proofs.Aiming.{aim, AimsBeside, next_aims}
-use Rattle.commit_run.proofs.Ending.{noted_finds, noted_pages, behind_target}
-use Rattle.commit_run.proofs.Walked.{unended_ready, knows_pruned, same_target}
+use Rattle.commit_run.proofs.Outcomes as step
+use Rattle.commit_run.proofs.Outcomes.{NextRun, records_of, Begins, Plans, Behind, Comes, Starts, comes, starts}
+use Rattle.commit_run.proofs.Pages.{known_then, IsBehind, noted_behind, paged_behind, pruned_past}
+use Rattle.commit_run.proofs.Walked.{knows_pruned}
 use Rattle.commit_run.proofs.Meaning.{came_knows, follows_part}
 
 -- all calls are those of so many walks at most
@@ -99,125 +82,63 @@ pub record IsPlain (n : ℕ) (d : Draft) : Type 0 where
   pub many : length changes ≡ n
   pub within : KnowsNoMore d
 
-plain_of : (home : Home) (changes : List Noted) (trips : List Trip) (uses : List Use) (d : Draft) → KnowsDraft home changes trips uses d → IsPlain (length changes) d
-plain_of home changes trips uses d k = record { home = walked_home home uses; changes = changes; writes = k.writes; many = refl; within = k.within }
-
-plain_planned : (n : ℕ) (d : Draft) → IsPlain n d → IsPlain n (planned d)
-plain_planned n d p = record {
-  home = p.home;
-  changes = p.changes;
-  writes = p.writes;
-  many = p.many;
-  within = planned_within d.writes.home.head.pending d.plan.ended d.writes.changes d.plan.pages p.within;
-}
-
-plain_noted : (n : ℕ) (d : Draft) (w : Walk) (c : Cache) (page : ℕ) → IsPlain n d → IsPlain n (leaf_noted d w c page)
-plain_noted n d w c page p = record {
-  home = p.home;
-  changes = p.changes;
-  writes = p.writes;
-  many = p.many;
-  within = subst (λ (l : List ℕ). length l ≤ length d.writes.changes) (sym (noted_pages d.plan w.tree page (leaf_at c (object_of w)))) p.within;
-}
-
-plain_paged : (n : ℕ) (d : Draft) → IsPlain n d → length d.plan.pages < length d.writes.changes → IsPlain n (paged d 1)
-plain_paged n d p room = record {
-  home = p.home;
-  changes = p.changes;
-  writes = p.writes;
-  many = p.many;
-  within = omega (arith, room, length-append d.plan.pages (1 ∷ []));
-}
-
 -- ---- a walk begins
 
 few_more : (few more : ℕ) (h : List Deed) → few ≤ more → WalksMade few h → WalksMade more h
 few_more few more h le g = record { walks = g.walks; are = g.are; each = g.each; few_walks = omega (arith, le, g.few_walks) }
 
-troubled_groups : (n : ℕ) (h : List Deed) (d : Draft) (c : Cache) (t : Trouble) → GroupedNext n h (troubled d c t)
-troubled_groups n h d c trouble.Memory = tt
-troubled_groups n h d c t = tt
-
 held_groups : (n : ℕ) (h : List Deed) (first : Bool) (d : Draft) (w : Walk) (c : Cache) → WalkInHand (few_before first d) h (w, c) → GroupedAt n h d (held first w) c
 held_groups n h true d w c g = g
 held_groups n h false d w c g = g
 
-begun_groups : (n : ℕ) (h : List Deed) (first : Bool) (d : Draft) (c : Cache) (to : ℕ × List ℕ) → WalksMade (few_before first d) h → GroupedNext n h (walk_to first d c to)
-begun_groups n h first d c to g = on (walk_ready (new_walk to.0 (Some to.1) first, c)) refl where
-  on : (x : Next (Walk × Cache) ℕ) → walk_ready (new_walk to.0 (Some to.1) first, c) ≡ x → GroupedNext n h (by_turn (begun_turn first d) x)
-  on (Goes m) e =
-      held_groups n h first (pruned_behind d m.0 m.1) m.0 m.1 (few_kept first (record {
-        walks = g.walks;
-        own = [];
-        are = g.are;
-        each = g.each;
-        few_walks = g.few_walks;
-        tree = to.0;
-        key = to.1;
-        fresh = first;
-        cache = c;
-        start = m;
-        begins = e;
-        came = refl;
-      })) where
-        few_kept : (b : Bool) → WalkInHand (few_before b d) h (m.0, m.1) → WalkInHand (few_before b (pruned_behind d m.0 m.1)) h (m.0, m.1)
-        few_kept true k = k
-        few_kept false k = k
-  on (Ends m page) e = absurd (unended_ready (new_walk to.0 (Some to.1) first) c m page e)
-  on (Stops m t) e = troubled_groups n h (pruned_behind d m.0 m.1) m.1 t
+begun_groups : (n : ℕ) (h : List Deed) (first : Bool) (d : Draft) (c : Cache) (to : ℕ × List ℕ) (x : NextRun) → WalksMade (few_before first d) h → Begins first d c to x → GroupedNext n h x
+begun_groups n h first d c to x g (step.walks m e is aims) =
+    held_groups n h first (pruned_behind d m.0 m.1) m.0 m.1 (few_kept first (record {
+      walks = g.walks;
+      own = [];
+      are = g.are;
+      each = g.each;
+      few_walks = g.few_walks;
+      tree = to.0;
+      key = to.1;
+      fresh = first;
+      cache = c;
+      start = m;
+      begins = e;
+      came = refl;
+    })) where
+      few_kept : (b : Bool) → WalkInHand (few_before b d) h (m.0, m.1) → WalkInHand (few_before b (pruned_behind d m.0 m.1)) h (m.0, m.1)
+      few_kept true k = k
+      few_kept false k = k
+begun_groups n h first d c to x g (step.stops m t e link other) = tt
+begun_groups n h first d c to x g (step.lacks m e) = tt
 
 -- ---- planning on
 
-routed_groups : (n : ℕ) (h : List Deed) (d : Draft) (c : Cache) → IsPlain n d → length d.plan.pages ≡ n → WalksMade (n + 1) h → GroupedNext n h (wrote d c (routing d.writes d.plan.pages))
-routed_groups n h d c p known g =
-    subst (λ (w : Writing). GroupedNext n h (wrote d c (routing w d.plan.pages))) (sym p.writes) (on (passes records)) where
-      records : List AtomicRec
-      records = routed_of p.home p.changes d.plan.pages
-
-      grouped : (w : Writing) → begun (waiting p.home p.changes) records ≡ Goes w → WritesInHand n h w
-      grouped w e = record {
-        walks = g.walks;
-        own = [];
-        are = g.are;
-        each = g.each;
-        few_walks = g.few_walks;
-        written = tt;
-        home = p.home;
-        changes = p.changes;
-        records = records;
-        many = routed_length p.home p.changes d.plan.pages (known ∙ sym p.many) ∙ p.many;
-        start = w;
-        begins = e;
-        came = refl;
-      }
-
-      begins : (o : Option AtomicRec) → begun (waiting p.home p.changes) records ≡ log_or_open (record (waiting p.home p.changes) { records = records; place = 0 }) o
-          → GroupedNext n h (wrote d c (log_or_open (record (waiting p.home p.changes) { records = records; place = 0 }) o))
-      begins (Some r) is = grouped _ is
-      begins None is = grouped _ is
-
-      on : (b : Bool) → GroupedNext n h (wrote d c (if b then not_committed (waiting p.home p.changes) (trouble.Exhausted counter.Number) else begun (waiting p.home p.changes) records))
-      on true = tt
-      on false = begins (slice_get records 0) refl
-
-plain_many : (n : ℕ) (d : Draft) → IsPlain n d → length d.writes.changes ≡ n
-plain_many n d p = ap (λ (w : Writing). length w.changes) p.writes ∙ p.many
-
-seek_groups : (n : ℕ) (h : List Deed) (d : Draft) (c : Cache) → IsPlain n d → WalksMade (length d.plan.pages + 1) h → (o : Option (ℕ × List ℕ)) → next_target d ≡ o → GroupedNext n h (seek d c o)
-seek_groups n h d c p g (Some to) e = begun_groups n h false d c to g
-seek_groups n h d c p g None e =
-    let known : length d.plan.pages ≡ n = all_known d p.within (sym e) ∙ plain_many n d p in
-    routed_groups n h d c p known (few_more (length d.plan.pages + 1) (n + 1) h (omega (arith, known)) g)
-
-plan_groups : (n few : ℕ) (h : List Deed) (d : Draft) (c : Cache) → IsPlain n d → few ≤ length (planned d).plan.pages + 1 → WalksMade few h → GroupedNext n h (plan_on d c)
-plan_groups n few h d c p le g =
-    seek_groups n h (planned d) c (plain_planned n d p) (few_more few (length (planned d).plan.pages + 1) h le g) (next_target (planned d)) refl
+plan_groups : (n few : ℕ) (h : List Deed) (d : Draft) (c : Cache) (x : NextRun) → IsPlain n d → few ≤ length (planned d).plan.pages + 1 → WalksMade few h → Plans d c x → GroupedNext n h x
+plan_groups n few h d c x p le g (step.seeks m y is begins) = begun_groups n h false (planned d) c (target_of m) x (few_more few (length (planned d).plan.pages + 1) h le g) begins
+plan_groups n few h d c x p le g (step.full none e) = tt
+plan_groups n few h d c x p le g (step.writes w none fits e) =
+    let within = planned_within d.writes.home.head.pending d.plan.ended d.writes.changes d.plan.pages p.within in
+    let known : length (planned d).plan.pages ≡ length d.writes.changes = all_known (planned d) within none in
+    let many : length d.writes.changes ≡ n = ap (λ (w : Writing). length w.changes) p.writes ∙ p.many in
+    record {
+      walks = g.walks;
+      own = [];
+      are = g.are;
+      each = g.each;
+      few_walks = omega (arith, le, known, many, g.few_walks);
+      written = tt;
+      home = p.home;
+      changes = p.changes;
+      records = records_of (planned d);
+      many = routed_length d.writes.home d.writes.changes (planned d).plan.pages known ∙ many;
+      start = w;
+      begins = subst (λ (v : Writing). begun v (records_of (planned d)) ≡ Goes w) p.writes e;
+      came = refl;
+    }
 
 -- ---- a turn of the walk in hand
-
--- how many leaves are known then
-planned_more : (d : Draft) (more : ℕ) → more ≤ length (pages_of d.writes.home.head.pending d.plan.ended (drop (length d.plan.pages) d.writes.changes)) → length d.plan.pages + more ≤ length (planned d).plan.pages
-planned_more d more h = omega (arith, h, length-append d.plan.pages (pages_of d.writes.home.head.pending d.plan.ended (drop (length d.plan.pages) d.writes.changes)))
 
 -- the walk in hand made one call more, and it is behind
 walk_made : (few : ℕ) (h : List Deed) (x : Deed) (m : Walk × Cache) → WalkInHand few h m → x.ask ≡ walk_asks m → WalksMade (few + 1) (x ∷ h)
@@ -248,55 +169,42 @@ walk_on few h x m e g asked made follows goes = record {
   came = (m, g.came, asked, made, goes, follows_part g.own (joined g.walks) x (subst (λ (l : List Deed). Follows l x) g.are follows));
 }
 
--- a walk that ends makes one leaf more known, unless it is that for a long list
-ended_groups : (n : ℕ) (h : List Deed) (first : Bool) (d : Draft) (w : Walk) (c : Cache) (page : ℕ) → IsPlain n (pruned_behind d w c) → (first ≡ false → next_target d ≡ Some (w.tree, sought w)) → IsAtLeaf w c page
-    → WalksMade (few_before first d + 1) h → GroupedNext n h (plan_on (leaf_noted (pruned_behind d w c) w c page) c)
-ended_groups n h true d w c page p target at g =
-    plan_groups n 1 h (leaf_noted (pruned_behind d w c) w c page) c (plain_noted n (pruned_behind d w c) w c page p) (omega arith) g
-ended_groups n h false d w c page p target at g =
-    plan_groups n (length d.plan.pages + 1 + 1) h (leaf_noted (pruned_behind d w c) w c page) c (plain_noted n (pruned_behind d w c) w c page p)
-    (omega (arith, planned_more (leaf_noted (pruned_behind d w c) w c page) 1 one, ap length (noted_pages d.plan w.tree page (leaf_at c (object_of w))))) g where
-      one : 1 ≤ length (pages_of (pruned_behind d w c).writes.home.head.pending (leaf_noted (pruned_behind d w c) w c page).plan.ended
-          (drop (length (leaf_noted (pruned_behind d w c) w c page).plan.pages) (pruned_behind d w c).writes.changes))
-      one = noted_finds (pruned_behind d w c) w.tree page (sought w) at.leaf (leaf_at c (object_of w)) (ap (leaf_at c) at.in_hand ∙ at.kept) at.holds (behind_target d w c ∙ target refl)
+behind_pages : (d : Draft) (w : Walk) (c : Cache) (a : Answer) (first : Bool) (e : Draft) (k : Cache) → IsWalk w → KnowsNoMore d → (first ≡ false → next_target d ≡ Some (w.tree, sought w)) → Behind d w c a first e k
+    → IsBehind first d e
+behind_pages d w c a first e k ok within target (step.at_leaf one m page ended aims) =
+    noted_behind first d m.0 m.1 page within (λ change. target change ∙ ap Some (same_target w.tree w.key m.0 aims)) (ends_at (w, c) m a page ok ended)
+behind_pages d w c a first e k ok within target (step.at_stale m t stopped is) = paged_behind d m.0 m.1 (one_left d (w.tree, sought w) (target refl))
+behind_pages d w c a first e k ok within target (step.passed_over m t stopped is) = pruned_past d m.0 m.1 within
 
-stale_groups : (n : ℕ) (h : List Deed) (first : Bool) (d e : Draft) (c : Cache) → e.plan ≡ d.plan → IsPlain n e → (first ≡ false → length e.plan.pages < length e.writes.changes) → WalksMade (few_before first d + 1) h
-    → GroupedNext n h (stale_at first e c)
-stale_groups n h true d e c same p room g = plan_groups n 1 h e c p (omega arith) g
-stale_groups n h false d e c same p room g =
-    plan_groups n (length d.plan.pages + 1 + 1) h (paged e 1) c (plain_paged n e p (room refl))
-    (omega (arith, planned_more (paged e 1) 0 (omega arith), length-append e.plan.pages (1 ∷ []), ap (λ x. length x.pages) same)) g
+behind_plain : (home : Home) (changes : List Noted) (begin : Cache) (calls : Calls) (d : Draft) (w : Walk) (c : Cache) (a : Answer) (first : Bool) (e : Draft) (b : Cache) → KnowsHeld home changes begin calls d first (w, c) → KnowsNoMore e
+    → Behind d w c a first e b → IsPlain (length changes) e
+behind_plain home changes begin calls d w c a first e b k within from = let to = left first e b from in record { home = to.0; changes = changes; writes = to.1; many = refl; within = within } where
+  uses : List Use
+  uses = uses_of (k.earlier ++ k.trip ∷ [])
+
+  left : (one : Bool) (f : Draft) (k : Cache) → Behind d w c a one f k → (left : Home) × (f.writes ≡ waiting left changes)
+  left one f l (step.at_leaf first m page ended aims) = (walked_home home (uses ++ used_in m.1 m.0.used), (knows_pruned home changes k.earlier uses d m.0 m.1 k.draft).writes)
+  left one f l (step.at_stale m t stopped is) = (walked_home home (uses ++ used_in m.1 m.0.used), (knows_pruned home changes k.earlier uses d m.0 m.1 k.draft).writes)
+  left one f l (step.passed_over m t stopped is) = (walked_home home (uses ++ used_in m.1 m.0.used), (knows_pruned home changes k.earlier uses d m.0 m.1 k.draft).writes)
 
 turned_groups : (home : Home) (changes : List Noted) (begin : Cache) (calls : Calls) (h : List Deed) (first : Bool) (d : Draft) (w : Walk) (c : Cache) (x : Deed) → KnowsHeld home changes begin calls d first (w, c)
     → WalkInHand (few_before first d) h (w, c) → x.ask ≡ walk_ask w → IsMade x → Follows h x → GroupedNext (length changes) (x ∷ h) (walked first d w c x.answer)
-turned_groups home changes begin calls h first d w c x k g asked made follows = on (walk_next (w, c) x.answer) refl (next_aims (w, c) x.answer) where
-  behind : (m : Walk × Cache) → IsPlain (length changes) (pruned_behind d m.0 m.1)
-  behind m =
-      plain_of home changes k.earlier (uses_of (k.earlier ++ k.trip ∷ []) ++ used_in m.1 m.0.used) (pruned_behind d m.0 m.1)
-      (knows_pruned home changes k.earlier (uses_of (k.earlier ++ k.trip ∷ [])) d m.0 m.1 k.draft)
+turned_groups home changes begin calls h first d w c x k g asked made follows = on (walked first d w c x.answer) (comes d w c x.answer first) where
+  few_known : (b : Bool) (pages : ℕ) → known_then b d ≤ pages → few_before b d + 1 ≤ pages + 1
+  few_known true pages known = omega arith
+  few_known false pages known = omega (arith, known)
 
-  made_so : WalksMade (few_before first d + 1) (x ∷ h)
-  made_so = walk_made (few_before first d) h x (w, c) g asked
-
-  goes : (b : Bool) (m : Walk × Cache) → WalkInHand (few_before b d) (x ∷ h) m → GroupedAt (length changes) (x ∷ h) (pruned_behind d m.0 m.1) (held b m.0) m.1
-  goes true m i = i
-  goes false m i = i
-
-  target : first ≡ false → next_target d ≡ Some (w.tree, sought w)
-  target change = k.aimed change
-
-  stops : (m : Walk × Cache) (t : Trouble) (b : Bool) → GroupedNext (length changes) (x ∷ h) (if b then stale_at first (pruned_behind d m.0 m.1) m.1 else troubled (pruned_behind d m.0 m.1) m.1 t)
-  stops m t true =
-      stale_groups (length changes) (x ∷ h) first d (pruned_behind d m.0 m.1) m.1 refl (behind m)
-      (λ change. one_left (pruned_behind d m.0 m.1) (w.tree, sought w) (behind_target d m.0 m.1 ∙ target change)) made_so
-  stops m t false = troubled_groups (length changes) (x ∷ h) (pruned_behind d m.0 m.1) m.1 t
-
-  on : (y : Next (Walk × Cache) ℕ) → walk_next (w, c) x.answer ≡ y → AimsBeside (aim w) y → GroupedNext (length changes) (x ∷ h) (by_turn (walk_turned first d) y)
-  on (Goes m) e aims = goes first m (walk_on (few_before first d) h x (w, c) m g asked made follows e)
-  on (Ends m page) e aims =
-      ended_groups (length changes) (x ∷ h) first d m.0 m.1 page (behind m) (λ change. target change ∙ ap Some (same_target w m.0 aims))
-      (ends_at (w, c) m x.answer page k.is e) made_so
-  on (Stops m t) e aims = stops m t (is_stale t)
+  on : (y : NextRun) → Comes d w c x.answer first y → GroupedNext (length changes) (x ∷ h) y
+  on y (step.goes m e is aims) = held_groups (length changes) (x ∷ h) first (pruned_behind d m.0 m.1) m.0 m.1 (few_kept first (walk_on (few_before first d) h x (w, c) m g asked made follows e)) where
+    few_kept : (b : Bool) → WalkInHand (few_before b d) (x ∷ h) m → WalkInHand (few_before b (pruned_behind d m.0 m.1)) (x ∷ h) m
+    few_kept true i = i
+    few_kept false i = i
+  on y (step.ends m t e is other) = tt
+  on y (step.lacks m e) = tt
+  on y (step.plans e b z from p) =
+      let so : IsBehind first d e = behind_pages d w c x.answer first e b k.is k.draft.within k.aimed from in
+      plan_groups (length changes) (few_before first d + 1) (x ∷ h) e b y (behind_plain home changes begin calls d w c x.answer first e b k so.within from) (few_known first (length (planned e).plan.pages) so.known)
+      (walk_made (few_before first d) h x (w, c) g asked) p
 
 -- ---- a step of what the commit writes
 
@@ -350,30 +258,16 @@ step_groups home changes begin h x d (Change w) c m k g asked made goes follows 
 none_made : (few : ℕ) → WalksMade few []
 none_made few = record { walks = []; are = refl; each = tt; few_walks = omega arith }
 
-starts_grouped : (home : Home) (changes : List Noted) (c : Cache) → GroupedNext (length changes) [] (run_ready (new_run home changes, c))
-starts_grouped home changes c = on (is_spent home) where
-  begun_so : Home
-  begun_so = walked_home home []
-
-  fresh_draft : Draft
-  fresh_draft = new_draft (waiting begun_so changes)
-
-  plain : IsPlain (length changes) fresh_draft
-  plain = record { home = begun_so; changes = changes; writes = refl; many = refl; within = omega arith }
-
-  begins : (o : Option (ℕ × List ℕ)) → GroupedNext (length changes) [] (long_walk fresh_draft c o)
-  begins (Some to) = begun_groups (length changes) [] true fresh_draft c to (none_made 0)
-  begins None = plan_groups (length changes) 0 [] fresh_draft c plain (omega arith) (none_made 0)
-
-  on : (b : Bool) → GroupedNext (length changes) [] (if b then refused (new_draft (waiting home changes)) c (trouble.Exhausted counter.Txn)
-      else begin_walks (new_draft (if b then waiting home changes else waiting begun_so changes)) c)
-  on true = tt
-  on false = begins (long_target home.head.pending)
+start_groups : (home : Home) (changes : List Noted) (c : Cache) (x : NextRun) → Starts home changes c x → GroupedNext (length changes) [] x
+start_groups home changes c x (step.spent e) = tt
+start_groups home changes c x (step.long to y left e begins) = begun_groups (length changes) [] true (step.taken home changes) c to x (none_made 0) begins
+start_groups home changes c x (step.few y left e plans) =
+    plan_groups (length changes) 0 [] (step.taken home changes) c x (record { home = with_attempt home; changes = changes; writes = refl; many = refl; within = omega arith }) (omega arith) (none_made 0) plans
 
 came_groups : (home : Home) (changes : List Noted) (c : Cache) (start : Run × Cache) → run_ready (new_run home changes, c) ≡ Goes start → (h : List Deed) (m : Run × Cache)
     → Came asks (LeadsBy run_next) start h m → GroupedAt (length changes) h m.0.draft m.0.hand m.1
 came_groups home changes c start goes [] m came =
-    subst (λ (r : Run × Cache). GroupedAt (length changes) [] r.0.draft r.0.hand r.1) (sym came) (subst (GroupedNext (length changes) []) goes (starts_grouped home changes c))
+    subst (λ (r : Run × Cache). GroupedAt (length changes) [] r.0.draft r.0.hand r.1) (sym came) (subst (GroupedNext (length changes) []) goes (start_groups home changes c (run_ready (new_run home changes, c)) (starts home changes c)))
 came_groups home changes c start goes (x ∷ h) m (from, came, asked, made, leads, follows) =
     step_groups home changes c h x from.0.draft from.0.hand from.1 m (came_knows home changes c start goes h from came) (came_groups home changes c start goes h from came) asked made leads follows
 
@@ -398,7 +292,7 @@ within_at home changes begin h d (First w) c x some k g asked =
 within_at home changes begin h d (Change w) c x some k g asked =
     walks_within (length changes) (x ∷ h)
     (few_more (length d.plan.pages + 1 + 1) (length changes + 1) (x ∷ h)
-    (omega (arith, one_left d (w.tree, sought w) (k.aimed refl), plain_many (length changes) d (plain_of home changes k.earlier (uses_of (k.earlier ++ k.trip ∷ [])) d k.draft)))
+    (omega (arith, one_left d (w.tree, sought w) (k.aimed refl), ap (λ (v : Writing). length v.changes) k.draft.writes))
     (walk_made (length d.plan.pages + 1) h x (w, c) g asked))
 
 pub run_within : (m : Run × Cache) → Within m

@@ -2,29 +2,13 @@
 use Rattle.std.proofs.Common.{◌≡◌, ℕ, ◌∷◌, [], ◌++◌, List, Some, false}
 use Rattle.std.specs.Prelude.{slice_get, Option, Bool, true}
 use Rattle.std.specs.List.{AllByRecursion}
-use Rattle.db_base.specs.declared.names.ObjName.{ObjName}
 use Rattle.db_base.specs.declared.names.ObjName.TheVariants as object
-use Rattle.db_base.specs.declared.trouble.CommitAnswer.{CommitAnswer}
-use Rattle.leaf_view.specs.Leaf.{Leaf}
-use Rattle.log_codec.specs.declared.record.AtomicRec.{AtomicRec}
-use Rattle.txn_buffer.specs.Noted.{Noted}
-use Rattle.cloud_trait.specs.declared.answer.Answer.TheVariants.{Got}
-use Rattle.cloud_trait.specs.declared.turn.Turn.TheVariants.{Ended, Stopped}
-use Rattle.cloud_trait.specs.Ask.{Get}
-use Rattle.cloud_trait.specs.Machine.{Next, Goes, Ends, Stops, LeadsBy, Came, Deed}
-use Rattle.recover_run.specs.declared.home.Home.{Home}
-use Rattle.page_cache.specs.Cache.{Cache}
-use Rattle.page_cache.specs.Held.{as_leaf}
-use Rattle.tree_walk.specs.Walk.{Walk, IsWalk, sought}
+use Rattle.cloud_trait.specs.declared.turn.Turn.TheVariants.{Ended}
 use Rattle.commit_plan.specs.Ended.{Ended as EndedLeaf}
-use Rattle.commit_writes.specs.Writing.{Writing, waiting, begun, passes, writing_ask, writing_next}
-use Rattle.commit_writes.specs.Calls.{Calls, told}
-use Rattle.commit_run.specs.declared.hand.Hand.{Hand}
-use Rattle.commit_run.specs.declared.hand.Hand.TheVariants.{Writes, First, Change}
-use Rattle.commit_run.specs.Draft.{Draft, IsWithin}
-use Rattle.commit_run.specs.Run.{Run, home_of, next_target}
-use Rattle.commit_run.specs.Trips.{Use, Trip, cache_behind, uses_of, WasRead, AreWalks}
-use Rattle.commit_run.specs.Meaning.{walked_home, AreLeaves, IsRouted, MeansWalks}
+use Rattle.commit_run.specs.Draft.{IsWithin}
+use Rattle.commit_run.specs.Trips.{cache_behind, WasRead}
+use Rattle.commit_run.specs.Meaning.{IsRouted}
+use Rattle.commit_run.proofs.Words.{ObjName, CommitAnswer, Leaf, AtomicRec, Noted, Got, Stopped, Get, Next, Goes, Ends, Stops, LeadsBy, Came, Deed, Home, Cache, as_leaf, Walk, IsWalk, sought, Writing, waiting, begun, passes, writing_ask, writing_next, Calls, told, Hand, Writes, First, Change, Draft, Run, home_of, next_target, Use, Trip, uses_of, AreWalks, walked_home, AreLeaves, MeansWalks}
 
 -- ---- what a cache keeps
 

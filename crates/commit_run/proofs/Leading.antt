@@ -1,22 +1,16 @@
 -- Where turns of a walk and of the writes lead a commit.
 use Rattle.std.proofs.Common.{◌≡◌, ℕ, Bool, true, false, refl, ap, sym, subst, ◌∙◌}
 use Rattle.db_base.specs.declared.trouble.Trouble.TheVariants as trouble
-use Rattle.db_base.specs.declared.trouble.CommitAnswer.{CommitAnswer}
-use Rattle.cloud_trait.specs.declared.answer.Answer.{Answer}
-use Rattle.cloud_trait.specs.declared.turn.Turn.{Turn}
-use Rattle.cloud_trait.specs.declared.turn.Turn.TheVariants.{More, Ended, Stopped}
+use Rattle.cloud_trait.specs.declared.turn.Turn.TheVariants.{Ended}
 use Rattle.cloud_trait.specs.Caller.{Caller}
 use Rattle.cloud_trait.specs.Seen.{Seen}
-use Rattle.cloud_trait.specs.Machine.{Next, LeadsBy, Took, Steps}
-use Rattle.recover_run.specs.declared.home.Home.{Home}
-use Rattle.page_cache.specs.Cache.{Cache}
+use Rattle.cloud_trait.specs.Machine.{Steps}
 use Rattle.tree_walk.specs.Moves.{Moves}
-use Rattle.tree_walk.specs.Walk.{Walk, walk_next, KeepsServed}
-use Rattle.commit_writes.specs.Writing.{Writing, with_head, writing_ask, writing_next}
+use Rattle.tree_walk.specs.Walk.{KeepsServed}
+use Rattle.commit_writes.specs.Writing.{with_head}
 use Rattle.commit_writes.specs.Writing.{KeepsHome as KeepsWritten}
-use Rattle.commit_run.specs.declared.hand.Hand.TheVariants.{Writes, First, Change}
-use Rattle.commit_run.specs.Draft.{Draft}
-use Rattle.commit_run.specs.Run.{Run, asks, run_next, held, written, wrote, by_turn, walk_turned, Led, Keeps, KeepsHome, home_of}
+use Rattle.commit_run.specs.Run.{Keeps}
+use Rattle.commit_run.proofs.Words.{CommitAnswer, Answer, Turn, More, Stopped, Next, LeadsBy, Took, Home, Cache, Walk, walk_next, Writing, writing_ask, writing_next, Writes, First, Change, Draft, Run, asks, run_next, held, written, wrote, by_turn, walk_turned, Led, KeepsHome, home_of}
 
 -- a turn of a walk, and then the commit's own work
 pub by_turn_led : (on : Walk → Cache → Turn ℕ → Next (Run × Cache) CommitAnswer) (x : Next (Walk × Cache) ℕ) (w : Walk) (c : Cache) (turn : Turn ℕ) (n : Run × Cache) (result : Turn CommitAnswer)

@@ -1,12 +1,14 @@
+pub mod Words
 pub mod Leading
-pub mod Aiming
-pub mod Walking
+pub mod Outcomes
+pub mod Wrote
 pub mod Served
 pub mod Holding
 pub mod Knowing
 pub mod Planning
 pub mod Finding
-pub mod Ending
+pub mod Pages
+pub mod End
 pub mod Walked
 pub mod Meaning
 pub mod Reading
@@ -15,4 +17,4 @@ pub mod Causing
 pub mod Grouping
 pub mod Plainly
 pub mod Exacting
-pub mod Demanding
+pub mod Demands

@@ -1,69 +1,54 @@
 -- What a step of a commit means by its whole run.
-use Rattle.std.proofs.Common.{◌≡◌, ℕ, Bool, true, false, List, [], ◌∷◌, ◌++◌, Option, Some, None, refl, ap, sym, subst, ◌∙◌, inl, inr, arith}
-use Rattle.std.specs.Prelude.{if◌then◌else◌}
+use Rattle.std.proofs.Common.{◌≡◌, Bool, true, false, List, [], ◌∷◌, ◌++◌, refl, ap, sym, subst, ◌∙◌, inl, inr, arith}
 use Rattle.std.proofs.lemmas.List.{append_assoc, append-nil}
-use Rattle.db_base.specs.declared.trouble.Trouble.{Trouble}
 use Rattle.db_base.specs.declared.trouble.Trouble.TheVariants as trouble
 use Rattle.db_base.specs.declared.trouble.Counter.TheVariants as counter
-use Rattle.db_base.specs.declared.trouble.CommitAnswer.{CommitAnswer}
-use Rattle.db_base.specs.declared.trouble.CommitAnswer.TheVariants.{NotCommitted}
-use Rattle.txn_buffer.specs.Noted.{Noted}
-use Rattle.cloud_trait.specs.declared.answer.Answer.{Answer}
-use Rattle.cloud_trait.specs.declared.turn.Turn.{Turn}
-use Rattle.cloud_trait.specs.declared.turn.Turn.TheVariants.{More, Ended, Stopped}
-use Rattle.cloud_trait.specs.Ask.{Ask}
-use Rattle.cloud_trait.specs.Machine.{Next, Goes, Ends, Stops, LeadsBy, Took, Came, Deed, IsMade, Follows}
-use Rattle.recover_run.specs.declared.home.Home.{Home}
-use Rattle.page_cache.specs.Cache.{Cache}
-use Rattle.tree_walk.specs.Walk.{Walk, walk_ask}
-use Rattle.commit_writes.specs.Writing.{Writing, waiting, numbered, is_spent, passes, writing_ask, writing_next}
-use Rattle.commit_writes.specs.Calls.{Calls, told}
+use Rattle.cloud_trait.specs.declared.turn.Turn.TheVariants.{Ended}
+use Rattle.cloud_trait.specs.Machine.{IsMade, Follows}
 use Rattle.commit_writes.proofs.Meaning.{only_memory}
 use Rattle.commit_writes.proofs.Meaning.{came_knows as writes_know}
-use Rattle.commit_run.specs.declared.hand.Hand.{Hand}
-use Rattle.commit_run.specs.declared.hand.Hand.TheVariants.{Writes, First, Change}
-use Rattle.commit_run.specs.Draft.{Draft, new_draft}
-use Rattle.commit_run.specs.Run.{Run, held, new_run, home_of, asks, ask_at, written, wrote, refused, long_walk, long_target, begin_walks, run_ready, next_at, run_next, Led, KeepsHome}
-use Rattle.commit_run.specs.Trips.{uses_of}
-use Rattle.commit_run.specs.Meaning.{walked_home, IsWriting, MeansWalks, MeansReady}
-use Rattle.commit_run.specs.Within.{Went}
+use Rattle.commit_run.specs.Run.{next_at}
+use Rattle.commit_run.specs.Meaning.{IsWriting, MeansReady}
+use Rattle.commit_run.proofs.Words.{Trouble, CommitAnswer, NotCommitted, Noted, Answer, Turn, More, Stopped, Ask, Next, Goes, Ends, Stops, LeadsBy, Took, Came, Deed, Home, Cache, Walk, walk_ask, Writing, waiting, is_spent, passes, writing_ask, writing_next, Calls, told, Hand, Writes, First, Change, Draft, new_draft, Run, held, new_run, home_of, asks, ask_at, written, wrote, refused, run_ready, run_next, Led, KeepsHome, uses_of, walked_home, MeansWalks, Went}
 use Rattle.commit_run.proofs.Knowing.{KnowsOver, KnowsHeld, KnowsWrites, KnowsHand, KnowsNext, KnowsAt}
 use Rattle.commit_run.proofs.Planning.{no_leaves}
 use Rattle.commit_run.proofs.Reading.{begins_read}
-use Rattle.commit_run.proofs.Walked.{plans_on, begins_long, turned_by}
+use Rattle.commit_run.proofs.Outcomes as step
+use Rattle.commit_run.proofs.Outcomes.{NextRun, Starts, BeginsWith, spent_at, starts, ready_leads}
+use Rattle.commit_run.proofs.Walked.{begins_walk, plans_by, turned_by}
 
 -- ---- at the beginning
 
-begins_over : (home : Home) (changes : List Noted) (c : Cache) → KnowsOver home changes c [] (new_draft (waiting (walked_home home []) changes)) c
-begins_over home changes c = record {
-  trips = [];
-  walks = record { each = tt; aimed = tt; are = refl; reads = tt };
-  behind = refl;
-  reads = begins_read c;
-  draft = record { writes = refl; within = omega arith; leaves = no_leaves [] changes; ended = tt };
-}
+start_knows : (home : Home) (changes : List Noted) (c : Cache) (x : NextRun) → is_spent home ≡ false → Starts home changes c x → KnowsNext home changes c [] x
+start_knows home changes c x left s = on x s where
+  over : KnowsOver home changes c [] (step.taken home changes) c
+  over = record {
+    trips = [];
+    walks = record { each = tt; aimed = tt; are = refl; reads = tt };
+    behind = refl;
+    reads = begins_read c;
+    draft = record { writes = refl; within = omega arith; leaves = no_leaves [] changes; ended = tt };
+  }
 
-begins_at : (home : Home) (changes : List Noted) (c : Cache) (d : Draft) → KnowsOver home changes c [] d c → (o : Option (ℕ × List ℕ)) → long_target home.head.pending ≡ o
-    → KnowsNext home changes c [] (long_walk d c o)
-begins_at home changes c d k (Some to) e = begins_long home changes c [] d c to k e
-begins_at home changes c d k None e = plans_on home changes c [] d c k
+  on : (y : NextRun) → Starts home changes c y → KnowsNext home changes c [] y
+  on y (step.spent e) = absurd (never (sym e ∙ left)) where
+    never : true ≡ false → ⊥
+    never e = absurd (cc (e))
+  on y (step.long to z left e b) = begins_walk home changes c [] true (step.taken home changes) c to y over (inr (refl, e)) (λ no. absurd (cc (no))) b
+  on y (step.few z left e p) = plans_by home changes c [] (step.taken home changes) c y over p
 
 -- where the attempt is not the greatest one
 pub ready_knows : (home : Home) (changes : List Noted) (c : Cache) → is_spent home ≡ false → KnowsNext home changes c [] (run_ready (new_run home changes, c))
-ready_knows home changes c e =
-    subst (λ (b : Bool). KnowsNext home changes c [] (if b then refused (new_draft (waiting home changes)) c (trouble.Exhausted counter.Txn) else begin_walks (new_draft (if b then waiting home changes else waiting (walked_home home []) changes)) c))
-    (sym e) (begins_at home changes c (new_draft (waiting (walked_home home []) changes)) (begins_over home changes c) (long_target home.head.pending) refl)
+ready_knows home changes c left = start_knows home changes c (run_ready (new_run home changes, c)) left (starts home changes c)
 
 never_goes : (d : Draft) (c : Cache) (t : Trouble) (n : Run × Cache) → refused d c t ≡ Goes n → ⊥
 never_goes d c t n e = absurd (cc (e))
 
-pub goes_unspent : (home : Home) (changes : List Noted) (c : Cache) (start : Run × Cache) → run_ready (new_run home changes, c) ≡ Goes start → is_spent home ≡ false
-goes_unspent home changes c start goes = on (is_spent home) refl where
-  on : (b : Bool) → is_spent home ≡ b → b ≡ false
-  on true e =
-      absurd (never_goes (new_draft (waiting home changes)) c (trouble.Exhausted counter.Txn) start
-      (sym (ap (λ (b : Bool). if b then refused (new_draft (waiting home changes)) c (trouble.Exhausted counter.Txn) else begin_walks (new_draft (numbered (waiting home changes))) c) e) ∙ goes))
-  on false e = refl
+goes_unspent : (home : Home) (changes : List Noted) (c : Cache) (start : Run × Cache) → run_ready (new_run home changes, c) ≡ Goes start → is_spent home ≡ false
+goes_unspent home changes c start goes = on (ready_leads home changes c) where
+  on : BeginsWith home changes c (run_ready (new_run home changes, c)) → is_spent home ≡ false
+  on (inl (e, is)) = absurd (never_goes (new_draft (waiting home changes)) c (trouble.Exhausted counter.Txn) start (sym is ∙ goes))
+  on (inr so) = so.0
 
 starts_knows : (home : Home) (changes : List Noted) (c : Cache) (start : Run × Cache) → run_ready (new_run home changes, c) ≡ Goes start
     → KnowsHand home changes c [] start.0.draft start.0.hand start.1
@@ -209,17 +194,18 @@ never_stops d c t n u e = absurd (cc (e))
 pub ready_means : (home : Home) (changes : List Noted) (c : Cache) (old : Run) (n : Run × Cache) (turn : Turn CommitAnswer) → old ≡ new_run home changes → Led (run_ready (old, c)) n turn
     → MeansReady home changes c (home_of n.0) turn
 unfolding answer_in home_in
-ready_means home changes c old n turn new led = on (is_spent home) refl turn (subst (λ (r : Run). Led (run_ready (r, c)) n turn) new led) where
-  spent : is_spent home ≡ true → run_ready (new_run home changes, c) ≡ refused (new_draft (waiting home changes)) c (trouble.Exhausted counter.Txn)
-  spent e = ap (λ (b : Bool). if b then refused (new_draft (waiting home changes)) c (trouble.Exhausted counter.Txn) else begin_walks (new_draft (numbered (waiting home changes))) c) e
+ready_means home changes c old n turn new led =
+    on (ready_leads home changes c) turn (subst (λ (r : Run). Led (run_ready (r, c)) n turn) new led) where
+      next : NextRun
+      next = run_ready (new_run home changes, c)
 
-  ended : (a : CommitAnswer) → refused (new_draft (waiting home changes)) c (trouble.Exhausted counter.Txn) ≡ Ends n a → (a ≡ NotCommitted (trouble.Exhausted counter.Txn)) × (home_of n.0 ≡ home)
-  ended a e = (sym (ap (answer_in a) e), sym (ap (home_in home) e))
+      ended : (a : CommitAnswer) → spent_at home changes c ≡ Ends n a → (a ≡ NotCommitted (trouble.Exhausted counter.Txn)) × (home_of n.0 ≡ home)
+      ended a e = (sym (ap (answer_in a) e), sym (ap (home_in home) e))
 
-  on : (b : Bool) → is_spent home ≡ b → (t : Turn CommitAnswer) → Led (run_ready (new_run home changes, c)) n t → MeansReady home changes c (home_of n.0) t
-  on true e More h = absurd (never_goes (new_draft (waiting home changes)) c (trouble.Exhausted counter.Txn) n (sym (spent e) ∙ h))
-  on true e (Ended a) h = let is : (a ≡ NotCommitted (trouble.Exhausted counter.Txn)) × (home_of n.0 ≡ home) = ended a (sym (spent e) ∙ h) in inl (e, is.0, is.1)
-  on true e (Stopped t) h = only_memory t (λ other. absurd (never_stops (new_draft (waiting home changes)) c (trouble.Exhausted counter.Txn) n t (sym (spent e) ∙ h other)))
-  on false e More h = led_means home changes c [] (run_ready (new_run home changes, c)) n More (ready_knows home changes c e) h
-  on false e (Ended a) h = inr (e, led_means home changes c [] (run_ready (new_run home changes, c)) n (Ended a) (ready_knows home changes c e) h)
-  on false e (Stopped t) h = (led_means home changes c [] (run_ready (new_run home changes, c)) n (Stopped t) (ready_knows home changes c e) h).means
+      on : BeginsWith home changes c next → (t : Turn CommitAnswer) → Led next n t → MeansReady home changes c (home_of n.0) t
+      on (inl (e, is)) More h = absurd (never_goes (new_draft (waiting home changes)) c (trouble.Exhausted counter.Txn) n (sym is ∙ h))
+      on (inl (e, is)) (Ended a) h = let so : (a ≡ NotCommitted (trouble.Exhausted counter.Txn)) × (home_of n.0 ≡ home) = ended a (sym is ∙ h) in inl (e, so.0, so.1)
+      on (inl (e, is)) (Stopped t) h = only_memory t (λ other. absurd (never_stops (new_draft (waiting home changes)) c (trouble.Exhausted counter.Txn) n t (sym is ∙ h other)))
+      on (inr so) More h = led_means home changes c [] next n More (ready_knows home changes c so.0) h
+      on (inr so) (Ended a) h = inr (so.0, led_means home changes c [] next n (Ended a) (ready_knows home changes c so.0) h)
+      on (inr so) (Stopped t) h = (led_means home changes c [] next n (Stopped t) (ready_knows home changes c so.0) h).means

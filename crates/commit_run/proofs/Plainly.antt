@@ -1,41 +1,24 @@
 -- A commit that needs no walk makes none, and three calls for each change and two.
-use Rattle.std.proofs.Common.{◌≡◌, ◌≤◌, ◌+◌, ◌*◌, ℕ, Bool, true, false, List, [], ◌∷◌, ◌++◌, length, drop, Option, Some, None, refl, ap, sym, subst, ◌∙◌, arith, length-append}
-use Rattle.std.specs.Prelude.{slice_get, if◌then◌else◌, ◌||◌}
+use Rattle.std.proofs.Common.{◌≡◌, ◌+◌, ◌*◌, ℕ, Bool, true, false, List, [], ◌∷◌, ◌++◌, length, Option, Some, None, refl, ap, sym, subst, ◌∙◌, arith, length-append}
+use Rattle.std.specs.Prelude.{if◌then◌else◌, ◌||◌}
 use Rattle.std.specs.List.{AllByRecursion}
-use Rattle.std.specs.Option.{option_map, option_map_or}
+use Rattle.std.specs.Option.{option_map_or}
 use Rattle.std.proofs.lemmas.Option.{slice_get_within}
-use Rattle.db_base.specs.declared.trouble.Trouble.TheVariants as trouble
-use Rattle.db_base.specs.declared.trouble.Counter.TheVariants as counter
-use Rattle.db_base.specs.declared.trouble.CommitAnswer.{CommitAnswer}
 use Rattle.db_base.specs.declared.trouble.CommitAnswer.TheVariants.{Committed}
-use Rattle.head_codec.specs.declared.lists.Pending.{Pending}
-use Rattle.log_codec.specs.declared.record.AtomicRec.{AtomicRec}
-use Rattle.txn_buffer.specs.Noted.{Noted}
-use Rattle.cloud_trait.specs.declared.answer.Answer.{Answer}
 use Rattle.cloud_trait.specs.declared.answer.Answer.TheVariants.{Done}
-use Rattle.cloud_trait.specs.declared.turn.Turn.{Turn}
 use Rattle.cloud_trait.specs.declared.turn.Turn.TheVariants.{Ended}
-use Rattle.cloud_trait.specs.Ask.{Ask}
-use Rattle.cloud_trait.specs.Machine.{Next, Goes, Ends, Stops, LeadsBy, Came, Deed}
-use Rattle.recover_run.specs.declared.home.Home.{Home}
-use Rattle.page_cache.specs.Cache.{Cache}
-use Rattle.tree_walk.specs.Walk.{Walk}
-use Rattle.commit_plan.specs.Plan.{page_without, pages_of}
-use Rattle.commit_writes.specs.Writing.{Writing, waiting, with_attempt, is_spent, writing_ask, writing_next}
-use Rattle.commit_writes.specs.Calls.{Calls, told, logged_calls, posted_calls, deleted_calls, put_of, opened_of, settled_of, all_logged, all_opened, all_posted, all_settled}
+use Rattle.commit_writes.specs.Calls.{logged_calls, posted_calls, deleted_calls, put_of, opened_of, settled_of, all_logged, all_opened, all_posted, all_settled}
 use Rattle.commit_writes.specs.Meaning.{IsCommitted, MeansTurn}
 use Rattle.commit_writes.proofs.Counting.{length_told}
-use Rattle.commit_writes.proofs.RoutedLaws.{routed_length}
-use Rattle.commit_run.specs.declared.hand.Hand.{Hand}
-use Rattle.commit_run.specs.declared.hand.Hand.TheVariants.{Writes, First, Change}
-use Rattle.commit_run.specs.Draft.{Draft, new_draft, planned}
-use Rattle.commit_run.specs.Run.{Run, held, new_run, target_of, long_target, wrote, refused, seek, plan_on, long_walk, begin_walks, asks, ask_at, run_ready, next_at, run_next}
+use Rattle.commit_run.specs.Run.{next_at}
 use Rattle.commit_run.specs.Meaning.{home_in}
 use Rattle.commit_run.specs.Plain.{IsPlainChange, IsPlain, GoesPlainly}
 use Rattle.commit_run.specs.Stepped.{MeansWrites}
-use Rattle.commit_run.specs.Within.{Went, GetsNothing, IsNoGet}
+use Rattle.commit_run.specs.Within.{IsNoGet}
+use Rattle.commit_run.proofs.Words.{CommitAnswer, Pending, AtomicRec, Noted, Answer, Turn, Ask, Next, Goes, Ends, Stops, LeadsBy, Came, Deed, Home, Cache, Walk, page_without, pages_of, Writing, writing_ask, writing_next, Calls, told, routed_length, Hand, Writes, First, Change, Draft, Run, held, new_run, long_target, wrote, asks, ask_at, run_ready, run_next, Went, GetsNothing}
 use Rattle.commit_run.proofs.Grouping.{no_get}
-use Rattle.commit_run.proofs.Meaning.{goes_unspent}
+use Rattle.commit_run.proofs.Outcomes as step
+use Rattle.commit_run.proofs.Outcomes.{NextRun, Starts, starts}
 use Rattle.commit_run.proofs.Tripping.{IsGet, walks_get}
 
 -- ---- it begins with what it writes
@@ -45,7 +28,7 @@ IsWrites Writes = Unit {0}
 IsWrites hand = ⊥
 
 -- where it goes on, it writes
-abbrev pub WritesNext : Next (Run × Cache) CommitAnswer → Type 0
+abbrev pub WritesNext : NextRun → Type 0
 WritesNext (Goes n) = IsWrites n.0.hand
 WritesNext (Ends n a) = Unit {0}
 WritesNext (Stops n t) = Unit {0}
@@ -65,38 +48,15 @@ plain_pages (n ∷ changes) all =
     ap (λ (o : Option ℕ). length (option_map_or (λ page. page ∷ pages_of [] [] changes) o [])) (plain_page n all.0)
     ∙ (let more : length (pages_of [] [] changes) ≡ length changes = plain_pages changes all.1 in omega (arith, more))
 
-none_at : (changes : List Noted) (i : ℕ) → length changes ≤ i → (o : Option Noted) → slice_get changes i ≡ o → o ≡ None
-none_at changes i past None e = refl
-none_at changes i past (Some n) e = absurd (omega (arith, past, slice_get_within changes i n e))
-
-seek_writes : (d : Draft) (c : Cache) (o : Option (ℕ × List ℕ)) → o ≡ None → WritesNext (seek d c o)
-seek_writes d c None e = wrote_writes d c _
-seek_writes d c (Some to) e = absurd (cc (e))
-
-plan_writes : (home : Home) (changes : List Noted) (c : Cache) (pending : List Pending) → home.head.pending ≡ pending → pending ≡ [] → AllByRecursion IsPlainChange changes
-    → WritesNext (plan_on (new_draft (waiting (with_attempt home) changes)) c)
-plan_writes home changes c pending is none each = seek_writes (planned draft) c _ (ap (option_map target_of) (none_at changes (length (planned draft).plan.pages) past (slice_get changes (length (planned draft).plan.pages)) refl)) where
-  draft : Draft
-  draft = new_draft (waiting (with_attempt home) changes)
-
-  whole : drop 0 changes ≡ changes
-  whole = refl
-
-  many : length (pages_of home.head.pending [] changes) ≡ length changes
-  many = ap (λ (ps : List Pending). length (pages_of ps [] changes)) (is ∙ none) ∙ plain_pages changes each
-
-  past : length changes ≤ length (planned draft).plan.pages
-  past = omega (arith, many)
-
-long_writes : (home : Home) (changes : List Noted) (c : Cache) (o : Option (ℕ × List ℕ)) → o ≡ None → WritesNext (plan_on (new_draft (waiting (with_attempt home) changes)) c)
-    → WritesNext (long_walk (new_draft (waiting (with_attempt home) changes)) c o)
-long_writes home changes c None e h = h
-long_writes home changes c (Some to) e h = absurd (cc (e))
-
-starts_plainly : (home : Home) (changes : List Noted) (c : Cache) → IsPlain home changes → is_spent home ≡ false → WritesNext (run_ready (new_run home changes, c))
-starts_plainly home changes c plain e =
-    subst (λ (b : Bool). WritesNext (if b then refused (new_draft (waiting home changes)) c (trouble.Exhausted counter.Txn) else begin_walks (new_draft (if b then waiting home changes else waiting (with_attempt home) changes)) c)) (sym e)
-    (long_writes home changes c (long_target home.head.pending) (ap long_target plain.pending) (plan_writes home changes c home.head.pending refl plain.pending plain.each))
+start_writes : (home : Home) (changes : List Noted) (c : Cache) (x : NextRun) → IsPlain home changes → Starts home changes c x → WritesNext x
+start_writes home changes c x plain (step.spent e) = tt
+start_writes home changes c x plain (step.long to y left long begins) = absurd (never (sym (ap long_target plain.pending) ∙ long)) where
+  never : None ≡ Some to → ⊥
+  never e = absurd (cc (e))
+start_writes home changes c x plain (step.few y left few (step.seeks n z is begins)) =
+    absurd (omega (arith, plain_pages changes plain.each, ap (λ (ps : List Pending). length (pages_of ps [] changes)) plain.pending, slice_get_within changes (length (pages_of home.head.pending [] changes)) n is))
+start_writes home changes c x plain (step.few y left few (step.full none e)) = tt
+start_writes home changes c x plain (step.few y left few (step.writes w none fits e)) = tt
 
 -- ---- and goes on so
 
@@ -113,7 +73,7 @@ asks_nothing d (Change w) is = absurd is
 plain_came : (home : Home) (changes : List Noted) (c : Cache) (start : Run × Cache) → IsPlain home changes → run_ready (new_run home changes, c) ≡ Goes start → (h : List Deed) (m : Run × Cache)
     → Came asks (LeadsBy run_next) start h m → IsWrites m.0.hand × AllByRecursion IsNoGet h
 plain_came home changes c start plain goes [] m came =
-    (subst (λ (n : Run × Cache). IsWrites n.0.hand) (sym came) (subst WritesNext goes (starts_plainly home changes c plain (goes_unspent home changes c start goes))), tt)
+    (subst (λ (n : Run × Cache). IsWrites n.0.hand) (sym came) (subst WritesNext goes (start_writes home changes c (run_ready (new_run home changes, c)) plain (starts home changes c))), tt)
 plain_came home changes c start plain goes (x ∷ h) m (from, came, asked, made, leads, follows) =
     let before : IsWrites from.0.hand × AllByRecursion IsNoGet h = plain_came home changes c start plain goes h from came in
     (step_writes from.0.draft from.0.hand from.1 x.answer m before.0 leads, (subst GetsNothing (sym asked) (asks_nothing from.0.draft from.0.hand before.0), before.1))

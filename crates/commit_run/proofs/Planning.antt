@@ -5,17 +5,12 @@ use Rattle.std.specs.Option.{option_map, option_map_or}
 use Rattle.std.specs.List.{AllByRecursion}
 use Rattle.std.proofs.lemmas.Bool.{eqb-true}
 use Rattle.byte_format.specs.Order.{bytes_below, below_bound}
-use Rattle.db_base.specs.Change.{key_of}
 use Rattle.db_base.specs.declared.names.ObjName.TheVariants as object
-use Rattle.head_codec.specs.declared.lists.Pending.{Pending}
-use Rattle.txn_buffer.specs.Noted.{Noted}
-use Rattle.cloud_trait.specs.declared.answer.Answer.TheVariants.{Got}
-use Rattle.cloud_trait.specs.Ask.{Get}
 use Rattle.commit_plan.specs.Ended.{Ended, spans, page_at}
 use Rattle.db_base.specs.Change.{goes_to_leaf}
-use Rattle.commit_plan.specs.Plan.{has_pending, seeks, page_without, pages_of}
-use Rattle.commit_run.specs.Trips.{Trip}
-use Rattle.commit_run.specs.Meaning.{IsHeldAt, IsLeafOf, AreLeaves}
+use Rattle.commit_plan.specs.Plan.{has_pending}
+use Rattle.commit_run.specs.Meaning.{IsHeldAt, IsLeafOf}
+use Rattle.commit_run.proofs.Words.{key_of, Pending, Noted, Got, Get, seeks, page_without, pages_of, Trip, AreLeaves}
 use Rattle.commit_run.proofs.Knowing.{IsGotAt}
 
 -- ---- more walks

@@ -3,23 +3,16 @@ use Rattle.std.proofs.Common.{◌≡◌, ℕ, zero, suc, Bool, true, false, cond
 use Rattle.std.specs.Prelude.{slice_get, fold, if◌then◌else◌}
 use Rattle.std.specs.List.{AllByRecursion}
 use Rattle.std.specs.Map.{lookup, remove_entry}
-use Rattle.db_base.specs.declared.names.ObjName.{ObjName}
 use Rattle.db_base.specs.declared.names.ObjName.TheVariants as object
-use Rattle.db_base.specs.declared.trouble.Trouble.{Trouble}
-use Rattle.leaf_view.specs.Leaf.{Leaf}
-use Rattle.node_codec.specs.Tree.{Tree}
-use Rattle.cloud_trait.specs.declared.answer.Answer.{Answer}
 use Rattle.cloud_trait.specs.declared.answer.Answer.TheVariants as answer
-use Rattle.cloud_trait.specs.Ask.{Get}
-use Rattle.cloud_trait.specs.Machine.{Next, Goes, Ends, Stops}
-use Rattle.page_cache.specs.Cache.{Cache, accepts, kept_at, dropped}
-use Rattle.page_cache.specs.Held.{as_leaf, as_root}
+use Rattle.page_cache.specs.Cache.{accepts, kept_at, dropped}
+use Rattle.page_cache.specs.Held.{as_root}
 use Rattle.page_cache.specs.Names.{same_name}
 use Rattle.page_cache.proofs.CacheLemmas.{accept_first}
 use Rattle.page_cache.proofs.NameLemmas.{same_name-is}
-use Rattle.tree_walk.specs.Walk.{Walk, object_of, is_leaf, goes_on, got_read, accepted_by, passed, left_by, beside, rested, walk_ask, walk_ready, walk_next}
-use Rattle.commit_writes.specs.Calls.{Calls}
-use Rattle.commit_run.specs.Trips.{Use, OfTree, OfLeaf, use_of_root, use_of_leaf, used_in, left_by_turn, used_by_turn, WasRead, IsRead}
+use Rattle.tree_walk.specs.Walk.{is_leaf, goes_on, got_read, accepted_by, passed, left_by, beside, rested}
+use Rattle.commit_run.specs.Trips.{OfTree, OfLeaf, use_of_root, use_of_leaf, WasRead, IsRead}
+use Rattle.commit_run.proofs.Words.{ObjName, Trouble, Leaf, Tree, Answer, Get, Next, Goes, Ends, Stops, Cache, as_leaf, Walk, object_of, walk_ask, walk_ready, walk_next, Calls, Use, used_in, left_by_turn, used_by_turn}
 use Rattle.commit_run.proofs.Knowing.{Kept, IsKeptRead, KeepsRead}
 use Rattle.commit_run.proofs.Planning.{get_more, get_last, all_map}
 

@@ -2,16 +2,8 @@
 use Rattle.std.proofs.Common.{◌≡◌, ℕ, Bool, List, [], ◌∷◌, ◌++◌, Some, refl, ap, sym, subst, ◌∙◌}
 use Rattle.std.specs.List.{AllByRecursion}
 use Rattle.std.proofs.lemmas.List.{append_assoc, append-nil}
-use Rattle.db_base.specs.declared.names.ObjName.{ObjName}
-use Rattle.txn_buffer.specs.Noted.{Noted}
-use Rattle.cloud_trait.specs.declared.answer.Answer.{Answer}
-use Rattle.cloud_trait.specs.Ask.{Ask, Get}
-use Rattle.cloud_trait.specs.Machine.{Next, Goes}
-use Rattle.recover_run.specs.declared.home.Home.{Home}
-use Rattle.page_cache.specs.Cache.{Cache}
-use Rattle.tree_walk.specs.Walk.{Walk, object_of, walk_ask, new_walk, walk_ready, walk_next}
-use Rattle.commit_writes.specs.Calls.{Calls}
-use Rattle.commit_run.specs.Trips.{Use, left_by_turn, used_by_turn, Trip, Turns, IsTrip, AreTrips, cache_behind, calls_of, uses_of, IsAimed, IsRead, AreWalks}
+use Rattle.commit_run.specs.Trips.{Turns, IsTrip, AreTrips, cache_behind, calls_of, IsAimed, IsRead}
+use Rattle.commit_run.proofs.Words.{ObjName, Noted, Answer, Ask, Get, Next, Goes, Home, Cache, Walk, object_of, walk_ask, new_walk, walk_ready, walk_next, Calls, Use, left_by_turn, used_by_turn, Trip, uses_of, AreWalks}
 use Rattle.commit_run.proofs.Planning.{all_more}
 use Rattle.commit_run.proofs.Reading.{LeavesRead, uses_read_more, turn_read}
 

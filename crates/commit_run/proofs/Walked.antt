@@ -1,41 +1,23 @@
 -- What each turn of a walk makes of what is known.
 use Rattle.std.proofs.Common.{◌≡◌, ◌≤◌, ℕ, zero, suc, Bool, true, false, List, [], ◌∷◌, ◌++◌, length, drop, Option, Some, None, unwrap_or, refl, ap, sym, subst, ◌∙◌, inl, inr, arith, length-append}
-use Rattle.std.specs.Prelude.{slice_get, if◌then◌else◌}
+use Rattle.std.specs.Prelude.{slice_get}
 use Rattle.std.specs.Option.{option_map}
 use Rattle.std.proofs.lemmas.List.{append-nil}
-use Rattle.db_base.specs.declared.names.ObjName.{ObjName}
 use Rattle.db_base.specs.declared.names.ObjName.TheVariants as object
-use Rattle.db_base.specs.declared.trouble.Trouble.{Trouble}
 use Rattle.db_base.specs.declared.trouble.Trouble.TheVariants as trouble
 use Rattle.db_base.specs.declared.trouble.Counter.TheVariants as counter
 use Rattle.head_codec.specs.declared.head.Head.{Head}
-use Rattle.leaf_view.specs.Leaf.{Leaf}
-use Rattle.node_codec.specs.Tree.{Tree}
-use Rattle.log_codec.specs.declared.record.AtomicRec.{AtomicRec}
-use Rattle.txn_buffer.specs.Noted.{Noted}
-use Rattle.cloud_trait.specs.declared.answer.Answer.{Answer}
-use Rattle.cloud_trait.specs.declared.turn.Turn.TheVariants.{Stopped}
-use Rattle.cloud_trait.specs.Ask.{Ask, Get}
-use Rattle.cloud_trait.specs.Machine.{Next, Goes, Ends, Stops}
-use Rattle.recover_run.specs.declared.home.Home.{Home}
-use Rattle.page_cache.specs.Cache.{Cache}
-use Rattle.page_cache.specs.Held.{leaf_at, root_at}
-use Rattle.tree_walk.specs.Walk.{Walk, sought, object_of, new_walk, walk_ask, walk_ready, walk_next, goes_on, rested, beside}
-use Rattle.tree_walk.specs.Causing.{LinkShows}
-use Rattle.tree_walk.proofs.Causing.{ready_shows}
-use Rattle.tree_walk.proofs.Leaves.{Unended, through_unended}
-use Rattle.commit_plan.specs.Ended.{ended_of}
-use Rattle.commit_writes.specs.Writing.{Writing, waiting, with_head, pruned, begun, log_or_open, routed_of, routing, passes, not_committed}
-use Rattle.commit_writes.specs.Calls.{Calls}
-use Rattle.commit_run.specs.Draft.{Draft, pruned_by_root, pruned_by_kept, pruned_with, pruned_behind, planned, with_kept, leaf_noted, paged}
-use Rattle.commit_run.specs.Run.{held, target_of, next_target, long_target, wrote, troubled, by_turn, begun_turn, walk_to, seek, plan_on, is_stale, stale_at, walk_turned, walked}
-use Rattle.commit_run.specs.Trips.{Use, OfTree, OfLeaf, use_of_root, use_of_leaf, used_in, left_by_turn, used_by_turn, Trip, uses_of, IsAimed, AreWalks}
-use Rattle.commit_run.specs.Meaning.{pruned_once, pruned_by, walked_home, IsLeafOf, AreLeaves, IsRouted, WhyNot}
+use Rattle.page_cache.specs.Held.{root_at}
+use Rattle.commit_writes.specs.Writing.{with_head, pruned}
+use Rattle.commit_run.specs.Draft.{pruned_by_root, pruned_by_kept, pruned_with, with_kept}
+use Rattle.commit_run.specs.Trips.{OfTree, OfLeaf, use_of_root, use_of_leaf, IsAimed}
+use Rattle.commit_run.specs.Meaning.{pruned_once, pruned_by, IsLeafOf}
+use Rattle.commit_run.proofs.Words.{ObjName, Trouble, Leaf, Tree, Noted, Answer, Ask, Get, Next, Goes, Ends, Stops, Home, Cache, leaf_at, LinkShows, Walk, sought, object_of, new_walk, walk_ask, walk_next, ended_of, Writing, waiting, begun, routed_of, passes, Calls, Draft, pruned_behind, planned, leaf_noted, paged, held, target_of, next_target, is_stale, walked, Use, used_in, left_by_turn, used_by_turn, Trip, uses_of, AreWalks, walked_home, AreLeaves}
 use Rattle.commit_run.proofs.Knowing.{KeepsRead, IsGotAt, KnowsDraft, KnowsOver, KnowsHeld, KnowsHand, KnowsNext}
 use Rattle.commit_run.proofs.Planning.{get_last, all_more, ended_more, leaves_more, leaves_append, pages_leaves, planned_within}
-use Rattle.commit_run.proofs.Holding.{one_left, all_known, aimed_at}
-use Rattle.commit_run.proofs.Aiming.{aim, AimsBeside, ready_aims, next_aims}
-use Rattle.commit_run.proofs.Walking.{WalksBeside, ready_walks, next_walks}
+use Rattle.commit_run.proofs.Holding.{one_left, all_known, same_target}
+use Rattle.commit_run.proofs.Outcomes as step
+use Rattle.commit_run.proofs.Outcomes.{NextRun, records_of, Begins, Plans, Behind, Comes, comes}
 use Rattle.commit_run.proofs.Served.{IsServed, end_served}
 use Rattle.commit_run.proofs.Reading.{LeavesRead, ready_read, next_read}
 use Rattle.commit_run.proofs.Tripping.{uses_last, behind_last, begun_trip, walks_begin, gone_on, uses_on, walks_on}
@@ -120,56 +102,12 @@ knows_planned home changes trips uses d k = record {
   ended = k.ended;
 }
 
-over_planned : (home : Home) (changes : List Noted) (c : Cache) (calls : Calls) (d : Draft) (k : Cache) → KnowsOver home changes c calls d k → KnowsOver home changes c calls (planned d) k
-over_planned home changes c calls d k o =
-    record { trips = o.trips; walks = o.walks; behind = o.behind; reads = o.reads; draft = knows_planned home changes o.trips (uses_of o.trips) d o.draft }
-
--- the commit ends so, behind walks that were made
-troubled_by : (home : Home) (changes : List Noted) (c : Cache) (calls : Calls) (trips : List Trip) (d : Draft) (k : Cache) (t : Trouble) → AreWalks home changes c trips calls
-    → d.writes.home ≡ walked_home home (uses_of trips) → WhyNot home changes trips t → KnowsNext home changes c calls (troubled d k t)
-troubled_by home changes c calls trips d k trouble.Memory walks left why = record { trips = trips; walks = walks; means = refl }
-troubled_by home changes c calls trips d k t walks left why = record { trips = trips; walks = walks; means = record { trouble = t; is = refl; left_so = left; why = why } }
-
--- the records are written, or a number would pass the greatest one
-routed_by : (home : Home) (changes : List Noted) (c : Cache) (calls : Calls) (d : Draft) (k : Cache) (o : KnowsOver home changes c calls d k) → length d.plan.pages ≡ length changes
-    → KnowsNext home changes c calls (wrote d k (routing d.writes d.plan.pages))
-routed_by home changes c calls d k o known =
-    subst (λ (w : Writing). KnowsNext home changes c calls (wrote d k (routing w d.plan.pages))) (sym o.draft.writes) (on (passes records) refl) where
-      h : Home
-      h = walked_home home (uses_of o.trips)
-
-      records : List AtomicRec
-      records = routed_of h changes d.plan.pages
-
-      routed : IsRouted home changes c calls records
-      routed = record { trips = o.trips; walks = o.walks; pages = d.plan.pages; known = known; leaves = o.draft.leaves; are = refl }
-
-      begins : passes records ≡ false → (r : Option AtomicRec) → slice_get records 0 ≡ r → begun (waiting h changes) records ≡ log_or_open (record (waiting h changes) { records = records; place = 0 }) r
-          → KnowsNext home changes c calls (wrote d k (log_or_open (record (waiting h changes) { records = records; place = 0 }) r))
-      begins fits (Some r) e is = record { records = records; routed = routed; fits = fits; begins = is }
-      begins fits None e is = record { records = records; routed = routed; fits = fits; begins = is }
-
-      on : (b : Bool) → passes records ≡ b → KnowsNext home changes c calls (wrote d k (if b then not_committed (waiting h changes) (trouble.Exhausted counter.Number) else begun (waiting h changes) records))
-      on true e = record {
-        trips = o.trips;
-        walks = o.walks;
-        means = record {
-          trouble = trouble.Exhausted counter.Number;
-          is = refl;
-          left_so = refl;
-          why = inr (record { pages = d.plan.pages; known = known; leaves = o.draft.leaves; full = e; is = refl });
-        };
-      }
-      on false e = begins e (slice_get records 0) refl refl
-
 -- ---- a walk begins
 
-pub unended_ready : (w : Walk) (c : Cache) (m : Walk × Cache) (page : ℕ) → walk_ready (w, c) ≡ Ends m page → ⊥
-unended_ready w c m page h = on (goes_on c (rested w)) (through_unended c 64 (rested w)) h where
-  on : (x : Next Walk ℕ) → Unended x → beside (x, c) ≡ Ends m page → ⊥
-  on (Goes v) u e = absurd (cc (e))
-  on (Ends v p) u e = absurd u
-  on (Stops v t) u e = absurd (cc (e))
+hand_by : (home : Home) (changes : List Noted) (c : Cache) (calls : Calls) (first : Bool) (d : Draft) (m : Walk × Cache) → KnowsHeld home changes c calls d first m
+    → KnowsHand home changes c calls d (held first m.0) m.1
+hand_by home changes c calls true d m k = k
+hand_by home changes c calls false d m k = k
 
 -- what the cache keeps shows no stale page
 link_fresh : (c : Cache) (old w : Walk) (t : Trouble) → LinkShows c old w t → is_stale t ≡ false
@@ -177,82 +115,92 @@ link_fresh c old w t (inl (s, at, led, inl level)) = ap is_stale level.is
 link_fresh c old w t (inl (s, at, led, inr fence)) = ap is_stale fence.is
 link_fresh c old w t (inr loop) = ap is_stale loop.is
 
-pub ready_fresh : (w : Walk) (c : Cache) (m : Walk × Cache) (t : Trouble) → walk_ready (w, c) ≡ Stops m t → is_stale t ≡ false
-ready_fresh w c m trouble.Memory e = refl
-ready_fresh w c m t e = link_fresh c w m.0 t (ready_shows w c m (Stopped t) (λ other. e) t refl (λ memory. cc))
+-- behind walks that were made
+module _ (home : Home) (changes : List Noted) (c : Cache) (calls : Calls) where
+  pub begins_walk : (first : Bool) (d : Draft) (k : Cache) (to : ℕ × List ℕ) (x : NextRun) (o : KnowsOver home changes c calls d k) → IsAimed home changes (begun_trip to first k) → (first ≡ false → next_target d ≡ Some to)
+      → Begins first d k to x → KnowsNext home changes c calls x
+  begins_walk first d k to x o is_aimed aimed b = on x b where
+    trip : Trip
+    trip = begun_trip to first k
 
-hand_by : (home : Home) (changes : List Noted) (c : Cache) (calls : Calls) (first : Bool) (d : Draft) (m : Walk × Cache) → KnowsHeld home changes c calls d first m
-    → KnowsHand home changes c calls d (held first m.0) m.1
-hand_by home changes c calls true d m k = k
-hand_by home changes c calls false d m k = k
+    read : LeavesRead c calls trip.turn
+    read = ready_read c calls (new_walk to.0 (Some to.1) first) k o.reads
 
--- what a walk is for
-aimed_change : (home : Home) (changes : List Noted) (trips : List Trip) (uses : List Use) (d : Draft) (to : ℕ × List ℕ) (t : Trip) → KnowsDraft home changes trips uses d → next_target d ≡ Some to → t.fresh ≡ false
-    → ◌≡◌ {A = ℕ × List ℕ} to (t.tree, t.key) → IsAimed home changes t
-aimed_change home changes trips uses d to t k target fresh same = on (slice_get changes (length d.plan.pages)) refl (ap (λ (x : Writing). option_map target_of (slice_get x.changes (length d.plan.pages))) (sym k.writes) ∙ target) where
-  on : (o : Option Noted) → slice_get changes (length d.plan.pages) ≡ o → option_map target_of o ≡ Some to → IsAimed home changes t
-  on None e h = absurd (cc (h))
-  on (Some n) e h = inl (fresh, length d.plan.pages, n, e, ap (λ (o : Option (ℕ × List ℕ)). unwrap_or o to) h ∙ same)
+    walks : AreWalks home changes c (o.trips ++ trip ∷ []) calls
+    walks = walks_begin home changes c o.trips calls to first k o.walks o.behind is_aimed read
 
-begins_walk : (home : Home) (changes : List Noted) (c : Cache) (calls : Calls) (first : Bool) (d : Draft) (k : Cache) (to : ℕ × List ℕ) → KnowsOver home changes c calls d k
-    → (first ≡ false → next_target d ≡ Some to) → (first ≡ true → long_target home.head.pending ≡ Some to) → KnowsNext home changes c calls (walk_to first d k to)
-begins_walk home changes c calls first d k to o aimed long =
-    on (walk_ready (new_walk to.0 (Some to.1) first, k)) refl (ready_aims (new_walk to.0 (Some to.1) first, k)) (ready_walks to.0 (Some to.1) first k) where
-      trip : Trip
-      trip = begun_trip to first k
+    behind : (m : Walk × Cache) (y : Next (Walk × Cache) ℕ) → trip.turn ≡ y → used_by_turn y ≡ used_in m.1 m.0.used → KnowsDraft home changes o.trips (uses_of (o.trips ++ trip ∷ [])) (pruned_behind d m.0 m.1)
+    behind m y e used =
+        same_uses home changes o.trips (uses_of o.trips ++ used_in m.1 m.0.used) (uses_of (o.trips ++ trip ∷ [])) (pruned_behind d m.0 m.1)
+        (ap (λ (us : List Use). uses_of o.trips ++ us) (sym (ap used_by_turn e ∙ used)) ∙ sym (uses_last o.trips trip)) (knows_pruned home changes o.trips (uses_of o.trips) d m.0 m.1 o.draft)
 
-      aims_so : (b : Bool) → first ≡ b → IsAimed home changes trip
-      aims_so true e = inr (e, long e)
-      aims_so false e = aimed_change home changes o.trips (uses_of o.trips) d to trip o.draft (aimed e) e refl
+    on : (y : NextRun) → Begins first d k to y → KnowsNext home changes c calls y
+    on y (step.walks m e is aims) =
+        let p : KnowsDraft home changes o.trips (uses_of (o.trips ++ trip ∷ [])) (pruned_behind d m.0 m.1) = behind m (Goes m) e refl in
+        let same = same_target to.0 (Some to.1) m.0 aims in
+        hand_by home changes c calls first (pruned_behind d m.0 m.1) m (record {
+          earlier = o.trips;
+          trip = trip;
+          walks = walks;
+          fresh = refl;
+          goes = e;
+          reads = subst (LeavesRead c calls) e read;
+          draft = p;
+          is = is;
+          to = same;
+          aimed = λ no. target_same home changes o.trips o.trips (uses_of (o.trips ++ trip ∷ [])) (uses_of o.trips) (pruned_behind d m.0 m.1) d p o.draft refl ∙ (aimed no ∙ ap Some same);
+        })
+    on y (step.stops m t e link other) = record {
+      trips = o.trips ++ trip ∷ [];
+      walks = walks;
+      means = record {
+        trouble = t;
+        is = refl;
+        left_so = ap (λ (w : Writing). w.home) (behind m (Stops m t) e refl).writes;
+        why = inl (record { earlier = o.trips; trip = trip; are = refl; left = m; stopped = e; other = link_fresh k (new_walk to.0 (Some to.1) first) m.0 t link });
+      };
+    }
+    on y (step.lacks m e) = record { trips = o.trips ++ trip ∷ []; walks = walks; means = refl }
 
-      read : LeavesRead c calls (walk_ready (new_walk to.0 (Some to.1) first, k))
-      read = ready_read c calls (new_walk to.0 (Some to.1) first) k o.reads
+  -- planning goes on
+  pub plans_by : (d : Draft) (k : Cache) (x : NextRun) → KnowsOver home changes c calls d k → Plans d k x → KnowsNext home changes c calls x
+  plans_by d k x o p = on (knows_planned home changes o.trips (uses_of o.trips) d o.draft) x p where
+    same : d.writes.changes ≡ changes
+    same = ap (λ (w : Writing). w.changes) o.draft.writes
 
-      walks : AreWalks home changes c (o.trips ++ trip ∷ []) calls
-      walks = walks_begin home changes c o.trips calls to first k o.walks o.behind (aims_so first refl) read
-
-      behind : (m : Walk × Cache) → used_in m.1 m.0.used ≡ trip.uses → KnowsDraft home changes o.trips (uses_of (o.trips ++ trip ∷ [])) (pruned_behind d m.0 m.1)
-      behind m used =
-          same_uses home changes o.trips (uses_of o.trips ++ used_in m.1 m.0.used) (uses_of (o.trips ++ trip ∷ [])) (pruned_behind d m.0 m.1)
-          (ap (λ (us : List Use). uses_of o.trips ++ us) used ∙ sym (uses_last o.trips trip)) (knows_pruned home changes o.trips (uses_of o.trips) d m.0 m.1 o.draft)
-
-      used_so : (x : Next (Walk × Cache) ℕ) → walk_ready (new_walk to.0 (Some to.1) first, k) ≡ x → used_by_turn x ≡ trip.uses
-      used_so x e = ap used_by_turn (sym e)
-
-      on : (x : Next (Walk × Cache) ℕ) → walk_ready (new_walk to.0 (Some to.1) first, k) ≡ x → AimsBeside (to.0, Some to.1) x → WalksBeside x → KnowsNext home changes c calls (by_turn (begun_turn first d) x)
-      on (Goes m) e aims is =
-          let p : KnowsDraft home changes o.trips (uses_of (o.trips ++ trip ∷ [])) (pruned_behind d m.0 m.1) = behind m (used_so (Goes m) e) in
-          hand_by home changes c calls first (pruned_behind d m.0 m.1) m (record {
-            earlier = o.trips;
-            trip = trip;
-            walks = walks;
-            fresh = refl;
-            goes = e;
-            reads = subst (LeavesRead c calls) e read;
-            draft = p;
-            is = is;
-            to = aimed_at m.0 to aims;
-            aimed = λ no.
-                target_same home changes o.trips o.trips (uses_of (o.trips ++ trip ∷ [])) (uses_of o.trips) (pruned_behind d m.0 m.1) d p o.draft refl
-                ∙ (aimed no ∙ ap Some (aimed_at m.0 to aims));
-          })
-      on (Ends m page) e aims is = absurd (unended_ready (new_walk to.0 (Some to.1) first) k m page e)
-      on (Stops m t) e aims is =
-          troubled_by home changes c calls (o.trips ++ trip ∷ []) (pruned_behind d m.0 m.1) m.1 t walks (ap (λ (w : Writing). w.home) (behind m (used_so (Stops m t) e)).writes)
-          (inl (record { earlier = o.trips; trip = trip; are = refl; left = m; stopped = e; other = ready_fresh (new_walk to.0 (Some to.1) first) k m t e }))
-
-seeks_on : (home : Home) (changes : List Noted) (c : Cache) (calls : Calls) (d : Draft) (k : Cache) → KnowsOver home changes c calls d k → (o : Option (ℕ × List ℕ)) → next_target d ≡ o
-    → KnowsNext home changes c calls (seek d k o)
-seeks_on home changes c calls d k over (Some to) e = begins_walk home changes c calls false d k to over (λ no. e) (λ yes_is. absurd (cc (yes_is)))
-seeks_on home changes c calls d k over None e =
-    routed_by home changes c calls d k over (all_known d over.draft.within (sym e) ∙ ap (λ (w : Writing). length w.changes) over.draft.writes)
-
-pub plans_on : (home : Home) (changes : List Noted) (c : Cache) (calls : Calls) (d : Draft) (k : Cache) → KnowsOver home changes c calls d k → KnowsNext home changes c calls (plan_on d k)
-plans_on home changes c calls d k over = seeks_on home changes c calls (planned d) k (over_planned home changes c calls d k over) (next_target (planned d)) refl
-
-pub begins_long : (home : Home) (changes : List Noted) (c : Cache) (calls : Calls) (d : Draft) (k : Cache) (to : ℕ × List ℕ) → KnowsOver home changes c calls d k
-    → long_target home.head.pending ≡ Some to → KnowsNext home changes c calls (walk_to true d k to)
-begins_long home changes c calls d k to over long = begins_walk home changes c calls true d k to over (λ no. absurd (cc (no))) (λ yes_is. long)
+    on : KnowsDraft home changes o.trips (uses_of o.trips) (planned d) → (y : NextRun) → Plans d k y → KnowsNext home changes c calls y
+    on draft y (step.seeks n z is b) =
+        begins_walk false (planned d) k (target_of n) y (record { trips = o.trips; walks = o.walks; behind = o.behind; reads = o.reads; draft = draft })
+        (inl (refl, length (planned d).plan.pages, n, ap (λ (cs : List Noted). slice_get cs (length (planned d).plan.pages)) (sym same) ∙ is, refl)) (λ no. ap (option_map target_of) is) b
+    on draft y (step.full none e) = record {
+      trips = o.trips;
+      walks = o.walks;
+      means = record {
+        trouble = trouble.Exhausted counter.Number;
+        is = refl;
+        left_so = ap (λ (w : Writing). w.home) o.draft.writes;
+        why = inr (record {
+          pages = (planned d).plan.pages;
+          known = all_known (planned d) draft.within none ∙ ap length same;
+          leaves = draft.leaves;
+          full = subst (λ (w : Writing). passes (routed_of w.home w.changes (planned d).plan.pages) ≡ true) o.draft.writes e;
+          is = refl;
+        });
+      };
+    }
+    on draft y (step.writes w none fits e) = record {
+      records = records_of (planned d);
+      routed = record {
+        trips = o.trips;
+        walks = o.walks;
+        pages = (planned d).plan.pages;
+        known = all_known (planned d) draft.within none ∙ ap length same;
+        leaves = draft.leaves;
+        are = ap (λ (w : Writing). routed_of w.home w.changes (planned d).plan.pages) o.draft.writes;
+      };
+      fits = fits;
+      begins = subst (λ (v : Writing). begun v (records_of (planned d)) ≡ Goes w) o.draft.writes e;
+    }
 
 -- ---- a walk ends
 
@@ -311,32 +259,11 @@ paged_by home changes trips uses d w k target leaf = record {
     the_target x y e = ap (λ (o : Option (ℕ × List ℕ)). unwrap_or o x) e
   next_leaf (n ∷ cs) (suc i) e = next_leaf cs i e
 
-stale_by : (home : Home) (changes : List Noted) (c : Cache) (calls : Calls) (first : Bool) (d : Draft) (k : Cache) (w : Walk) (o : KnowsOver home changes c calls d k)
-    → (first ≡ false → next_target d ≡ Some (w.tree, sought w)) → (first ≡ false → (n : Noted) → target_of n ≡ (w.tree, sought w) → IsLeafOf o.trips n 1)
-    → KnowsNext home changes c calls (stale_at first d k)
-stale_by home changes c calls true d k w o target leaf = plans_on home changes c calls d k o
-stale_by home changes c calls false d k w o target leaf =
-    plans_on home changes c calls (paged d 1) k (record {
-      trips = o.trips;
-      walks = o.walks;
-      behind = o.behind;
-      reads = o.reads;
-      draft = paged_by home changes o.trips (uses_of o.trips) d w o.draft (target refl) (leaf refl);
-    })
-
 -- ---- a turn of the walk in hand
-
-pub held_of : (home : Home) (changes : List Noted) (c : Cache) (calls : Calls) (first : Bool) (d : Draft) (w : Walk) (k : Cache) → KnowsHand home changes c calls d (held first w) k
-    → KnowsHeld home changes c calls d first (w, k)
-held_of home changes c calls true d w k h = h
-held_of home changes c calls false d w k h = h
-
-pub same_target : (w v : Walk) → aim v ≡ aim w → ◌≡◌ {A = ℕ × List ℕ} (w.tree, sought w) (v.tree, sought v)
-same_target w v e = ap (λ (a : ℕ × Option (List ℕ)). (a.0, unwrap_or a.1 [])) (sym e)
 
 pub turned_by : (home : Home) (changes : List Noted) (c : Cache) (calls : Calls) (first : Bool) (d : Draft) (w : Walk) (k : Cache) (a : Answer) → KnowsHeld home changes c calls d first (w, k)
     → KnowsNext home changes c (calls ++ (walk_ask w, a) ∷ []) (walked first d w k a)
-turned_by home changes c calls first d w k a h = on (walk_next (w, k) a) refl (next_aims (w, k) a) (next_walks (w, k) a) where
+turned_by home changes c calls first d w k a h = on (walked first d w k a) (comes d w k a first) where
   now : Calls
   now = calls ++ (walk_ask w, a) ∷ []
 
@@ -346,36 +273,31 @@ turned_by home changes c calls first d w k a h = on (walk_next (w, k) a) refl (n
   trips : List Trip
   trips = h.earlier ++ trip ∷ []
 
-  read : LeavesRead c now (walk_next (w, k) a)
+  read : LeavesRead c now trip.turn
   read = next_read c calls w k a h.reads
 
   walks : AreWalks home changes c trips now
   walks = walks_on home changes c h.earlier h.trip calls (w, k) a h.walks h.goes read
 
-  pruned : (m : Walk × Cache) → used_in m.1 m.0.used ≡ used_by_turn (walk_next (w, k) a) → KnowsDraft home changes h.earlier (uses_of trips) (pruned_behind d m.0 m.1)
-  pruned m used =
+  pruned : (m : Walk × Cache) (x : Next (Walk × Cache) ℕ) → trip.turn ≡ x → used_by_turn x ≡ used_in m.1 m.0.used → KnowsDraft home changes h.earlier (uses_of trips) (pruned_behind d m.0 m.1)
+  pruned m x e used =
       same_uses home changes h.earlier (uses_of (h.earlier ++ h.trip ∷ []) ++ used_in m.1 m.0.used) (uses_of trips) (pruned_behind d m.0 m.1)
-      (ap (λ (us : List Use). uses_of (h.earlier ++ h.trip ∷ []) ++ us) used ∙ sym (uses_on h.earlier h.trip (w, k) a))
+      (ap (λ (us : List Use). uses_of (h.earlier ++ h.trip ∷ []) ++ us) (sym (ap used_by_turn e ∙ used)) ∙ sym (uses_on h.earlier h.trip (w, k) a))
       (knows_pruned home changes h.earlier (uses_of (h.earlier ++ h.trip ∷ [])) d m.0 m.1 h.draft)
 
-  used_so : (x : Next (Walk × Cache) ℕ) → walk_next (w, k) a ≡ x → used_by_turn x ≡ used_by_turn (walk_next (w, k) a)
-  used_so x e = ap used_by_turn (sym e)
+  over : (m : Walk × Cache) (x : Next (Walk × Cache) ℕ) → trip.turn ≡ x → left_by_turn x ≡ m → (e : Draft) → KnowsDraft home changes trips (uses_of trips) e → KnowsOver home changes c now e m.1
+  over m x e left draft knows =
+      let so : (left_by_turn trip.turn).1 ≡ m.1 = ap (λ (n : Walk × Cache). n.1) (ap left_by_turn e ∙ left) in
+      record { trips = trips; walks = walks; behind = behind_last c h.earlier trip ∙ so; reads = subst (KeepsRead c now) so read; draft = knows }
 
-  over : (m : Walk × Cache) (x : Next (Walk × Cache) ℕ) → walk_next (w, k) a ≡ x → left_by_turn x ≡ m → (e : Draft) → KnowsDraft home changes trips (uses_of trips) e → KnowsOver home changes c now e m.1
-  over m x e left draft knows = record {
-    trips = trips;
-    walks = walks;
-    behind = behind_last c h.earlier trip ∙ ap (λ (n : Walk × Cache). n.1) (ap left_by_turn e ∙ left);
-    reads = subst (λ (n : Walk × Cache). KeepsRead c now n.1) (ap left_by_turn e ∙ left) read;
-    draft = knows;
-  }
+  more : (e : Draft) → KnowsDraft home changes h.earlier (uses_of trips) e → KnowsDraft home changes trips (uses_of trips) e
+  more e knows = knows_more home changes h.earlier (trip ∷ []) (uses_of trips) e knows
 
-  target : (m : Walk × Cache) (x : Next (Walk × Cache) ℕ) → walk_next (w, k) a ≡ x → used_in m.1 m.0.used ≡ used_by_turn x → first ≡ false → next_target (pruned_behind d m.0 m.1) ≡ Some (w.tree, sought w)
-  target m x e used other =
-      target_same home changes h.earlier h.earlier (uses_of trips) (uses_of (h.earlier ++ h.trip ∷ [])) (pruned_behind d m.0 m.1) d (pruned m (used ∙ used_so x e)) h.draft refl ∙ h.aimed other
+  target : (e : Draft) → KnowsDraft home changes h.earlier (uses_of trips) e → e.plan ≡ d.plan → first ≡ false → next_target e ≡ Some (w.tree, sought w)
+  target e knows same change = target_same home changes h.earlier h.earlier (uses_of trips) (uses_of (h.earlier ++ h.trip ∷ [])) e d knows h.draft same ∙ h.aimed change
 
-  stale : (m : Walk × Cache) (t : Trouble) → walk_next (w, k) a ≡ Stops m t → is_stale t ≡ true → first ≡ false → (n : Noted) → target_of n ≡ (w.tree, sought w) → IsLeafOf trips n 1
-  stale m t e is other n same =
+  stale : (m : Walk × Cache) (t : Trouble) → trip.turn ≡ Stops m t → is_stale t ≡ true → first ≡ false → (n : Noted) → target_of n ≡ (w.tree, sought w) → IsLeafOf trips n 1
+  stale m t e is change n same =
       let to : ◌≡◌ {A = ℕ × List ℕ} (h.trip.tree, h.trip.key) (target_of n) = h.to ∙ sym same in
       inr (
         refl,
@@ -385,7 +307,7 @@ turned_by home changes c calls first d w k a h = on (walk_next (w, k) a) refl (n
           among = get_last h.earlier trip;
           in_tree = ap (λ (x : ℕ × List ℕ). x.0) to;
           to = ap (λ (x : ℕ × List ℕ). x.1) to;
-          own = h.fresh ∙ other;
+          own = h.fresh ∙ change;
           left = m;
           trouble = t;
           stopped = e;
@@ -393,18 +315,23 @@ turned_by home changes c calls first d w k a h = on (walk_next (w, k) a) refl (n
         },
       )
 
-  stops : (m : Walk × Cache) (t : Trouble) → walk_next (w, k) a ≡ Stops m t → (b : Bool) → is_stale t ≡ b
-      → KnowsNext home changes c now (if b then stale_at first (pruned_behind d m.0 m.1) m.1 else troubled (pruned_behind d m.0 m.1) m.1 t)
-  stops m t e true is =
-      stale_by home changes c now first (pruned_behind d m.0 m.1) m.1 w
-      (over m (Stops m t) e refl (pruned_behind d m.0 m.1) (knows_more home changes h.earlier (trip ∷ []) (uses_of trips) (pruned_behind d m.0 m.1) (pruned m (used_so (Stops m t) e))))
-      (target m (Stops m t) e refl) (stale m t e is)
-  stops m t e false is =
-      troubled_by home changes c now trips (pruned_behind d m.0 m.1) m.1 t walks (ap (λ (x : Writing). x.home) (pruned m (used_so (Stops m t) e)).writes)
-      (inl (record { earlier = h.earlier; trip = trip; are = refl; left = m; stopped = e; other = is }))
+  behind : (e : Draft) (b : Cache) (one : Bool) → one ≡ first → Behind d w k a one e b → KnowsOver home changes c now e b
+  behind e b one same (step.at_leaf first m page ended aims) =
+      let s : IsServed w a m page = end_served (w, k) m a page h.is ended in
+      let in_tree : h.trip.tree ≡ m.0.tree = ap (λ (x : ℕ × List ℕ). x.0) (h.to ∙ same_target w.tree w.key m.0 aims) in
+      over m (Ends m page) ended refl (leaf_noted (pruned_behind d m.0 m.1) m.0 m.1 page)
+      (noted_kept home changes trips (uses_of trips) (pruned_behind d m.0 m.1) m.0.tree page (leaf_at m.1 (object_of m.0)) s.leaf s.kept (more (pruned_behind d m.0 m.1) (pruned m (Ends m page) ended refl))
+      (served_got h.earlier h.trip w k a m page in_tree ended s))
+  behind e b one same (step.at_stale m t stopped is) =
+      let p : KnowsDraft home changes h.earlier (uses_of trips) (pruned_behind d m.0 m.1) = pruned m (Stops m t) stopped refl in
+      over m (Stops m t) stopped refl (paged (pruned_behind d m.0 m.1) 1)
+      (paged_by home changes trips (uses_of trips) (pruned_behind d m.0 m.1) w (more (pruned_behind d m.0 m.1) p) (target (pruned_behind d m.0 m.1) p refl (sym same)) (stale m t stopped is (sym same)))
+  behind e b one same (step.passed_over m t stopped is) = over m (Stops m t) stopped refl (pruned_behind d m.0 m.1) (more (pruned_behind d m.0 m.1) (pruned m (Stops m t) stopped refl))
 
-  on : (x : Next (Walk × Cache) ℕ) → walk_next (w, k) a ≡ x → AimsBeside (aim w) x → WalksBeside x → KnowsNext home changes c now (by_turn (walk_turned first d) x)
-  on (Goes m) e aims is =
+  on : (x : NextRun) → Comes d w k a first x → KnowsNext home changes c now x
+  on x (step.goes m e is aims) =
+      let p : KnowsDraft home changes h.earlier (uses_of trips) (pruned_behind d m.0 m.1) = pruned m (Goes m) e refl in
+      let same = same_target w.tree w.key m.0 aims in
       hand_by home changes c now first (pruned_behind d m.0 m.1) m (record {
         earlier = h.earlier;
         trip = trip;
@@ -412,17 +339,20 @@ turned_by home changes c calls first d w k a h = on (walk_next (w, k) a) refl (n
         fresh = h.fresh;
         goes = e;
         reads = subst (LeavesRead c now) e read;
-        draft = pruned m (used_so (Goes m) e);
+        draft = p;
         is = is;
-        to = h.to ∙ same_target w m.0 aims;
-        aimed = λ no. target m (Goes m) e refl no ∙ ap Some (same_target w m.0 aims);
+        to = h.to ∙ same;
+        aimed = λ change. target (pruned_behind d m.0 m.1) p refl change ∙ ap Some same;
       })
-  on (Ends m page) e aims is =
-      let s : IsServed w a m page = end_served (w, k) m a page h.is e in
-      let in_tree : h.trip.tree ≡ m.0.tree = ap (λ (x : ℕ × List ℕ). x.0) (h.to ∙ same_target w m.0 aims) in
-      plans_on home changes c now (leaf_noted (pruned_behind d m.0 m.1) m.0 m.1 page) m.1
-      (over m (Ends m page) e refl (leaf_noted (pruned_behind d m.0 m.1) m.0 m.1 page)
-      (noted_kept home changes trips (uses_of trips) (pruned_behind d m.0 m.1) m.0.tree page (leaf_at m.1 (object_of m.0)) s.leaf s.kept
-      (knows_more home changes h.earlier (trip ∷ []) (uses_of trips) (pruned_behind d m.0 m.1) (pruned m (used_so (Ends m page) e)))
-      (served_got h.earlier h.trip w k a m page in_tree e s)))
-  on (Stops m t) e aims is = stops m t e (is_stale t) refl
+  on x (step.ends m t e is other) = record {
+    trips = trips;
+    walks = walks;
+    means = record {
+      trouble = t;
+      is = refl;
+      left_so = ap (λ (x : Writing). x.home) (pruned m (Stops m t) e refl).writes;
+      why = inl (record { earlier = h.earlier; trip = trip; are = refl; left = m; stopped = e; other = is });
+    };
+  }
+  on x (step.lacks m e) = record { trips = trips; walks = walks; means = refl }
+  on x (step.plans e b y from p) = plans_by home changes c now e b x (behind e b first refl from) p

@@ -1,6 +1,6 @@
 -- A commit that is answered as committed is among what was committed.
-use Rattle.std.proofs.Common.{◌≡◌, ℕ, Bool, true, false, List, [], ◌∷◌, ◌++◌, Option, Some, None, Result, Ok, Err, refl, sym, ap, subst, ◌∙◌}
-use Rattle.std.specs.Prelude.{All, slice_get, ◌+◌}
+use Rattle.std.proofs.Common.{inl, inr, ◌≡◌, ℕ, Bool, true, false, List, [], Option, Some, Ok, refl, sym, ap, subst, ◌∙◌}
+use Rattle.std.specs.Prelude.{All}
 use Rattle.std.proofs.lemmas.List.{append-nil}
 use Rattle.client_work.specs.Session.{Acting, StepsSession, StepsAt, StepsCommit, ShowsAt}
 use Rattle.client_work.specs.declared.answer.Answer.{Answer}
@@ -19,7 +19,6 @@ use Rattle.cloud_trait.specs.Growth.{BeginsWith}
 use Rattle.cloud_trait.specs.Machine.{Next, Goes, Ends, Stops}
 use Rattle.cloud_trait.specs.Seen.{Seen}
 use Rattle.cloud_trait.specs.State.{CloudState, called}
-use Rattle.cloud_trait.specs.Views.{sent_of, done_of}
 use Rattle.cloud_trait.specs.declared.answer.Answer.{Answer as Reply}
 use Rattle.cloud_trait.specs.declared.turn.Turn.{Turn}
 use Rattle.cloud_trait.specs.declared.turn.Turn.TheVariants.{Ended}
@@ -29,13 +28,13 @@ use Rattle.commit_run.specs.Draft.{Draft}
 use Rattle.commit_run.specs.Run.{Run, home_of, wrote, walked, next_at as run_next_at, run_next}
 use Rattle.commit_run.specs.declared.hand.Hand.{Hand}
 use Rattle.commit_run.specs.declared.hand.Hand.TheVariants.{Writes, First, Change}
-use Rattle.commit_writes.specs.Writing.{Writing, log_or_open, writing_next, next_at, send_or_settle, send_at, delete_or_end, delete_at, logged_by, not_opened, opened_by, sent_by, settled_by, deleted_by}
+use Rattle.commit_writes.specs.Writing.{Writing, writing_next}
 use Rattle.commit_writes.specs.declared.stage.Stage.{Stage}
-use Rattle.commit_writes.specs.declared.stage.Stage.TheVariants.{Waiting, Logging, Opening, Sending, Settling, Deleting, Finished}
+use Rattle.commit_writes.specs.declared.stage.Stage.TheVariants.{Opening, Sending, Settling, Deleting}
+use Rattle.commit_run.proofs.Wrote as written
+use Rattle.commit_run.proofs.Wrote.{Wrote, wrote_by}
 use Rattle.db_base.specs.declared.trouble.CommitAnswer.{CommitAnswer}
 use Rattle.db_base.specs.declared.trouble.CommitAnswer.TheVariants.{Committed, NotCommitted, InDoubt, CommittedOpen}
-use Rattle.db_base.specs.declared.trouble.Trouble.{Trouble}
-use Rattle.db_base.specs.declared.trouble.Trouble.TheVariants as trouble
 use Rattle.history.specs.Audited.{Audited, committed_entry}
 use Rattle.log_codec.specs.declared.record.AtomicRec.{AtomicRec}
 use Rattle.page_cache.specs.Cache.{Cache}
@@ -91,54 +90,6 @@ module _ (entries : List Entry) (client : ℕ) (changes : List Noted) where
   Keeps (Ends w a) = IsKept entries client changes a
   Keeps (Stops w t) = Unit {0}
 
-  logs : (w : Writing) (o : Option AtomicRec) → Keeps (log_or_open w o)
-  logs w (Some r) = tt
-  logs w None = tt
-
-  logged : (w : Writing) (v : Result ℕ Trouble) → Keeps (logged_by w v)
-  logged w (Ok id) = logs (record w { ids = w.ids ++ id ∷ []; place = w.place + 1 }) (slice_get w.records (w.place + 1))
-  logged w (Err trouble.Memory) = tt
-  logged w (Err t) = tt
-
-  sends : (w : Writing) (o : Option AtomicRec) → Keeps (send_or_settle w o)
-  sends w (Some r) = tt
-  sends w None = tt
-
-  sends_at : (w : Writing) (n : ℕ) → Keeps (send_at w n)
-  sends_at w n = sends (record w { place = n }) (slice_get w.records n)
-
-  not_open : (w : Writing) (t : Trouble) → Keeps (not_opened w t)
-  not_open w (trouble.Late end now) = tt
-  not_open w trouble.Memory = tt
-  not_open w t = tt
-
-  opened : (w : Writing) (v : Result (Unit {0}) Trouble) → Keeps (opened_by w v)
-  opened w (Ok x) = sends_at w 0
-  opened w (Err t) = not_open w t
-
-  -- behind the put that commits
-  module _ (w : Writing) (has : HasEntries entries client w.home.attempt changes) where
-    sent : (v : Result ℕ Trouble) → Keeps (sent_by w v)
-    sent (Ok id) = sends_at w (w.place + 1)
-    sent (Err trouble.Memory) = tt
-    sent (Err t) = (w.home.attempt, has)
-
-    deletes : (n : ℕ) (o : Option ℕ) → Keeps (delete_or_end (record w { place = n }) o)
-    deletes n (Some id) = tt
-    deletes n None = has
-
-    deletes_at : (n : ℕ) → Keeps (delete_at w n)
-    deletes_at n = deletes n (slice_get w.ids n)
-
-    settled : (v : Result (Unit {0}) Trouble) → Keeps (settled_by w v)
-    settled (Ok x) = deletes_at 0
-    settled (Err trouble.Memory) = tt
-    settled (Err t) = (w.home.attempt, has)
-
-    deleted : (v : Result (Unit {0}) Trouble) → Keeps (deleted_by w v)
-    deleted (Err trouble.Memory) = tt
-    deleted v = deletes_at (w.place + 1)
-
 module _ (st : Store) (now : ℕ) (w : Writing) (g : Home) where
   abbrev KeepsOwn : Next Writing CommitAnswer → Type 0
   KeepsOwn = Keeps (entries_of st.book.log) w.home.client w.changes
@@ -146,14 +97,26 @@ module _ (st : Store) (now : ℕ) (w : Writing) (g : Home) where
   has_entries : HasCommitted st.book.log (attempt_of w) w.changes → HasEntries (entries_of st.book.log) w.home.client w.home.attempt w.changes
   has_entries committed = record { epoch = w.home.head.epoch; each = λ n is. entry_in st.book.log (attempt_of w) is.0 n (committed is.0 n is.1) }
 
-  keeps_at : (stage : Stage) (a : Reply) → KnowsCommitAt stage st now w g → KeepsOwn (next_at stage w a)
-  keeps_at Waiting a never = absurd never
-  keeps_at Logging a k = logged (entries_of st.book.log) w.home.client w.changes w (sent_of a)
-  keeps_at Opening a k = opened (entries_of st.book.log) w.home.client w.changes w (done_of a)
-  keeps_at Sending a k = sent (entries_of st.book.log) w.home.client w.changes w (has_entries k.committed) (sent_of a)
-  keeps_at Settling a k = settled (entries_of st.book.log) w.home.client w.changes w (has_entries k.committed) (done_of a)
-  keeps_at Deleting a k = deleted (entries_of st.book.log) w.home.client w.changes w (has_entries k.committed) (done_of a)
-  keeps_at Finished a never = absurd never
+  keeps_by : (a : Reply) (x : Next Writing CommitAnswer) → KnowsCommitAt w.stage st now w g → Wrote w a x → KeepsOwn x
+  keeps_by a x k o = on x o where
+    at : (stage : Stage) → w.stage ≡ stage → KnowsCommitAt stage st now w g
+    at stage is = subst (λ (s : Stage). KnowsCommitAt s st now w g) is k
+
+    on : (y : Next Writing CommitAnswer) → Wrote w a y → KeepsOwn y
+    on y (written.logs id r is) = tt
+    on y (written.opens id is) = tt
+    on y (written.not_logged t is e other) = tt
+    on y (written.late end now is e) = tt
+    on y (written.doubts t is e other) = tt
+    on y (written.sends n r is) = tt
+    on y (written.settles n is) = tt
+    on y (written.stays_open t (inl (is, e)) other) = (w.home.attempt, has_entries (at Sending is).committed)
+    on y (written.stays_open t (inr (is, e)) other) = (w.home.attempt, has_entries (at Settling is).committed)
+    on y (written.deletes n id is) = tt
+    on y (written.ends n (inl is)) = has_entries (at Settling is).committed
+    on y (written.ends n (inr is)) = has_entries (at Deleting is).committed
+    on y written.lacks = tt
+    on y (written.idles is) = tt
 
 -- ---- where a run leads
 
@@ -191,7 +154,7 @@ run_keeps st now m part reply k = on m.0.hand k.hand
         (turns w.changes w.home.client first m.0.draft (walk_next (walk, m.1) reply) (record { changes_are = refl; client_is = refl }))
 
     on : (hand : Hand) → KnowsHand hand st now m.0.draft part → RunKeeps entries w.home.client w.changes (run_next_at hand m.0.draft m.1 reply)
-    on Writes h = wrote_keeps entries w.home.client w.changes m.0.draft m.1 (writing_next w reply) (keeps_at st now w h.home w.stage reply h.at)
+    on Writes h = wrote_keeps entries w.home.client w.changes m.0.draft m.1 (writing_next w reply) (keeps_by st now w h.home reply (writing_next w reply) h.at (wrote_by w reply))
     on (First walk) h = walks true walk
     on (Change walk) h = walks false walk
 

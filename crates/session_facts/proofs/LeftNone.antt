@@ -1,5 +1,5 @@
 -- A commit that is answered `not-committed` left nothing among what was committed.
-use Rattle.std.proofs.Common.{◌≡◌, ◌+◌, ℕ, zero, suc, Bool, true, false, cond, List, [], ◌∷◌, ◌++◌, Option, Some, None, Result, Ok, Err, refl, sym, ap, subst, ◌∙◌, arith}
+use Rattle.std.proofs.Common.{◌≡◌, ◌+◌, ℕ, zero, suc, Bool, true, false, List, [], ◌∷◌, ◌++◌, Option, Some, Ok, Err, refl, sym, ap, subst, ◌∙◌, arith}
 use Rattle.std.specs.Prelude.{All, map, slice_get}
 use Rattle.std.proofs.lemmas.List.{append-nil}
 use Rattle.client_work.specs.Session.{Acting, StepsSession, StepsCommit, ShowsAt}
@@ -19,30 +19,30 @@ use Rattle.cloud_trait.specs.Caller.{Caller}
 use Rattle.cloud_trait.specs.Machine.{Next, Goes, Ends, Stops}
 use Rattle.cloud_trait.specs.Seen.{Seen}
 use Rattle.cloud_trait.specs.State.{CloudState, Counts, called}
-use Rattle.cloud_trait.specs.Views.{sent_of, done_of}
+use Rattle.cloud_trait.specs.Views.{done_of}
 use Rattle.cloud_trait.specs.Weather.{Leaves}
 use Rattle.cloud_trait.specs.declared.answer.Answer.{Answer as Reply}
-use Rattle.cloud_trait.specs.declared.answer.Answer.TheVariants.{Done, Late, Memory}
+use Rattle.cloud_trait.specs.declared.answer.Answer.TheVariants.{Late}
 use Rattle.cloud_trait.specs.declared.turn.Turn.TheVariants.{Ended}
-use Rattle.commit_run.specs.Draft.{Draft, pruned_by_root, pruned_by_kept, pruned_with, planned, pruned_behind, leaf_noted, paged}
-use Rattle.commit_run.specs.Run.{Run, home_of, wrote, troubled, by_turn, begun_turn, seek, plan_on, next_target, is_stale, stale_at, walk_stopped, walk_turned, walked, ask_at, next_at as run_next_at}
+use Rattle.commit_run.specs.Draft.{Draft}
+use Rattle.commit_run.specs.Run.{Run, home_of, wrote, walked, ask_at, next_at as run_next_at}
 use Rattle.commit_run.specs.declared.hand.Hand.{Hand}
 use Rattle.commit_run.specs.declared.hand.Hand.TheVariants.{Writes, First, Change}
 use Rattle.commit_writes.specs.Writing.{ask_at as written_ask}
-use Rattle.commit_writes.specs.Writing.{Writing, head_ask, log_or_open, not_committed, routed_of, passes, begun, routing, next_at, send_or_settle, delete_or_end, logged_by, opened_by, sent_by, settled_by, deleted_by}
+use Rattle.commit_writes.specs.Writing.{Writing, head_ask, next_at}
 use Rattle.commit_writes.specs.declared.stage.Stage.{Stage}
-use Rattle.commit_writes.specs.declared.stage.Stage.TheVariants.{Waiting, Logging, Opening, Sending, Settling, Deleting, Finished}
+use Rattle.commit_writes.specs.declared.stage.Stage.TheVariants.{Logging, Opening, Settling}
+use Rattle.commit_run.proofs.Outcomes as step
+use Rattle.commit_run.proofs.Outcomes.{NextRun, Leads, turned_leads}
+use Rattle.commit_run.proofs.Wrote as written
+use Rattle.commit_run.proofs.Wrote.{Wrote, wrote_by}
 use Rattle.db_base.specs.declared.names.ObjName.{ObjName}
-use Rattle.db_base.specs.declared.names.ObjName.TheVariants as object
 use Rattle.db_base.specs.declared.trouble.CommitAnswer.{CommitAnswer}
 use Rattle.db_base.specs.declared.trouble.CommitAnswer.TheVariants.{Committed, NotCommitted, InDoubt, CommittedOpen}
-use Rattle.db_base.specs.declared.trouble.Counter.TheVariants as counter
 use Rattle.db_base.specs.declared.trouble.Trouble.{Trouble}
 use Rattle.db_base.specs.declared.trouble.Trouble.TheVariants as trouble
 use Rattle.history.specs.Audited.{Audited}
-use Rattle.leaf_view.specs.Leaf.{Leaf}
 use Rattle.log_codec.specs.declared.record.AtomicRec.{AtomicRec}
-use Rattle.node_codec.specs.Tree.{Tree}
 use Rattle.page_cache.specs.Cache.{Cache}
 use Rattle.recover_run.specs.declared.home.Home.{Home as Held}
 use Rattle.replay_meaning.specs.Committed.{committed}
@@ -54,7 +54,7 @@ use Rattle.session_facts.specs.CommitRuns.Running.{KnowsHand, KnowsRun}
 use Rattle.session_facts.specs.Facts.{IsPlaced, WorksAs, CloudHolds}
 use Rattle.session_facts.specs.LeftNone.{HasNone, HasLeftNone, LeavesNoneAt}
 use Rattle.session_facts.specs.Sessions.Sessions.{Sessions, KnowsWork}
-use Rattle.tree_walk.specs.Walk.{Walk, object_of, new_walk, walk_ready, walk_next}
+use Rattle.tree_walk.specs.Walk.{object_of, walk_next}
 use Rattle.txn_buffer.specs.Noted.{Noted}
 
 -- ---- a commit keeps its transaction
@@ -75,65 +75,11 @@ module _ (client epoch attempt : ℕ) where
   RunsOf (Ends m a) = Own (home_of m.0)
   RunsOf (Stops m t) = Unit {0}
 
-  by_root : (w : Writing) (tree : ℕ) (o : Option Tree) → Own w.home → Own (pruned_by_root w tree o).home
-  by_root w tree (Some root) f = record { client_is = f.client_is; epoch_is = f.epoch_is; attempt_is = f.attempt_is }
-  by_root w tree None f = f
-
-  by_leaf : (w : Writing) (tree : ℕ) (o : Option Leaf) → Own w.home → Own (pruned_by_kept w tree o).home
-  by_leaf w tree (Some leaf) f = record { client_is = f.client_is; epoch_is = f.epoch_is; attempt_is = f.attempt_is }
-  by_leaf w tree None f = f
-
-  by_use : (w : Writing) (c : Cache) (o : Option ObjName) → Own w.home → Own (pruned_with w c o).home
-  by_use w c None f = f
-  by_use w c (Some (object.Head k)) f = f
-  by_use w c (Some (object.Tree tree)) f = by_root w tree _ f
-  by_use w c (Some (object.Page tree page)) f = by_leaf w tree _ f
-
-  routes : (d : Draft) (c : Cache) → Own d.writes.home → RunsOf (wrote d c (routing d.writes d.plan.pages))
-  routes d c f = on (passes records)
-    where
-      records : List AtomicRec
-      records = routed_of d.writes.home d.writes.changes d.plan.pages
-
-      begins : (o : Option AtomicRec) → RunsOf (wrote d c (log_or_open (record d.writes { records = records; place = 0 }) o))
-      begins (Some r) = tt
-      begins None = tt
-
-      on : (b : Bool) → RunsOf (wrote d c (cond b (not_committed d.writes (trouble.Exhausted counter.Number)) (begun d.writes records)))
-      on true = f
-      on false = begins (slice_get records 0)
-
-  stops_so : (d : Draft) (c : Cache) (t : Trouble) → Own d.writes.home → RunsOf (troubled d c t)
-  stops_so d c trouble.Memory f = tt
-  stops_so d c t f = f
-
-  begins_walk : (d : Draft) (n : Next (Walk × Cache) ℕ) → Own d.writes.home → RunsOf (by_turn (begun_turn false d) n)
-  begins_walk d (Goes m) f = tt
-  begins_walk d (Ends m page) f = tt
-  begins_walk d (Stops m t) f = stops_so (pruned_behind d m.0 m.1) m.1 t (by_use d.writes m.1 m.0.used f)
-
-  seeks : (d : Draft) (c : Cache) (o : Option (ℕ × List ℕ)) → Own d.writes.home → RunsOf (seek d c o)
-  seeks d c (Some to) f = begins_walk d (walk_ready (new_walk to.0 (Some to.1) false, c)) f
-  seeks d c None f = routes d c f
-
-  plans : (d : Draft) (c : Cache) → Own d.writes.home → RunsOf (plan_on d c)
-  plans d c f = seeks (planned d) c (next_target (planned d)) f
-
-  stale_so : (first : Bool) (d : Draft) (c : Cache) → Own d.writes.home → RunsOf (stale_at first d c)
-  stale_so true d c f = plans d c f
-  stale_so false d c f = plans (paged d 1) c f
-
-  walk_stops : (first : Bool) (d : Draft) (c : Cache) (t : Trouble) → Own d.writes.home → RunsOf (walk_stopped first d c t)
-  walk_stops first d c t f = on (is_stale t)
-    where
-      on : (b : Bool) → RunsOf (cond b (stale_at first d c) (troubled d c t))
-      on true = stale_so first d c f
-      on false = stops_so d c t f
-
-  turns : (first : Bool) (d : Draft) (n : Next (Walk × Cache) ℕ) → Own d.writes.home → RunsOf (by_turn (walk_turned first d) n)
-  turns first d (Goes m) f = tt
-  turns first d (Ends m page) f = plans (leaf_noted (pruned_behind d m.0 m.1) m.0 m.1 page) m.1 (by_use d.writes m.1 m.0.used f)
-  turns first d (Stops m t) f = walk_stops first (pruned_behind d m.0 m.1) m.1 t (by_use d.writes m.1 m.0.used f)
+  leads : (w : Writing) (x : NextRun) → Own w.home → Leads w x → RunsOf x
+  leads w x f (step.walks first e v k kept) = tt
+  leads w x f (step.writes e k v kept paged starts) = tt
+  leads w x f (step.refuses e k t kept other) = record { client_is = kept.client ∙ f.client_is; epoch_is = kept.epoch ∙ f.epoch_is; attempt_is = kept.attempt ∙ f.attempt_is }
+  leads w x f (step.lacks e k kept) = tt
 
 -- ---- what is written
 
@@ -155,54 +101,27 @@ Refused stage a h (Goes w) = Unit {0}
 Refused stage a h (Ends w x) = RefusedOf stage a h w.home x
 Refused stage a h (Stops w t) = Unit {0}
 
+only_late : (a : Reply) (end now : ℕ) → done_of a ≡ Err (trouble.Late end now) → a ≡ Late end now
+only_late (Late e n) end now is = cc (is)
+only_late a end now is = absurd (cc (is))
+
 own : (h : Held) → OwnOf h h
 own h = record { client_is = refl; epoch_is = refl; attempt_is = refl }
 
-log_goes : (stage : Stage) (a : Reply) (h : Held) (w : Writing) (o : Option AtomicRec) → Refused stage a h (log_or_open w o)
-log_goes stage a h w (Some r) = tt
-log_goes stage a h w None = tt
-
-send_goes : (stage : Stage) (a : Reply) (h : Held) (w : Writing) (o : Option AtomicRec) → Refused stage a h (send_or_settle w o)
-send_goes stage a h w (Some r) = tt
-send_goes stage a h w None = tt
-
-delete_goes : (stage : Stage) (a : Reply) (h : Held) (w : Writing) (o : Option ℕ) → Refused stage a h (delete_or_end w o)
-delete_goes stage a h w (Some id) = tt
-delete_goes stage a h w None = tt
-
-logged : (a : Reply) (w : Writing) (g : Result ℕ Trouble) → Refused Logging a w.home (logged_by w g)
-logged a w (Ok id) = log_goes Logging a w.home (record w { ids = w.ids ++ id ∷ []; place = w.place + 1 }) (slice_get w.records (w.place + 1))
-logged a w (Err trouble.Memory) = tt
-logged a w (Err t) = (own w.home, tt)
-
-opened : (a : Reply) (w : Writing) → Refused Opening a w.home (opened_by w (done_of a))
-opened Done w = send_goes Opening Done w.home (record w { place = 0 }) (slice_get w.records 0)
-opened (Late end now) w = (record { client_is = refl; epoch_is = refl; attempt_is = refl }, (end, now, refl))
-opened Memory w = tt
-opened a w = tt
-
-sent : (a : Reply) (w : Writing) (g : Result ℕ Trouble) → Refused Sending a w.home (sent_by w g)
-sent a w (Ok id) = send_goes Sending a w.home (record w { place = w.place + 1 }) (slice_get w.records (w.place + 1))
-sent a w (Err trouble.Memory) = tt
-sent a w (Err t) = tt
-
-settled : (a : Reply) (w : Writing) (g : Result (Unit {0}) Trouble) → Refused Settling a w.home (settled_by w g)
-settled a w (Ok x) = delete_goes Settling a w.home (record w { place = 0 }) (slice_get w.ids 0)
-settled a w (Err trouble.Memory) = tt
-settled a w (Err t) = tt
-
-deleted : (a : Reply) (w : Writing) (g : Result (Unit {0}) Trouble) → Refused Deleting a w.home (deleted_by w g)
-deleted a w (Err trouble.Memory) = tt
-deleted a w g = delete_goes Deleting a w.home (record w { place = w.place + 1 }) (slice_get w.ids (w.place + 1))
-
-refuses : (stage : Stage) (a : Reply) (w : Writing) → Refused stage a w.home (next_at stage w a)
-refuses Waiting a w = tt
-refuses Logging a w = logged a w (sent_of a)
-refuses Opening a w = opened a w
-refuses Sending a w = sent a w (sent_of a)
-refuses Settling a w = settled a w (done_of a)
-refuses Deleting a w = deleted a w (done_of a)
-refuses Finished a w = tt
+refuses : (w : Writing) (a : Reply) (x : Next Writing CommitAnswer) → Wrote w a x → Refused w.stage a w.home x
+refuses w a x (written.logs id r at) = tt
+refuses w a x (written.opens id at) = tt
+refuses w a x (written.not_logged t at is other) = (own w.home, subst (λ (stage : Stage). RefusedAt stage a) (sym at) tt)
+refuses w a x (written.late end now at is) =
+    (record { client_is = refl; epoch_is = refl; attempt_is = refl }, subst (λ (stage : Stage). RefusedAt stage a) (sym at) (end, now, only_late a end now is))
+refuses w a x (written.doubts t at is other) = tt
+refuses w a x (written.sends n r at) = tt
+refuses w a x (written.settles n at) = tt
+refuses w a x (written.stays_open t at other) = tt
+refuses w a x (written.deletes n id at) = tt
+refuses w a x (written.ends n at) = tt
+refuses w a x written.lacks = tt
+refuses w a x (written.idles at) = tt
 
 -- ---- of a run
 
@@ -278,13 +197,13 @@ module _ (st : Store) (now : ℕ) (parts : Parts) (session : ℕ) (homes : Homes
   write_ends stage g k (Stops w t) h = tt
 
   hand_ends : (hand : Hand) → KnowsHand hand st now d (parts session) → RunRefuses st.book.log (record { draft = d; hand = hand }) (ask_at hand d.writes) a (run_next_at hand d c a)
-  hand_ends Writes k = write_ends d.writes.stage k.home k.at (next_at d.writes.stage d.writes a) (refuses d.writes.stage a d.writes)
+  hand_ends Writes k = write_ends d.writes.stage k.home k.at (next_at d.writes.stage d.writes a) (refuses d.writes a (next_at d.writes.stage d.writes a) (wrote_by d.writes a))
   hand_ends (First w) k =
       walk_ends (First w) (object_of w) (none_taken st now parts session d.writes k.draft.taken homes left) (walked true d w c a)
-      (turns d.writes.home.client d.writes.home.head.epoch d.writes.home.attempt true d (walk_next (w, c) a) (own d.writes.home))
+      (leads d.writes.home.client d.writes.home.head.epoch d.writes.home.attempt d.writes (walked true d w c a) (own d.writes.home) (turned_leads d true (walk_next (w, c) a)))
   hand_ends (Change w) k =
       walk_ends (Change w) (object_of w) (none_taken st now parts session d.writes k.draft.taken homes left) (walked false d w c a)
-      (turns d.writes.home.client d.writes.home.head.epoch d.writes.home.attempt false d (walk_next (w, c) a) (own d.writes.home))
+      (leads d.writes.home.client d.writes.home.head.epoch d.writes.home.attempt d.writes (walked false d w c a) (own d.writes.home) (turned_leads d false (walk_next (w, c) a)))
 
 -- ---- what such a call leaves
 

@@ -149,7 +149,7 @@ module _ (book : Book) (order : List Entry) (s : CloudState) (sessions : Session
     where
       on : answer.Commit c ≡ answer.Commit (Committed 0) → IsTold c
       on e = let is : c ≡ Committed 0 = cc in subst IsTold (sym is) tt
-  tells home c (inr (some, (m, leads, left))) = subst EndsTold leads (ready_tells (new_run home old.buffer, old.cache))
+  tells home c (inr (some, (m, leads, left))) = subst EndsTold leads (ready_tells home old.buffer old.cache)
 
   commits_at_once : (home : Home) (a : Answer) → old.work ≡ Idle home → CommitsIn old home new (Answered a) → IsAtOnce s op.Commit a
   commits_at_once home (answer.Commit c) idle does = spent_well s c (tells home c does.1) (begin_spent book order s sessions session new stand op.Commit c (home, idle, does))

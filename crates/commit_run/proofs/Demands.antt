@@ -2,27 +2,16 @@
 use Rattle.std.proofs.Common.{◌≡◌, ◌≢◌, ℕ, Bool, true, false, List, [], ◌∷◌, length, Option, Some, None, refl, ap, sym, subst, ◌∙◌, ◌⊎◌, inl, inr}
 use Rattle.std.specs.Prelude.{slice_get, find, if◌then◌else◌}
 use Rattle.std.specs.Option.{option_map, option_map_or}
-use Rattle.db_base.specs.Change.{key_of}
-use Rattle.db_base.specs.declared.trouble.Trouble.{Trouble}
 use Rattle.db_base.specs.declared.trouble.Trouble.TheVariants as trouble
 use Rattle.db_base.specs.declared.trouble.Counter.TheVariants as counter
-use Rattle.db_base.specs.declared.trouble.CommitAnswer.{CommitAnswer}
-use Rattle.db_base.specs.declared.trouble.CommitAnswer.TheVariants.{NotCommitted}
-use Rattle.head_codec.specs.declared.lists.Pending.{Pending}
-use Rattle.txn_buffer.specs.Noted.{Noted}
-use Rattle.cloud_trait.specs.declared.answer.Answer.{Answer}
-use Rattle.cloud_trait.specs.declared.turn.Turn.{Turn}
-use Rattle.cloud_trait.specs.declared.turn.Turn.TheVariants.{More, Ended, Stopped}
-use Rattle.cloud_trait.specs.Machine.{Next, Stops, LeadsBy, Took}
-use Rattle.recover_run.specs.declared.home.Home.{Home}
-use Rattle.page_cache.specs.Cache.{Cache, IsCache}
-use Rattle.tree_walk.specs.Walk.{Walk, new_walk, walk_ready, walk_next, KeepsServed}
+use Rattle.cloud_trait.specs.declared.turn.Turn.TheVariants.{Ended}
+use Rattle.page_cache.specs.Cache.{IsCache}
+use Rattle.tree_walk.specs.Walk.{KeepsServed}
 use Rattle.tree_walk.proofs.Meeting.{ready_meets}
-use Rattle.commit_plan.specs.Plan.{seeks, pages_of}
-use Rattle.commit_writes.specs.Writing.{Writing, waiting, is_spent, with_attempt, with_home, routed_of, passes, not_committed, begun, first_leaves}
+use Rattle.commit_writes.specs.Writing.{with_home, first_leaves}
 use Rattle.commit_run.specs.Demanding.{MeetsFirst, PassesFirst, DemandsReady, behind_stop, behind_turn, MeetsNext, PassesNext, DemandsNext}
-use Rattle.commit_run.specs.Draft.{Draft, new_draft, planned, pruned_behind, leaf_noted, paged}
-use Rattle.commit_run.specs.Run.{Run, Led, held, next_target, is_stale, stale_at, troubled, walk_turned, begin_walks, begun_turn, by_turn, long_target, long_walk, new_run, plan_on, refused, run_ready, seek, target_of, walk_to, wrote}
+use Rattle.commit_run.specs.Run.{long_walk, walk_to}
+use Rattle.commit_run.proofs.Words.{key_of, Trouble, CommitAnswer, NotCommitted, Pending, Noted, Answer, Turn, More, Stopped, Next, Stops, LeadsBy, Took, Home, Cache, Walk, new_walk, walk_ready, walk_next, seeks, pages_of, Writing, waiting, is_spent, with_attempt, routed_of, passes, not_committed, begun, Draft, new_draft, planned, pruned_behind, leaf_noted, paged, Run, Led, held, is_stale, stale_at, troubled, walk_turned, begin_walks, begun_turn, by_turn, long_target, new_run, plan_on, refused, run_ready, seek, target_of, wrote}
 use Rattle.commit_run.proofs.Exacting.{EndsBy, troubled_by, led_by}
 
 -- behind the pages that are known without a walk stands the first change that seeks a leaf

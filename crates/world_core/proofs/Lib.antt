@@ -24,6 +24,9 @@ pub mod Explained
 pub mod Counting
 pub mod Bounded
 pub mod Named
+pub mod UnsentPages
+pub mod UnsentSteps
+pub mod SpentTroubles
 pub mod Calm
 pub mod Settled
 pub mod Seeing

@@ -44,7 +44,7 @@ use Rattle.client_work.specs.declared.op.Op.TheVariants as op
 use Rattle.client_work.specs.declared.shown.Shown.{Shown}
 use Rattle.client_work.specs.declared.work.Work.{Work}
 use Rattle.client_work.specs.declared.work.Work.TheVariants.{Closed, Idle, Opening, Committing, Reading, Scanning, Paging, Folding, Closing, Renewing, Settling, Broken}
-use Rattle.client_work.specs.Session.{Acting, Begins, HasInHand, CommitsOf, CommitsNoted, ReadsOf, ScansOf, Follows, ListsLeaf, StepsAt, ShowsAt, ReadsBy, StepsScanning, ShowsWhole, stopped_work, opened_work, committed_work, opening_of, old_lease, paging_begun_by, folding_begun_by, noted_behind, shown_behind, rule_of, value_in, items_in}
+use Rattle.client_work.specs.Session.{Acting, Begins, HasInHand, CommitsOf, CommitsNoted, ReadsOf, ScansOf, Follows, ListsLeaf, StepsAt, ShowsAt, ReadsBy, StepsScanning, ShowsWhole, stopped_work, opened_work, committed_work, opening_of, old_lease, paging_begun_by, folding_begun_by, noted_behind, shown_behind, value_in, items_in}
 use Rattle.client_work.specs.Showing.{ShowsValue, pair_of, sight_in, IsSeen, Lists, IsUnderWay, ShowsRecords, IsKnown, read_deed, scan_deed}
 
 -- ---- what is no scan
@@ -368,11 +368,6 @@ module _ (who : Caller) (before after : Seen) (buffer noted : List Noted) (c d :
   step_known (Broken lease) left shown turn same known steps shows = absurd steps
 
 -- ---- a begin
-
--- with nothing at work whatever is noted is known
-pub idle_known : (buffer : List Noted) (w : Work) (c : Cache) → rule_of w ≡ None → IsKnown buffer w c
-idle_known buffer (Scanning home m) c rule = absurd (cc (rule))
-idle_known buffer w c rule = tt
 
 begun_known : (home : Home) (buffer : List Noted) (tree : ℕ) (from to : Option (List ℕ)) (c d : Cache) (left : Work) (shown : Shown) (begun : Begun)
     → ScansOf home buffer (scan_of (record { tree = tree; from = from; to = to })) c d left shown begun → IsKnown buffer left d

@@ -1,5 +1,5 @@
 -- What a session shows at the end of a read and of a scan, by all the calls of the operation.
-use Rattle.std.specs.Prelude.{ℕ, ◌≡◌, true, List, [], ◌∷◌, map, Option, unwrap_or}
+use Rattle.std.specs.Prelude.{◌≡◌, true, List, [], ◌∷◌, map, Option, unwrap_or}
 use Rattle.std.specs.List.{AllByRecursion}
 use Rattle.db_base.specs.declared.pair.Pair.{Pair}
 use Rattle.db_base.specs.Value.{Value}

@@ -21,7 +21,8 @@ use Rattle.load_plan.specs.Events.{Placed, placed_in, records_of, parts, transac
 use Rattle.load_facts.specs.Inserts.{insert_of}
 use Rattle.load_facts.proofs.Course.{noted_of, changes_of, all_changes, AreAllParts}
 use Rattle.load_facts.proofs.Parts.{AreParts, AreOf}
-use Rattle.load_facts.proofs.SameRecords.{never, not_below, below_behind, not_above}
+use Rattle.load_facts.proofs.SameRecords.{never, below_behind, not_above}
+use Rattle.cloud_facts.proofs.Chains.Pieces.{not_itself}
 
 -- ---- each tree and key once
 
@@ -47,7 +48,7 @@ greater_keys of s [] rest tree key past up = refl
 greater_keys of s (r ∷ records) rest tree key past up =
     let less : bytes_below key r.key ≡ true = below_behind key s.key r.key past up.0 in
     passed (noted_of (record { tree = of; stored = r })) (changes_of (placed_in of records ++ rest)) tree key
-    (λ same. never (ap (λ k. bytes_below k r.key) (sym same.1) ∙ less) (not_below r.key))
+    (λ same. never (ap (λ k. bytes_below k r.key) (sym same.1) ∙ less) (not_itself r.key))
     ∙ greater_keys of r records rest tree key (not_above key r.key less) up.1
 
 -- no record of a later tree is of an earlier one
@@ -62,7 +63,7 @@ distinct_in : (of : ℕ) (before : Option Stored) (records : List Stored) (rest 
     → ((key : List ℕ) → found_in (changes_of rest) of key ≡ None) → AreDistinct (changes_of rest) → AreDistinct (changes_of (placed_in of records ++ rest))
 distinct_in of before [] rest up none distinct = distinct
 distinct_in of before (s ∷ records) rest up none distinct =
-    (greater_keys of s records rest of s.key (not_below s.key) up.1 ∙ none s.key, distinct_in of (Some s) records rest up.1 none distinct)
+    (greater_keys of s records rest of s.key (not_itself s.key) up.1 ∙ none s.key, distinct_in of (Some s) records rest up.1 none distinct)
 
 distinct_from : (before : Option DumpedTree) (trees : List DumpedTree) → AllByRecursion IsDumpedTree trees → Ascend tree_below before trees → AreDistinct (changes_of (records_of trees))
 distinct_from before [] each up = tt

@@ -4,7 +4,7 @@ use Rattle.std.specs.Prelude.{slice_get, ◌==◌, Some}
 use Rattle.std.proofs.lemmas.Bool.{cases_lt, cases_eq, eq-eqb}
 use Rattle.std.proofs.lemmas.List.{take-append-le, take_all}
 use Rattle.cloud_facts.specs.Book.Records.{StandsAt, IsIn}
-use Rattle.cloud_facts.proofs.Book.Places.{in_front, get_front, get_behind, get_within, get_cases, get_single}
+use Rattle.cloud_facts.proofs.Book.Places.{in_front, get_front, get_within, get_cases, get_single}
 use Rattle.cloud_facts.proofs.Numbers.Lists.{take_there}
 use Rattle.db_base.specs.declared.trouble.CommitAnswer.TheVariants.{Committed}
 use Rattle.db_base.specs.declared.change.Change.TheVariants.{Insert}
@@ -16,13 +16,7 @@ use Rattle.reply_text.specs.declared.reply.Reply.TheVariants as reply
 use Rattle.session_facts.proofs.CommittedLemmas.{standing_line}
 use Rattle.session_facts.proofs.LineLemmas.{line_of}
 use Rattle.txn_buffer.specs.Noted.{Noted, noted_in}
-
--- the last one of a list
-last_there : {A : Type 0} (xs : List A) (x : A) → slice_get (xs ++ x ∷ []) (length xs) ≡ Some x
-last_there {A = A} xs x = subst (λ n. slice_get (xs ++ x ∷ []) n ≡ Some x) at (get_behind xs (x ∷ []) 0 x refl)
-  where
-    at : length xs + 0 ≡ length xs
-    at = omega arith
+use Rattle.cloud_facts.proofs.Chains.Names.{end_stands}
 
 -- ---- what may be committed
 
@@ -84,7 +78,7 @@ pub all_load_front : (lines more : List Line) → AllLoad (lines ++ more) → Al
 all_load_front lines more all k line at = all k line (get_front lines more k line at)
 
 pub all_load_last : (lines : List Line) (line : Line) → AllLoad (lines ++ line ∷ []) → LoadLine line.event line.reply
-all_load_last lines line all = all (length lines) line (last_there lines line)
+all_load_last lines line all = all (length lines) line (end_stands lines line)
 
 pub all_load_taken : (n : ℕ) (lines : List Line) → AllLoad lines → AllLoad (take n lines)
 all_load_taken n lines all k line at = all k line (take_there n lines k line at)
@@ -348,7 +342,7 @@ commit_begins parts lines buffer p h = commits_more (parts ++ buffer ∷ []) lin
             record {
               session_is = is;
               client_is = ap (λ k. (standing (lines ++ line ∷ []) k).client) is ∙ ap (λ (s : Standing). s.client) now;
-              part = (length parts, subst (λ xs. StandsAt (parts ++ buffer ∷ []) (length parts) xs) same (last_there parts buffer));
+              part = (length parts, subst (λ xs. StandsAt (parts ++ buffer ∷ []) (length parts) xs) same (end_stands parts buffer));
             }
         on (inr other) =
             absurd (unnamed_quiet _ changes (other_after lines (event.Commit 1) reply.Begun session (λ e. other (sym e)) ∙ h.others session other) works)
@@ -399,7 +393,7 @@ commit_loads parts lines buffer txn h = record { posture = Idle; quiet = idle_qu
         record {
           place = length mid;
           line = second;
-          there = last_there mid second;
+          there = end_stands mid second;
           own = refl;
           txn = txn;
           answer = refl;

@@ -1,5 +1,5 @@
 -- The ATOMIC messages of transactions that were opened are the inserts of the records, by transaction and index.
-use Rattle.std.proofs.Common.{◌≡◌, ◌≤◌, ◌<◌, ◌+◌, ◌*◌, ◌-◌, ℕ, zero, suc, List, [], ◌∷◌, length, drop, Some, refl, sym, ap, subst, ◌∙◌, arith}
+use Rattle.std.proofs.Common.{◌≡◌, ◌≤◌, ◌<◌, ◌+◌, ◌*◌, ◌-◌, ℕ, zero, suc, List, [], ◌∷◌, length, Some, refl, sym, ap, subst, ◌∙◌, arith}
 use Rattle.std.specs.Prelude.{slice_get}
 use Rattle.cloud_facts.specs.Book.Book.{Book}
 use Rattle.cloud_facts.specs.Book.Messages.{IsLogMessage}
@@ -34,6 +34,8 @@ use Rattle.load_facts.proofs.Lines.{CommitsParts}
 use Rattle.load_facts.proofs.Places.{part_place, in_part_at, place_tells}
 use Rattle.load_facts.proofs.Rows.{HasRow, row_of, entry_of_row, OfPart, row_part, OpenedBy, opened_by, was_opened}
 use Rattle.load_facts.specs.Loaded.{WasOpened, IsCommittedMessage, HasMessage, IsOfRecord, AreLogged}
+use Rattle.load_facts.proofs.Dumps.{parts_count}
+use Rattle.session_facts.proofs.Openings.Sends.{there_at}
 
 -- ---- what each transaction sent
 
@@ -123,16 +125,6 @@ module _ (records : List Placed) (count : ℕ) (enough : length records ≤ 200 
       let p = part_at index changes at in
       let s = some_at (parts count records) are index p.part p.at in
       (s.0, subst (λ cs. IsIn cs s.0) p.is s.1)
-
-  -- so many parts there are
-  parts_length : (k : ℕ) (ps : List Placed) → length (all_changes (parts k ps)) ≡ k
-  parts_length zero ps = refl
-  parts_length (suc k) ps = ap suc (parts_length k (drop 200 ps))
-
-  there_below : {A : Type 0} (xs : List A) (k : ℕ) → k < length xs → (x : A) × (slice_get xs k ≡ Some x)
-  there_below [] k less = absurd (omega arith)
-  there_below (x ∷ xs) zero less = (x, refl)
-  there_below (x ∷ xs) (suc k) less = there_below xs k (omega arith)
 
   -- ---- rows
 
@@ -232,7 +224,7 @@ module _ (records : List Placed) (count : ℕ) (enough : length records ≤ 200 
       subst (λ k. 1 ≤ k) (ap (λ (e : Entry). e.txn) r.is) (log_number r.of r.there)
 
   part_below : (k : ℕ) → 1 ≤ k → k ≤ count → (changes : List Noted) × StandsAt all (k - 1) changes
-  part_below k some most = let long = parts_length count records in there_below all (k - 1) (omega (arith, some, most, long))
+  part_below k some most = let long = parts_count count records in there_at all (k - 1) (omega (arith, some, most, long))
 
   is_open_row : (place : ℕ) (row : Landing) (client : ℕ) (head : Head) → slice_get t.trace place ≡ Some row → LandsOpen t row client head → IsOpenRow client row head
   is_open_row place row client head there lands_in = on (row_part all lines t place row client head commits cloud.kinds there lands_in)

@@ -1,9 +1,6 @@
 -- Records in the order of their keys that have the same values are the same.
 use Rattle.std.proofs.Common.{◌≡◌, ℕ, zero, suc, Bool, true, false, List, [], ◌∷◌, Option, Some, None, refl, sym, ap, subst, ◌∙◌, cond}
-use Rattle.std.specs.Ordering.{is_lt, is_eq}
-use Rattle.std.specs.declared.cmp.Ordering.{Ordering}
-use Rattle.std.specs.declared.cmp.Ordering.TheVariants.{Less, Equal, Greater}
-use Rattle.byte_format.specs.Order.{bytes_cmp, bytes_below, bytes_same}
+use Rattle.byte_format.specs.Order.{bytes_below, bytes_same}
 use Rattle.byte_format.proofs.OrderLemmas.{same_is, same_itself}
 use Rattle.db_base.specs.Value.{Value}
 use Rattle.leaf_view.specs.Fits.{Ascend}
@@ -11,27 +8,19 @@ use Rattle.node_codec.proofs.EntryLemmas.{above, below_chain}
 use Rattle.report_types.specs.declared.stored.Stored.{Stored}
 use Rattle.replay_meaning.specs.Right.{stored_below, value_at, value_stored}
 use Rattle.load_facts.proofs.Folds.{AreDistinct}
+use Rattle.cloud_facts.proofs.Chains.Pieces.{not_itself}
 
 -- ---- keys
 
 pub never : {t : Bool} → t ≡ true → t ≡ false → ⊥
 never h g = cc
 
--- a key is not below itself
-pub not_below : (key : List ℕ) → bytes_below key key ≡ false
-not_below key = on (bytes_cmp key key) (same_itself key)
-  where
-    on : (o : Ordering) → is_eq o ≡ true → is_lt o ≡ false
-    on Less h = absurd (cc)
-    on Equal h = refl
-    on Greater h = refl
-
 -- what is above a key is another one, and not below it
 above_differs : (a b : List ℕ) → bytes_below a b ≡ true → bytes_same b a ≡ false
 above_differs a b less = on (bytes_same b a) refl
   where
     on : (t : Bool) → bytes_same b a ≡ t → t ≡ false
-    on true e = absurd (never (ap (λ k. bytes_below a k) (sym (same_is b a e)) ∙ less) (not_below a))
+    on true e = absurd (never (ap (λ k. bytes_below a k) (sym (same_is b a e)) ∙ less) (not_itself a))
     on false e = refl
 
 -- a key that is at most another is below what is above that
@@ -46,7 +35,7 @@ pub not_above : (a b : List ℕ) → bytes_below a b ≡ true → bytes_below b 
 not_above a b less = on (bytes_below b a) refl
   where
     on : (t : Bool) → bytes_below b a ≡ t → t ≡ false
-    on true e = absurd (never (below_chain a b a less e) (not_below a))
+    on true e = absurd (never (below_chain a b a less e) (not_itself a))
     on false e = refl
 
 -- ---- records that ascend
@@ -62,9 +51,6 @@ none_above key p (s ∷ records) past up =
 first_value : (s : Stored) (records : List Stored) → value_at s.key (s ∷ records) ≡ Some (value_stored s)
 first_value s records = ap (λ (b : Bool). cond b (Some (value_stored s)) (value_at s.key records)) (same_itself s.key)
 
-ascend_any : (before : Option Stored) (s : Stored) (records : List Stored) → Ascend stored_below before (s ∷ records) → Ascend stored_below (Some s) records
-ascend_any before s records up = up.1
-
 -- each record of those that ascend is the first of its key
 pub ascending_distinct : (before : Option Stored) (records : List Stored) → Ascend stored_below before records → AreDistinct records
 ascending_distinct before [] up place stored at = absurd (cc)
@@ -75,7 +61,7 @@ ascending_distinct before (s ∷ records) up (suc place) stored at = later (asce
   where
     other : value_at stored.key records ≡ Some (value_stored stored) → (t : Bool) → bytes_same s.key stored.key ≡ t → t ≡ false
     other again true e =
-        let none : value_at s.key records ≡ None = none_above s.key s records (not_below s.key) up.1 in
+        let none : value_at s.key records ≡ None = none_above s.key s records (not_itself s.key) up.1 in
         let some : value_at s.key records ≡ Some (value_stored stored) = ap (λ k. value_at k records) (same_is s.key stored.key e) ∙ again in
         absurd (cc)
     other again false e = refl
@@ -100,7 +86,7 @@ first_key x y xs ys up_x up_y same = on (bytes_same y.key x.key) refl (bytes_bel
     -- a record whose key is below the first of the others is none of them
     lacks : (a b : Stored) (rest : List Stored) → Ascend stored_below (Some b) rest → bytes_below a.key b.key ≡ true → Some (value_stored a) ≡ value_at a.key (b ∷ rest) → ⊥
     lacks a b rest up less e =
-        let none : value_at a.key (b ∷ rest) ≡ None = none_above a.key a (b ∷ rest) (not_below a.key) (less, up) in
+        let none : value_at a.key (b ∷ rest) ≡ None = none_above a.key a (b ∷ rest) (not_itself a.key) (less, up) in
         cc
 
     on : (t : Bool) → bytes_same y.key x.key ≡ t → (u : Bool) → bytes_below y.key x.key ≡ u → x.key ≡ y.key
@@ -117,7 +103,7 @@ rest_values x y xs ys up_x up_y one same key = on (bytes_same x.key key) refl
     at_y t e = ap (λ k. bytes_same k key) (sym one) ∙ e
 
     none : (a : Stored) (rest : List Stored) → Ascend stored_below (Some a) rest → bytes_same a.key key ≡ true → value_at key rest ≡ None
-    none a rest up e = ap (λ k. value_at k rest) (sym (same_is a.key key e)) ∙ none_above a.key a rest (not_below a.key) up
+    none a rest up e = ap (λ k. value_at k rest) (sym (same_is a.key key e)) ∙ none_above a.key a rest (not_itself a.key) up
 
     on : (t : Bool) → bytes_same x.key key ≡ t → value_at key xs ≡ value_at key ys
     on true e = none x xs up_x e ∙ sym (none y ys up_y (at_y true e))

@@ -50,6 +50,7 @@ use Rattle.world_core.specs.World.{World}
 use Rattle.load_facts.proofs.Messages.{IsSent}
 use Rattle.load_facts.proofs.Numbered.{Numbered}
 use Rattle.load_facts.proofs.Records.{InLog, HasRecords, HasFor, session_records}
+use Rattle.std.proofs.lemmas.Option.{same_Some}
 
 -- ---- what is left of a commit
 
@@ -124,11 +125,8 @@ module _ (lines : List Line) (line : Line) (who : Caller) (wish : Wish) (before 
   own : StepsSession who p.under p.to (session_at old.sessions who.session) p.session.after (Ok (Ended (answer.Commit (Committed txn))))
   own = steps_own lines who wish before after old new (Ended (answer.Commit (Committed txn))) number way p
 
-  one : (a b : CloudState) → Some a ≡ Some b → a ≡ b
-  one a b e = cc
-
   same : left.state ≡ u
-  same = one left.state u (sym (p.look_after.stays left.state left.told) ∙ told)
+  same = same_Some left.state u (sym (p.look_after.stays left.state left.told) ∙ told)
 
   abbrev w : Work
   w = (session_at old.sessions who.session).work
@@ -139,7 +137,7 @@ module _ (lines : List Line) (line : Line) (who : Caller) (wish : Wish) (before 
   grown : HasGrown s u
   grown =
       let l : Leaves who made.ask made.answer p.under.counts p.to.counts s p.to.state = made.made.state s under in
-      subst (HasGrown s) (one l.after u (sym (p.look_after.stays l.after l.told) ∙ told)) (leaves_grown who made.ask made.answer p.under.counts p.to.counts s p.to.state l)
+      subst (HasGrown s) (same_Some l.after u (sym (p.look_after.stays l.after l.told) ∙ told)) (leaves_grown who made.ask made.answer p.under.counts p.to.counts s p.to.state l)
 
   entries_on : BeginsWith (committed lines s) (committed (lines ++ line ∷ []) u)
   entries_on =

@@ -21,7 +21,7 @@ use Rattle.leaf_view.proofs.Split.{range_is}
 use Rattle.cloud_facts.specs.Lefts.Left.{NothingLeft}
 use Rattle.log_codec.specs.declared.record.AtomicRec.{AtomicRec}
 use Rattle.log_codec.specs.declared.record.PuRec.{PuRec}
-use Rattle.cloud_facts.proofs.Calls.Heads.{head_at, newest_head}
+use Rattle.cloud_facts.proofs.Calls.Heads.{newest_head}
 use Rattle.cloud_facts.proofs.Calls.Pages.{no_root}
 use Rattle.node_codec.proofs.TreeLemmas.{tree_fits}
 use Rattle.node_codec.specs.Tree.{Tree, IsTree, empty_tree}
@@ -34,6 +34,7 @@ use Rattle.cloud_facts.specs.Book.Records.{IsIn, IsUnderWay, is_open, entry_of, 
 use Rattle.cloud_facts.specs.Book.Telling.{queue_of, root_in, roots_of}
 use Rattle.cloud_facts.specs.Tellings.Told.{store_of}
 use Rattle.world_audit.specs.Counts.{is_of, is_under_way, open_count, open_at, head_in, heads_upto, queue_at, messages_below, IsNextPage, AreWaiting}
+use Rattle.session_facts.proofs.SettledLemmas.{head_seen}
 
 -- ---- messages
 
@@ -154,10 +155,6 @@ upto_counts s tree client (suc n) committed some most = on (λ h. upto_counts s 
         let same : client ≡ suc n = omega arith in
         subst (λ k. open_at s k tree committed ≤ heads_upto s tree committed n + open_at s (suc n) tree committed) (sym same) (omega arith)
     on again (inr h) = let k : open_at s client tree committed ≤ heads_upto s tree committed n = again h in omega arith
-
-head_seen : (v : Option (List ℕ)) → head_at v ≡ unwrap_or (head_in v) empty_head
-head_seen None = refl
-head_seen (Some bytes) = refl
 
 none_open : (book : Book) (order : List Entry) (s : CloudState) (tree : ℕ) (r : AtomicRec) → IsClient r.client → heads_upto s tree (of_tree tree (entries_of book.log)) 64 ≡ 0
     → IsIn book.log r → r.tree ≡ tree → IsUnderWay (store_of book order s).tally r → ⊥

@@ -56,6 +56,7 @@ use Rattle.session_facts.specs.LeftNone.{HasNone, HasLeftNone, LeavesNoneAt}
 use Rattle.session_facts.specs.Sessions.Sessions.{Sessions, KnowsWork}
 use Rattle.tree_walk.specs.Walk.{object_of, walk_next}
 use Rattle.txn_buffer.specs.Noted.{Noted}
+use Rattle.std.proofs.lemmas.Option.{same_Some}
 
 -- ---- a commit keeps its transaction
 
@@ -248,16 +249,13 @@ module _ (n : ℕ) (lines : List Line) (who : Caller) (before after : Seen) (x y
   abbrev kept : Cache
   kept = (sessions who.session).cache
 
-  one : (a b : CloudState) → Some a ≡ Some b → a ≡ b
-  one a b e = cc
-
   -- the home that a commit leaves
   left_home : (r : Run) (a : Reply) (left : Held) → HasRefused h.book.log r (ask_at r.hand r.draft.writes) a left → Leaves who (ask_at r.hand r.draft.writes) a before.counts after.counts x after.state
       → HasNone (committed lines y) left.client left.head.epoch left.attempt
   left_home r a left k l =
       λ e is client epoch txn.
       none_of h.book.log (attempt_of r.draft.writes) k.none e
-      (subst (λ es. IsIn es e) (ap (committed lines) (one y l.after (sym told_after ∙ l.told)) ∙ (none_added lines who (ask_at r.hand r.draft.writes) a before.counts after.counts x after.state l k.call h.cloud.placed ∙ sym h.cloud.committed)) is)
+      (subst (λ es. IsIn es e) (ap (committed lines) (same_Some y l.after (sym told_after ∙ l.told)) ∙ (none_added lines who (ask_at r.hand r.draft.writes) a before.counts after.counts x after.state l k.call h.cloud.placed ∙ sym h.cloud.committed)) is)
       (client ∙ k.own_is.client_is) (epoch ∙ k.own_is.epoch_is) (txn ∙ k.own_is.attempt_is)
 
   commit_leaves : (r : Run) → (sessions who.session).work ≡ work.Committing r → (c : Cache) (new : Work) (t : Trouble) → StepsCommit who before after r kept c new (Ended (answer.Commit (NotCommitted t)))

@@ -1,5 +1,5 @@
 -- Places of lists, and the sessions of a list of which one changes.
-use Rattle.std.proofs.Common.{◌≡◌, ◌≢◌, ◌+◌, ℕ, zero, suc, List, [], ◌∷◌, ◌++◌, length, Some, sym, ap, subst, ◌∙◌, ◌⊎◌, inl, inr, arith, get_or}
+use Rattle.std.proofs.Common.{◌≡◌, ◌≢◌, ℕ, List, Some, sym, ap, subst, ◌∙◌, ◌⊎◌, inl, inr, get_or}
 use Rattle.std.specs.Prelude.{slice_get, slice_set, unwrap_or}
 use Rattle.std.proofs.lemmas.Bool.{cases_eq}
 use Rattle.std.proofs.lemmas.List.{get_or-set_same, get_or-set_other}
@@ -8,23 +8,6 @@ use Rattle.client_work.specs.Session.{Acting, closed_session}
 use Rattle.cloud_facts.specs.Book.Tally.{at}
 use Rattle.cloud_facts.proofs.Book.Names.{at_same, at_other}
 use Rattle.session_facts.specs.Facts.{session_at}
-
--- what stands in two lists behind one another stands in one of them
-pub get_cases : {X : Type 0} (xs ys : List X) (i : ℕ) (x : X) → slice_get (xs ++ ys) i ≡ Some x
-    → (slice_get xs i ≡ Some x) ⊎ ((j : ℕ) × (i ≡ length xs + j) × (slice_get ys j ≡ Some x))
-get_cases [] ys i x e = inr (i, omega arith, e)
-get_cases (y ∷ xs) ys zero x e = inl e
-get_cases (y ∷ xs) ys (suc i) x e = next (get_cases xs ys i x e)
-  where
-    next : (slice_get xs i ≡ Some x) ⊎ ((j : ℕ) × (i ≡ length xs + j) × (slice_get ys j ≡ Some x))
-        → (slice_get (y ∷ xs) (suc i) ≡ Some x) ⊎ ((j : ℕ) × (suc i ≡ length (y ∷ xs) + j) × (slice_get ys j ≡ Some x))
-    next (inl h) = inl h
-    next (inr p) = inr (p.0, omega (arith, p.1), p.2)
-
--- the one of a list of one
-pub get_single : {X : Type 0} (y : X) (i : ℕ) (x : X) → slice_get (y ∷ []) i ≡ Some x → y ≡ x
-get_single y zero x e = cc
-get_single y (suc i) x e = absurd (cc)
 
 -- ---- sessions
 

@@ -8,9 +8,9 @@ use Rattle.history.specs.Fold.{of_tree}
 use Rattle.report_types.specs.declared.entry.Entry.{Entry}
 use Rattle.reply_text.specs.declared.reply.Reply.{Reply}
 use Rattle.reply_text.specs.declared.reply.Reply.TheVariants as reply
-use Rattle.session_facts.proofs.Lists.{get_cases, get_single}
 use Rattle.replay_meaning.specs.Standing.{Line}
 use Rattle.session_facts.specs.Facts.{IsFrontOf, Reported}
+use Rattle.cloud_facts.proofs.Book.Places.{get_cases, get_single}
 
 -- an order that goes on begins where the reported one does
 front_more : (order later : List Entry) (r : Reply) → BeginsWith order later → IsFrontOf order r → IsFrontOf later r

@@ -9,5 +9,4 @@ pub mod HeadPuts
 pub mod Held
 pub mod Hands
 pub mod Steps
-pub mod Unlinked
 pub mod Explaining

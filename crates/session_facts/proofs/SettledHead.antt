@@ -24,7 +24,7 @@ use Rattle.recover_run.specs.declared.stage.Stage.TheVariants.{ReleasingOld, Tak
 use Rattle.recover_run.specs.Gathering.{gathered_with, lost_now, past_ids}
 use Rattle.recover_run.specs.Ids.{new_ids, rest_of}
 use Rattle.recover_run.specs.Items.{items_of}
-use Rattle.recover_run.specs.Recovery.{Recovery, Step, new_recovery, recovery_next, next_at, goes_to, stopping, taken_by, send_or_put, send_at, phase_read, behind, head_read, bytes_read, none_read, got_by, decided, next_deletion, gathered_by, received_by, deleted_by, with_pending, sent_by, next_clearing, kept_ids, put_by, opened, next_sweep, swept_with, swept_by, ended}
+use Rattle.recover_run.specs.Recovery.{Recovery, Step, recovery_next, next_at, goes_to, stopping, taken_by, send_or_put, send_at, phase_read, behind, head_read, bytes_read, none_read, got_by, decided, next_deletion, gathered_by, received_by, deleted_by, with_pending, sent_by, next_clearing, kept_ids, put_by, opened, next_sweep, swept_with, swept_by, ended}
 use Rattle.session_facts.specs.Running.{IsSettledHead}
 
 -- where a step goes on, the head stays settled
@@ -158,6 +158,3 @@ goes_at r Finished a h = tt
 
 pub settled_on : (r n : Recovery) (a : Answer) → recovery_next r a ≡ Goes n → IsSettledHead r → IsSettledHead n
 settled_on r n a goes h = subst KeepsSettled goes (goes_at r r.stage a h)
-
-pub settled_begins : (client : ℕ) (to : Aim) (old : Option Claim) → IsSettledHead (new_recovery client to old)
-settled_begins client to old = refl

@@ -25,7 +25,7 @@ settled_count : (client tree : ℕ) (committed : List Entry) (found : Option Hea
 settled_count client tree committed None e = refl
 settled_count client tree committed (Some head) e = ap (λ (p : Phase). cond (is_under_way p && list_any (is_of client tree head) committed) 1 0) e
 
-head_seen : (v : Option (List ℕ)) → head_at v ≡ unwrap_or (head_in v) empty_head
+pub head_seen : (v : Option (List ℕ)) → head_at v ≡ unwrap_or (head_in v) empty_head
 head_seen None = refl
 head_seen (Some bytes) = refl
 

@@ -15,7 +15,6 @@ pub mod FoldOthers
 pub mod FoldPuts
 pub mod LastRoot
 pub mod FoldReserves
-pub mod WayCalls
 pub mod Planning
 pub mod FoldReads
 pub mod FoldPlans
@@ -35,4 +34,3 @@ pub mod RisingReserves
 pub mod RisingPuts
 pub mod RisingLast
 pub mod RisingCalls
-pub mod RisingGuards

@@ -82,7 +82,3 @@ upto_same n s t u a = record { versions = upto_versions n s t u a; messages = up
 pub kinds_upto : (n : ℕ) (lines : List Line) (s t : CloudState) → IsUpto n s → AgreeUpto n s t → All (IsOfKind lines s) s.trace → OpensOnce s → KeepsKinds lines (upto t n) []
 kinds_upto n lines s t u a kinds once =
     kinds_keep lines s (upto t n) [] (upto_same n s t u a) (record { kinds = kinds; once = once; sent = λ place entry there. absurd (cc) })
-
--- a report that was right is right for every later state, cut at its line
-pub right_upto : (n : ℕ) (lines : List Line) (s t : CloudState) (r : Report) → IsUpto n s → AgreeUpto n s t → IsRight lines s r → IsRight lines (upto t n) r
-right_upto n lines s t r u a h = right_same lines s (upto t n) r (upto_same n s t u a) h

@@ -41,9 +41,6 @@ last_digit w a b x y e less = subst (λ (k : ℕ). k * w + x < b * w + y) (sym e
 below_true : (a b : ℕ) → nat_lt a b ≡ true → a < b
 below_true a b e = grind (arith, nat_tests)
 
-below_false : (a b : ℕ) → nat_lt a b ≡ false → b ≤ a
-below_false a b e = grind (arith, nat_tests)
-
 -- ---- places
 
 -- a step of a part stays at its client or queue

@@ -1,8 +1,8 @@
 -- The parts of a settling that came to its end recovered every client and emptied every tree.
 use Rattle.std.proofs.Common.{◌≡◌, ◌≢◌, ◌<◌, ◌≤◌, ◌+◌, ◌⊎◌, inl, inr, ℕ, zero, suc, List, [], ◌∷◌, ◌++◌, Option, Some, None, refl, sym, ap, subst, ◌∙◌, Bool, true, false, cond, arith}
 use Rattle.std.specs.List.{AllByRecursion}
-use Rattle.std.specs.Prelude.{◌==◌, ◌||◌, nat_lt}
-use Rattle.std.proofs.lemmas.Bool.{cases_eq, eq-eqb}
+use Rattle.std.specs.Prelude.{nat_lt}
+use Rattle.std.proofs.lemmas.Bool.{cases_eq}
 use Rattle.std.proofs.lemmas.Bool.Decides.{nat_tests}
 use Rattle.leaf_view.specs.Lookup.{page_at}
 use Rattle.db_base.specs.Ids.{IsClient, IsTree}
@@ -10,7 +10,7 @@ use Rattle.db_base.specs.declared.trouble.Trouble.TheVariants as trouble
 use Rattle.cloud_trait.specs.Machine.{Goes, Ends, Stops}
 use Rattle.page_ckpt.specs.Paging.{Paging}
 use Rattle.recover_run.proofs.Keeping.{all_new}
-use Rattle.recover_run.proofs.Sweeping.{all_has, none_new}
+use Rattle.recover_run.proofs.Sweeping.{all_has, none_new, each_has}
 use Rattle.recover_run.specs.Ids.{has_id, new_ids}
 use Rattle.recover_run.specs.Recovery.{Recovery}
 use Rattle.settle_run.specs.Meaning.{Run, behind, Ran, RanTo, Received, Empties, EmptiesPages, EmptiesTree, IsWhole}
@@ -20,30 +20,13 @@ use Rattle.settle_run.specs.declared.part.Part.{Part}
 use Rattle.settle_run.specs.declared.part.Part.TheVariants.{Client, Tree, Page}
 use Rattle.settle_run.specs.declared.settled.Settled.{Settled}
 use Rattle.tree_ckpt.specs.Making.{Making}
+use Rattle.recover_run.proofs.Sifting.{all_ids}
 
 -- ---- lists
-
-all_by : (P Q : ℕ → Type 0) → ((x : ℕ) → P x → Q x) → (xs : List ℕ) → AllByRecursion P xs → AllByRecursion Q xs
-all_by P Q by [] all = tt
-all_by P Q by (x ∷ xs) all = (by x all.0, all_by P Q by xs all.1)
 
 all_both : (P : ℕ → Type 0) (xs ys : List ℕ) → AllByRecursion P xs → AllByRecursion P ys → AllByRecursion P (xs ++ ys)
 all_both P [] ys one other = other
 all_both P (x ∷ xs) ys one other = (one.0, all_both P xs ys one.1 other)
-
--- a set has each of its ids
-has_more : (x : ℕ) (xs : List ℕ) (id : ℕ) → has_id xs id ≡ true → has_id (x ∷ xs) id ≡ true
-has_more x xs id e = on (x == id) where
-  on : (b : Bool) → (b || has_id xs id) ≡ true
-  on true = refl
-  on false = e
-
-has_all : (xs : List ℕ) → AllByRecursion (λ id. has_id xs id ≡ true) xs
-has_all [] = tt
-has_all (x ∷ xs) = (
-  ap (λ (b : Bool). b || has_id xs x) (eq-eqb x x refl),
-  all_by (λ id. has_id xs id ≡ true) (λ id. has_id (x ∷ xs) id ≡ true) (has_more x xs) xs (has_all xs),
-)
 
 page_zero : (n : ℕ) → page_at n ≡ None → n ≡ 0
 page_zero zero e = refl
@@ -113,19 +96,19 @@ module _ (r : Run) (rs : List Run) where
   trees_more upto below tree is less = tree_more r rs tree (below tree is less)
 
   knows_more : (queue : Part) (known : List ℕ) → Knows rs queue known → Knows (r ∷ rs) queue known
-  knows_more queue known all = all_by (Received rs queue) (Received (r ∷ rs) queue) (received_more r rs queue) known all
+  knows_more queue known all = all_ids (Received rs queue) (Received (r ∷ rs) queue) (received_more r rs queue) known all
 
   -- the ids of this run were received
   own_received : (p : Part) → r.part ≡ p → AllByRecursion (Received (r ∷ rs) (part_again p)) (part_received p)
   own_received p e =
-      all_by (λ id. has_id (part_received p) id ≡ true) (Received (r ∷ rs) (part_again p)) (λ id has. (p, (inl e, (refl, has)))) (part_received p) (has_all (part_received p))
+      all_ids (λ id. has_id (part_received p) id ≡ true) (Received (r ∷ rs) (part_again p)) (λ id has. (p, (inl e, (refl, has)))) (part_received p) (each_has (part_received p))
 
   -- it received nothing new
   own_empties : (p : Part) (known : List ℕ) → r.part ≡ p → Knows rs (part_again p) known → new_ids known (part_received p) ≡ [] → Empties (r ∷ rs) p
   own_empties p known e knows none =
       inl (
         e,
-        all_by (λ id. has_id known id ≡ true) (Received rs (part_again p)) (λ id has. all_has (Received rs (part_again p)) known id knows has) (part_received p)
+        all_ids (λ id. has_id known id ≡ true) (Received rs (part_again p)) (λ id has. all_has (Received rs (part_again p)) known id knows has) (part_received p)
             (none_new known (part_received p) none),
       )
 

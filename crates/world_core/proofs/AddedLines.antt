@@ -2,7 +2,6 @@
 use Rattle.std.proofs.Common.{◌≡◌, ◌+◌, ◌≤◌, ℕ, List, [], ◌∷◌, ◌++◌, length, Ok, Err, Result, None, refl, sym, subst, inl, inr}
 use Rattle.db_base.specs.Ids.{IsSession}
 use Rattle.db_base.specs.declared.change.Change.{Change}
-use Rattle.db_base.specs.declared.change.Change.TheVariants.{Insert, Update, Delete, Add}
 use Rattle.db_base.specs.declared.refusal.Refused.{Refused}
 use Rattle.db_base.specs.declared.refusal.Refused.TheVariants as refused
 use Rattle.event_text.specs.declared.event.Event.{Event}

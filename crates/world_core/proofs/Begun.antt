@@ -6,7 +6,6 @@ use Rattle.db_base.specs.declared.trouble.CommitAnswer.TheVariants.{Committed}
 use Rattle.db_base.specs.declared.trouble.Trouble.{Trouble}
 use Rattle.db_base.specs.declared.trouble.Trouble.TheVariants as trouble
 use Rattle.txn_buffer.specs.Noted.{Noted}
-use Rattle.cloud_trait.specs.Machine.{Ends, Stops}
 use Rattle.cloud_trait.specs.Seen.{Seen}
 use Rattle.cloud_trait.specs.declared.turn.Turn.{Turn}
 use Rattle.cloud_trait.specs.declared.turn.Turn.TheVariants.{More, Ended, Stopped}
@@ -16,7 +15,7 @@ use Rattle.tree_walk.proofs.Causing.{ready_shows}
 use Rattle.range_scan.specs.Scan.{Scan, new_scan}
 use Rattle.range_scan.proofs.Exactness.{scan_ready_shows}
 use Rattle.recover_run.specs.declared.home.Home.{Home}
-use Rattle.commit_run.specs.Run.{new_run, run_ready}
+use Rattle.commit_run.specs.Run.{new_run}
 use Rattle.commit_run.proofs.Causing.{ready_causes}
 use Rattle.commit_run.proofs.Exacting.{ready_exact}
 use Rattle.commit_run.proofs.Meaning.{ready_means}

@@ -21,7 +21,7 @@ use Rattle.session_facts.specs.Sessions.Sessions.{Sessions}
 use Rattle.cloud_facts.specs.Book.Tally.{at}
 use Rattle.session_facts.proofs.LineLemmas.{line_of}
 use Rattle.world_core.proofs.Workers.{HoldsWithin, IsBetween, holds_begun, holds_went, holds_works, open_rests, within_begun, within_went, within_works, worker, worker_begins, worker_rows}
-use Rattle.world_core.proofs.Counting.{state_is, few_of, begins_own, went_counts, begun_none, worker_few, worker_went, works_none}
+use Rattle.world_core.proofs.Counting.{few_of, begins_own, went_counts, begun_none, worker_few, worker_went, works_none}
 use Rattle.world_core.proofs.StandsLemmas.{IsUnderWay, way_begins, went_on}
 use Rattle.event_text.specs.declared.event.Event.TheVariants as event
 use Rattle.reply_text.specs.declared.reply.Reply.TheVariants as reply
@@ -34,6 +34,7 @@ use Rattle.world_core.specs.declared.world.WorldFault.{WorldFault}
 use Rattle.world_core.specs.Bounded.{steps_of, WereFew, WasSoon, StepsSoon, CameSoon, RanSoon, RunsSoon, CrashesSoon, EachSoon, WorksSoon, calls_of, DoesSoon, ServesSoon, AnswersSoon, MakesFewCalls}
 use Rattle.world_core.specs.Handled.{StepsLooked, StepsTo, MakesStep, ComesTo, RunsTo, Runs, Crashes, Does, Serves, Answers, Checkpoints, Works, WorksThrough, checkpoint_more, no_checkpoint}
 use Rattle.world_core.specs.Stands.{WorldStands}
+use Rattle.std.proofs.lemmas.Option.{same_Some}
 
 module _ (lines : List Line) (n : ℕ) (before after : Seen) (old new : World) (result : Result Reply WorldFault) (t : CloudState) (number : length lines + 1 ≡ n) (told : before.state ≡ Some t)
     (stands : WorldStands lines old t) where
@@ -41,7 +42,7 @@ module _ (lines : List Line) (n : ℕ) (before after : Seen) (old new : World) (
   way = way_begins lines before old t told stands.by_lines
 
   all_way : CountsAll (calls_told lines) way.after (session_at old.sessions)
-  all_way = subst (λ (z : CloudState). CountsAll (calls_told lines) z (session_at old.sessions)) (state_is t way.after (sym told ∙ way.told)) stands.counted
+  all_way = subst (λ (z : CloudState). CountsAll (calls_told lines) z (session_at old.sessions)) (same_Some t way.after (sym told ∙ way.told)) stands.counted
 
   module _ (k : ℕ) where
     abbrev who : Caller
@@ -96,7 +97,7 @@ module _ (lines : List Line) (n : ℕ) (before after : Seen) (old new : World) (
           let begun = within_begun k home first queue world c.begun w c.begins in
           let held = holds_begun n all_lines k queue from world c.begun h c.begins in
           let none =
-          subst (λ (z : CloudState). CountsAll (at k 0 (calls_told lines)) z (session_at c.begun.sessions)) (state_is h.state held.state (sym h.told ∙ held.told))
+          subst (λ (z : CloudState). CountsAll (at k 0 (calls_told lines)) z (session_at c.begun.sessions)) (same_Some h.state held.state (sym h.told ∙ held.told))
           (begun_none (calls_told lines) k mine home queue h.state world c.begun w.works c.begins counts) in
           let gone = holds_went n k all_lines home row first from c.begun c.comes.mid c.comes.world begun held c.comes.went in
           worker_few n k all_lines home row first (calls_told lines) c.comes.mid to c.comes.world left (Ended a)
@@ -122,7 +123,7 @@ module _ (lines : List Line) (n : ℕ) (before after : Seen) (old new : World) (
         let begins = worker_begins lines k n before old t (sym number) told stands.by_lines q tt in
         each_soon (lines ++ line_of (event.Work k) q ∷ []) rest.0 (worker_rows lines k n before old t (sym number) told stands.by_lines q) (session_at old.sessions) before old down.queues
         down.done down.passed after new rest.2 begins (calls_told lines k)
-        (begins_own lines k old begins.state (subst (λ (z : CloudState). CountsAll (calls_told lines) z (session_at old.sessions)) (state_is t begins.state (sym told ∙ begins.told)) stands.counted))
+        (begins_own lines k old begins.state (subst (λ (z : CloudState). CountsAll (calls_told lines) z (session_at old.sessions)) (same_Some t begins.state (sym told ∙ begins.told)) stands.counted))
         down.works
     works_soon (inr (inr memory)) = tt
 

@@ -1,21 +1,19 @@
 -- The checkpoints of a session's work, as the world makes them; and what its steps leave of the session's notes.
-use Rattle.std.proofs.Common.{◌≡◌, ◌≤◌, ◌<◌, ◌+◌, ◌⊎◌, inl, inr, ℕ, Bool, true, false, List, [], ◌∷◌, ◌++◌, length, Option, Some, None, Result, Ok, Err, refl, sym, ap, subst, ◌∙◌, arith, append_assoc, append-nil}
-use Rattle.std.specs.Prelude.{All, OnErr, not, slice_get, slice_set, option_map}
+use Rattle.std.proofs.Common.{◌≡◌, ◌≤◌, ◌<◌, ◌+◌, ◌⊎◌, inl, inr, ℕ, Bool, true, false, List, [], ◌∷◌, ◌++◌, length, Option, Some, None, Result, Ok, Err, refl, sym, ap, subst, ◌∙◌, arith, append_assoc}
+use Rattle.std.specs.Prelude.{All, OnErr, not, slice_get, slice_set}
 use Rattle.std.proofs.lemmas.List.Elements.{All-tail}
 use Rattle.db_base.specs.declared.wish.Wish.{Wish}
 use Rattle.db_base.specs.declared.wish.Wish.TheVariants.{Plain}
 use Rattle.std.proofs.lemmas.List.{get_or-set_same, length-set, set-set}
 use Rattle.std.proofs.lemmas.Option.{slice_get_within, slice_get-get_or}
 use Rattle.ckpt_policy.specs.Notes.{IsPending}
-use Rattle.ckpt_policy.specs.declared.note.Note.{Note}
 use Rattle.client_work.specs.declared.answer.Answer.{Answer}
 use Rattle.client_work.specs.declared.answer.Answer.TheVariants as answer
 use Rattle.client_work.specs.declared.answer.Begun.{Begun}
 use Rattle.client_work.specs.declared.answer.Begun.TheVariants.{Working}
-use Rattle.client_work.specs.declared.op.Op.{Op}
 use Rattle.client_work.specs.declared.work.Work.{Work}
 use Rattle.client_work.specs.declared.work.Work.TheVariants.{Idle, Paging, Folding}
-use Rattle.client_work.specs.Session.{Acting, Begins, BeginsWith, StepsAt, StepsSession, ask_of_work, open_client, rule_of}
+use Rattle.client_work.specs.Session.{Acting, Begins, StepsAt, StepsSession, ask_of_work, open_client, rule_of}
 use Rattle.cloud_trait.specs.State.{newest}
 use Rattle.ckpt_policy.specs.Ledger.{Account}
 use Rattle.cloud_trait.specs.Ask.{Ask, PutHeld}
@@ -23,17 +21,13 @@ use Rattle.cloud_trait.specs.Caller.{Caller}
 use Rattle.cloud_trait.specs.Seen.{Seen}
 use Rattle.cloud_trait.specs.declared.turn.CkptAnswer.{CkptAnswer}
 use Rattle.cloud_trait.specs.declared.turn.Turn.{Turn}
-use Rattle.cloud_trait.specs.declared.turn.Turn.TheVariants.{More, Ended}
+use Rattle.cloud_trait.specs.declared.turn.Turn.TheVariants.{Ended}
 use Rattle.db_base.specs.declared.names.QueueName.{QueueName}
 use Rattle.db_base.specs.declared.names.QueueName.TheVariants.{Atomic, TreePu, PagePu}
-use Rattle.db_base.specs.declared.refusal.Refusal.{Refusal}
 use Rattle.db_base.specs.declared.refusal.Refused.{Refused}
 use Rattle.db_base.specs.declared.refusal.Refused.TheVariants as refused
 use Rattle.db_base.specs.declared.trouble.Trouble.{Trouble}
 use Rattle.recover_run.specs.declared.home.Home.{Home}
-use Rattle.reply_text.specs.Reply.{HasText}
-use Rattle.reply_text.specs.declared.reply.Reply.{Reply}
-use Rattle.reply_text.specs.declared.reply.Reply.TheVariants as reply
 use Rattle.session_facts.specs.Facts.{session_at}
 use Rattle.session_facts.specs.Sessions.Sessions.{Sessions}
 use Rattle.session_facts.proofs.CallKinds.{HasCheckpoint}
@@ -41,18 +35,17 @@ use Rattle.session_facts.proofs.Lists.{session_there}
 use Rattle.session_notes.specs.declared.notebook.Notebook.{Notebook}
 use Rattle.session_notes.specs.Notebook.{ChangesBook, GoesOnBy, GoesOnEnded, LedgerTakes}
 use Rattle.world_core.specs.World.{World}
-use Rattle.world_core.specs.declared.world.WorldFault.{WorldFault}
 use Rattle.world_core.specs.declared.put.Put.{Put}
 use Rattle.world_core.specs.Put.{put_of, put_of_hand}
 use Rattle.world_core.specs.Sessions.{Changes, HasPut, IsAtWork}
 use Rattle.world_core.specs.Stands.{Grows}
-use Rattle.world_core.specs.Handled.{BeginsBook, BookBegins, BeginsCheckpoint, book_begun, Checkpoints, ComesTo, FailsAt, IsOpen, FallsShort, IsPassable, IsShut, KnowsNoDue, MakesOne, NotesCall, NotesEnd, NotesStep, SetsWish, StepsLooked, Works, no_checkpoint, checkpoint_more, WorksOff, WorksShort, as_one, checkpoint_of, done_by, is_done, note_of_hand, passed_by}
+use Rattle.world_core.specs.Handled.{BeginsCheckpoint, ComesTo, IsOpen, FallsShort, MakesOne, NotesCall, NotesEnd, NotesStep, SetsWish, StepsLooked, Works, no_checkpoint, checkpoint_more, as_one, checkpoint_of, done_by, is_done, note_of_hand}
 use Rattle.world_core.proofs.Going.{after_there, put_before, same_session}
 use Rattle.world_core.proofs.GrowthLemmas.{grows_between}
 use Rattle.world_core.proofs.Landing.{audited_none}
 use Rattle.world_core.proofs.Marks.{newest_call}
 use Rattle.world_audit.proofs.Looks.{looked_not}
-use Rattle.world_core.proofs.StandsLemmas.{changed_at, changed_was}
+use Rattle.world_core.proofs.StandsLemmas.{changed_was}
 use Rattle.world_core.proofs.Workers.{IsBetween, IsIdle, IsInside, begun_has, open_home, open_rests, within_begun, within_made, within_went}
 
 -- ---- what a session has
@@ -156,11 +149,6 @@ stays_open who queue done before after old new opened m =
     rest : (home : Home) × (home.client ≡ opened.client) × IsBetween who.session home (session_at old.sessions) old
     rest = open_rests who.session old opened
 
-pub makes_done : (who : Caller) (queue : QueueName) (before after : Seen) (old begun new : World) (a : Answer) → BeginsCheckpoint who.session queue old begun
-    → ComesTo who before after begun new a → (done : Bool) → IsPassable a → done_by a ≡ as_one done → passed_by a ≡ as_one (not done) → MakesOne who queue done before after old new
-makes_done who queue before after old begun new a b c done passes kept passed =
-    record { answer = a; makes = record { begun = begun; begins = b; comes = c }; passes = passes; kept = kept; passed = passed }
-
 -- ---- one after another
 
 -- some checkpoints are made, and these queues are left
@@ -206,35 +194,6 @@ going_more who queues left rest queue most done passed done_after passed_after k
 
     less : (n m i : ℕ) → m ≡ n + i → i ≤ 1 → n + length (queue ∷ rest) ≤ most → m + length rest ≤ most
     less n m i e one within = omega (arith, e, one, within)
-
-pub going_below : (who : Caller) (queues left rest : List QueueName) (queue : QueueName) (most done passed : ℕ) (before after : Seen) (old new : World) → left ≡ queue ∷ rest
-    → IsGoing who queues left most done passed before after old new → (done < most) × (passed < most)
-going_below who queues left rest queue most done passed before after old new is g =
-    let d = subst (λ l. done + length l ≤ most) is g.done_most in
-    let p = subst (λ l. passed + length l ≤ most) is g.passed_most in
-    (omega (arith, d), omega (arith, p))
-
-pub going_all : (who : Caller) (queues left : List QueueName) (most done passed : ℕ) (before after : Seen) (old new : World) → left ≡ [] → IsGoing who queues left most done passed before after old new
-    → WorksOff who queues before after old new (reply.Worked done passed)
-going_all who queues left most done passed before after old new is g = record {
-  done = done;
-  passed = passed;
-  works = subst (λ l. Works who before old l done passed after new) (sym (g.whole ∙ ap (λ l. g.gone ++ l) is ∙ append-nil g.gone)) g.works;
-  replies = refl;
-}
-
-pub going_short : (who : Caller) (queues left : List QueueName) (most done passed : ℕ) (before mid after : Seen) (old world new : World) → IsOpen who.session old.sessions
-    → IsGoing who queues left most done passed before mid old world → FailsAt who mid after world new → WorksShort who before after old new
-going_short who queues left most done passed before mid after old world new opened g fails = record {
-  opened = opened;
-  queues = g.gone;
-  done = done;
-  passed = passed;
-  mid = mid;
-  world = world;
-  works = g.works;
-  falls = inr fails;
-}
 
 -- ---- notes
 
@@ -299,20 +258,6 @@ notes_put number books new w put turn done is same c = record {
 }
 
 -- ---- a begin, whatever it is of
-
-pub book_on : (number : ℕ) (o : Op) (old mid new : World) → BeginsBook number o old mid → new.notes ≡ mid.notes → BeginsBook number o old new
-book_on number o old mid new b same = record { session = b.session; there = b.there; does = subst (BookBegins number o (open_client b.session.work) old.notes) (sym same) b.does }
-
-pub book_begins : (number : ℕ) (o : Op) (old new : World) (a : Acting) → slice_get old.sessions number ≡ Some a → BookBegins number o (open_client a.work) old.notes new.notes
-    → BeginsBook number o old new
-book_begins number o old new a there does = record { session = a; there = there; does = does }
-
-pub book_open : (number client : ℕ) (o : Op) (w : Work) (old new : List Notebook) → open_client w ≡ Ok client → ChangesBook number (λ a b. b ≡ book_begun o a) old new
-    → BookBegins number o (open_client w) old new
-book_open number client o w old new is c = subst (λ x. BookBegins number o x old new) (sym is) c
-
-pub book_shut : (number : ℕ) (rule : Refusal) (o : Op) (w : Work) (old : List Notebook) → open_client w ≡ Err rule → BookBegins number o (open_client w) old old
-book_shut number rule o w old is = subst (λ x. BookBegins number o x old old) (sym is) refl
 
 -- no other answer ends a checkpoint
 pub answers_none : (a : Answer) → ((n : CkptAnswer) → a ≡ answer.Done n → ⊥) → ((t : Trouble) → a ≡ answer.Trouble t → ⊥) → IsOfCheckpoint a → ⊥

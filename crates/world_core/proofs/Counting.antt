@@ -19,7 +19,7 @@ use Rattle.cloud_facts.specs.Book.Tally.{at}
 use Rattle.cloud_trait.specs.Caller.{Caller}
 use Rattle.cloud_trait.specs.Seen.{Seen}
 use Rattle.cloud_trait.proofs.EffectLemmas.{begins_itself, grown_itself}
-use Rattle.cloud_trait.specs.State.{CloudState, greatest, end_after}
+use Rattle.cloud_trait.specs.State.{CloudState}
 use Rattle.cloud_trait.specs.Upto.{posts_of}
 use Rattle.cloud_trait.specs.declared.turn.Turn.TheVariants.{More, Ended, Stopped}
 use Rattle.cloud_trait.specs.declared.turn.Turn.{Turn}
@@ -55,7 +55,7 @@ use Rattle.ckpt_policy.specs.declared.role.Role.{Role}
 use Rattle.world_core.proofs.Workers.{IsInside, HoldsWithin, IsIdle, IsBetween, holds_begun, holds_went, holds_works, open_rests, within_begun, within_went, within_works, worker, worker_begins, worker_call, worker_own, worker_rows}
 use Rattle.world_core.proofs.Behind.{LinesStand}
 use Rattle.world_core.proofs.EveryLine.{line_leaves}
-use Rattle.world_core.proofs.StandsLemmas.{IsUnderWay, IsNoReport, SettlerGoes, changed_at, changed_was, has_at, way_begins, went_on, call, steps_own, no_stop, no_memory, refused_is, settler, settler_went, settler_own, settler_call, settler_begins, settled_plain}
+use Rattle.world_core.proofs.StandsLemmas.{IsUnderWay, IsNoReport, SettlerGoes, changed_at, changed_was, has_at, way_begins, went_on, call, steps_own, no_stop, no_memory, refused_is, settler, settler_went, settler_own, settler_call, settler_begins, settled_plain, end_later}
 use Rattle.world_core.specs.Asked.{Asks}
 use Rattle.world_core.specs.Bounded.{steps_of}
 use Rattle.world_core.specs.Handled.{Declines, Has, MakesNoCall, BeginsOp, NotesChange, DropsChanges, StepsLooked, MakesStep, Went, start, further, ComesTo, Runs, SettlesOn, Settles, Dies, Crashes, Does, Serves, ReportReply, Reports, Answers, Handled, BeginsCheckpoint, Checkpoints, Policies, Works, WorksThrough, checkpoint_more, checkpoint_of, no_checkpoint}
@@ -69,15 +69,10 @@ use Rattle.world_core.specs.declared.asked.Asked.TheVariants.{Session, Wait, Rep
 use Rattle.world_core.specs.declared.asked.Request.{Request}
 use Rattle.world_core.specs.declared.asked.Request.TheVariants.{Begin, Note, Abort, Policy, Work as WorksDue, Step, Run, Crash}
 use Rattle.world_core.specs.declared.world.WorldFault.{WorldFault}
-
-pub state_is : (x y : CloudState) → Some x ≡ Some y → x ≡ y
-state_is x y e = cc
+use Rattle.std.proofs.lemmas.Option.{same_Some}
 
 no_more : (n : ℕ) → n ≤ n
 no_more n = omega arith
-
-end_later : (now ticks after : ℕ) → now ≤ greatest → end_after now ticks ≤ after → now ≤ after
-end_later now ticks after within later = omega arith
 
 -- a wait loses nothing
 wait_leads : (t : CloudState) (now waits : ℕ) → t.now ≤ now → Leads t (record t { now = now; waits = waits })
@@ -259,7 +254,7 @@ module _ (who : Caller) (wish : Wish) (before after : Seen) (old new : World) (t
       (record { next = λ tree. no_more (next_page x tree); grown = grown_itself x wished refl refl refl refl }) (all n)
 
   last_is : y ≡ last
-  last_is = state_is y last (sym (p.look_after.stays y left) ∙ seen)
+  last_is = same_Some y last (sym (p.look_after.stays y left) ∙ seen)
 
   pub step_few : FewFor (calls who.session + 1) last p.session.before.work
   step_few =
@@ -269,7 +264,7 @@ module _ (who : Caller) (wish : Wish) (before after : Seen) (old new : World) (t
 
   pub step_names : StepNames who wish before after old new turn p
   step_names s told_at home m done works ends =
-      subst (λ (z : CloudState). NamesPieces z m done) (state_is wished s (sym told_wished ∙ told_at))
+      subst (λ (z : CloudState). NamesPieces z m done) (same_Some wished s (sym told_wished ∙ told_at))
       (session_names who p.under p.to wished y book order (session_at old.sessions) told_wished left stand calls p.session.after turn under_wish own home m done
       (ap (λ (a : Acting). a.work) (changed_was who.session _ old.sessions new.sessions p.session) ∙ works) ends)
 
@@ -347,7 +342,7 @@ module _ (lines : List Line) (who : Caller) (number : who.event ≡ length lines
   pub went_counts : (before : Seen) (old : World) (after : Seen) (new : World) → (way : IsUnderWay lines old before) → CountsAll calls way.after (session_at old.sessions)
       → (went : Went who before old after new) (s : CloudState) → after.state ≡ Some s → Own (calls who.session + steps_of who before old after new went) s new
   went_counts before old after new way all start s seen =
-      subst (λ (z : CloudState). Own (calls who.session + 0) z old) (state_is way.after s (sym way.told ∙ seen))
+      subst (λ (z : CloudState). Own (calls who.session + 0) z old) (same_Some way.after s (sym way.told ∙ seen))
       (counts_like calls (at who.session (calls who.session + 0) calls) way.after (session_at old.sessions) (session_at old.sessions)
       (λ n. ap (λ (k : ℕ). at who.session k calls n) none_more ∙ own_again who.session calls n) (λ n. refl) all)
     where
@@ -435,7 +430,7 @@ module _ (n k : ℕ) (lines : List Line) (home : Home) (row : IsWorkersRow lines
   -- behind some steps_in of a checkpoint
   pub worker_went : (before : Seen) (old : World) (after : Seen) (new : World) → IsInside k home first old → (h : HoldsWithin n lines old before) → Mine 0 h.state old
       → (went : Went (worker k n) before old after new) (s : CloudState) → after.state ≡ Some s → Mine (steps_of (worker k n) before old after new went) s new
-  worker_went before old after new w h all start s seen = subst (λ (z : CloudState). Mine 0 z old) (state_is h.state s (sym h.told ∙ seen)) all
+  worker_went before old after new w h all start s seen = subst (λ (z : CloudState). Mine 0 z old) (same_Some h.state s (sym h.told ∙ seen)) all
   worker_went before old after new w h all (further mid _ world _ went step) s seen =
       let gone = holds_went n k lines home row first before old mid world w h went in
       worker_more mid after world new More (within_went (worker k n) home first before old mid world w went) gone step (steps_of (worker k n) before old mid world went)
@@ -447,7 +442,7 @@ module _ (n k : ℕ) (lines : List Line) (home : Home) (row : IsWorkersRow lines
   made_none queue before after old new a w h mine all c s seen =
       let begun = within_begun k home first queue old c.begun w c.begins in
       let held_in = holds_begun n lines k queue before old c.begun h c.begins in
-      let none = subst (λ (z : CloudState). Mine 0 z c.begun) (state_is h.state held_in.state (sym h.told ∙ held_in.told)) (begun_none calls k mine home queue h.state old c.begun w.works c.begins all) in
+      let none = subst (λ (z : CloudState). Mine 0 z c.begun) (same_Some h.state held_in.state (sym h.told ∙ held_in.told)) (begun_none calls k mine home queue h.state old c.begun w.works c.begins all) in
       let gone = holds_went n k lines home row first before c.begun c.comes.mid c.comes.world begun held_in c.comes.went in
       worker_end c.comes.mid after c.comes.world new (Ended a) (within_went (worker k n) home first before c.begun c.comes.mid c.comes.world begun c.comes.went) gone c.comes.steps
       (steps_of (worker k n) before c.begun c.comes.mid c.comes.world c.comes.went)
@@ -455,7 +450,7 @@ module _ (n k : ℕ) (lines : List Line) (home : Home) (row : IsWorkersRow lines
 
   pub works_none : (before : Seen) (old : World) (queues : List QueueName) (done passed : ℕ) (after : Seen) (new : World) → IsBetween k home first old → (h : HoldsWithin n lines old before)
       → (mine : ℕ) → Mine mine h.state old → Works (worker k n) before old queues done passed after new → (s : CloudState) → after.state ≡ Some s → (own : ℕ) × Mine own s new
-  works_none before old queues done passed after new w h mine all no_checkpoint s seen = (mine, subst (λ (z : CloudState). Mine mine z old) (state_is h.state s (sym h.told ∙ seen)) all)
+  works_none before old queues done passed after new w h mine all no_checkpoint s seen = (mine, subst (λ (z : CloudState). Mine mine z old) (same_Some h.state s (sym h.told ∙ seen)) all)
   works_none before old queues done passed after new w h mine all (checkpoint_more others kept left mid world queue a _ _ works makes passes) s seen =
       let gone = holds_works n k lines home row first before old others kept left mid world w h works in
       let was = works_none before old others kept left mid world w h mine all works gone.state gone.told in
@@ -479,11 +474,11 @@ module _ (lines : List Line) (n : ℕ) (number : length lines + 1 ≡ n) (before
   way = way_begins lines before old t told stands
 
   all_way : CountsAll (calls_told lines) way.after (session_at old.sessions)
-  all_way = subst (λ (z : CloudState). CountsAll (calls_told lines) z (session_at old.sessions)) (state_is t way.after (sym told ∙ way.told)) all
+  all_way = subst (λ (z : CloudState). CountsAll (calls_told lines) z (session_at old.sessions)) (same_Some t way.after (sym told ∙ way.told)) all
 
   -- where the cloud stays
   unmoved : after ≡ before → t ≡ u
-  unmoved same = state_is t u (sym told ∙ (ap (λ (z : Seen). z.state) (sym same) ∙ seen))
+  unmoved same = same_Some t u (sym told ∙ (ap (λ (z : Seen). z.state) (sym same) ∙ seen))
 
   -- nothing is done
   idle_counts : after ≡ before → new ≡ old → ((calls : ℕ) → counted r calls ≡ calls) → Behind
@@ -654,7 +649,7 @@ module _ (lines : List Line) (n : ℕ) (number : length lines + 1 ≡ n) (before
         last = within_works (worker k n) rest.0 (session_at old.sessions) before old down.queues down.done down.passed after new rest.2 down.works
 
         own_counts : CountsAll (at k (calls_told lines k) (calls_told lines)) begins.state (session_at old.sessions)
-        own_counts = begins_own lines k old begins.state (subst (λ (z : CloudState). CountsAll (calls_told lines) z (session_at old.sessions)) (state_is t begins.state (sym told ∙ begins.told)) all)
+        own_counts = begins_own lines k old begins.state (subst (λ (z : CloudState). CountsAll (calls_told lines) z (session_at old.sessions)) (same_Some t begins.state (sym told ∙ begins.told)) all)
 
         end : (own : ℕ) × CountsAll (at k own (calls_told lines)) u (session_at new.sessions)
         end =
@@ -722,7 +717,7 @@ module _ (lines : List Line) (n : ℕ) (number : length lines + 1 ≡ n) (before
         → (own : ℕ) × CountsAll (at 0 own (calls_told lines)) s (session_at world.sessions)
     settler_counts end world start s at_end = (
       0,
-      subst (λ (z : CloudState). CountsAll (at 0 0 (calls_told lines)) z (session_at begun.sessions)) (state_is t s (sym told ∙ at_end)) (λ m. on m (cases_eq m 0)),
+      subst (λ (z : CloudState). CountsAll (at 0 0 (calls_told lines)) z (session_at begun.sessions)) (same_Some t s (sym told ∙ at_end)) (λ m. on m (cases_eq m 0)),
     )
       where
         on : (m : ℕ) → (m ≡ 0) ⊎ (m ≢ 0) → CountsWork (at 0 0 (calls_told lines) m) t (session_at begun.sessions m).work
@@ -770,7 +765,7 @@ module _ (lines : List Line) (n : ℕ) (number : length lines + 1 ≡ n) (before
   waited ticks (inl h) =
       let w = h.0.waited t told in
       let is : r ≡ reply.Waited = cc (h.0.replies) in
-      let same : w.after ≡ u = state_is w.after u (sym w.told ∙ seen) in
+      let same : w.after ≡ u = same_Some w.after u (sym w.told ∙ seen) in
       subst (λ (z : CloudState). CountsAll (calls_told (lines ++ line_of e r ∷ [])) z (session_at new.sessions)) (sym w.rest ∙ same)
       (counts_like (calls_told lines) (calls_told (lines ++ line_of e r ∷ [])) _ (session_at old.sessions) (session_at new.sessions)
       (still_tells lines e r (λ (calls : ℕ). ap (λ (q : Reply). counted q calls) is)) (λ k. ap (λ (x : World). session_at x.sessions k) h.1)
@@ -785,7 +780,7 @@ module _ (lines : List Line) (n : ℕ) (number : length lines + 1 ≡ n) (before
 
   reported : (tree : ℕ) → Reports tree before after old new (Ok r) → Behind
   reported tree h =
-      subst (λ (z : CloudState). CountsAll (calls_told (lines ++ line_of e r ∷ [])) z (session_at new.sessions)) (state_is t u (sym (h.looked.stays t told) ∙ seen))
+      subst (λ (z : CloudState). CountsAll (calls_told (lines ++ line_of e r ∷ [])) z (session_at new.sessions)) (same_Some t u (sym (h.looked.stays t told) ∙ seen))
       (counts_like (calls_told lines) (calls_told (lines ++ line_of e r ∷ [])) t (session_at old.sessions) (session_at new.sessions)
       (still_tells lines e r (report_still r tree h.reply)) (λ k. ap (λ (w : World). session_at w.sessions k) h.world) all)
 

@@ -22,9 +22,8 @@ use Rattle.client_work.specs.declared.work.Work.{Work}
 use Rattle.client_work.specs.Session.{Acting, StepsSession, StepsAt}
 use Rattle.session_facts.proofs.Steps.{made_call}
 use Rattle.world_audit.specs.Look.{Looked}
-use Rattle.world_core.specs.World.{World}
 use Rattle.world_core.specs.Sessions.{Changes}
-use Rattle.world_core.specs.Handled.{SetsWish, StepsLooked}
+use Rattle.world_core.specs.Handled.{SetsWish}
 use Rattle.world_core.specs.Stands.{Grows}
 
 -- a state that differs in neither versions, messages nor rows
@@ -93,7 +92,3 @@ grows_between who wish before from under to after number old new turn first sets
     grows_on who.event before from after (grows_looked who.event before from first)
     (grows_on who.event from under after (grows_wish who.event wish from under sets)
     (grows_on who.event under to after (grows_step who under to step.before step.after turn step.does) (grows_looked who.event to after last)))
-
-pub grows_stepped : (who : Caller) (wish : Wish) (before after : Seen) (old new : World) (turn : Turn Answer) → StepsLooked who wish before after old new turn → Grows who.event before after
-grows_stepped who wish before after old new turn p =
-    grows_between who wish before p.from p.under p.to after who.session old.sessions new.sessions turn p.look_before p.wishes p.session p.look_after

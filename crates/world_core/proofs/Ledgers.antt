@@ -2,7 +2,7 @@
 use Rattle.std.proofs.Common.{◌≡◌, ◌<◌, ℕ, Bool, true, false, List, [], ◌∷◌, ◌++◌, length, Option, Some, None, refl, sym, ap, subst, ◌∙◌}
 use Rattle.std.specs.Prelude.{slice_get, slice_set}
 use Rattle.std.proofs.lemmas.List.{get_or-set_same, length-set}
-use Rattle.std.proofs.lemmas.Option.{slice_get_within, slice_get-get_or}
+use Rattle.std.proofs.lemmas.Option.{slice_get_within, slice_get-get_or, same_Some}
 use Rattle.ckpt_policy.specs.declared.note.Note.{Note}
 use Rattle.ckpt_policy.specs.declared.note.Note.TheVariants.{Kept}
 use Rattle.ckpt_policy.specs.Ledger.{Account}
@@ -18,9 +18,6 @@ use Rattle.world_core.specs.Metered.{IsWriters, HasLedger}
 
 -- ---- the notebooks
 
-same_book : (a b : Notebook) → Some a ≡ Some b → a ≡ b
-same_book a b e = cc (e)
-
 set_there : (books : List Notebook) (place : ℕ) (before after : Notebook) → slice_get books place ≡ Some before → slice_get (slice_set books place after) place ≡ Some after
 set_there books place before after there =
     let within : place < length books = slice_get_within books place before there in
@@ -34,7 +31,7 @@ book_after number Does old new c = ap (λ (l : List Notebook). slice_get l numbe
 -- and before it
 pub book_before : (number : ℕ) (Does : Notebook → Notebook → Type 0) (old new : List Notebook) (book : Notebook) → (c : ChangesBook number Does old new) → slice_get old number ≡ Some book
     → c.before ≡ book
-book_before number Does old new book c there = same_book c.before book (sym c.there ∙ there)
+book_before number Does old new book c there = same_Some c.before book (sym c.there ∙ there)
 
 -- a ledger where the notebook changes
 pub ledger_changed : (number k : ℕ) (notes later : List Note) (Does : Notebook → Notebook → Type 0) (old new : List Notebook) → ChangesBook number Does old new

@@ -255,9 +255,6 @@ due_to k notes book queues is due_so =
     so notes is.stands
     ∙ ap (λ (r : Role). due r is.account.k is.account.client notes) is.role ∙ ap (λ (j : ℕ). due Writer j is.account.client notes) is.number
 
-same_book : (a b : Notebook) → Some a ≡ Some b → a ≡ b
-same_book a b e = cc (e)
-
 module _ (n k session bound : ℕ) (lines : List Line) (row : IsWorkersRow lines (worker session n)) (before after : Seen) (old new : World) (d_done d_passed : ℕ)
     (h : HoldsWithin n lines old before) (m : Meters session k bound old h.state) (limit : bound ≤ k - 1 + most_changes) where
   pub works_down_few : (home : Home) → IsBetween session home (session_at old.sessions) old → (queues : List QueueName) → ((book : Notebook) → slice_get old.notes session ≡ Some book → IsDue book queues)

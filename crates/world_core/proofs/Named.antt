@@ -21,7 +21,7 @@ use Rattle.session_facts.specs.Sessions.Sessions.{Sessions}
 use Rattle.cloud_facts.specs.Book.Tally.{at}
 use Rattle.session_facts.proofs.LineLemmas.{line_of}
 use Rattle.world_core.proofs.Workers.{HoldsWithin, IsBetween, holds_begun, holds_step, holds_went, holds_works, open_rests, within_begun, within_went, within_works, worker, worker_begins, worker_rows}
-use Rattle.world_core.proofs.Counting.{state_is, names_of, begins_own, went_counts, begun_none, worker_names, worker_went, works_none}
+use Rattle.world_core.proofs.Counting.{names_of, begins_own, went_counts, begun_none, worker_names, worker_went, works_none}
 use Rattle.world_core.proofs.StandsLemmas.{IsUnderWay, way_begins, went_on}
 use Rattle.event_text.specs.declared.event.Event.TheVariants as event
 use Rattle.reply_text.specs.declared.reply.Reply.TheVariants as reply
@@ -36,6 +36,7 @@ use Rattle.world_core.specs.EachStep.{EachWent, EachCome, EachTold, EachMade, Ea
 use Rattle.world_core.specs.Handled.{StepsLooked, StepsTo, MakesStep, Went, start, further, ComesTo, RunsTo, Runs, Crashes, Does, Serves, Answers, Checkpoints, Works, WorksThrough, checkpoint_more, no_checkpoint}
 use Rattle.world_core.specs.Named.{StepNames, NamesAt, NamesSteps}
 use Rattle.world_core.specs.Stands.{WorldStands}
+use Rattle.std.proofs.lemmas.Option.{same_Some}
 
 -- a step that does not end nothing names no piece
 more_names : (who : Caller) (wish : Wish) (before after : Seen) (old new : World) (p : StepsLooked who wish before after old new More) → StepNames who wish before after old new More p
@@ -51,7 +52,7 @@ module _ (lines : List Line) (n : ℕ) (before after : Seen) (old new : World) (
   way = way_begins lines before old t told stands.by_lines
 
   all_way : CountsAll (calls_told lines) way.after (session_at old.sessions)
-  all_way = subst (λ (z : CloudState). CountsAll (calls_told lines) z (session_at old.sessions)) (state_is t way.after (sym told ∙ way.told)) stands.counted
+  all_way = subst (λ (z : CloudState). CountsAll (calls_told lines) z (session_at old.sessions)) (same_Some t way.after (sym told ∙ way.told)) stands.counted
 
   module _ (k : ℕ) where
     abbrev who : Caller
@@ -105,7 +106,7 @@ module _ (lines : List Line) (n : ℕ) (before after : Seen) (old new : World) (
           let begun = within_begun k home first queue world c.begun w c.begins in
           let held = holds_begun n all_lines k queue from world c.begun h c.begins in
           let none =
-          subst (λ (z : CloudState). CountsAll (at k 0 (calls_told lines)) z (session_at c.begun.sessions)) (state_is h.state held.state (sym h.told ∙ held.told))
+          subst (λ (z : CloudState). CountsAll (at k 0 (calls_told lines)) z (session_at c.begun.sessions)) (same_Some h.state held.state (sym h.told ∙ held.told))
           (begun_none (calls_told lines) k mine home queue h.state world c.begun w.works c.begins counts) in
           let gone = holds_went n k all_lines home row first from c.begun c.comes.mid c.comes.world begun held c.comes.went in
           let goes = within_went (worker k n) home first from c.begun c.comes.mid c.comes.world begun c.comes.went in
@@ -135,7 +136,7 @@ module _ (lines : List Line) (n : ℕ) (before after : Seen) (old new : World) (
         let begins = worker_begins lines k n before old t (sym number) told stands.by_lines q tt in
         each_names (lines ++ line_of (event.Work k) q ∷ []) rest.0 (worker_rows lines k n before old t (sym number) told stands.by_lines q) (session_at old.sessions) before old down.queues
         down.done down.passed after new rest.2 begins (calls_told lines k)
-        (begins_own lines k old begins.state (subst (λ (z : CloudState). CountsAll (calls_told lines) z (session_at old.sessions)) (state_is t begins.state (sym told ∙ begins.told)) stands.counted))
+        (begins_own lines k old begins.state (subst (λ (z : CloudState). CountsAll (calls_told lines) z (session_at old.sessions)) (same_Some t begins.state (sym told ∙ begins.told)) stands.counted))
         down.works
     works_names (inr (inr memory)) = tt
 

@@ -60,6 +60,7 @@ use Rattle.world_core.specs.declared.asked.Asked.TheVariants.{Session, Wait, Rep
 use Rattle.world_core.specs.World.{World}
 use Rattle.world_core.specs.declared.world.WorldFault.{WorldFault}
 use Rattle.world_core.proofs.StandsLemmas.{changed_at, changed_was, no_memory}
+use Rattle.std.proofs.lemmas.Option.{same_Some}
 
 -- ---- the steps of the line
 
@@ -159,12 +160,9 @@ module _ (Holds : StepFact) (B : Settling → Moment → Type 0) (E : Settling �
 delivers_gives : (n : ℕ) → Gives StepDelivers IsDelivered n
 delivers_gives n before after old new turn p m is holds = holds
 
-same_ask : (a b : Ask) → Some a ≡ Some b → a ≡ b
-same_ask a b e = cc (e)
-
 calm_gives : (n : ℕ) → Gives StepIsCalm GoesCalmly n
 calm_gives n before after old new turn p m is holds =
-    let asked : holds.ask ≡ settle_ask m = same_ask holds.ask (settle_ask m) (sym holds.hand ∙ ap ask_of_work is) in (
+    let asked : holds.ask ≡ settle_ask m = same_Some holds.ask (settle_ask m) (sym holds.hand ∙ ap ask_of_work is) in (
       subst
           (λ (ask : Ask). IsCalm (record {
             who = settler n;
@@ -214,7 +212,7 @@ module _ (n : ℕ) where
     wish_set = under StepGoesWell Anything AnyEnd AnyCall any_hands n (any_gives StepGoesWell n) before after old new turn here.at p
 
     asked : well.ask ≡ settle_ask way.settling
-    asked = same_ask well.ask (settle_ask way.settling) (sym well.hand ∙ ap ask_of_work way.works)
+    asked = same_Some well.ask (settle_ask way.settling) (sym well.hand ∙ ap ask_of_work way.works)
 
     call_calm : IsCalm (record {
       who = settler n;

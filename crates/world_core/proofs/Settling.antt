@@ -1,5 +1,5 @@
 -- A session that settles has a call in hand, and its answer is that of a settling.
-use Rattle.std.proofs.Common.{◌≡◌, ◌<◌, ℕ, List, map, length, Some, refl, sym, ap, subst, ◌∙◌, get_or}
+use Rattle.std.proofs.Common.{◌≡◌, ◌<◌, ℕ, List, map, length, Some, refl, sym, subst, ◌∙◌, get_or}
 use Rattle.std.specs.Prelude.{slice_get, slice_set}
 use Rattle.std.proofs.lemmas.List.{length-map, map-set}
 use Rattle.std.proofs.lemmas.Option.{slice_get-get_or}
@@ -39,9 +39,6 @@ pub settles_in : {X : Type 0} (acting : X → Acting) (number place : ℕ) (sess
 settles_in acting number place sessions items a same long is within settles =
     subst (λ l. Changes number Begins sessions l)
     (sym (map-set acting items place a)) (settles_at number place sessions (map acting items) (acting a) same (length-map items acting ∙ long) is within settles)
-
-pub settling_there : (number : ℕ) (old new : List Acting) → Changes number (λ a b. b ≡ settling_session) old new → slice_get new number ≡ Some settling_session
-settling_there number old new c = after_there number _ old new c ∙ ap Some c.does
 
 pub settling_works : (number : ℕ) (sessions : List Acting) → slice_get sessions number ≡ Some settling_session → IsAtWork number sessions
 settling_works number sessions there = record { session = settling_session; there = there; ask = settle_ask new_settling; hand = refl }

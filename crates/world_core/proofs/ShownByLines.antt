@@ -1,6 +1,6 @@
 -- What each step of a line shows where it ends a read or a scan is what the lines before it say.
-use Rattle.std.proofs.Common.{inl, inr, ◌≡◌, ◌+◌, ℕ, List, length, Some, Ok, Result, refl, sym, ap, subst, ◌∙◌}
-use Rattle.client_work.specs.Session.{Acting, settling_session, StepsSession}
+use Rattle.std.proofs.Common.{inl, inr, ◌≡◌, ◌+◌, ℕ, List, length, Some, Result, refl, sym, subst, ◌∙◌}
+use Rattle.client_work.specs.Session.{Acting, settling_session}
 use Rattle.client_work.specs.declared.answer.Answer.{Answer}
 use Rattle.cloud_trait.specs.Caller.{Caller}
 use Rattle.cloud_trait.specs.Seen.{Seen}

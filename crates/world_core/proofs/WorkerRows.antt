@@ -1,25 +1,23 @@
 -- What the work of a session adds to the trace of any cloud is of its kind.
-use Rattle.std.proofs.Common.{◌≡◌, ◌+◌, ◌≤◌, ◌⊎◌, inl, inr, ℕ, List, [], ◌∷◌, ◌++◌, length, Result, Ok, Err, refl, sym, ap, subst, ◌∙◌, arith, length-append}
+use Rattle.std.proofs.Common.{◌≡◌, ◌+◌, ◌≤◌, ◌⊎◌, inl, inr, ℕ, List, [], ◌∷◌, ◌++◌, length, Result, Ok, refl, sym, subst, arith, length-append}
 use Rattle.client_work.specs.declared.answer.Answer.{Answer}
-use Rattle.client_work.specs.Session.{Acting, StepsSession}
-use Rattle.cloud_trait.specs.Caller.{Caller}
+use Rattle.client_work.specs.Session.{StepsSession}
 use Rattle.cloud_trait.specs.Seen.{Seen}
 use Rattle.cloud_trait.specs.State.{CloudState}
 use Rattle.cloud_trait.specs.declared.turn.Turn.{Turn}
 use Rattle.cloud_trait.specs.declared.turn.Turn.TheVariants.{More, Ended}
 use Rattle.db_base.specs.declared.names.QueueName.{QueueName}
 use Rattle.db_base.specs.declared.wish.Wish.TheVariants.{Plain}
-use Rattle.event_text.specs.declared.event.Event.{Event}
 use Rattle.event_text.specs.declared.event.Event.TheVariants as event
 use Rattle.recover_run.specs.declared.home.Home.{Home}
-use Rattle.replay_meaning.specs.Standing.{Line, Standing, standing}
+use Rattle.replay_meaning.specs.Standing.{Line}
 use Rattle.reply_text.specs.declared.reply.Reply.{Reply}
 use Rattle.session_facts.proofs.AddedRows.{adds_line, worker_adds}
 use Rattle.session_facts.proofs.CallKinds.{IsWorkersRow}
 use Rattle.session_facts.proofs.CommittedLemmas.{standing_line}
 use Rattle.session_facts.proofs.LineLemmas.{line_of, still_line}
 use Rattle.session_facts.specs.Added.{AddsTo}
-use Rattle.session_facts.specs.Facts.{session_at, ActsAs, AllAct}
+use Rattle.session_facts.specs.Facts.{session_at, ActsAs}
 use Rattle.session_facts.specs.Sessions.Sessions.{Sessions}
 use Rattle.world_audit.specs.Look.{Looked}
 use Rattle.world_core.specs.Added.{WorldAdds}

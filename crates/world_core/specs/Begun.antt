@@ -21,7 +21,7 @@ use Rattle.commit_run.specs.Run.{Run, new_run, home_of}
 use Rattle.client_work.specs.Session.{Acting}
 use Rattle.client_work.specs.declared.answer.Answer.TheVariants as answer
 use Rattle.client_work.specs.declared.answer.Begun.{Begun}
-use Rattle.client_work.specs.declared.answer.Begun.TheVariants.{Working, Answered}
+use Rattle.client_work.specs.declared.answer.Begun.TheVariants.{Answered}
 use Rattle.client_work.specs.declared.op.Op.{Op}
 use Rattle.client_work.specs.declared.op.Op.TheVariants as op
 use Rattle.client_work.specs.declared.work.Work.TheVariants.{Idle}

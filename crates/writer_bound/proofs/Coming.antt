@@ -9,6 +9,7 @@ use Rattle.cloud_trait.specs.State.{CloudState}
 use Rattle.session_facts.proofs.Settled.Trails.{IsBetween, Trail}
 use Rattle.session_facts.specs.Settled.Runs.{AreDelivered}
 use Rattle.writer_bound.specs.Alone.{AreAnswered}
+use Rattle.std.proofs.lemmas.Option.{same_Some}
 
 -- it came from its begin at a state to where it stands at another, by calls that delivered and were answered
 pub record Comes {M A : Type 0} (ask : M → Ask) (leads : M → Answer → Next M A → Type 0) (start : M) (first : CloudState) (m : M) (s : CloudState) : Type 0 where
@@ -18,15 +19,12 @@ pub record Comes {M A : Type 0} (ask : M → Ask) (leads : M → Answer → Next
   pub delivered : AreDelivered calls
   pub answered : AreAnswered calls
 
-state_is : (x y : CloudState) → Some x ≡ Some y → x ≡ y
-state_is x y e = cc (e)
-
 -- nothing is lost between a call and the next, where nobody acts between them
 follows : (calls : List Deed) (d : Deed) (first s : CloudState) → Trail calls first s → d.before.state ≡ Some s → Follows calls d
 follows [] d first s trail told = tt
 follows (last ∷ calls) d first s (u, trail, between) told = λ x y at_x at_y.
-    let x_is : x ≡ s = state_is x s (sym at_x ∙ between.left) in
-    let y_is : y ≡ s = state_is y s (sym at_y ∙ told) in
+    let x_is : x ≡ s = same_Some x s (sym at_x ∙ between.left) in
+    let y_is : y ≡ s = same_Some y s (sym at_y ∙ told) in
     let same : y ≡ x = y_is ∙ sym x_is in
     grown_itself x y (ap (λ (z : CloudState). z.versions) same) (ap (λ (z : CloudState). z.messages) same) (ap (λ (z : CloudState). z.trace) same) (ap (λ (z : CloudState). z.now) same)
 

@@ -40,9 +40,6 @@ pub taken_entries : (st : Store) (now : ℕ) (home : Held) (part : Part) → Hol
     → AreOfRecords st.book.log home.client home.head.pending
 taken_entries st now home part h t lasts = own_entries st home.client home.head h.pends t.home.at.is_client (t.home.at.newest lasts)
 
-pub entry_tree : (st : Store) (client : ℕ) (p : Pending) → Holds st → (r : AtomicRec) × IsOwn st.book.log client r × (p ≡ pending_of r) → IsTree p.tree
-entry_tree st client p h (r, mine, same) = subst (λ (x : Pending). IsTree x.tree) (sym same) (h.numbers.placed r mine.logged).tree
-
 module _ (st : Store) (now : ℕ) (h : Holds st) (part : Part) (d : Draft) (k : KnowsDraft st now d part) where
   -- with a head that is pruned once more
   with_pruned : (head : Head) → head.epoch ≡ d.writes.home.head.epoch → head.txn ≡ d.writes.home.head.txn → head.phase ≡ d.writes.home.head.phase

@@ -40,16 +40,3 @@ module _ (who : Caller) (s t : CloudState) (w : Writing) (reply : Answer) where
 
   pub commit_handles : (st : Store) (now : ℕ) (part : Part) → KnowsCommit st now w part → IsSound w → Handles who s t (writing_ask w) reply (w.home.lease ∷ []) (w.home.lease ∷ [])
   commit_handles st now part k sound = hands_at st now k.home w.stage k.lock k.at sound
-
--- a commit that knows something has a call in hand
-pub is_at_work : (st : Store) (now : ℕ) (w : Writing) (part : Part) → KnowsCommit st now w part → (w.stage ≡ Waiting → ⊥) × (w.stage ≡ Finished → ⊥)
-is_at_work st now w part k = on w.stage k.at
-  where
-    on : (stage : Stage) → KnowsCommitAt stage st now w k.home → (stage ≡ Waiting → ⊥) × (stage ≡ Finished → ⊥)
-    on Waiting never = absurd never
-    on Logging a = (λ e. cc, λ e. cc)
-    on Opening a = (λ e. cc, λ e. cc)
-    on Sending a = (λ e. cc, λ e. cc)
-    on Settling a = (λ e. cc, λ e. cc)
-    on Deleting a = (λ e. cc, λ e. cc)
-    on Finished never = absurd never

@@ -16,6 +16,7 @@ use Rattle.head_codec.specs.declared.head.Head.{Head}
 use Rattle.cloud_facts.specs.Homes.Homes.{Part}
 use Rattle.log_codec.specs.declared.record.AtomicRec.{AtomicRec}
 use Rattle.cloud_facts.specs.Book.Tally.{Store}
+use Rattle.std.proofs.lemmas.Bool.{true≢false}
 
 -- ---- what an ask puts
 
@@ -36,12 +37,9 @@ abbrev puts : Ask → Bool
 puts (PutHeld name bytes one two) = true
 puts ask = false
 
-never : true ≡ false → ⊥
-never e = cc
-
 -- an ask that puts nothing is no put
 no_put : {X : Type 0} (a : Ask) (client : ℕ) (bytes : List ℕ) (one : Claim) (two : Option Claim) → puts a ≡ false → a ≡ PutHeld (object.Head client) bytes one two → X
-no_put a client bytes one two none e = absurd (never (sym (ap puts e) ∙ none))
+no_put a client bytes one two none e = absurd (true≢false (sym (ap puts e) ∙ none))
 
 -- ---- the head
 

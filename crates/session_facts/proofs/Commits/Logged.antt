@@ -9,7 +9,7 @@ use Rattle.db_base.specs.Ids.{IsClient}
 use Rattle.head_codec.specs.declared.head.Head.{Head}
 use Rattle.head_codec.specs.declared.head.Phase.{Phase}
 use Rattle.head_codec.specs.declared.head.Phase.TheVariants.{Settled, Open}
-use Rattle.cloud_facts.specs.Homes.Homes.{Home, Part, AtHome, Parts, HomeHolds, PartHolds, HomesHold, IsSpared}
+use Rattle.cloud_facts.specs.Homes.Homes.{Home, Part, Parts, HomeHolds, HomesHold, IsSpared}
 use Rattle.cloud_facts.proofs.Homes.HomeLemmas.{spared_own}
 use Rattle.cloud_facts.specs.Landings.Landing.{sent_by}
 use Rattle.log_codec.specs.Atomic.{atomic_of}
@@ -19,10 +19,6 @@ use Rattle.cloud_facts.specs.Book.Messages.{IsLogMessage}
 use Rattle.cloud_facts.specs.Book.Premises.{Logs, MarksLog}
 use Rattle.cloud_facts.specs.Book.Records.{IsIn, is_open}
 use Rattle.cloud_facts.specs.Book.Tally.{Store}
-
--- what holds of the home of a part
-pub home_holds : (st : Store) (now : ℕ) (parts : Parts) (session : ℕ) (g : Home) → parts session ≡ AtHome g → HomesHold st.tally now parts → HomeHolds st.tally now g
-home_holds st now parts session g is h = subst (λ (p : Part). PartHolds st.tally now p) is (h.each session)
 
 -- ---- a send
 

@@ -75,9 +75,6 @@ pub record Stands (x : Attempt) (changes : List Noted) (part : Part) (g : Home) 
 pub stands_of : (st : Store) (now : ℕ) (w : Writing) (part : Part) → (k : KnowsCommit st now w part) → Stands (attempt_of w) w.changes part k.home
 stands_of st now w part k = record { client = k.client; lock = k.lock; changes_may = k.changes; home = k.at_home }
 
-pub knows_at : (u : Store) (now : ℕ) (w : Writing) (part : Part) (g : Home) → Stands (attempt_of w) w.changes part g → KnowsCommitAt w.stage u now w g → KnowsCommit u now w part
-knows_at u now w part g stands k = record { client = stands.client; lock = stands.lock; changes = stands.changes_may; home = g; at_home = stands.home; at = k }
-
 -- a settled head of the epoch is left
 pub knows_home : (u : Store) (now : ℕ) (x : Attempt) (changes : List Noted) (part : Part) (g : Home) (head : Head) → Stands x changes part g → head.epoch ≡ x.epoch → head.txn ≤ x.txn
     → head.phase ≡ phase.Settled → (Lasts now x.lease → IsPruned u.tally x.client (u.tally.head x.client) head) → AreOfTrees head.pending

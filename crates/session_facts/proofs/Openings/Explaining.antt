@@ -30,7 +30,8 @@ use Rattle.session_facts.specs.Sessions.Spent.{IsSpentToOpen}
 use Rattle.session_facts.specs.Sessions.Sessions.{KnowsWork, Sessions, SessionsStand, leases_of}
 use Rattle.session_facts.proofs.Openings.Showing.{recovery_shows, StopsWith, recovery_answers}
 use Rattle.session_facts.proofs.Sessions.Laws.{setting_of, known_at}
-use Rattle.session_facts.proofs.Sessions.Troubles.{memory_or}
+use Rattle.std.proofs.lemmas.Option.{none-some}
+use Rattle.tree_walk.proofs.Serving.{memory_or}
 
 -- no trouble waits once a client is open, or a session closed
 pub opened_none : (h : Option Home) → trouble_in (opened_work h) ≡ None
@@ -69,18 +70,15 @@ module _ (who : Caller) (before after : Seen) (s t : CloudState) (book : Book) (
             subst (λ (w : Work). KnowsWork st t.now (sessions who.session).cache w (stand.parts who.session)) is
             (known_at book order s sessions stand t.now who.session later)
 
-    never_some : {X : Type 0} → (x : X) → None ≡ Some x → ⊥
-    never_some x e = cc
-
     -- a trouble that is met
     meets_shown : (work : Work) (turn : Turn Answer) → StepsOpening who before after r work turn → trouble_of_recovery r ≡ None → (k : Trouble) → k ≢ trouble.Memory → Meets work turn k → Shown k
     meets_shown work More (m, steps, work_is, fewer) none k other (inl kept) =
         step_shows steps.answer steps.made none (Goes m) steps.took k (sym (ap trouble_in work_is) ∙ kept)
-    meets_shown work More (m, steps, work_is, fewer) none k other (inr now) = absurd (never_some k now)
+    meets_shown work More (m, steps, work_is, fewer) none k other (inr now) = absurd (none-some k now)
     meets_shown work (Ended (answer.Opened epoch)) (m, steps, work_is) none k other (inl kept) =
-        absurd (never_some k (sym (ap trouble_in work_is ∙ opened_none (home_of m)) ∙ kept))
-    meets_shown work (Ended (answer.Opened epoch)) (m, steps, work_is) none k other (inr now) = absurd (never_some k now)
-    meets_shown work (Ended (answer.Trouble q)) (m, steps, work_is) none k other (inl kept) = absurd (never_some k (sym (ap trouble_in work_is) ∙ kept))
+        absurd (none-some k (sym (ap trouble_in work_is ∙ opened_none (home_of m)) ∙ kept))
+    meets_shown work (Ended (answer.Opened epoch)) (m, steps, work_is) none k other (inr now) = absurd (none-some k now)
+    meets_shown work (Ended (answer.Trouble q)) (m, steps, work_is) none k other (inl kept) = absurd (none-some k (sym (ap trouble_in work_is) ∙ kept))
     meets_shown work (Ended (answer.Trouble q)) (m, steps, work_is) none k other (inr now) =
         let same : q ≡ k = cc in
         step_shows steps.answer steps.made none (Stops m q) (steps.took.0 (λ e. other (sym same ∙ e))) k same

@@ -36,6 +36,7 @@ use Rattle.recover_run.specs.Items.{items_of}
 use Rattle.recover_run.specs.Recovery.{Recovery, Step, recovery_ask, recovery_next, ask_at, next_at, under, delete_next, send_next, stopping, goes_to, taken_by, phase_read, behind, head_read, bytes_read, none_read, got_by, send_or_put, decided, deleting, gathered_by, received_by, deleted_by, with_pending, send_at, sent_by, clearing, kept_ids, put_by, opened, sweeping, swept_with, swept_by, ended}
 use Rattle.session_facts.specs.Openings.Opening.{leases_of_recovery, HasLease, MayEnd, KnowsOpeningAt, KnowsOpening}
 use Rattle.session_facts.specs.Sessions.Explaining.{trouble_at, trouble_of_recovery, MeetsNext, HasOver, ReceivesLate}
+use Rattle.std.proofs.lemmas.Option.{none-some}
 
 -- no records are waited for
 abbrev IsNoWait : Trouble → Type 0
@@ -56,9 +57,6 @@ given_waits lock (Renewed end) q e = let same : trouble.Failed ≡ q = cc in sub
 
 -- ---- a trouble that is kept leaves the lease as it is
 
-never : (k : Trouble) → None ≡ Some k → ⊥
-never k e = cc
-
 -- a step that keeps a trouble has this lease, and one that stops waits for nothing
 abbrev Keeps : Option Claim → Step → Type 0
 Keeps o (Goes n) = (k : Trouble) → trouble_of_recovery n ≡ Some k → n.lease ≡ o
@@ -70,12 +68,12 @@ module _ (o : Option Claim) where
   stops_keep m q same k e = same
 
   taken_keeps : (m : Recovery) (g : Result Claim Trouble) → ((q : Trouble) → g ≡ Err q → IsNoWait q) → Keeps o (taken_by m g)
-  taken_keeps m (Ok l) view = λ k e. absurd (never k e)
+  taken_keeps m (Ok l) view = λ k e. absurd (none-some k e)
   taken_keeps m (Err q) view = view q refl
 
   phase_keeps : (p : Phase) (m : Recovery) → Keeps o (phase_read p m)
-  phase_keeps Settled m = λ k e. absurd (never k e)
-  phase_keeps (Open count) m = λ k e. absurd (never k e)
+  phase_keeps Settled m = λ k e. absurd (none-some k e)
+  phase_keeps (Open count) m = λ k e. absurd (none-some k e)
 
   head_keeps : (m : Recovery) (h : Head) → m.lease ≡ o → Keeps o (head_read m h)
   head_keeps m h same = on (h.epoch == 2 ^ 64 - 1)
@@ -90,7 +88,7 @@ module _ (o : Option Claim) where
 
   none_keeps : (aim : Aim) (m : Recovery) → m.lease ≡ o → Keeps o (none_read aim m)
   none_keeps Opening m same = head_keeps m empty_head same
-  none_keeps Settling m same = λ k e. absurd (never k e)
+  none_keeps Settling m same = λ k e. absurd (none-some k e)
 
   got_keeps : (m : Recovery) (g : Result (Option (List ℕ)) Trouble) → m.lease ≡ o → Keeps o (got_by m g)
   got_keeps m (Ok None) same = none_keeps m.aim m same
@@ -98,20 +96,20 @@ module _ (o : Option Claim) where
   got_keeps m (Err q) same = stops_keep m q same
 
   next_keeps : (m : Recovery) (x : Option AtomicItem) → Keeps o (send_or_put m x)
-  next_keeps m (Some x) = λ k e. absurd (never k e)
-  next_keeps m None = λ k e. absurd (never k e)
+  next_keeps m (Some x) = λ k e. absurd (none-some k e)
+  next_keeps m None = λ k e. absurd (none-some k e)
 
   decided_keeps : (m : Recovery) → m.lease ≡ o → Keeps o (decided m)
   decided_keeps m same = on (length m.gathered.kept == m.wanted.count) m.gathered.fresh
     where
       on : (b c : Bool) → Keeps o (cond b (send_at m 0) (cond c (goes_to Receiving m) (stopping m (trouble.Waiting (length m.gathered.kept) m.wanted.count))))
       on true c = next_keeps (record m { sent = 0 }) (slice_get m.gathered.kept 0)
-      on false true = λ k e. absurd (never k e)
+      on false true = λ k e. absurd (none-some k e)
       on false false = stops_keep m _ same
 
   deleting_keeps : (m : Recovery) (ids : List ℕ) → m.lease ≡ o → Keeps o (deleting m ids)
   deleting_keeps m [] same = decided_keeps (record m { ids = [] }) same
-  deleting_keeps m (id ∷ ids) same = λ k e. absurd (never k e)
+  deleting_keeps m (id ∷ ids) same = λ k e. absurd (none-some k e)
 
   gathered_keeps : (m : Recovery) (g : Result (List AtomicItem) Message) → m.lease ≡ o → Keeps o (gathered_by m g)
   gathered_keeps m (Ok items) same = deleting_keeps (record m { gathered = gathered_with m.wanted m.gathered items }) (lost_now m.wanted m.gathered items) same
@@ -134,8 +132,8 @@ module _ (o : Option Claim) where
   sent_keeps m (Err q) same = stops_keep m q same
 
   clearing_keeps : (m : Recovery) (ids : List ℕ) → Keeps o (clearing m ids)
-  clearing_keeps m [] = λ k e. absurd (never k e)
-  clearing_keeps m (id ∷ ids) = λ k e. absurd (never k e)
+  clearing_keeps m [] = λ k e. absurd (none-some k e)
+  clearing_keeps m (id ∷ ids) = λ k e. absurd (none-some k e)
 
   put_keeps : {X : Type 0} → (m : Recovery) (g : Result X Trouble) → m.lease ≡ o → Keeps o (put_by m g)
   put_keeps m (Ok x) same = clearing_keeps (record m { swept = kept_ids m }) (kept_ids m)
@@ -143,11 +141,11 @@ module _ (o : Option Claim) where
 
   opened_keeps : (aim : Aim) (m : Recovery) → Keeps o (opened aim m)
   opened_keeps Opening m = tt
-  opened_keeps Settling m = λ k e. absurd (never k e)
+  opened_keeps Settling m = λ k e. absurd (none-some k e)
 
   sweeping_keeps : (m : Recovery) (ids : List ℕ) → Keeps o (sweeping m ids)
   sweeping_keeps m [] = opened_keeps m.aim (record m { swept = m.swept ++ []; ids = [] })
-  sweeping_keeps m (id ∷ ids) = λ k e. absurd (never k e)
+  sweeping_keeps m (id ∷ ids) = λ k e. absurd (none-some k e)
 
   items_keep : (m : Recovery) (g : Result (List AtomicItem) Message) → m.lease ≡ o → Keeps o (swept_with m g)
   items_keep m (Ok items) same = sweeping_keeps m (new_ids m.swept (past_ids m.wanted items))
@@ -169,7 +167,7 @@ module _ (st : Store) (now : ℕ) (r : Recovery) (part : Part) (reply : Answer) 
   step_keeps none = on r.stage knows.at none
     where
       on : (stage : Stage) → KnowsOpeningAt stage st now r part → trouble_at stage r.ending ≡ None → Keeps r.lease (next_at stage r reply)
-      on ReleasingOld a n = λ k e. absurd (never k e)
+      on ReleasingOld a n = λ k e. absurd (none-some k e)
       on Taking a n = taken_keeps r.lease r (given_of (lock.Client r.client) reply) (given_waits (lock.Client r.client) reply)
       on Getting a n = got_keeps r.lease r (got_of reply) refl
       on Receiving a n = received_keeps r.lease r (received_of reply) refl
@@ -238,16 +236,16 @@ module _ (st : Store) (now : ℕ) (r : Recovery) (part : Part) (reply : Answer) 
     where
       gives : (n : Recovery) (l : Claim) → n.lease ≡ Some l → (stage : Stage) → trouble_at stage n.ending ≡ Some (trouble.Waiting have need) → ask_at stage n ≡ Release l
       gives n l held Releasing kept = ap (λ (o : Option Claim). under n o Release) held
-      gives n l held ReleasingOld kept = absurd (never _ kept)
-      gives n l held Taking kept = absurd (never _ kept)
-      gives n l held Getting kept = absurd (never _ kept)
-      gives n l held Receiving kept = absurd (never _ kept)
-      gives n l held Deleting kept = absurd (never _ kept)
-      gives n l held Sending kept = absurd (never _ kept)
-      gives n l held Putting kept = absurd (never _ kept)
-      gives n l held Clearing kept = absurd (never _ kept)
-      gives n l held Sweeping kept = absurd (never _ kept)
-      gives n l held Finished kept = absurd (never _ kept)
+      gives n l held ReleasingOld kept = absurd (none-some _ kept)
+      gives n l held Taking kept = absurd (none-some _ kept)
+      gives n l held Getting kept = absurd (none-some _ kept)
+      gives n l held Receiving kept = absurd (none-some _ kept)
+      gives n l held Deleting kept = absurd (none-some _ kept)
+      gives n l held Sending kept = absurd (none-some _ kept)
+      gives n l held Putting kept = absurd (none-some _ kept)
+      gives n l held Clearing kept = absurd (none-some _ kept)
+      gives n l held Sweeping kept = absurd (none-some _ kept)
+      gives n l held Finished kept = absurd (none-some _ kept)
 
       on : (n : Step) → Keeps r.lease n → MeetsNext trouble_of_recovery n (trouble.Waiting have need) → GivesLateBack n
       on (Goes n) keeps kept =

@@ -5,13 +5,13 @@ use Rattle.std.proofs.lemmas.Bool.{and_parts, and_from, eq-eqb, leb-true}
 use Rattle.head_codec.specs.declared.head.Head.{Head}
 use Rattle.log_codec.specs.declared.record.AtomicRec.{AtomicRec}
 use Rattle.session_facts.specs.Openings.Opening.{IsMessageThat}
-use Rattle.session_facts.proofs.Openings.Messages.{one_record}
 use Rattle.recover_run.specs.declared.wanted.Wanted.{Wanted}
 use Rattle.recover_run.specs.Gathering.{wanted_of, is_of, is_past, is_lost}
 use Rattle.cloud_facts.specs.Book.Messages.{IsLogMessage}
 use Rattle.cloud_facts.specs.Book.Premises.{MarksLog}
 use Rattle.cloud_facts.specs.Book.Records.{is_open}
 use Rattle.cloud_facts.specs.Book.Tally.{Store}
+use Rattle.session_facts.proofs.Commits.Attempts.{one_record}
 
 -- a record that passes as a past one is of no later epoch than is wanted
 past_epoch : (w : Wanted) (r : AtomicRec) → is_past w r ≡ true → r.epoch ≤ w.epoch

@@ -29,20 +29,6 @@ IsSent posts x = IsLogMessage posts x.id x.rec
 
 -- ---- one message
 
--- the message of a number is one record
-pub one_record : (posts : List Posted) (id : ℕ) (a b : AtomicRec) → IsLogMessage posts id a → IsLogMessage posts id b → a ≡ b
-one_record posts id a b m n =
-    let place : m.place ≡ n.place = omega (arith, m.id_is, n.id_is) in
-    let both : Some m.message ≡ Some n.message = sym m.there ∙ (ap (slice_get posts) place ∙ n.there) in
-    let one : m.message ≡ n.message = posted_is m.message n.message both in
-    record_is a b (sym m.reads ∙ (ap (λ (p : Posted). atomic_of p.bytes) one ∙ n.reads))
-  where
-    posted_is : (x y : Posted) → Some x ≡ Some y → x ≡ y
-    posted_is x y e = cc
-
-    record_is : (x y : AtomicRec) → Some x ≡ Some y → x ≡ y
-    record_is x y e = cc
-
 -- it stays where more are sent and marked
 pub log_message_stays : (posts more : List Posted) (id : ℕ) (r : AtomicRec) → BeginsWith (posts_of posts) (posts_of more) → IsLogMessage posts id r → IsLogMessage more id r
 log_message_stays posts more id r begins h =

@@ -33,7 +33,6 @@ use Rattle.session_facts.proofs.Openings.Landings.{lost_deleted, past_deleted, r
 use Rattle.session_facts.proofs.Openings.Leading.{Leads, Reads, old_leads, taken_leads, got_leads, ended_leads}
 use Rattle.session_facts.proofs.Openings.Others.{lease_in_hand}
 use Rattle.session_facts.proofs.Openings.Refusing.{newest_reads, all_read, got_may, received_may}
-use Rattle.session_facts.proofs.Openings.Sends.{queue_is}
 use Rattle.recover_run.specs.declared.items.AtomicItem.{AtomicItem}
 use Rattle.recover_run.specs.declared.stage.Stage.{Stage}
 use Rattle.recover_run.specs.declared.stage.Stage.TheVariants.{ReleasingOld, Taking, Getting, Receiving, Deleting, Sending, Putting, Clearing, Sweeping, Releasing, Finished}
@@ -43,6 +42,7 @@ use Rattle.report_types.specs.declared.entry.Entry.{Entry}
 use Rattle.cloud_facts.specs.Book.Book.{Book}
 use Rattle.cloud_facts.specs.Book.Tally.{Store, at}
 use Rattle.cloud_facts.specs.Tellings.Told.{store_of}
+use Rattle.session_facts.proofs.Commits.Settled.{queue_is}
 
 -- ---- what an answer shows
 

@@ -1,8 +1,8 @@
 -- What the sends of an opening and its put rest on.
-use Rattle.std.proofs.Common.{◌≡◌, ◌+◌, ◌<◌, ◌==◌, ◌&&◌, ◌⊎◌, inl, inr, ℕ, zero, suc, true, cond, List, [], ◌∷◌, ◌++◌, length, map, Option, Some, None, refl, sym, ap, subst, ◌∙◌, arith}
+use Rattle.std.proofs.Common.{◌≡◌, ◌+◌, ◌<◌, ◌==◌, ◌&&◌, ◌⊎◌, inl, inr, ℕ, true, List, [], ◌∷◌, ◌++◌, length, map, Option, Some, None, refl, sym, ap, subst, ◌∙◌, arith}
 use Rattle.std.specs.Prelude.{slice_get}
 use Rattle.std.specs.List.{AllByRecursion}
-use Rattle.std.proofs.lemmas.Bool.{and_from, eq-eqb, ne_eqb}
+use Rattle.std.proofs.lemmas.Bool.{and_from, eq-eqb}
 use Rattle.std.proofs.lemmas.List.{take_all}
 use Rattle.cloud_facts.specs.Calls.Others.{WasSentOn}
 use Rattle.cloud_facts.specs.Copies.Copies.{IsSentOn, SendsInTurn}
@@ -10,14 +10,13 @@ use Rattle.cloud_facts.proofs.Copies.Turns.{sends_in_turn}
 use Rattle.cloud_trait.specs.Caller.{Caller}
 use Rattle.cloud_trait.specs.Claim.{Claim}
 use Rattle.db_base.specs.Ids.{IsClient}
-use Rattle.db_base.specs.declared.names.QueueName.TheVariants.{TreePu, PagePu}
 use Rattle.head_codec.specs.declared.head.Head.{Head}
 use Rattle.head_codec.specs.declared.head.Phase.{Phase}
 use Rattle.head_codec.specs.declared.head.Phase.TheVariants.{Settled, Open}
 use Rattle.head_codec.specs.declared.lists.Pending.{Pending}
 use Rattle.cloud_facts.specs.Homes.Homes.{Part}
 use Rattle.cloud_facts.specs.Landings.Landing.{sent_by}
-use Rattle.cloud_facts.specs.Lefts.Left.{IsCopied, IsWaiting, HasWay, Leaves}
+use Rattle.cloud_facts.specs.Lefts.Left.{IsCopied, HasWay, Leaves}
 use Rattle.cloud_facts.proofs.Lefts.MessageLemmas.{copy_of_waits}
 use Rattle.log_codec.specs.Pu.{pu_of}
 use Rattle.log_codec.specs.declared.record.AtomicRec.{AtomicRec}
@@ -31,42 +30,20 @@ use Rattle.recover_run.specs.Gathering.{count_of, wanted_of}
 use Rattle.recover_run.specs.Meaning.{head_behind}
 use Rattle.recover_run.proofs.Knowing.{IsRising}
 use Rattle.route_plan.proofs.Places.{past_none}
-use Rattle.route_plan.specs.Queue.{queue_name, number_of_queue}
+use Rattle.route_plan.specs.Queue.{number_of_queue}
 use Rattle.route_plan.specs.Record.{pu_record_of, pending_of}
 use Rattle.cloud_facts.specs.Book.Effects.{after_posted}
-use Rattle.cloud_facts.specs.Book.Messages.{Waits}
 use Rattle.cloud_facts.specs.Book.Premises.{Settles, Posts}
 use Rattle.cloud_facts.specs.Book.Records.{StandsAt, IsIn, IsUnderWay, is_under_way, under_way}
-use Rattle.cloud_facts.specs.Book.Tally.{Store, at2}
-use Rattle.cloud_facts.specs.Book.Telling.{queue_of}
-use Rattle.cloud_facts.proofs.Book.Places.{get_behind, get_within, in_either, in_front, in_behind}
+use Rattle.cloud_facts.specs.Book.Tally.{Store}
+use Rattle.cloud_facts.proofs.Book.Places.{get_within, in_either, in_front, in_behind}
+use Rattle.session_facts.proofs.Commits.Settled.{posted_waits}
 
 -- ---- a send
-
-pub queue_is : (tree page : ℕ) → queue_name tree page ≡ queue_of tree page
-queue_is tree zero = ap (λ b. cond b (TreePu tree) (PagePu tree 0)) (eq-eqb 0 0 refl)
-queue_is tree (suc page) = ap (λ b. cond b (TreePu tree) (PagePu tree (suc page))) (ne_eqb (suc page) 0 (λ e. absurd (omega (arith, e))))
 
 pub posts_record : (st : Store) (who : Caller) (r : AtomicRec) (bytes : List ℕ) → IsIn st.book.log r → pu_of bytes ≡ Some (pu_record_of r) → SendsInTurn st r
     → Posts st r.tree r.page (sent_by who bytes) r
 posts_record st who r bytes logged reads turn = record { logged = logged; tree_is = refl; page_is = refl; reads = reads; unmarked = refl; turn = turn }
-
-at2_same : {V : Type 0} (a b : ℕ) (v : V) (f : ℕ → ℕ → V) → at2 a b v f a b ≡ v
-at2_same a b v f = ap (λ t. cond t v (f a b)) (and_from (a == a) (b == b) (eq-eqb a a refl) (eq-eqb b b refl))
-
--- the record waits then, and so has a copy
-posted_waits : (st : Store) (who : Caller) (r : AtomicRec) (bytes : List ℕ) → pu_of bytes ≡ Some (pu_record_of r)
-    → IsWaiting (after_posted r.tree r.page (sent_by who bytes) st).tally r
-posted_waits st who r bytes reads = subst (λ ps. Waits ps (pu_record_of r)) (sym (at2_same r.tree r.page (st.tally.posts r.tree r.page ++ sent_by who bytes ∷ []) st.tally.posts)) last
-  where
-    last : Waits (st.tally.posts r.tree r.page ++ sent_by who bytes ∷ []) (pu_record_of r)
-    last = record {
-      place = length (st.tally.posts r.tree r.page) + 0;
-      message = sent_by who bytes;
-      there = get_behind (st.tally.posts r.tree r.page) (sent_by who bytes ∷ []) 0 (sent_by who bytes) refl;
-      reads = reads;
-      unmarked = refl;
-    }
 
 pub posted_sent : (st : Store) (who : Caller) (r : AtomicRec) (bytes : List ℕ) → pu_of bytes ≡ Some (pu_record_of r)
     → WasSentOn (after_posted r.tree r.page (sent_by who bytes) st).tally r × IsCopied (after_posted r.tree r.page (sent_by who bytes) st).tally r

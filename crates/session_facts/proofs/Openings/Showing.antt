@@ -45,7 +45,7 @@ use Rattle.session_facts.specs.Openings.Opening.{leases_of_recovery, IsWanted, H
 use Rattle.session_facts.specs.Sessions.Spent.{HasLastEpoch}
 use Rattle.session_facts.specs.Sessions.Explaining.{trouble_at, trouble_of_recovery, MeetsNext, IsShown}
 use Rattle.session_facts.proofs.Openings.Completing.{none_missing}
-use Rattle.session_facts.proofs.Openings.Messages.{one_record, sent_message}
+use Rattle.session_facts.proofs.Openings.Messages.{sent_message}
 use Rattle.session_facts.proofs.Openings.Others.{lease_in_hand}
 use Rattle.session_facts.proofs.Openings.Sifting.{none_some}
 use Rattle.session_facts.proofs.Openings.Unmarked.{deleted_gone}
@@ -67,6 +67,7 @@ use Rattle.recover_run.specs.Recovery.{Recovery, Step, recovery_ask, recovery_ne
 use Rattle.recover_run.proofs.Keeping.{all_so}
 use Rattle.recover_run.proofs.Sifting.{HasSeen, IsLostAt, seen_whole}
 use Rattle.recover_run.proofs.Sweeping.{IsHandled, each_has}
+use Rattle.session_facts.proofs.Commits.Attempts.{one_record}
 
 -- ---- what was received, as a recovery with which nobody else acts knows it
 

@@ -6,7 +6,7 @@ use Rattle.log_codec.specs.declared.record.AtomicRec.{AtomicRec}
 use Rattle.cloud_facts.specs.Book.Messages.{IsLogMessage, IsDeleted}
 use Rattle.cloud_facts.specs.Book.Tally.{Store}
 use Rattle.session_facts.specs.Openings.Opening.{WasSifted, HasSifted}
-use Rattle.session_facts.proofs.Openings.Messages.{IsSent, one_record}
+use Rattle.session_facts.proofs.Openings.Messages.{IsSent}
 use Rattle.recover_run.specs.declared.items.AtomicItem.{AtomicItem}
 use Rattle.recover_run.specs.declared.wanted.Wanted.{Wanted}
 use Rattle.recover_run.specs.Gathering.{Gathered, gathered_with, is_lost, lost_ids, lost_now}
@@ -14,6 +14,7 @@ use Rattle.recover_run.specs.Ids.{has_id, new_ids, has_some}
 use Rattle.recover_run.specs.Items.{ids_of}
 use Rattle.recover_run.proofs.Keeping.{all_new}
 use Rattle.recover_run.proofs.Sweeping.{all_has, none_new, each_has}
+use Rattle.session_facts.proofs.Commits.Attempts.{one_record}
 
 -- ---- sets of ids
 

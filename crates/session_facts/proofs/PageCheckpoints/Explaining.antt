@@ -47,9 +47,7 @@ use Rattle.page_ckpt.proofs.Outcomes as step
 use Rattle.page_ckpt.specs.Causing.{greatest_number}
 use Rattle.page_ckpt.specs.declared.stage.Stage.{Stage}
 use Rattle.page_ckpt.specs.declared.stage.Stage.TheVariants.{TakingHome, GettingHome, Receiving, TakingRight, GettingRight, PuttingRight, ReleasingRight, PuttingHome, Deleting as DeletingNext, Releasing, Finished}
-
-some_trouble : (a b : Trouble) → Some a ≡ Some b → a ≡ b
-some_trouble a b e = cc
+use Rattle.std.proofs.lemmas.Option.{same_Some}
 
 -- ---- in general: troubles of what was read or reckoned are told apart from those that a view of the answer brings
 
@@ -96,7 +94,7 @@ module _ (Sh : Trouble → Type 0) (lets : Lets Sh) (most tree page : ℕ) where
   never_ok a x e = absurd (cc)
 
   stops : (p : Paging) (k : Trouble) → Keeps p → Sh k → Brings (stopping p k)
-  stops p k keeps sh = (λ j e. subst Sh (some_trouble k j e) sh, keeps.1, keeps.2, keeps.3)
+  stops p k keeps sh = (λ j e. subst Sh (same_Some k j e) sh, keeps.1, keeps.2, keeps.3)
 
   -- ---- what is read
 
@@ -246,7 +244,7 @@ pub waiting_kept : (p : Paging) (reply : Answer) → TroubleWaits p → (k : Tro
 waiting_kept p reply waits k kept next leads = on waits
   where
     finishes : (q : Paging) (o : Option Trouble) → o ≡ Some k → KeepsNext k (finished_by q o)
-    finishes q (Some j) e = some_trouble j k e
+    finishes q (Some j) e = same_Some j k e
     finishes q None e = absurd (cc (e))
 
     releases : (q : Paging) (o : Option Claim) → q.trouble ≡ Some k → KeepsNext k (released_by q o)

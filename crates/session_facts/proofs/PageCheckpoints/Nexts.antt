@@ -48,6 +48,7 @@ use Rattle.session_facts.specs.PageCheckpoints.Rights.{IsLanded, IsNewestLeaf, R
 use Rattle.session_facts.proofs.PageCheckpoints.Chained.{has_run, home_fences}
 use Rattle.session_facts.proofs.PageCheckpoints.Fences.{HasFences, landed_fences, newest_landed, link_leads, another, upto_next, upto_more, not_visited}
 use Rattle.session_facts.proofs.PageCheckpoints.PageReads.{IsNamed, IsLinkedLeaf}
+use Rattle.std.proofs.lemmas.Option.{same_Some}
 
 -- an id that is left to be deleted was to be deleted
 still_there : (d : Deleting) (went : Bool) (id : ℕ) → IsIn (tried d went).ids id → IsIn d.ids id
@@ -66,15 +67,12 @@ first_item : (items : List PuItem) → has_items items ≡ true → (x : PuItem)
 first_item [] e = absurd (cc)
 first_item (x ∷ items) e = (x, (zero, refl))
 
-some_is : (a b : Trouble) → Some a ≡ Some b → a ≡ b
-some_is a b e = cc
-
 -- no trouble is kept that may not be answered
 abbrev pub MayAnswer : ℕ → Option Trouble → Type 0
 MayAnswer page o = (t : Trouble) → o ≡ Some t → MayStop page t
 
 one_may : (page : ℕ) (t : Trouble) → MayStop page t → MayAnswer page (Some t)
-one_may page t may k e = subst (MayStop page) (some_is t k e) may
+one_may page t may k e = subst (MayStop page) (same_Some t k e) may
 
 -- what it knows where a step leads, if a trouble waits there only while leases are given back
 abbrev pub Led : Store → ℕ → ℕ → Step → Type 0

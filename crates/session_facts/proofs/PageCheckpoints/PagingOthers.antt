@@ -23,9 +23,9 @@ use Rattle.cloud_facts.specs.Book.Growth.{Grows}
 use Rattle.cloud_facts.specs.Book.Records.{IsIn}
 use Rattle.cloud_facts.specs.Book.Tally.{Node, Leafy, Store}
 use Rattle.cloud_facts.specs.Book.Telling.{last_or}
-use Rattle.cloud_facts.proofs.Book.Places.{in_front}
 use Rattle.session_facts.specs.PageCheckpoints.Checkpoint.{HoldsPage, HoldsRight, HasRight, ComesOn, KnowsPagingAt, KnowsPaging, leases_of_paging}
 use Rattle.session_facts.specs.PageCheckpoints.Rights.{IsLanded, IsNewestLeaf, ReadLeaf, HasRun, AreDone, IsUpto, LeadsOn, ComesRight, PutsRight, LeavesRight}
+use Rattle.session_facts.proofs.Walks.Caches.{in_grown}
 
 -- ---- leases in hand
 
@@ -39,9 +39,6 @@ in_both tree page right held h =
     subst (λ (l : Leases). IsIn (claims_of l) h.lease × IsIn (claims_of l) h.second) (sym h.is) ((1, refl), (zero, refl))
 
 -- ---- what only grows
-
-in_grown : {X : Type 0} (xs ys : List X) (x : X) → BeginsWith xs ys → IsIn xs x → IsIn ys x
-in_grown xs ys x (more, is) there = subst (λ zs. IsIn zs x) (sym is) (in_front xs more x there)
 
 pub landed_stays : (nodes more : ℕ → List Node) (page : ℕ) (l : Leaf) → BeginsWith (nodes page) (more page) → IsLanded nodes page l → IsLanded more page l
 landed_stays nodes more page l begins (inl empty) = inl empty

@@ -1,9 +1,9 @@
 -- What each machine puts and sends beside heads is what its standing allows.
-use Rattle.std.proofs.Common.{◌≡◌, ℕ, Bool, true, false, List, [], ◌∷◌, Option, Some, None, inl, inr, refl, sym, subst, cond}
-use Rattle.std.specs.Prelude.{slice_get, unwrap_or, ◌==◌}
+use Rattle.std.proofs.Common.{ℕ, Bool, true, false, List, [], ◌∷◌, Option, Some, None, inl, cond}
+use Rattle.std.specs.Prelude.{slice_get, ◌==◌}
 use Rattle.db_base.specs.declared.names.ObjName.TheVariants as object
 use Rattle.db_base.specs.declared.names.QueueName.TheVariants.{TreePu, PagePu}
-use Rattle.cloud_trait.specs.Ask.{Ask, Get, GetHeld, PutHeld, Send, Receive, Delete, Take, Renew, Release}
+use Rattle.cloud_trait.specs.Ask.{Ask, GetHeld, PutHeld, Release}
 use Rattle.cloud_trait.specs.Claim.{Claim}
 use Rattle.cloud_trait.specs.declared.state.Landing.{Landing}
 use Rattle.log_codec.specs.declared.record.AtomicRec.{AtomicRec}
@@ -23,42 +23,9 @@ use Rattle.recover_run.specs.declared.items.AtomicItem.{AtomicItem}
 use Rattle.recover_run.specs.declared.stage.Stage.{Stage as OpeningStage}
 use Rattle.recover_run.specs.declared.stage.Stage.TheVariants as opening
 use Rattle.recover_run.specs.Recovery.{Recovery, ask_at as recovery_ask_at, recovery_ask, under as under_client, delete_next, send_next}
-use Rattle.split_plan.specs.declared.put_list.PagePut.{PagePut}
-use Rattle.cloud_facts.specs.Book.Tally.{Store}
-use Rattle.tree_parts.specs.declared.placing.Placing.{Placing}
-use Rattle.tree_parts.specs.Placing.{put_first, put_next, put_in_hand}
-use Rattle.tree_rising.specs.declared.rising.Rising.{Rising as Up}
-use Rattle.tree_rising.specs.Rising.{last_ask}
-use Rattle.tree_moves.specs.declared.work.Work.{Work as TreeWork}
-use Rattle.tree_moves.specs.declared.work.Work.TheVariants.{TakingTree, GettingTree, Receiving, Descending, TakingPage, Folding, ReleasingPage, LeftPage, Rising, Deleting, Releasing, Finished}
-use Rattle.tree_moves.specs.Work.{delete_ask, release_ask, work_ask}
-use Rattle.tree_ckpt.specs.Making.{Making, making_ask}
-use Rattle.session_facts.specs.TreeCheckpoints.Checkpoint.{KnowsWork, KnowsMaking}
-use Rattle.settle_run.specs.declared.part.Part.{Part as AtWork}
-use Rattle.settle_run.specs.declared.part.Part.TheVariants.{Client, Tree, Page}
-use Rattle.settle_run.specs.Parts.{part_ask}
-use Rattle.settle_run.specs.Settling.{Settling, settle_ask}
-use Rattle.session_facts.specs.Settlings.Settling.{KnowsAtWork, KnowsSettling}
-use Rattle.cloud_facts.specs.Homes.Homes.{Part}
-use Rattle.replay_meaning.specs.Kinds.{CommitsFor, IsOfSettler, MayPutRoot, MayPutPage, MaySend, MaySendPending}
+use Rattle.replay_meaning.specs.Kinds.{CommitsFor, MayPutPage, MaySend, MaySendPending}
 use Rattle.replay_meaning.specs.Standing.{Line, standing_of_row}
 use Rattle.session_facts.specs.RowKinds.Asks.{MayAsk, MayAskBeside}
-
--- a call whose puts of heads are allowed, and what it puts and sends beside them
-pub may_ask : (lines : List Line) (row : Landing) (ask : Ask)
-    → ((client : ℕ) (bytes : List ℕ) (one : Claim) (two : Option Claim) → ask ≡ PutHeld (object.Head client) bytes one two → MayAsk lines row (PutHeld (object.Head client) bytes one two))
-    → MayAskBeside lines row ask → MayAsk lines row ask
-may_ask lines row (PutHeld (object.Head client) bytes one two) heads beside = heads client bytes one two refl
-may_ask lines row (PutHeld (object.Tree tree) bytes one two) heads beside = beside
-may_ask lines row (PutHeld (object.Page tree page) bytes one two) heads beside = beside
-may_ask lines row (Send queue bytes) heads beside = beside
-may_ask lines row (Get name) heads beside = tt
-may_ask lines row (GetHeld name l) heads beside = tt
-may_ask lines row (Receive queue most) heads beside = tt
-may_ask lines row (Delete queue id) heads beside = tt
-may_ask lines row (Take lock ticks) heads beside = tt
-may_ask lines row (Renew l ticks) heads beside = tt
-may_ask lines row (Release l) heads beside = tt
 
 module _ (lines : List Line) (row : Landing) where
   -- a send to the queue of a page, or of page 0
@@ -156,64 +123,3 @@ module _ (lines : List Line) (row : Landing) where
       at paging.Deleting = delete_page_may p (next_id p.deletions.ids)
       at paging.Releasing = under_page_may p (newest_lease p.held) Release (λ l. tt)
       at paging.Finished = tt
-
-  -- ---- a tree checkpoint
-
-  delete_tree_may : (tree : ℕ) (id : Option ℕ) → MayAsk lines row (delete_ask tree id)
-  delete_tree_may tree (Some id) = tt
-  delete_tree_may tree None = tt
-
-  release_may : (tree : ℕ) (l : Option Claim) → MayAsk lines row (release_ask tree l)
-  release_may tree (Some l) = tt
-  release_may tree None = tt
-
-  -- what is to be put are the tree object and pages
-  placing_may : (p : Placing) (tree : ℕ) (l : Claim) (second : Option Claim) (last : Ask) → MayPutRoot lines row tree → MayAsk lines row last
-      → MayAsk lines row (unwrap_or (put_in_hand p tree l second) last)
-  placing_may p tree l second last root may = on p.reserved p.puts
-    where
-      on : (reserved : Option (List ℕ)) (puts : List PagePut) → MayAsk lines row (unwrap_or (put_first tree l (put_next tree l second puts) reserved) last)
-      on (Some bytes) puts = root
-      on None (x ∷ puts) = inr root
-      on None [] = may
-
-  last_may : (r : Up) (l : Claim) (bytes : Option (List ℕ)) → MayPutRoot lines row r.chart.tree → MayAsk lines row (last_ask r l bytes)
-  last_may r l (Some bytes) root = root
-  last_may r l None root = tt
-
-  work_may : (st : Store) (now tree : ℕ) (w : TreeWork) → KnowsWork st now tree w → MayPutRoot lines row tree → MayAsk lines row (work_ask tree w)
-  work_may st now tree TakingTree k root = tt
-  work_may st now tree (GettingTree l) k root = tt
-  work_may st now tree (Receiving l object) k root = tt
-  work_may st now tree (Descending h d) k root = tt
-  work_may st now tree (TakingPage h c) k root = tt
-  work_may st now tree (Folding h f) k root =
-      let own : MayPutRoot lines row f.chart.tree = subst (MayPutRoot lines row) (sym k.0.tree_is) root in
-      placing_may f.placing f.chart.tree h.lease (Some f.lease) (GetHeld (object.Page f.chart.tree f.page) f.lease) own tt
-  work_may st now tree (ReleasingPage h l o) k root = tt
-  work_may st now tree (LeftPage h o) k root = tt
-  work_may st now tree (Rising h r) k root =
-      let own : MayPutRoot lines row r.chart.tree = subst (MayPutRoot lines row) (sym k.0.tree_is) root in
-      placing_may r.placing r.chart.tree h.lease None (last_ask r h.lease r.last) own (last_may r h.lease r.last own)
-  work_may st now tree (Deleting h applied) k root = delete_tree_may tree (next_id h.deletions.ids)
-  work_may st now tree (Releasing held end) k root = release_may tree (newest_lease held)
-  work_may st now tree Finished k root = tt
-
-  -- it puts the root and pages of its tree
-  pub making_asks : (st : Store) (now : ℕ) (m : Making) → KnowsMaking st now m → MayPutRoot lines row m.tree → MayAsk lines row (making_ask m)
-  making_asks st now m k root = work_may st now m.tree m.work k.work root
-
-  -- ---- a settling
-
-  -- a part of it does what its recovery or checkpoint does, where all that is settled is allowed
-  part_may : (st : Store) (now : ℕ) (at : AtWork) (part : Part) → KnowsAtWork st now at part → IsOfSettler lines row
-      → ((client : ℕ) (bytes : List ℕ) (one : Claim) (two : Option Claim) → part_ask at ≡ PutHeld (object.Head client) bytes one two → MayAsk lines row (PutHeld (object.Head client) bytes one two))
-      → MayAsk lines row (part_ask at)
-  part_may st now (Client client m) part k own heads = may_ask lines row (recovery_ask m) heads (recovery_asks m (inr (inr own)))
-  part_may st now (Tree tree m) part k own heads = making_asks st now m k.knows (inr (inl own))
-  part_may st now (Page tree page m) part k own heads = paging_asks m (inr (inr (inl own)))
-
-  pub settling_asks : (st : Store) (now : ℕ) (m : Settling) (part : Part) → KnowsSettling st now m part → IsOfSettler lines row
-      → ((client : ℕ) (bytes : List ℕ) (one : Claim) (two : Option Claim) → settle_ask m ≡ PutHeld (object.Head client) bytes one two → MayAsk lines row (PutHeld (object.Head client) bytes one two))
-      → MayAsk lines row (settle_ask m)
-  settling_asks st now m part k own heads = part_may st now m.part part k.work own heads

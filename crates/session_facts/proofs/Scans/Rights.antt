@@ -44,7 +44,7 @@ among_more pages page other e = on (or_cases (is_among pages other) (is_among (p
     on (inr new) = last (or_cases (page == other) false new)
 
 -- a right page by its number
-right_page : (n : ℕ) → n ≢ 0 → unwrap_or (page_at n) 1 ≡ n
+pub right_page : (n : ℕ) → n ≢ 0 → unwrap_or (page_at n) 1 ≡ n
 right_page zero some = absurd (some refl)
 right_page (suc n) some = refl
 

@@ -22,8 +22,8 @@ use Rattle.cloud_facts.specs.Tellings.Told.{store_of}
 use Rattle.tree_walk.specs.Walk.{Spot, is_page, is_among, came_to}
 use Rattle.session_facts.specs.Walks.Caches.{KnowsCache}
 use Rattle.session_facts.specs.Walks.Walks.{MayStop}
-use Rattle.session_facts.proofs.Walks.Caches.{cache_grows}
 use Rattle.session_facts.proofs.Walks.Walks.{walk_begins, call_answers, walk_grows}
+use Rattle.tree_walk.proofs.Onceness.{or_right}
 
 -- a scan that begins goes on to its first call, with all that it knows; it stops for nothing that the cache keeps
 pub scan_begins : (st : Store) → ChainHolds st → (tree : ℕ) (from to : Option (List ℕ)) (c : Cache) → IsTree tree → KnowsCache st c
@@ -38,17 +38,13 @@ scan_begins st h tree from to c is cache =
 -- ---- from leaf to leaf
 
 module _ (st : Store) (s : Scan) (k : KnowsScan st s) where
-  or_behind : (a b : Bool) → b ≡ true → (a || b) ≡ true
-  or_behind true b e = refl
-  or_behind false b e = e
-
   moved : (next : Option Spot) → is_wanted s.to next ≡ true → LeadsRight (st.book.chain s.walk.tree) s next → KnowsScan st (record s { spot = next; next = None })
   moved None e leads = absurd (true≢false (sym e))
   moved (Some p) e leads = record {
     walk = k.walk;
     right = record {
       linked = leads.linked;
-      behind = λ page there. inl (leads.behind page (or_behind (is_page page s.spot) (came_to s.walk page || is_among s.passed page) there));
+      behind = λ page there. inl (leads.behind page (or_right (is_page page s.spot) (came_to s.walk page || is_among s.passed page) there));
     };
   }
 
@@ -93,6 +89,3 @@ module _ (st su : Store) (grows : Grows st su) where
 
   pub scan_grows : (s : Scan) → KnowsScan st s → KnowsScan su s
   scan_grows s k = record { walk = walk_grows st su grows s.walk k.walk; right = right_grows s.walk.tree s s.spot k.right }
-
-  pub scanning_grows : (s : Scan) (c : Cache) → KnowsScanning st s c → KnowsScanning su s c
-  scanning_grows s c k = record { scan = scan_grows s k.scan; cache = cache_grows st su grows c k.cache }

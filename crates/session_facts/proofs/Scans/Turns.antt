@@ -29,10 +29,12 @@ use Rattle.cloud_facts.specs.Book.Tally.{Store}
 use Rattle.tree_walk.specs.Walk.{Spot, Walk, object_at, object_of, sought, is_page, is_among, came_to, accepted_by, walk_next}
 use Rattle.session_facts.specs.Walks.Caches.{HasLanded, KnowsCache, IsSeenLeaf}
 use Rattle.session_facts.specs.Walks.Walks.{StandsAt, KnowsWalk, IsAtSeenLeaf, MayStop, WalkLeads}
-use Rattle.session_facts.proofs.Walks.Caches.{kept_known, leaf_in_only, MayServe, cache_accepts}
+use Rattle.session_facts.proofs.Walks.Caches.{kept_known, MayServe, cache_accepts}
 use Rattle.session_facts.proofs.Walks.Steps.{leaf_of_level}
 use Rattle.session_facts.proofs.Walks.Turns.{MayAnswer, BesideLeads, by_leads}
 use Rattle.session_facts.proofs.Walks.Walks.{walk_turns}
+use Rattle.page_cache.proofs.ReadingLemmas.{is_leaf_in}
+use Rattle.tree_walk.proofs.Onceness.{or_right}
 
 -- what a get may have answered of an object: a version of it that landed, which is accepted, or refused for what may stop; or a trouble that may
 abbrev pub MayCome : Store → (Trouble → Type 0) → Cache → ObjName → Result (Option (List ℕ)) Trouble → Type 0
@@ -139,7 +141,7 @@ module _ (st : Store) (h : ChainHolds st) where
     kept_leaf d (Some bytes) (node, spelled, landed) e =
         let l = leaf_of_level 0 node refl (version st h tree is p node linked landed).level_is in (
           l.0,
-          ap as_leaf e ∙ leaf_in_only bytes l.0 (subst (IsNode bytes) l.1 spelled),
+          ap as_leaf e ∙ is_leaf_in bytes l.0 (subst (IsNode bytes) l.1 spelled),
           inr (subst (IsIn (st.tally.nodes tree p.page)) l.1 landed),
         )
 
@@ -154,10 +156,6 @@ module _ (st : Store) (h : ChainHolds st) where
 
     abbrev links : ℕ → List Link
     links = st.book.chain s.walk.tree
-
-    or_right : (a b : Bool) → b ≡ true → (a || b) ≡ true
-    or_right true b e = refl
-    or_right false b e = e
 
     or_left : (a b : Bool) → a ≡ true → (a || b) ≡ true
     or_left true b e = refl

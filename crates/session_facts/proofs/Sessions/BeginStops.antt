@@ -27,7 +27,6 @@ use Rattle.report_types.specs.declared.entry.Entry.{Entry}
 use Rattle.session_facts.proofs.Scans.Scans.{scan_begins}
 use Rattle.session_facts.specs.Sessions.Explaining.{trouble_of_commit, trouble_of_answer}
 use Rattle.session_facts.specs.Sessions.Sessions.{IsHome, KnowsWork, KnowsKept, Sessions, SessionsStand, IsRightOp}
-use Rattle.session_facts.proofs.Sessions.Troubles.{memory_or}
 use Rattle.cloud_facts.specs.Book.Book.{Book}
 use Rattle.cloud_facts.specs.Book.Tally.{Store}
 use Rattle.cloud_facts.specs.Tellings.Told.{store_of}
@@ -35,6 +34,7 @@ use Rattle.tree_walk.specs.Moves.{Moves}
 use Rattle.tree_walk.specs.Walk.{new_walk, walk_ready}
 use Rattle.session_facts.specs.Walks.Caches.{KnowsCache}
 use Rattle.session_facts.proofs.Walks.Walks.{walk_begins}
+use Rattle.tree_walk.proofs.Serving.{memory_or}
 
 -- a step that goes on does not stop
 goes_not : {M A : Type 0} (x : Next M A) (m n : M) (t : Trouble) → x ≡ Goes m → x ≡ Stops n t → ⊥
@@ -70,12 +70,6 @@ at_once_may (Committed txn) may = tt
 at_once_may (NotCommitted t) may = may_then t may
 at_once_may InDoubt may = tt
 at_once_may (CommittedOpen t) may = may_then t may
-
-at_once : (a : CommitAnswer) (k : Trouble) → trouble_of_commit a ≡ Some k → EndsBy MayStopAtOnce a → MayStopAtOnce k
-at_once (Committed txn) k e may = absurd (cc (e))
-at_once (NotCommitted t) k e may = let same : t ≡ k = cc in subst MayStopAtOnce same may
-at_once InDoubt k e may = absurd may
-at_once (CommittedOpen t) k e may = let same : t ≡ k = cc in subst MayStopAtOnce same may
 
 module _ (book : Book) (order : List Entry) (s : CloudState) (sessions : Sessions) (session : ℕ) (new : Acting) (stand : SessionsStand book order s sessions) where
   abbrev old : Acting
@@ -197,19 +191,3 @@ module _ (book : Book) (order : List Entry) (s : CloudState) (sessions : Session
 
   pub begin_ends : (o : Op) (a : CommitAnswer) → Begins o old new (Ok (Answered (answer.Commit a))) → MayEnd a
   begin_ends o a begins = at_once_may a (begin_spent o a begins)
-
-  -- ---- the whole
-
-  -- an operation that is answered at once is answered with no trouble but a counter at its last value or want of memory
-  pub begin_explains : (o : Op) (a : Answer) (k : Trouble) → IsRightOp o → Begins o old new (Ok (Answered a)) → trouble_of_answer a ≡ Some k → MayStopAtOnce k
-  begin_explains o (answer.Trouble t) k is begins e =
-      let same : t ≡ k = cc in
-      subst MayStopAtOnce same (subst MayStopAtOnce (sym (begin_stops o t is begins)) tt)
-  begin_explains o (answer.Commit a) k is begins e = at_once a k e (begin_spent o a begins)
-  begin_explains o (answer.Opened epoch) k is begins e = absurd (cc (e))
-  begin_explains o answer.Closed k is begins e = absurd (cc (e))
-  begin_explains o (answer.Renewed end) k is begins e = absurd (cc (e))
-  begin_explains o (answer.Done n) k is begins e = absurd (cc (e))
-  begin_explains o answer.Value k is begins e = absurd (cc (e))
-  begin_explains o answer.Scan k is begins e = absurd (cc (e))
-  begin_explains o (answer.Settled n) k is begins e = absurd (cc (e))

@@ -41,7 +41,7 @@ use Rattle.session_facts.specs.Scans.Scans.{KnowsScan, KnowsScanning, IsAtScanne
 use Rattle.session_facts.proofs.Scans.Scans.{scan_begins, scan_moves_on}
 use Rattle.session_facts.specs.Sessions.Sessions.{leases_of, IsHome, KnowsWork, KnowsKept, Knows, Sessions, SessionsStand, IsRightOp}
 use Rattle.page_cache.specs.Cache.{Cache}
-use Rattle.session_facts.proofs.Sessions.Troubles.{memory_or, stays_open}
+use Rattle.session_facts.proofs.Sessions.Troubles.{stays_open}
 use Rattle.session_facts.proofs.Sessions.Kept.{KnowsBoth}
 use Rattle.tree_walk.specs.Moves.{Moves}
 use Rattle.tree_walk.specs.Walk.{new_walk, walk_ready}
@@ -59,6 +59,7 @@ use Rattle.session_facts.specs.Walks.Caches.{KnowsCache}
 use Rattle.session_facts.specs.Walks.Walks.{KnowsWalking, IsAtSeenLeaf, WalkLeads, MayStop}
 use Rattle.session_facts.proofs.Walks.Caches.{empty_knows}
 use Rattle.session_facts.proofs.Walks.Walks.{walk_begins}
+use Rattle.tree_walk.proofs.Serving.{memory_or}
 
 abbrev RunStep : Type 0
 RunStep = Next (Run × Cache) CommitAnswer

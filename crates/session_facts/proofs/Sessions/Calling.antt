@@ -57,6 +57,7 @@ use Rattle.tree_ckpt.specs.Making.{making_ask}
 use Rattle.session_facts.specs.TreeCheckpoints.Checkpoint.{making_note}
 use Rattle.txn_buffer.specs.Noted.{Noted}
 use Rattle.session_facts.specs.Walks.Caches.{KnowsCache}
+use Rattle.std.proofs.lemmas.Option.{same_Some}
 
 -- ---- what the audit takes
 
@@ -116,9 +117,6 @@ idle_goes s t book order sessions session new same as_was stand = record {
         on : (n ≡ session) ⊎ (n ≢ session) → at session new sessions n ≡ sessions n
         on (inl e) = at_same session new sessions n e ∙ (as_was ∙ ap sessions (sym e))
         on (inr ne) = at_other session new sessions n ne
-
-state_is : (s t : CloudState) → Some s ≡ Some t → s ≡ t
-state_is s t e = cc
 
 module _ (who : Caller) (before after : Seen) (s t : CloudState) (book : Book) (order : List Entry) (sessions : Sessions) (new : Acting) (told : before.state ≡ Some s)
     (told_after : after.state ≡ Some t) (stand : SessionsStand book order s sessions) (may : MayCommit new.buffer) where
@@ -221,7 +219,7 @@ module _ (who : Caller) (before after : Seen) (s t : CloudState) (book : Book) (
       → StepsWork who before after old new.work result → Goes book order s t sessions who.session new
   steps_keep (Ok turn) buffer shown steps = works old turn shown.0 refl steps shown.1 shown.2
   steps_keep (Err (refused.Rule r)) buffer shown steps =
-      idle_goes s t book order sessions who.session new (state_is t s (sym told_after ∙ (ap (λ (x : Seen). x.state) steps.3 ∙ told)))
+      idle_goes s t book order sessions who.session new (same_Some t s (sym told_after ∙ (ap (λ (x : Seen). x.state) steps.3 ∙ told)))
       (λ i. record { buffer = (buffer ∙ stays old steps.1) i; work = steps.2 i; cache = shown.0 i; shown = shown.1 i }) stand
     where
       -- what is not at work drops nothing that was noted

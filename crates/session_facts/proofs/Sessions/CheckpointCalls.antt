@@ -53,6 +53,7 @@ use Rattle.tree_moves.specs.Work.{work_ask}
 use Rattle.tree_moves.specs.declared.work.Work.{Work as Moving}
 use Rattle.tree_moves.specs.declared.work.Work.TheVariants as moving
 use Rattle.txn_buffer.specs.Noted.{Noted}
+use Rattle.std.proofs.lemmas.Option.{same_Some}
 
 -- ---- beside other calls
 
@@ -255,9 +256,6 @@ module _ (who : Caller) (before after : Seen) (s t : CloudState) (book : Book) (
 
   -- ---- the checkpoint of a page
 
-  state_is : (x y : CloudState) → Some x ≡ Some y → x ≡ y
-  state_is x y e = cc
-
   module _ (calls : ℕ) (home : Home) (p : Page) (k : CameBy calls s p) where
     page_goes : (work : Work) → StepsPaging home who before after p work More → CountsWork (calls + 1) t work
     page_goes work (n, steps, works, less) = subst (λ (w : Work). CountsWork (calls + 1) t w) (sym works) (record {
@@ -266,7 +264,7 @@ module _ (who : Caller) (before after : Seen) (s t : CloudState) (book : Book) (
       made = deed ∷ k.made;
       came = (p, k.came, refl, steps.made, steps.took, follows k.made k.behind);
       many = let was = k.many in omega (arith, was);
-      behind = λ x seen. subst (λ (y : CloudState). HasGrown y t) (state_is t x (sym told_after ∙ seen)) (grown_itself t t refl refl refl refl);
+      behind = λ x seen. subst (λ (y : CloudState). HasGrown y t) (same_Some t x (sym told_after ∙ seen)) (grown_itself t t refl refl refl refl);
     })
       where
         deed : Deed
@@ -274,7 +272,7 @@ module _ (who : Caller) (before after : Seen) (s t : CloudState) (book : Book) (
 
         follows : (h : List Deed) → IsBehind h s → ComesBehind h deed
         follows [] is = tt
-        follows (last ∷ h) is = λ x y seen now. subst (HasGrown x) (state_is s y (sym told ∙ now)) (is x seen)
+        follows (last ∷ h) is = λ x y seen now. subst (HasGrown x) (same_Some s y (sym told ∙ now)) (is x seen)
 
     page_few : AreFew p (calls + 1)
     page_few = subst (λ (n : ℕ). AreFew p (n + 1)) k.many (stands_few p k.made (came_stands k.tree k.page k.made p k.came))

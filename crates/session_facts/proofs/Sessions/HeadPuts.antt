@@ -1,5 +1,5 @@
 -- The puts of heads that sessions have in hand.
-use Rattle.std.proofs.Common.{◌≡◌, ◌⊎◌, inl, inr, ℕ, Bool, true, false, List, [], length, Option, Some, None, refl, sym, ap, ◌∙◌}
+use Rattle.std.proofs.Common.{◌≡◌, ◌⊎◌, inl, inr, ℕ, Bool, true, false, List, length, Option, Some, None, refl, sym, ap, ◌∙◌}
 use Rattle.cloud_trait.specs.Ask.{Ask, PutHeld, Renew, Release}
 use Rattle.cloud_trait.specs.Claim.{Claim}
 use Rattle.client_work.specs.Session.{ask_of_work, opens_of}
@@ -21,21 +21,10 @@ use Rattle.session_facts.specs.Sessions.Sessions.{KnowsWork}
 use Rattle.session_facts.proofs.Settlings.HeadPuts.{making_puts_none, settling_puts}
 use Rattle.cloud_facts.specs.Book.Tally.{Store}
 use Rattle.tree_walk.specs.Walk.{walk_ask}
+use Rattle.std.proofs.lemmas.Option.{same_Some}
+use Rattle.std.proofs.lemmas.Bool.{true≢false}
 
 -- ---- what an ask puts
-
-abbrev put_bytes : Ask → List ℕ
-put_bytes (PutHeld name bytes one two) = bytes
-put_bytes ask = []
-
-abbrev client_in : ObjName → ℕ
-client_in (object.Head client) = client
-client_in (object.Tree tree) = 0
-client_in (object.Page tree page) = 0
-
-abbrev put_client : Ask → ℕ
-put_client (PutHeld name bytes one two) = client_in name
-put_client ask = 0
 
 abbrev is_head : ObjName → Bool
 is_head (object.Head client) = true
@@ -46,15 +35,9 @@ abbrev puts_head : Ask → Bool
 puts_head (PutHeld name bytes one two) = is_head name
 puts_head ask = false
 
-ask_is : (a b : Ask) → Some a ≡ Some b → a ≡ b
-ask_is a b e = cc
-
-never : true ≡ false → ⊥
-never e = cc
-
 -- an ask that puts no head is none that does
 no_put : {X : Type 0} (a : Ask) (client : ℕ) (bytes : List ℕ) (one : Claim) (two : Option Claim) → puts_head a ≡ false → a ≡ PutHeld (object.Head client) bytes one two → X
-no_put a client bytes one two none e = absurd (never (sym (ap puts_head e) ∙ none))
+no_put a client bytes one two none e = absurd (true≢false (sym (ap puts_head e) ∙ none))
 
 -- ---- the whole
 
@@ -70,18 +53,18 @@ commit_opens r client bytes p = record { head = p.head; spells = p.spells; clien
 pub head_put : (st : Store) (now : ℕ) (c : Cache) (work : Work) (part : Part) → KnowsWork st now c work part → IsSoundWork work → (client : ℕ) (bytes : List ℕ) (one : Claim) (two : Option Claim)
     → ask_of_work work ≡ Some (PutHeld (object.Head client) bytes one two) → PutsHead work client bytes
 head_put st now c (Opening r) part k sound client bytes one two e =
-    let p = opening_puts st now r part client bytes one two k sound (ask_is _ _ e) in
+    let p = opening_puts st now r part client bytes one two k sound (same_Some _ _ e) in
     record { head = p.head; spells = p.spells; client_is = p.client_is; how = inr (refl, p.settled) }
-head_put st now c (Committing r) part k sound client bytes one two e = commit_opens r client bytes (run_puts st now (r, c) client bytes one two part (ask_is _ _ e) k sound)
-head_put st now c (Folding home m) part k sound client bytes one two e = absurd (making_puts_none m client bytes one two (ask_is _ _ e))
-head_put st now c (Paging home p) part k sound client bytes one two e = absurd (paging_puts_none p client bytes one two (ask_is _ _ e))
-head_put st now c (Reading home m) part k sound client bytes one two e = no_put (walk_ask m) client bytes one two refl (ask_is _ _ e)
-head_put st now c (Scanning home m) part k sound client bytes one two e = no_put (scan_ask m.scan) client bytes one two refl (ask_is _ _ e)
+head_put st now c (Committing r) part k sound client bytes one two e = commit_opens r client bytes (run_puts st now (r, c) client bytes one two part (same_Some _ _ e) k sound)
+head_put st now c (Folding home m) part k sound client bytes one two e = absurd (making_puts_none m client bytes one two (same_Some _ _ e))
+head_put st now c (Paging home p) part k sound client bytes one two e = absurd (paging_puts_none p client bytes one two (same_Some _ _ e))
+head_put st now c (Reading home m) part k sound client bytes one two e = no_put (walk_ask m) client bytes one two refl (same_Some _ _ e)
+head_put st now c (Scanning home m) part k sound client bytes one two e = no_put (scan_ask m.scan) client bytes one two refl (same_Some _ _ e)
 head_put st now c (Settling m) part k sound client bytes one two e =
-    let p = settling_puts st now m part client bytes one two k sound (ask_is _ _ e) in
+    let p = settling_puts st now m part client bytes one two k sound (same_Some _ _ e) in
     record { head = p.head; spells = p.spells; client_is = p.client_is; how = inr (refl, p.settled) }
-head_put st now c (Closing l) part k sound client bytes one two e = no_put (Release l) client bytes one two refl (ask_is _ _ e)
-head_put st now c (Renewing home) part k sound client bytes one two e = no_put (Renew home.lease 600) client bytes one two refl (ask_is _ _ e)
+head_put st now c (Closing l) part k sound client bytes one two e = no_put (Release l) client bytes one two refl (same_Some _ _ e)
+head_put st now c (Renewing home) part k sound client bytes one two e = no_put (Renew home.lease 600) client bytes one two refl (same_Some _ _ e)
 head_put st now c Closed part k sound client bytes one two e = absurd (cc)
 head_put st now c (Idle home) part k sound client bytes one two e = absurd (cc)
 head_put st now c (Broken l) part k sound client bytes one two e = absurd (cc)

@@ -19,12 +19,10 @@ use Rattle.session_facts.specs.Sessions.Explaining.{Explains, IsShown, Meets, le
 use Rattle.session_facts.specs.Sessions.Sessions.{leases_of}
 use Rattle.session_facts.proofs.Sessions.Answered.{stopped_none}
 use Rattle.session_facts.proofs.Sessions.Showing.{release_shown, renewed_shown}
+use Rattle.std.proofs.lemmas.Option.{same_Some}
 
 never_some : {X : Type 0} (o : Option Trouble) (k : Trouble) → o ≡ None → o ≡ Some k → X
 never_some o k none some = absurd (cc (none, some))
-
-same_trouble : (a b : Trouble) → Some a ≡ Some b → a ≡ b
-same_trouble a b e = cc
 
 module _ (who : Caller) (before after : Seen) (s t : CloudState) (told : before.state ≡ Some s) (told_after : after.state ≡ Some t) where
   abbrev Shows : Ask → Work → Trouble → Type 0
@@ -53,7 +51,7 @@ module _ (who : Caller) (before after : Seen) (s t : CloudState) (told : before.
       one_call (Release lease) (Closing lease) work answer.Closed refl (ap trouble_in steps.1) (λ k e. none_is k e) (inl (omega arith))
   closing_explains lease work (Ended (answer.Trouble q)) steps =
       one_call (Release lease) (Closing lease) work (answer.Trouble q) refl (ap trouble_in steps.1)
-      (λ k e. subst (Shows (Release lease) (Closing lease)) (same_trouble q k e)
+      (λ k e. subst (Shows (Release lease) (Closing lease)) (same_Some q k e)
       (release_shown who before after s t told told_after (lease ∷ []) (spent_for (Closing lease)) lease (steps.0).answer (steps.0).made q (steps.0).took)) (inl (omega arith))
   closing_explains lease work More never = absurd never
   closing_explains lease work (Stopped q) never = absurd never
@@ -72,7 +70,7 @@ module _ (who : Caller) (before after : Seen) (s t : CloudState) (told : before.
       one_call (Renew home.lease 600) (Renewing home) work (answer.Renewed end) refl (ap trouble_in steps.2) (λ k e. none_is k e) (inl (omega arith))
   renewing_explains home work (Ended (answer.Trouble q)) steps =
       one_call (Renew home.lease 600) (Renewing home) work (answer.Trouble q) refl (ap trouble_in steps.2 ∙ stopped_none q steps.0)
-      (λ k e. subst (Shows (Renew home.lease 600) (Renewing home)) (same_trouble q k e)
+      (λ k e. subst (Shows (Renew home.lease 600) (Renewing home)) (same_Some q k e)
       (renewed_shown who before after s t told told_after (home.lease ∷ []) (spent_for (Renewing home)) home.lease 600 (steps.1).answer (steps.1).made q (steps.1).took)) (inl (omega arith))
   renewing_explains home work More never = absurd never
   renewing_explains home work (Stopped q) never = absurd never

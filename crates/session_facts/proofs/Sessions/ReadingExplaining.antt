@@ -49,18 +49,13 @@ use Rattle.session_facts.proofs.Scans.Explaining.{scan_shown}
 use Rattle.session_facts.proofs.Walks.Explaining.{walk_shown}
 use Rattle.tree_walk.specs.Walk.{Walk, walk_ask}
 use Rattle.txn_buffer.specs.Noted.{Noted}
+use Rattle.std.proofs.lemmas.Option.{same_Some}
+use Rattle.session_facts.proofs.Sessions.Answered.{stopped_none}
 
 no_trouble : (o : Option Trouble) (k : Trouble) → o ≡ None → o ≡ Some k → ⊥
 no_trouble o k none some = cc
 
-one_trouble : (a b : Trouble) → Some a ≡ Some b → a ≡ b
-one_trouble a b e = cc
-
 -- ---- operations that keep no trouble and delete nothing
-
-stopped_plain : (k : Trouble) (home : Home) → trouble_in (stopped_work k home) ≡ None
-stopped_plain trouble.Memory home = refl
-stopped_plain k home = refl
 
 committed_plain : (a : CommitAnswer) (home : Home) → trouble_in (committed_work a home) ≡ None
 committed_plain InDoubt home = refl
@@ -114,8 +109,8 @@ module _ (who : Caller) (before after : Seen) (s t : CloudState) (book : Book) (
     reading_explains d work shown (Ended answer.Value) (m, page, steps, at, work_is, none) =
         ends_explains (walk_ask w) before.counts after.counts s t (Reading home w) work refl (ap trouble_in work_is) answer.Value refl (λ k e other. absurd (no_trouble None k refl e))
     reading_explains d work shown (Ended (answer.Trouble q)) (m, steps, work_is, none) =
-        ends_explains (walk_ask w) before.counts after.counts s t (Reading home w) work refl (ap trouble_in work_is ∙ stopped_plain q home) (answer.Trouble q) refl
-        (λ k e other. subst ShowsRead (one_trouble q k e) (stops (λ memory. other (sym (one_trouble q k e) ∙ memory))))
+        ends_explains (walk_ask w) before.counts after.counts s t (Reading home w) work refl (ap trouble_in work_is ∙ stopped_none q home) (answer.Trouble q) refl
+        (λ k e other. subst ShowsRead (same_Some q k e) (stops (λ memory. other (sym (same_Some q k e) ∙ memory))))
       where
         stops : q ≢ trouble.Memory → ShowsRead q
         stops other =
@@ -147,7 +142,7 @@ module _ (who : Caller) (before after : Seen) (s t : CloudState) (book : Book) (
         ends_explains (scan_ask l.scan) before.counts after.counts s t (Scanning home l) work refl (ap trouble_in work_is) answer.Scan refl (λ k e other. absurd (no_trouble None k refl e))
     lists buffer m d work shown (Ended (answer.Trouble q)) (memory, work_is, none) =
         ends_explains (scan_ask l.scan) before.counts after.counts s t (Scanning home l) work refl (ap trouble_in work_is) (answer.Trouble q) refl
-        (λ k e other. absurd (other (sym (one_trouble q k e) ∙ memory)))
+        (λ k e other. absurd (other (sym (same_Some q k e) ∙ memory)))
     lists buffer m d work shown (Stopped q) never = absurd never
     lists buffer m d work shown (Ended (answer.Opened epoch)) never = absurd never
     lists buffer m d work shown (Ended answer.Closed) never = absurd never
@@ -175,8 +170,8 @@ module _ (who : Caller) (before after : Seen) (s t : CloudState) (book : Book) (
         on (Ended page) took listed = lists buffer (record { scan = p.scan; pairs = l.pairs }) d work shown turn listed
         on (Stopped q) took (work_is, none, stopped) =
             subst (λ x. ScanExplained work x) (sym stopped)
-            (ends_explains (scan_ask l.scan) before.counts after.counts s t (Scanning home l) work refl (ap trouble_in work_is ∙ stopped_plain q home) (answer.Trouble q) refl
-            (λ k e other. subst ShowsScan (one_trouble q k e) (stops q took (λ memory. other (sym (one_trouble q k e) ∙ memory)))))
+            (ends_explains (scan_ask l.scan) before.counts after.counts s t (Scanning home l) work refl (ap trouble_in work_is ∙ stopped_none q home) (answer.Trouble q) refl
+            (λ k e other. subst ShowsScan (same_Some q k e) (stops q took (λ memory. other (sym (same_Some q k e) ∙ memory)))))
 
   -- ---- a commit
 
@@ -202,9 +197,9 @@ module _ (who : Caller) (before after : Seen) (s t : CloudState) (book : Book) (
     -- the trouble of the end of a commit
     end_shown : (a : CommitAnswer) (k : Trouble) → trouble_of_commit a ≡ Some k → EndsBy ShowsCommit a → ShowsCommit k
     end_shown (Committed txn) k e shows = absurd (no_trouble None k refl e)
-    end_shown (NotCommitted q) k e shows = subst ShowsCommit (one_trouble q k e) shows
-    end_shown InDoubt k e shows = subst ShowsCommit (one_trouble trouble.Failed k e) shows
-    end_shown (CommittedOpen q) k e shows = subst ShowsCommit (one_trouble q k e) shows
+    end_shown (NotCommitted q) k e shows = subst ShowsCommit (same_Some q k e) shows
+    end_shown InDoubt k e shows = subst ShowsCommit (same_Some trouble.Failed k e) shows
+    end_shown (CommittedOpen q) k e shows = subst ShowsCommit (same_Some q k e) shows
 
     -- by a call that found memory
     pub committing_explains : (c : Cache) (work : Work) (turn : Turn Answer) (steps : StepsCommit who before after r kept c work turn)
@@ -216,8 +211,8 @@ module _ (who : Caller) (before after : Seen) (s t : CloudState) (book : Book) (
         (λ k e other. end_shown a k e (subst (EndsWell ShowsCommit) steps.took (leads steps.answer steps.made some)))
     committing_explains c work (Ended (answer.Trouble q)) (m, steps, work_is) some =
         ends_explains (run_ask r) before.counts after.counts s t (Committing r) work refl (ap trouble_in work_is) (answer.Trouble q) refl
-        (λ k e other. subst ShowsCommit (one_trouble q k e)
-        (subst (EndsWell ShowsCommit) (steps.took.0 (λ memory. other (sym (one_trouble q k e) ∙ memory))) (leads steps.answer steps.made some)))
+        (λ k e other. subst ShowsCommit (same_Some q k e)
+        (subst (EndsWell ShowsCommit) (steps.took.0 (λ memory. other (sym (same_Some q k e) ∙ memory))) (leads steps.answer steps.made some)))
     committing_explains c work (Stopped q) never some = absurd never
     committing_explains c work (Ended (answer.Opened epoch)) never some = absurd never
     committing_explains c work (Ended answer.Closed) never some = absurd never

@@ -26,7 +26,7 @@ use Rattle.report_types.specs.declared.entry.Entry.{Entry}
 use Rattle.session_facts.specs.Sessions.Sessions.{IsHome}
 use Rattle.session_facts.proofs.Sessions.GettingSteps.{get_handles, get_out, broken_out}
 use Rattle.session_facts.proofs.Sessions.LeaseSteps.{IsStepOf}
-use Rattle.session_facts.proofs.Sessions.Troubles.{memory_or, stays_open}
+use Rattle.session_facts.proofs.Sessions.Troubles.{stays_open}
 use Rattle.cloud_facts.specs.Book.Book.{Book}
 use Rattle.cloud_facts.specs.Book.Tally.{Store}
 use Rattle.cloud_facts.specs.Tellings.Told.{store_of}
@@ -34,6 +34,7 @@ use Rattle.tree_walk.specs.Walk.{Walk, object_of, walk_ask, walk_next}
 use Rattle.session_facts.specs.Walks.Caches.{KnowsCache}
 use Rattle.session_facts.specs.Walks.Walks.{KnowsWalk, KnowsWalking, IsAtSeenLeaf, WalkLeads, MayStop}
 use Rattle.session_facts.proofs.Walks.Walks.{walk_goes}
+use Rattle.tree_walk.proofs.Serving.{memory_or}
 
 module _ (who : Caller) (before after : Seen) (book : Book) (order : List Entry) (s t : CloudState) (parts : Parts) (home : Home) (w : Walk)
     (setting : s.now ≤ t.now → Setting book order s t.now parts who.session (home.lease ∷ [])) (knows : s.now ≤ t.now → IsHome (store_of book order s) t.now home (parts who.session))

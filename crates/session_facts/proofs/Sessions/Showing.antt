@@ -3,7 +3,7 @@ use Rattle.std.proofs.Common.{◌≡◌, ◌≢◌, ◌<◌, ◌⊎◌, inl, inr
 use Rattle.calm_calls.specs.Calm.{NamesLasting}
 use Rattle.cloud_trait.specs.declared.answer.Answer.{Answer}
 use Rattle.cloud_trait.specs.declared.answer.Answer.TheVariants.{Got, Sent, Received, Done, Given, Held, Renewed, Late, Failed, Memory}
-use Rattle.cloud_trait.specs.Ask.{Ask, Get, GetHeld, PutHeld, Send, Receive, Delete, Take, Renew, Release}
+use Rattle.cloud_trait.specs.Ask.{Ask, GetHeld, PutHeld, Send, Receive, Delete, Take, Renew, Release}
 use Rattle.cloud_trait.specs.Caller.{Caller}
 use Rattle.cloud_trait.specs.Claim.{Claim, Lasts, IsOver}
 use Rattle.cloud_trait.specs.Seen.{Seen}
@@ -59,18 +59,6 @@ module _ (who : Caller) (before after : Seen) (s t : CloudState) (told : before.
   failed_shown ask made = made.failed refl
 
   -- ---- a get
-
-  pub get_shown : (name : ObjName) (a : Answer) → Call (Get name) a → (k : Trouble) → got_of a ≡ Err k → Shown (Get name) k
-  get_shown name Failed made k e = by_trouble (Get name) trouble.Failed k (cc) (failed_shown (Get name) made)
-  get_shown name Memory made k e = by_trouble (Get name) trouble.Memory k (cc) tt
-  get_shown name (Got v) made k e = absurd (cc)
-  get_shown name (Late end now) made k e = absurd made.fits
-  get_shown name (Given l) made k e = absurd made.fits
-  get_shown name (Held until) made k e = absurd made.fits
-  get_shown name (Sent id) made k e = absurd made.fits
-  get_shown name (Received ms) made k e = absurd made.fits
-  get_shown name Done made k e = absurd made.fits
-  get_shown name (Renewed end) made k e = absurd made.fits
 
   pub got_shown : (name : ObjName) (l : Claim) (a : Answer) → Call (GetHeld name l) a → (k : Trouble) → got_of a ≡ Err k → Shown (GetHeld name l) k
   got_shown name l Failed made k e = by_trouble (GetHeld name l) trouble.Failed k (cc) (failed_shown (GetHeld name l) made)

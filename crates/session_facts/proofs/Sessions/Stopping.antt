@@ -42,7 +42,6 @@ use Rattle.session_facts.specs.Sessions.Answering.{MayRefuse, MayAnswer}
 use Rattle.session_facts.specs.Sessions.Sessions.{leases_of, KnowsWork, KnowsKept, Sessions, SessionsStand}
 use Rattle.session_facts.proofs.Sessions.Laws.{setting_of, known_at}
 use Rattle.session_facts.proofs.Sessions.SettlingStops.{settling_stops}
-use Rattle.session_facts.proofs.Sessions.Troubles.{memory_or}
 use Rattle.settle_run.specs.Settling.{Settling as SettlingState, settle_ask}
 use Rattle.cloud_facts.specs.Book.Book.{Book}
 use Rattle.cloud_facts.specs.Book.Tally.{Store}
@@ -55,6 +54,7 @@ use Rattle.tree_walk.specs.Walk.{Walk, walk_ask}
 use Rattle.txn_buffer.specs.Noted.{Noted}
 use Rattle.session_facts.specs.Walks.Walks.{MayStop as MayStopWalk}
 use Rattle.session_facts.proofs.Walks.Walks.{walk_stops}
+use Rattle.tree_walk.proofs.Serving.{memory_or}
 
 -- a trouble is want of memory, or what comes of it where memory did not run out
 pub or_memory : (May : Trouble → Type 0) (k : Trouble) → May trouble.Memory → (k ≢ trouble.Memory → May k) → May k

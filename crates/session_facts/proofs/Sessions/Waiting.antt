@@ -34,9 +34,7 @@ use Rattle.session_facts.proofs.Settlings.Explaining.{trouble_by}
 use Rattle.session_facts.proofs.Settlings.Late.{SettlingGivesBack, settle_waits}
 use Rattle.settle_run.specs.Parts.{IsSoundPart}
 use Rattle.settle_run.specs.Settling.{Settling as SettlingState, Step as SettlingStep, settle_ask, SettleLeads}
-
-never_some : {X : Type 0} → (x : X) → None ≡ Some x → ⊥
-never_some x e = cc
+use Rattle.std.proofs.lemmas.Option.{none-some}
 
 -- it is about to give back a lease that is over
 gives_back : (w : Work) (ask : Ask) (now : ℕ) → ask_of_work w ≡ Some ask → (l : Claim) × (ask ≡ Release l) × IsOver now l → GivesLateBack w now
@@ -77,11 +75,11 @@ module _ (who : Caller) (before after : Seen) (s t : CloudState) where
             → ReceivesLate (recovery_ask r) (leases_of_recovery r) t.now → WaitsLate work turn t.now
         late_one More (m, steps, is, fewer) (inl kept) late =
             gives_back work (recovery_ask m) t.now (ap ask_of_work is) (gives_late steps.answer none (Goes m) steps.took have need (sym (ap trouble_in is) ∙ kept) late)
-        late_one More (m, steps, is, fewer) (inr now) late = absurd (never_some (trouble.Waiting have need) now)
+        late_one More (m, steps, is, fewer) (inr now) late = absurd (none-some (trouble.Waiting have need) now)
         late_one (Ended (answer.Opened epoch)) (m, steps, is) (inl kept) late =
-            absurd (never_some (trouble.Waiting have need) (sym (ap trouble_in is ∙ opened_none (home_of m)) ∙ kept))
-        late_one (Ended (answer.Opened epoch)) (m, steps, is) (inr now) late = absurd (never_some (trouble.Waiting have need) now)
-        late_one (Ended (answer.Trouble q)) (m, steps, is) (inl kept) late = absurd (never_some (trouble.Waiting have need) (sym (ap trouble_in is) ∙ kept))
+            absurd (none-some (trouble.Waiting have need) (sym (ap trouble_in is ∙ opened_none (home_of m)) ∙ kept))
+        late_one (Ended (answer.Opened epoch)) (m, steps, is) (inr now) late = absurd (none-some (trouble.Waiting have need) now)
+        late_one (Ended (answer.Trouble q)) (m, steps, is) (inl kept) late = absurd (none-some (trouble.Waiting have need) (sym (ap trouble_in is) ∙ kept))
         late_one (Ended (answer.Trouble q)) (m, steps, is) (inr now) late =
             let same : q ≡ trouble.Waiting have need = cc (now) in
             gives_late steps.answer none (Stops m q) (steps.took.0 (λ (e : q ≡ trouble.Memory). cc (same, e))) have need same late
@@ -115,10 +113,10 @@ module _ (who : Caller) (before after : Seen) (s t : CloudState) where
         on : Withheld ⊎ SettlingGivesBack (Goes n) t.now → Withheld ⊎ WaitsLate work More t.now
         on (inl rose) = inl rose
         on (inr late) = inr (gives_back work (settle_ask n) t.now (ap ask_of_work is) late)
-    settling_waits work More (n, steps, is, less) none have need (inr now) = absurd (never_some (trouble.Waiting have need) now)
-    settling_waits work (Ended (answer.Settled x)) (n, steps, is) none have need (inl kept) = absurd (never_some (trouble.Waiting have need) (sym (ap trouble_in is) ∙ kept))
-    settling_waits work (Ended (answer.Settled x)) (n, steps, is) none have need (inr now) = absurd (never_some (trouble.Waiting have need) now)
-    settling_waits work (Ended (answer.Trouble q)) (n, steps, is) none have need (inl kept) = absurd (never_some (trouble.Waiting have need) (sym (ap trouble_in is) ∙ kept))
+    settling_waits work More (n, steps, is, less) none have need (inr now) = absurd (none-some (trouble.Waiting have need) now)
+    settling_waits work (Ended (answer.Settled x)) (n, steps, is) none have need (inl kept) = absurd (none-some (trouble.Waiting have need) (sym (ap trouble_in is) ∙ kept))
+    settling_waits work (Ended (answer.Settled x)) (n, steps, is) none have need (inr now) = absurd (none-some (trouble.Waiting have need) now)
+    settling_waits work (Ended (answer.Trouble q)) (n, steps, is) none have need (inl kept) = absurd (none-some (trouble.Waiting have need) (sym (ap trouble_in is) ∙ kept))
     settling_waits work (Ended (answer.Trouble q)) (n, steps, is) none have need (inr now) =
         let same : q ≡ trouble.Waiting have need = cc (now) in
         only (waits_by steps.did.answer steps.did.made (Stops n q) (steps.did.took.0 (λ (e : q ≡ trouble.Memory). cc (same, e))) none have need same)

@@ -54,10 +54,6 @@ in_distinct ids n is = on (new_all [] ids n is)
 pub apart_distinct : (xs ids : List ℕ) → Apart xs → ((n : ℕ) → IsIn xs n → IsIn ids n) → length xs ≤ length (distinct ids)
 apart_distinct xs ids apart within = apart_fits xs (distinct ids) apart (λ n is. in_distinct ids n (within n is))
 
--- the distinct ones of some of these ids
-pub distinct_within : (xs ids : List ℕ) → ((n : ℕ) → IsIn xs n → IsIn ids n) → length (distinct xs) ≤ length (distinct ids)
-distinct_within xs ids within = apart_distinct (distinct xs) ids (new_apart [] xs) (λ n is. within n (new_in [] xs n is))
-
 -- there are no more than ids
 pub distinct_few : (ids : List ℕ) → length (distinct ids) ≤ length ids
 distinct_few ids = apart_fits (distinct ids) ids (new_apart [] ids) (λ n is. new_in [] ids n is)

@@ -27,17 +27,14 @@ use Rattle.recover_run.proofs.Marks.{others, marked_leaves}
 use Rattle.run_cursor.specs.Covered.{is_covered, is_seen, new_ones, covered_ids}
 use Rattle.run_cursor.specs.Run.{IsRun}
 use Rattle.session_facts.proofs.Runs.Received.{each_in, all_in, items_sent, item_client, new_in, covered_in}
-use Rattle.session_facts.proofs.Settled.Queues.{empty_of}
 use Rattle.session_facts.specs.TreeCheckpoints.Counting.{Apart}
 use Rattle.session_facts.proofs.Trees.RisingGrounds.{in_dropped}
 use Rattle.session_facts.proofs.Trees.Unseen.{seen_in}
 use Rattle.session_facts.specs.Runs.Runs.{IsSentItem}
+use Rattle.cloud_facts.proofs.Orders.Filters.{nothing_in}
+use Rattle.session_facts.proofs.Trees.Planning.{each_by}
 
 -- ---- lists
-
-each_of : {X : Type 0} (P : X → Type 0) (xs : List X) → ((x : X) → IsIn xs x → P x) → AllByRecursion P xs
-each_of P [] each = tt
-each_of P (x ∷ xs) each = (each x (in_first x xs), each_of P xs (λ y is. each y (in_rest x xs y is)))
 
 id_in : (ms : List Message) (m : Message) → IsIn ms m → IsIn (ids_of ms) m.id
 id_in [] m is = absurd (none_in m is)
@@ -58,7 +55,7 @@ id_of (x ∷ ms) id is = on (id_of ms id) (in_cases x.id (ids_of ms) id is)
 -- what is in a list is in another one that has the same, in an order
 moved_in : (xs ys : List Message) → IsPermutation xs ys → (m : Message) → IsIn ys m → IsIn xs m
 moved_in xs ys moves m there =
-    all_in (IsIn xs) ys (All-permutation (IsIn xs) xs ys moves (All-from_recursion (IsIn xs) xs (each_of (IsIn xs) xs (λ x k. k)))) m there
+    all_in (IsIn xs) ys (All-permutation (IsIn xs) xs ys moves (All-from_recursion (IsIn xs) xs (each_by (IsIn xs) xs (λ x k. k)))) m there
 
 -- a delivering receive brings the same messages
 delivered_in : (posts : List Posted) (most : ℕ) (messages : List Message) → IsDelivering posts most messages → (m : Message) → IsIn messages m
@@ -176,7 +173,7 @@ parts_apart (suc k) (x ∷ ms) apart a b one other = on (parts_apart k ms apart.
 module _ (posts : List Posted) (most : ℕ) (messages : List Message) (ids : List ℕ) (delivers : IsDelivering posts most messages)
     (all : (id : ℕ) → IsIn (ids_of messages) id → IsIn ids id) (only : (id : ℕ) → IsIn ids id → IsIn (ids_of messages) id) where
   gone : left_by ids (take most (unmarked posts)) ≡ []
-  gone = empty_of (left_by ids (take most (unmarked posts)))
+  gone = nothing_in (left_by ids (take most (unmarked posts)))
       (λ m is. let l = left_in ids (take most (unmarked posts)) m is in l.1 (all m.id (id_in messages m (in_delivered posts most messages delivers m l.0))))
 
   stay : left_by ids (drop most (unmarked posts)) ≡ drop most (unmarked posts)

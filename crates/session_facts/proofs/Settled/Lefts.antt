@@ -17,7 +17,7 @@ use Rattle.cloud_trait.specs.declared.message.Message.{Message}
 use Rattle.db_base.specs.Ids.{IsClient, IsPage, IsTree}
 use Rattle.db_base.specs.declared.names.QueueName.TheVariants as queue
 use Rattle.head_codec.specs.declared.head.Phase.TheVariants.{Settled}
-use Rattle.session_facts.proofs.Settled.Queues.{in_rest, AreNews, empty_of}
+use Rattle.session_facts.proofs.Settled.Queues.{AreNews}
 use Rattle.session_facts.specs.Settled.Bound.{LeadAlong}
 use Rattle.session_facts.specs.Settled.Runs.{waiting, right_at}
 use Rattle.session_facts.specs.Settled.Story.{Moment, store_at}
@@ -26,6 +26,8 @@ use Rattle.settle_run.specs.Settling.{Settling}
 use Rattle.settle_run.specs.declared.part.Part.{Part}
 use Rattle.settle_run.specs.declared.part.Part.TheVariants.{Client, Tree, Page}
 use Rattle.settle_run.specs.declared.settled.Settled.{Settled as Answered}
+use Rattle.cloud_facts.proofs.Chains.Pieces.{in_rest}
+use Rattle.cloud_facts.proofs.Orders.Filters.{nothing_in}
 
 -- ---- what is left
 
@@ -146,7 +148,7 @@ module _ (m : Moment) (tree page : ℕ) (visited : List ℕ) (is_tree : IsTree t
   -- what waits is a record that goes to its queue, which is the tree's or that of a leaf of the chain
   pub tree_rests : NoneWaits tree s
   tree_rests zero = rest.own
-  tree_rests (suc n) = empty_of (waiting s (queue.PagePu tree (suc n))) (λ x is. none x is)
+  tree_rests (suc n) = nothing_in (waiting s (queue.PagePu tree (suc n))) (λ x is. none x is)
     where
       none : (x : Message) → IsIn (waiting s (queue.PagePu tree (suc n))) x → ⊥
       none x is = by (m.stand.cloud.holds.numbers.placed r.of r.logged).routed

@@ -1,7 +1,7 @@
 -- The checkpoint of a page runs whole within a settling: it marks what it received, makes few calls, and no right page changes.
 use Rattle.std.proofs.Common.{◌≡◌, ◌+◌, ◌*◌, ◌<◌, ◌≤◌, ◌⊎◌, inl, inr, ℕ, Bool, true, false, cond, List, [], ◌∷◌, ◌++◌, length, map, filter, Option, Some, None, Ok, refl, sym, ap, subst, ◌∙◌, arith, mul-add, mul-le-mul_right}
 use Rattle.std.proofs.lemmas.Bool.{cases_lt}
-use Rattle.std.proofs.lemmas.List.{length-map}
+use Rattle.std.proofs.lemmas.List.{length-map, nil_from_length}
 use Rattle.std.proofs.lemmas.List.Sums.{length-filter, count_by-le-length}
 use Rattle.ckpt_parts.specs.Intakes.{has_items, items_of}
 use Rattle.cloud_facts.proofs.Chains.Pieces.{none_in}
@@ -32,7 +32,6 @@ use Rattle.session_facts.proofs.Settled.Draining.{item_ids}
 use Rattle.session_facts.proofs.Settled.PageDrains.{ending, story, turn, known, went as went_there, done, page_drains, right_read, same_rights}
 use Rattle.session_facts.proofs.Settled.PageStories.{GoesFrom, goes_from, turn_page}
 use Rattle.session_facts.proofs.Settled.PageVisits.{Visits, step_visits, came_apart}
-use Rattle.session_facts.proofs.Settled.Queues.{empty_of}
 use Rattle.session_facts.proofs.Settled.TreeLists.{pages_fit}
 use Rattle.session_facts.proofs.Settled.TreeReceives.{covered_fits}
 use Rattle.session_facts.specs.Few.{distinct, next_page, IsFew}
@@ -42,6 +41,7 @@ use Rattle.session_facts.specs.Settled.Story.{Moment, store_at, IsTurn, PartStor
 use Rattle.session_facts.specs.Settlings.Settling.{MakesPage}
 use Rattle.settle_run.specs.declared.part.Part.{Part}
 use Rattle.settle_run.specs.declared.part.Part.TheVariants.{Page}
+use Rattle.cloud_facts.proofs.Orders.Filters.{nothing_in}
 
 -- ---- the right pages that it came to are of the leaf chain
 
@@ -160,12 +160,8 @@ main_short : (s : Scene) (lease : Claim) (o : Opening) (visits : List Visit) (ou
 main_short s lease o visits (Some out) works none = absurd (no_items s.run.items works.0 none)
 main_short s lease o visits None works none = subst (λ (vs : List Visit). length (main_calls s lease o vs None) ≡ 3) (sym works.1) refl
 
-no_long : {X : Type 0} (xs : List X) → length xs ≡ 0 → xs ≡ []
-no_long [] e = refl
-no_long (x ∷ xs) e = absurd (omega (arith, e))
-
 run_none : (cursor : List (ℕ × ℕ)) (items run : List PuItem) (top : List (ℕ × ℕ)) → IsRun cursor items run top → items ≡ [] → run ≡ []
-run_none cursor items run top is_run none = empty_of run (λ x is. none_in x (subst (λ (xs : List PuItem). IsIn xs x) none (run_in cursor items run top is_run x is)))
+run_none cursor items run top is_run none = nothing_in run (λ x is. none_in x (subst (λ (xs : List PuItem). IsIn xs x) none (run_in cursor items run top is_run x is)))
 
 few_with : (calls d tried visits pages : ℕ) → calls ≤ 5 + tried + 4 * visits → tried ≤ d → visits ≤ pages → 1 ≤ d → calls ≤ 16 + d * (8 * pages + 16)
 few_with calls d tried visits pages few most fits some =
@@ -222,7 +218,7 @@ module _ (tree page : ℕ) (m : Paging) (h : List Deed) (first last : Moment) (r
       let told = ap length d.opened.told in
       let ids = length-map d.opening.messages (λ (x : Message). x.id) in
       let items = items_long d.opening.messages d.opening.items d.opened.read in
-      let empty : d.opening.items ≡ [] = no_long d.opening.items (omega (arith, told, ids, items, none)) in
+      let empty : d.opening.items ≡ [] = nil_from_length d.opening.items (omega (arith, told, ids, items, none)) in
       let main = main_short (scene m) d.lease d.opening d.visits d.out d.works (run_none d.opening.cursor d.opening.items m.run.items m.run.top d.opened.run empty) in
       let shape = ap length d.calls in
       let deletes = deletes_long (scene m) d.tried (main_calls (scene m) d.lease d.opening d.visits d.out) in

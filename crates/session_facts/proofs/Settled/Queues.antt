@@ -14,11 +14,11 @@ use Rattle.recover_run.proofs.Marks.{brought_all, brought_none}
 use Rattle.recover_run.proofs.Sweeping.{none_new}
 use Rattle.recover_run.specs.Ids.{has_id, new_ids}
 use Rattle.session_facts.specs.Settled.Runs.{waiting, Drains}
+use Rattle.cloud_facts.proofs.Chains.Pieces.{in_rest}
+use Rattle.cloud_facts.proofs.Orders.Filters.{nothing_in}
+use Rattle.session_facts.proofs.Trees.Planning.{each_by}
 
 -- ---- lists
-
-pub in_rest : {X : Type 0} (y : X) (xs : List X) (x : X) → IsIn xs x → IsIn (y ∷ xs) x
-in_rest y xs x is = (suc is.0, is.1)
 
 pub any_in : (ids : List ℕ) (id : ℕ) → has_id ids id ≡ true → IsIn ids id
 any_in [] id e = absurd (cc (e))
@@ -36,14 +36,6 @@ new_in set (id ∷ ids) x is = on (has_id set id) is (λ other h. new_in other i
     on true h again = in_rest id ids x (again set h)
     on false (zero, e) again = (zero, e)
     on false (suc place, e) again = in_rest id ids x (again (set ++ id ∷ []) (place, e))
-
-pub empty_of : {X : Type 0} (xs : List X) → ((x : X) → IsIn xs x → ⊥) → xs ≡ []
-empty_of [] none = refl
-empty_of (x ∷ xs) none = absurd (none x (zero, refl))
-
-all_in : {X : Type 0} (P : X → Type 0) (xs : List X) → ((x : X) → IsIn xs x → P x) → AllByRecursion P xs
-all_in P [] each = tt
-all_in P (x ∷ xs) each = (each x (zero, refl), all_in P xs (λ y is. each y (in_rest x xs y is)))
 
 -- ---- a queue
 
@@ -68,7 +60,7 @@ module _ (q : QueueName) (known received : List ℕ) (first last : CloudState) (
           let all : AllByRecursion (λ (id : ℕ). has_id known id ≡ true) (ids_of (m ∷ ms)) =
           subst (λ (l : List ℕ). AllByRecursion (λ (id : ℕ). has_id known id ≡ true) l) (drains.told ∙ ap ids_of e) (none_new known received none) in
           let unknown : AllByRecursion Unknown (m ∷ ms) =
-          subst (AllByRecursion Unknown) e (brought_all Unknown (first.messages q) 256 drains.messages drains.delivered (all_in Unknown (waiting first q) news)) in
+          subst (AllByRecursion Unknown) e (brought_all Unknown (first.messages q) 256 drains.messages drains.delivered (each_by Unknown (waiting first q) news)) in
           absurd (unknown.0 (any_in known m.id all.0))
 
   pub none_told : new_ids known received ≡ [] → received ≡ []
@@ -79,7 +71,7 @@ module _ (q : QueueName) (known received : List ℕ) (first last : CloudState) (
   none_waited none = brought_none (first.messages q) 256 (omega arith) (subst (IsDelivering (first.messages q) 256) (none_brought none) drains.delivered)
 
   pub none_left : new_ids known received ≡ [] → waiting last q ≡ []
-  none_left none = empty_of (waiting last q) (λ m is. in_none (waiting first q) m (none_waited none) (drains.kept m is).0)
+  none_left none = nothing_in (waiting last q) (λ m is. in_none (waiting first q) m (none_waited none) (drains.kept m is).0)
 
   -- what waits behind it was not received before, nor by it
   pub news_left : (ids : List ℕ) → new_ids known received ≡ ids → AreNews (known ++ ids) q last

@@ -46,6 +46,7 @@ use Rattle.recover_run.proofs.Meaning.{Knows, came_known}
 use Rattle.recover_run.proofs.Leases.{stands_names}
 use Rattle.recover_run.proofs.Sweeping.{all_has, each_has}
 use Rattle.recover_run.proofs.Within.{went_few}
+use Rattle.std.proofs.lemmas.Option.{same_Some}
 
 -- ---- states that follow one another
 
@@ -54,16 +55,13 @@ abbrev pub LeadsOver : CloudState → List Deed → CloudState → Type 0
 LeadsOver first [] now = now ≡ first
 LeadsOver first (d ∷ h) now = (b : CloudState) × LeadsOver first h b × IsMade d × (d.before.state ≡ Some b) × (d.after.state ≡ Some now)
 
-state_is : (s t : CloudState) → Some s ≡ Some t → s ≡ t
-state_is s t e = cc
-
 -- the row of a call
 pub deed_row : (d : Deed) (b t : CloudState) → IsMade d → d.before.state ≡ Some b → d.after.state ≡ Some t → Weather d.who d.ask d.answer d.before.counts d.after.counts (called d.who t.now b) t
 deed_row d b t made before after = on (made.state b before)
   where
     on : Leaves d.who d.ask d.answer d.before.counts d.after.counts b d.after.state → Weather d.who d.ask d.answer d.before.counts d.after.counts (called d.who t.now b) t
     on l =
-        subst (λ (u : CloudState). Weather d.who d.ask d.answer d.before.counts d.after.counts (called d.who u.now b) u) (state_is l.after t (sym l.told ∙ after)) l.row
+        subst (λ (u : CloudState). Weather d.who d.ask d.answer d.before.counts d.after.counts (called d.who u.now b) u) (same_Some l.after t (sym l.told ∙ after)) l.row
 
 -- ---- what the held get read
 

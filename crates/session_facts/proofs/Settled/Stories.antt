@@ -2,7 +2,6 @@
 use Rattle.std.proofs.Common.{◌≡◌, ℕ, List, [], ◌∷◌, Some, refl, sym, ap, subst, ◌∙◌}
 use Rattle.calm_calls.specs.Calm.{ComesNext, AreCalm, AreAlone}
 use Rattle.client_work.specs.declared.work.Work.{Work}
-use Rattle.cloud_facts.specs.Calls.Acting.{Setting}
 use Rattle.cloud_facts.specs.Calls.Call.{IsCall}
 use Rattle.cloud_facts.proofs.Calls.Calls.{call_of}
 use Rattle.cloud_trait.proofs.EffectLemmas.{grown_itself}
@@ -14,15 +13,15 @@ use Rattle.cloud_trait.specs.declared.turn.CkptAnswer.{CkptAnswer}
 use Rattle.page_ckpt.specs.Paging.{Paging, PagingLeads}
 use Rattle.recover_run.specs.declared.stage.RecoverAnswer.{RecoverAnswer}
 use Rattle.recover_run.specs.Recovery.{Recovery, recovery_next}
-use Rattle.session_facts.specs.Sessions.Sessions.{leases_of, KnowsWork}
+use Rattle.session_facts.specs.Sessions.Sessions.{KnowsWork}
 use Rattle.session_facts.specs.Settled.Runs.{AreDelivered}
 use Rattle.session_facts.specs.Settled.Story.{Moment, store_at, IsAtWork, IsTurn, PartStory, PartRan}
-use Rattle.session_facts.specs.Settlings.Settling.{KnowsAtWork, KnowsWay, KnowsSettling, leases_at_work}
-use Rattle.session_facts.proofs.Sessions.Laws.{setting_of}
+use Rattle.session_facts.specs.Settlings.Settling.{KnowsAtWork, KnowsSettling}
 use Rattle.settle_run.specs.declared.part.Part.{Part}
 use Rattle.settle_run.specs.declared.part.Part.TheVariants.{Client, Tree, Page}
 use Rattle.settle_run.specs.Parts.{part_again, part_ask, recovers, makes, pages, PartLeads, PartWent}
 use Rattle.tree_ckpt.specs.Making.{Making, MakingLeads}
+use Rattle.std.proofs.lemmas.Option.{same_Some}
 
 -- ---- what is known before a call
 
@@ -32,9 +31,6 @@ settling_known m w at =
 
 pub part_known : (m : Moment) (w : Part) → IsAtWork m w → KnowsAtWork (store_at m) m.state.now w (m.stand.parts 0)
 part_known m w at = subst (λ (x : Part). KnowsAtWork (store_at m) m.state.now x (m.stand.parts 0)) at.part_is (settling_known m w at).work
-
-pub way_known : (m : Moment) (w : Part) → (at : IsAtWork m w) → KnowsWay (store_at m) w at.settling.visited
-way_known m w at = subst (λ (x : Part). KnowsWay (store_at m) x at.settling.visited) at.part_is (settling_known m w at).way
 
 module _ (d : Deed) (w : Part) (from to : Moment) (turn : IsTurn d w from to) where
   pub turn_known : KnowsAtWork (store_at from) from.state.now w (from.stand.parts 0)
@@ -47,17 +43,7 @@ module _ (d : Deed) (w : Part) (from to : Moment) (turn : IsTurn d w from to) wh
   pub turn_asks : IsCall d.who (part_ask w) d.answer from.state to.state
   turn_asks = subst (λ (ask : Ask). IsCall d.who ask d.answer from.state to.state) turn.asked turn_call
 
-  -- what stands before it, at the clock that it leaves
-  pub turn_setting : Setting from.book from.order from.state to.state.now from.stand.parts 0 (leases_at_work w)
-  turn_setting =
-      subst (λ (x : Part). Setting from.book from.order from.state to.state.now from.stand.parts 0 (leases_at_work x)) turn.at_work.part_is
-      (subst (λ (x : Work). Setting from.book from.order from.state to.state.now from.stand.parts 0 (leases_of x)) turn.at_work.works
-      (setting_of from.book from.order from.state from.sessions from.stand to.state.now 0 turn_call.later))
-
 -- ---- the calls alone
-
-state_is : (s t : CloudState) → Some s ≡ Some t → s ≡ t
-state_is s t e = cc
 
 grown_same : (s t : CloudState) → s ≡ t → HasGrown s t
 grown_same s t e = subst (HasGrown s) e (grown_itself s s refl refl refl refl)
@@ -69,7 +55,7 @@ newest_left first d h w now (from, (before, (story, turn, leads))) = turn.left
 story_follows : (first : Moment) (h : List Deed) (w : Part) (now : Moment) (d : Deed) → PartStory first h w now → d.before.state ≡ Some now.state → Follows h d
 story_follows first [] w now d story told = tt
 story_follows first (last ∷ h) w now d story told =
-    λ s t left before. grown_same s t (state_is s now.state (sym left ∙ newest_left first last h w now story) ∙ state_is now.state t (sym told ∙ before))
+    λ s t left before. grown_same s t (same_Some s now.state (sym left ∙ newest_left first last h w now story) ∙ same_Some now.state t (sym told ∙ before))
 
 -- a part that goes on made one call more
 abbrev Longer : List Deed → Deed → Next Part ℕ → Type 0

@@ -16,10 +16,6 @@ pub sum_next : (f : ℕ → ℕ) (n : ℕ) → sum_upto f (suc n) ≡ sum_upto f
 unfolding sum_upto
 sum_next f n = refl
 
-pub sum_none : (f : ℕ → ℕ) → sum_upto f 0 ≡ 0
-unfolding sum_upto
-sum_none f = refl
-
 -- eight more for each
 pub sum_eights : (f : ℕ → ℕ) (n : ℕ) → sum_upto (λ k. 8 + f k) n ≡ n * 8 + sum_upto f n
 unfolding sum_upto

@@ -3,9 +3,9 @@ use Rattle.std.proofs.Common.{◌≡◌, ℕ, List, [], ◌∷◌, ◌++◌, Som
 use Rattle.cloud_facts.proofs.Calls.Calls.{call_of}
 use Rattle.cloud_facts.specs.Calls.Call.{IsCall}
 use Rattle.cloud_trait.proofs.NameLemmas.{queue_cmp-total}
-use Rattle.cloud_trait.proofs.RowLemmas.{row_messages, row_versions}
+use Rattle.cloud_trait.proofs.RowLemmas.{row_messages}
 use Rattle.cloud_trait.proofs.StateLemmas.{put_at_same}
-use Rattle.cloud_trait.specs.Ask.{Ask, Delete, Lands, PutsNothing, TouchesNoMessage}
+use Rattle.cloud_trait.specs.Ask.{Ask, Delete, Lands, TouchesNoMessage}
 use Rattle.cloud_trait.specs.Machine.{Deed, IsMade, calls_of}
 use Rattle.cloud_trait.specs.Names.{queue_cmp}
 use Rattle.cloud_trait.specs.State.{CloudState, called, marked}
@@ -37,22 +37,11 @@ abbrev pub AreQuiet : Calls → Type 0
 AreQuiet [] = Unit {0}
 AreQuiet (c ∷ cs) = TouchesNoMessage c.0 × AreQuiet cs
 
--- none of the calls puts
-abbrev pub PutNothing : Calls → Type 0
-PutNothing [] = Unit {0}
-PutNothing (c ∷ cs) = PutsNothing c.0 × PutNothing cs
-
 pub trail_messages : (h : List Deed) (s t : CloudState) → Trail h s t → AreQuiet (calls_of h) → t.messages ≡ s.messages
 trail_messages [] s t trail quiet = ap (λ (u : CloudState). u.messages) trail
 trail_messages (d ∷ h) s t (u, trail, between) quiet =
     let call = between_call d u t between in
     row_messages d.who d.ask d.answer call.before call.after (called d.who t.now u) t call.row quiet.0 ∙ trail_messages h s u trail quiet.1
-
-pub trail_versions : (h : List Deed) (s t : CloudState) → Trail h s t → PutNothing (calls_of h) → t.versions ≡ s.versions
-trail_versions [] s t trail still = ap (λ (u : CloudState). u.versions) trail
-trail_versions (d ∷ h) s t (u, trail, between) still =
-    let call = between_call d u t between in
-    row_versions d.who d.ask d.answer call.before call.after (called d.who t.now u) t call.row still.0 ∙ trail_versions h s u trail still.1
 
 -- ---- earlier and later calls
 

@@ -132,9 +132,6 @@ fewer_keys None key xs e = absurd (cc (e))
 behind_same : (c e : Chart) → e.run ≡ c.run → e.key ≡ c.key → behind_key e ≡ behind_key c
 behind_same c e run key = ap (λ (k : List ℕ). above k e.run.items) key ∙ ap (λ (r : Taken). above c.key r.items) run
 
-unhandled_same : (c e : Chart) → e.run ≡ c.run → e.from ≡ c.from → unhandled e ≡ unhandled c
-unhandled_same c e run from = ap (λ (k : Option (List ℕ)). from_on_or_none k e.run.items) from ∙ ap (λ (r : Taken). from_on_or_none c.from r.items) run
-
 next_same : (c e : Chart) → e.root ≡ c.root → next_of e ≡ next_of c
 next_same c e root = ap (λ (r : Option (List ℕ)). (tree_held r).next) root
 

@@ -26,7 +26,6 @@ use Rattle.session_facts.proofs.Settled.TreeCalls.{HasRoom, Reserving, own_of, F
 use Rattle.session_facts.proofs.Settled.TreeLists.{pages_fit}
 use Rattle.session_facts.proofs.Settled.TreePieces.{puts_as_many}
 use Rattle.session_facts.proofs.Settled.TreeVisits.{IsNew}
-use Rattle.session_facts.proofs.Trees.Reservations.{held_root}
 use Rattle.session_facts.proofs.Trees.Unseen.{seen_in}
 use Rattle.session_facts.specs.TreeCheckpoints.Checkpoint.{IsUnder, KnowsWork}
 use Rattle.session_facts.specs.TreeCheckpoints.Counting.{Apart, next_of, HasRoot, Once}
@@ -49,6 +48,7 @@ use Rattle.tree_parts.specs.declared.placing.Placing.{Placing}
 use Rattle.tree_parts.specs.Placing.{has_nothing}
 use Rattle.tree_parts.specs.Read.{tree_held}
 use Rattle.tree_rising.specs.declared.rising.Rising.{Rising}
+use Rattle.tree_rising.proofs.Held.{held_spelled}
 
 -- ---- the newest tree object
 
@@ -73,7 +73,7 @@ held_top s tree got e = ap (λ (t : Tree). t.next) (held_tree s tree got e)
 -- a reservation raises the next free page by so many
 pub reserved_next : (root : Tree) (count first : ℕ) (bytes : List ℕ) → IsReservation root count first bytes → (tree_held (Some bytes)).next ≡ root.next + count
 reserved_next root count first bytes r =
-    ap (λ (b : List ℕ). (tree_held (Some b)).next) r.bytes_are ∙ ap (λ (t : Tree). t.next) (held_root (reserving count root) r.fits)
+    ap (λ (b : List ℕ). (tree_held (Some b)).next) r.bytes_are ∙ ap (λ (t : Tree). t.next) (held_spelled (reserving count root) r.fits)
 
 -- ---- pages
 

@@ -120,18 +120,6 @@ module _ (tree : ℕ) (l : Claim) (second : Option Claim) (other : Ask) where
           absurd (cc (e, more))
       on None [] e = refl
 
-  -- of tree objects it puts the reservation, or what is behind it
-  in_hand_puts : (p : Placing) (k : ℕ) (bytes : List ℕ) → Puts (in_hand p) (object.Tree k) bytes
-      → (p.reserved ≡ Some bytes) ⊎ ((has_nothing p ≡ true) × Puts other (object.Tree k) bytes)
-  in_hand_puts p k bytes puts = on p.reserved p.puts puts
-    where
-      on : (reserved : Option (List ℕ)) (puts : List PagePut)
-          → Puts (unwrap_or (put_first tree l (put_next tree l second puts) reserved) other) (object.Tree k) bytes
-          → (reserved ≡ Some bytes) ⊎ ((has_nothing (record { reserved = reserved; puts = puts }) ≡ true) × Puts other (object.Tree k) bytes)
-      on (Some b) puts h = inl (ap (λ (x : List ℕ). Some x) h.1)
-      on None (x ∷ puts) h = absurd (let e : object.Page tree x.page ≡ object.Tree k = h.0 in cc (e))
-      on None [] h = inr (refl, h)
-
   -- where the put was done, the newest tree object is the one that is in hand then
   in_hand_lands : (p : Placing) (who : Caller) (a : Answer) (s t : CloudState) → has_nothing p ≡ false → done_of a ≡ Ok tt → IsCall who (in_hand p) a s t
       → newest t (object.Tree tree) ≡ landed_root p (newest s (object.Tree tree))
@@ -183,13 +171,6 @@ work_quiet tree (work.Rising h r) = inr (in_hand_quiet r.chart.tree h.lease None
 work_quiet tree (work.Deleting h applied) = inl tt
 work_quiet tree (work.Releasing held end) = inr (release_quiet tree (newest_lease held))
 work_quiet tree work.Finished = inr tt
-
-nothing_reserved : (p : Placing) → has_nothing p ≡ true → p.reserved ≡ None
-nothing_reserved p none = on p.reserved p.puts none
-  where
-    on : (reserved : Option (List ℕ)) (puts : List PagePut) → has_nothing (record { reserved = reserved; puts = puts }) ≡ true → reserved ≡ None
-    on (Some bytes) puts e = absurd (cc (e))
-    on None puts e = refl
 
 module _ (who : Caller) (a : Answer) (s t : CloudState) (tree : ℕ) where
   same_for : (ask : Ask) → IsCall who ask a s t → PutsNothing ask → newest t (object.Tree tree) ≡ newest s (object.Tree tree)

@@ -20,16 +20,14 @@ use Rattle.page_ckpt.specs.declared.stage.Stage.TheVariants.{GettingHome, Gettin
 use Rattle.page_ckpt.proofs.Outcomes.{Onward, Clears, Fails, Comes, comes}
 use Rattle.page_ckpt.proofs.Outcomes as step
 use Rattle.session_facts.specs.Settlings.Settling.{IsPast, IsOfNoPage}
+use Rattle.std.proofs.lemmas.Option.{same_Some}
 
 -- a trouble that is kept is of no page
 abbrev pub IsFair : Option Trouble → Type 0
 IsFair o = (t : Trouble) → o ≡ Some t → IsOfNoPage t
 
-some_is : (a b : Trouble) → Some a ≡ Some b → a ≡ b
-some_is a b e = cc
-
 one_fair : (t : Trouble) → IsOfNoPage t → IsFair (Some t)
-one_fair t fair k e = subst IsOfNoPage (some_is t k e) fair
+one_fair t fair k e = subst IsOfNoPage (same_Some t k e) fair
 
 never_none : (t : Trouble) → (let some : Option Trouble = Some t in some ≡ None) → ⊥
 never_none t e = absurd (cc)

@@ -31,9 +31,6 @@ pub settling_others : (st su : Store) (now later : ℕ) (s : Settling) (part : P
 settling_others st su now later s part after o k =
     record { work = at_work_others st su now later s.part part after o k.work; way = way_stays st su s.part s.visited o.passes.grows k.way }
 
-pub settling_later : (st : Store) (now later : ℕ) (s : Settling) (part : Part) → now ≤ later → KnowsSettling st now s part → KnowsSettling st later s part
-settling_later st now later s part after k = record { work = at_work_later st now later s.part part after k.work; way = k.way }
-
 -- ---- the lease of its part
 
 at_work_lease : (st : Store) (now : ℕ) (w : AtWork) (part : Part) → KnowsAtWork st now w part → HasLeaseOf (leases_at_work w) part

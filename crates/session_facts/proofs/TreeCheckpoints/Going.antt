@@ -74,9 +74,6 @@ module _ (book : Book) (order : List Change) (s : CloudState) (stands : StandsUn
   -- ---- down
 
   module _ (h : Held) (c : Chart) (under : IsUnder tree h.lease c.tree) (k : KnowsRest st now h.lease c h.deletions.ids) where
-    with_key : List ℕ → Chart
-    with_key key = record c { key = key }
-
     chained : IsChained (book.chain c.tree) (nodes_of s c.tree) (roots_of s c.tree) (st.tally.done c.tree) (st.tally.cursor c.tree 0)
     chained = stands.holds.chains c.tree k.chart.tree
 

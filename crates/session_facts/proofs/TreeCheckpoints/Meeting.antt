@@ -69,10 +69,6 @@ inner_free : (tree page at : ℕ) (o : Option Inner) → HasFree (inner_or tree 
 inner_free tree page at (Some n) = tt
 inner_free tree page at None = tt
 
-leaf_free : (tree page at : ℕ) (r : Result Leaf ℕ) → HasFree (leaf_or tree page at r)
-leaf_free tree page at (Ok l) = tt
-leaf_free tree page at (Err n) = tt
-
 forked_free : (d : Descent) (n : Inner) → HasFree (forked d n)
 forked_free d n = on (n.level == d.level)
   where

@@ -1,9 +1,8 @@
 -- What a checkpoint knows of its tree survives the calls of others, and its own that touch neither root nor inner nodes.
-use Rattle.std.proofs.Common.{◌≡◌, ◌-◌, ◌≤◌, inl, inr, ℕ, List, sym, ap, subst, ◌∙◌, arith}
+use Rattle.std.proofs.Common.{◌≡◌, ◌-◌, ◌≤◌, inl, inr, ℕ, List, ap, ◌∙◌, arith}
 use Rattle.cloud_facts.specs.Chains.Links.{newest_node, top_of}
 use Rattle.cloud_facts.proofs.Meanings.Steps.{at_stays, passed_stays}
 use Rattle.cloud_trait.specs.Claim.{Claim, Lasts}
-use Rattle.cloud_trait.specs.Growth.{BeginsWith}
 use Rattle.db_base.specs.declared.names.Lock.TheVariants as lock
 use Rattle.leaf_view.specs.Lookup.{empty_leaf}
 use Rattle.node_codec.specs.Inner.{Inner}
@@ -13,19 +12,14 @@ use Rattle.cloud_facts.specs.Book.Growth.{Grows}
 use Rattle.cloud_facts.specs.Book.Records.{IsIn}
 use Rattle.cloud_facts.specs.Book.Tally.{Node, Leafy, Branch, Store}
 use Rattle.cloud_facts.specs.Book.Telling.{last_or}
-use Rattle.cloud_facts.proofs.Book.Places.{in_front}
-use Rattle.tree_descent.specs.declared.descent.Descent.{Descent}
 use Rattle.tree_parts.specs.declared.chart.Chart.{Chart}
 use Rattle.tree_parts.specs.declared.kept.KeptNode.{KeptNode}
 use Rattle.tree_parts.specs.declared.link.Link.{Link as Found}
 use Rattle.tree_parts.specs.Read.{tree_held}
 use Rattle.session_facts.specs.Trees.Charts.{IsRootOf, KnowsRoot, KnowsNode, KnowsNodes, AreFound, KnowsChart}
 use Rattle.cloud_facts.specs.Calls.Others.{Others}
-use Rattle.session_facts.specs.Trees.Ways.{IsOnWay, KnowsWay}
-
--- what was there is there still
-pub in_grown : {X : Type 0} (xs ys : List X) (x : X) → BeginsWith xs ys → IsIn xs x → IsIn ys x
-in_grown xs ys x begins there = subst (λ l. IsIn l x) (sym begins.1) (in_front xs begins.0 x there)
+use Rattle.session_facts.specs.Trees.Ways.{IsOnWay}
+use Rattle.session_facts.proofs.Walks.Caches.{in_grown}
 
 -- ---- by what grows, and by what the lease keeps
 
@@ -93,11 +87,3 @@ pub chart_others : (mine : List Claim) (st su : Store) (now later : ℕ) (lease 
     → Others mine later st su → KnowsChart st now lease c → KnowsChart su later lease c
 chart_others mine st su now later lease c after held is o k =
     chart_stays st su now later lease c after o.passes.grows (o.roots lease c.tree held is) (keeps_nodes mine st su later c.tree lease held is o) k
-
-pub way_others : (mine : List Claim) (st su : Store) (now later : ℕ) (lease : Claim) (d : Descent) → now ≤ later → IsIn mine lease → lease.lock ≡ lock.Tree d.chart.tree
-    → Others mine later st su → KnowsWay st now lease d → KnowsWay su later lease d
-way_others mine st su now later lease d after held is o k = record {
-  chart = chart_others mine st su now later lease d.chart after held is o k.chart;
-  way =
-      way_stays (st.book.chain d.chart.tree) (su.book.chain d.chart.tree) d.level d.page d.low d.chart.key d.visited (λ l a. o.passes.grows.links d.chart.tree l a) k.way;
-}

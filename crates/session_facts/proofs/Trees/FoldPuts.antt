@@ -101,10 +101,6 @@ module _ (book : Book) (order : List Entry) (s : CloudState) (stands : StandsUnd
         k.placing.puts_are
         ∙ (ap (λ (m : List LeafPart). reverse (map (put_of leaf_bytes) (on_pages f.page k.first (front ∷ m)))) is ∙ puts_more leaf_bytes f.page k.first front middle last)
 
-    pub piece_asked : folding_ask f lease ≡ PutHeld (object.Page tree number) (leaf_bytes last) lease (Some f.lease)
-    piece_asked =
-        page_asked f lease (record { page = number; bytes = leaf_bytes last }) (reverse (map (put_of leaf_bytes) (on_pages f.page k.first (front ∷ middle)))) none puts_are
-
     pub pieces_last : leaf_pieces k.first (applied old 0 run) ≡ front ∷ ((middle ++ last ∷ []) ++ behind)
     pieces_last = pieces ∙ ap (λ (m : List LeafPart). front ∷ (m ++ behind)) is
 
@@ -156,11 +152,6 @@ module _ (book : Book) (order : List Entry) (s : CloudState) (stands : StandsUnd
   module _ (who : Caller) (is : k.placing.middle ≡ []) where
     pub reserved_none : AreReserved leaf_node (book.chain tree) (nodes_of s tree) (top_of (roots_of s tree)).next k.first [] behind
     reserved_none = subst (λ (m : List LeafPart). AreReserved leaf_node (book.chain tree) (nodes_of s tree) (top_of (roots_of s tree)).next k.first m behind) is reserved
-
-    pub left_asked : folding_ask f lease ≡ PutHeld (object.Page tree f.page) (leaf_bytes front) lease (Some f.lease)
-    left_asked =
-        page_asked f lease (record { page = f.page; bytes = leaf_bytes front }) [] none
-        (k.placing.puts_are ∙ ap (λ (m : List LeafPart). reverse (map (put_of leaf_bytes) (on_pages f.page k.first (front ∷ m)))) is)
 
     pub pieces_left : leaf_pieces k.first (applied old 0 run) ≡ front ∷ behind
     pieces_left = pieces ∙ ap (λ (m : List LeafPart). front ∷ (m ++ behind)) is

@@ -14,7 +14,6 @@ use Rattle.leaf_edit.specs.Applied.{applied}
 use Rattle.leaf_fold.specs.declared.folding.Folding.{Folding}
 use Rattle.leaf_fold.specs.Folding.{landed, counted}
 use Rattle.leaf_view.specs.Leaf.{Leaf}
-use Rattle.leaf_view.specs.Lookup.{empty_leaf}
 use Rattle.log_codec.specs.declared.record.PuItem.{PuItem}
 use Rattle.node_codec.specs.Inner.{Inner}
 use Rattle.node_codec.specs.Tree.{Tree}
@@ -27,7 +26,7 @@ use Rattle.cloud_facts.specs.Book.Book.{Book, Link}
 use Rattle.cloud_facts.specs.Book.Growth.{Grows}
 use Rattle.cloud_facts.specs.Book.Records.{IsIn}
 use Rattle.cloud_facts.specs.Book.Tally.{Node, Leafy, Branch, Store}
-use Rattle.cloud_facts.specs.Book.Telling.{last_or, nodes_of, roots_of, newest_leaf}
+use Rattle.cloud_facts.specs.Book.Telling.{nodes_of, roots_of}
 use Rattle.cloud_facts.proofs.Tellings.Names.{at2_same, at2_beside}
 use Rattle.cloud_facts.specs.Tellings.Pieces.{right_of}
 use Rattle.cloud_facts.specs.Tellings.Told.{store_of}
@@ -41,6 +40,7 @@ use Rattle.session_facts.proofs.Trees.ChartOthers.{root_stays, nodes_stay, links
 use Rattle.session_facts.proofs.Trees.FoldPuts.{piece_after, piece_lands, piece_known, page_stays, reserved_last, within, left_after, left_lands, left_done, pieces_left}
 use Rattle.session_facts.proofs.Trees.FoldReserves.{reserving_after, reserving_lands, reserving_root, reserving_known, held}
 use Rattle.session_facts.proofs.Trees.LeafPieces.{taken}
+use Rattle.session_facts.proofs.Trees.RisingEffects.{no_branch}
 
 -- ---- the links of new pieces
 
@@ -61,12 +61,6 @@ pieces_noted free (p ∷ ps) l there =
     on again (inr rest) =
         let r = again rest in
         (r.0, in_rest (record { low = p.low; page = free }) (links_on (free + 1) ps) (record { low = l.low; page = l.page }) r.1)
-
--- an absent page has no inner node
-absent_branch : (nodes : ℕ → List Node) (page : ℕ) (n : Inner) → nodes page ≡ [] → newest_node nodes page ≡ Branch n → ⊥
-absent_branch nodes page n none is =
-    let no : Leafy empty_leaf ≡ Branch n = sym (ap (λ (ns : List Node). last_or (Leafy empty_leaf) ns) none) ∙ is in
-    cc
 
 -- and a leaf's page has none
 leafy_branch : (node : Node) (l : Leaf) (n : Inner) → node ≡ Leafy l → node ≡ Branch n → ⊥
@@ -157,16 +151,13 @@ module _ (book : Book) (order : List Entry) (s : CloudState) (stands : StandsUnd
           same_nodes : Lasts now lease → (page : ℕ) (n : Inner) → newest_node (nodes_of s tree) page ≡ Branch n → su.tally.nodes tree page ≡ nodes_of s tree page
           same_nodes l page n newest =
               page_stays book order s stands now lease f p.tree run p.took.clients p.puts none lasts leaf_lasts nobody middle last is page
-              (λ e. absent_branch (nodes_of s tree) page n (ap (nodes_of s tree) e ∙ absent) newest)
+              (λ e. no_branch (nodes_of s tree) page n (ap (nodes_of s tree) e ∙ absent) newest)
 
     -- ---- the leaf itself
 
     module _ (is : p.puts.placing.middle ≡ []) where
       abbrev whole : Leaf
       whole = applied p.puts.leaf 0 run
-
-      abbrev old : Leaf
-      old = newest_leaf (nodes_of s) tree f.page
 
       pub left_rest : KnowsRest (left_after book order s stands now lease f p.tree run p.took.clients p.puts none lasts leaf_lasts nobody is) now lease (counted (landed f)).chart ids
       left_rest = record {

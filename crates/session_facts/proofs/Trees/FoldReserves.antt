@@ -11,7 +11,7 @@ use Rattle.db_base.specs.Ids.{IsTree}
 use Rattle.db_base.specs.declared.names.ObjName.TheVariants as object
 use Rattle.cloud_facts.specs.Landings.Landing.{Landing}
 use Rattle.leaf_fold.specs.declared.folding.Folding.{Folding}
-use Rattle.leaf_fold.specs.Folding.{folding_ask, landed}
+use Rattle.leaf_fold.specs.Folding.{landed}
 use Rattle.log_codec.specs.declared.record.PuItem.{PuItem}
 use Rattle.node_codec.specs.Tree.{Tree}
 use Rattle.report_types.specs.declared.entry.Entry.{Entry}
@@ -26,7 +26,6 @@ use Rattle.tree_parts.specs.Read.{tree_held}
 use Rattle.session_facts.specs.Trees.Charts.{KnowsRoot}
 use Rattle.session_facts.specs.Trees.Folds.{Reserves, PutsPieces}
 use Rattle.session_facts.specs.Trees.Placings.{AreReserved, IsReservation, reserving}
-use Rattle.session_facts.proofs.Trees.FoldPuts.{root_asked}
 use Rattle.session_facts.proofs.Trees.Reservations.{reservation_landing, reservation_held, reserved_then, root_known}
 
 module _ (book : Book) (order : List Entry) (s : CloudState) (stands : StandsUnder book order s) (now : ℕ) (lease : Claim) (f : Folding) (of_tree : IsTree f.chart.tree) (run : List PuItem)
@@ -45,9 +44,6 @@ module _ (book : Book) (order : List Entry) (s : CloudState) (stands : StandsUnd
 
   pub planned : (k.placing.behind ≡ []) × IsReservation root count k.first bytes
   planned = subst (λ (o : Option (List ℕ)). Reserves st now lease tree root k.first k.placing.middle k.placing.behind o) some k.reserves
-
-  pub reserving_asked : folding_ask f lease ≡ PutHeld (object.Tree tree) bytes lease None
-  reserving_asked = root_asked f lease bytes some
 
   abbrev pub reserving_after : Store
   reserving_after = after_root tree (reserving count root) st

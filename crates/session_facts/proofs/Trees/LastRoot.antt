@@ -1,7 +1,7 @@
 -- The put of a checkpoint's last root: its cursor goes on by the run, and it names the links that go up to it.
 use Rattle.std.proofs.Common.{◌≡◌, ◌+◌, ◌<◌, ◌≤◌, ◌⊎◌, inl, inr, ℕ, List, [], ◌∷◌, length, map, Option, None, refl, sym, ap, subst, ◌∙◌, arith}
 use Rattle.std.specs.Prelude.{slice_get}
-use Rattle.cloud_facts.specs.Chains.Chain.{IsChained, IsUnlinked}
+use Rattle.cloud_facts.specs.Chains.Chain.{IsUnlinked}
 use Rattle.cloud_facts.specs.Chains.Cuts.{links_on, HaveLanded, inner_node}
 use Rattle.cloud_facts.specs.Chains.Landing.{LandsRoot, Raises}
 use Rattle.cloud_facts.specs.Chains.Links.{link_of, top_of}
@@ -66,9 +66,6 @@ module _ (book : Book) (order : List Entry) (s : CloudState) (stands : StandsUnd
     (applied : (x : PuItem) → IsIn run x → x.rec.number ≤ (store_of book order s).tally.done tree (key_of x.rec.change) 0 x.rec.client) where
   abbrev st : Store
   st = store_of book order s
-
-  chained : IsChained (book.chain tree) (nodes_of s tree) (roots_of s tree) (st.tally.done tree) (st.tally.cursor tree 0)
-  chained = stands.holds.chains tree of_tree
 
   cursor_is : (client : ℕ) → number_of root.cursor client ≡ st.tally.cursor tree 0 client
   cursor_is client = ap (λ (t : Tree). number_of t.cursor client) (sym newest)

@@ -1,6 +1,6 @@
 -- The pieces of a cut, one after another from the right end.
-use Rattle.std.proofs.Common.{◌≡◌, ◌≢◌, ◌+◌, ◌<◌, ◌≤◌, ◌⊎◌, inl, inr, ℕ, zero, List, [], ◌∷◌, ◌++◌, length, map, reverse, refl, sym, ap, subst, ◌∙◌, arith, length-append}
-use Rattle.std.proofs.lemmas.List.{reverse-append, map-append}
+use Rattle.std.proofs.Common.{◌≡◌, ◌≢◌, ◌+◌, ◌<◌, ◌≤◌, ◌⊎◌, inl, inr, ℕ, zero, List, [], ◌∷◌, ◌++◌, length, map, reverse, refl, sym, ap, subst, ◌∙◌, arith}
+use Rattle.std.proofs.lemmas.List.{reverse-append, map-append, length_push}
 use Rattle.cloud_facts.specs.Chains.Chain.{AreLevels, IsUnlinked, ArePages}
 use Rattle.cloud_facts.specs.Chains.Cuts.{links_on, HaveLanded}
 use Rattle.cloud_facts.specs.Chains.Links.{first_link}
@@ -22,9 +22,6 @@ last_cases {A} (x ∷ xs) = on (last_cases xs)
     on : (xs ≡ []) ⊎ ((front : List A) × (last : A) × (xs ≡ front ++ last ∷ [])) → (x ∷ xs ≡ []) ⊎ ((front : List A) × (last : A) × (x ∷ xs ≡ front ++ last ∷ []))
     on (inl e) = inr ([], x, ap (λ (l : List A). x ∷ l) e)
     on (inr p) = inr (x ∷ p.0, p.1, ap (λ (l : List A). x ∷ l) p.2)
-
-length_more : {A : Type 0} (xs : List A) (x : A) → length (xs ++ x ∷ []) ≡ length xs + 1
-length_more xs x = length-append xs (x ∷ [])
 
 -- ---- puts, the rightmost first
 
@@ -99,16 +96,12 @@ piece_landed node chain nodes new next first middle last behind here there r = r
 }
   where
     count : length (middle ++ last ∷ []) ≡ length middle + 1
-    count = length_more middle last
+    count = length_push middle last
 
     far : first + length (middle ++ last ∷ []) ≡ first + length middle + 1
     far = omega (arith, count)
 
 -- ---- fresh numbers
-
--- a page that is no chain's is not page 1
-pub not_first : (chain : ℕ → List Link) (height page : ℕ) → AreLevels chain height → IsUnlinked chain page → page ≢ 1
-not_first chain height page lv unlinked e = unlinked 0 first_link (zero, ap (λ (ls : List Link). slice_get ls 0) lv.leaves.1) (sym e)
 
 -- the numbers from a root's `next` on have no version and are in no chain, so those that its next version reserves are free
 pub fresh_reserved : {A X : Type 0} (node : Part A X → Node) (chain : ℕ → List Link) (nodes : ℕ → List Node) (next later : ℕ) (height : ℕ) (middle : List (Part A X))

@@ -2,7 +2,7 @@
 use Rattle.std.proofs.Common.{◌≡◌, ◌+◌, ◌-◌, ◌≤◌, ◌==◌, ℕ, zero, suc, Bool, true, false, List, [], ◌∷◌, length, map, reverse, refl, sym, ap, subst, ◌∙◌, arith}
 use Rattle.std.specs.List.{AllByRecursion}
 use Rattle.std.proofs.lemmas.Bool.{eqb-true, eqb-false}
-use Rattle.std.proofs.lemmas.List.{append-nil}
+use Rattle.std.proofs.lemmas.List.{append-nil, nil_from_length}
 use Rattle.std.proofs.lemmas.List.Elements.{All-from_recursion}
 use Rattle.byte_format.specs.Format.{greatest}
 use Rattle.leaf_view.specs.Fits.{IsWellFormed, IsVersion}
@@ -34,7 +34,7 @@ item_is st tree queue x i =
     let spelled : IsPuRecord x.rec = (pu_of-some i.sent.message.bytes x.rec i.sent.reads).0 in
     record { change = spelled.change; client = spelled.client; number = spelled.number.fits }
 
-each_by : {X : Type 0} (P : X → Type 0) (xs : List X) → ((x : X) → IsIn xs x → P x) → AllByRecursion P xs
+pub each_by : {X : Type 0} (P : X → Type 0) (xs : List X) → ((x : X) → IsIn xs x → P x) → AllByRecursion P xs
 each_by P [] each = tt
 each_by P (x ∷ xs) each = (each x (zero, refl), each_by P xs (λ y is. each y (suc is.0, is.1)))
 
@@ -47,10 +47,6 @@ run_ordered st tree queue cursor received run top is_run items = record {
 
 -- ---- pieces
 
-none_left : (sizes : List ℕ) → length sizes ≡ 0 → sizes ≡ []
-none_left [] e = refl
-none_left (n ∷ sizes) e = absurd (omega (arith, e))
-
 -- the pieces of a leaf have spellings, where their numbers do
 pub pieces_fit : (first : ℕ) (l : Leaf) → ((count_of (length l.records) - 1 ≡ 0 → ⊥) → (1 ≤ first) × (first + (count_of (length l.records) - 1) ≤ greatest)) → IsVersion l.version → IsWellFormed l
     → AllByRecursion IsLeafPart (leaf_pieces first l)
@@ -62,7 +58,7 @@ pieces_fit first l numbers version formed = on (count_of (length l.records) - 1 
     on : (b : Bool) → (count_of (length l.records) - 1 == 0) ≡ b → AllByRecursion IsLeafPart (leaf_pieces first l)
     on true e =
         let none : length (cuts_of (length l.records)) ≡ 0 = let is = eqb-true (count_of (length l.records) - 1) 0 e in omega (arith, lengths, is) in
-        subst (λ (sizes : List ℕ). AllByRecursion IsLeafPart (cut_by record_key sizes first (part_of_leaf l))) (sym (none_left (cuts_of (length l.records)) none))
+        subst (λ (sizes : List ℕ). AllByRecursion IsLeafPart (cut_by record_key sizes first (part_of_leaf l))) (sym (nil_from_length (cuts_of (length l.records)) none))
         (record { fits = fits_leaf (record l { format = 2 }) version (put-formed l formed) }, tt)
     on false e =
         let n = numbers (eqb-false (count_of (length l.records) - 1) 0 e) in

@@ -1,6 +1,5 @@
 -- The put of a root that reserves numbers: it rests on nothing new, and its numbers are free behind it.
 use Rattle.std.proofs.Common.{◌≡◌, ◌+◌, ◌≢◌, ◌-◌, ◌≤◌, ◌⊎◌, inl, inr, ℕ, zero, false, List, [], ◌∷◌, ◌++◌, length, Option, Some, None, refl, sym, ap, subst, ◌∙◌, arith}
-use Rattle.std.specs.Prelude.{unwrap_or}
 use Rattle.cloud_facts.specs.Chains.Chain.{IsChained}
 use Rattle.cloud_facts.specs.Chains.Landing.{LandsRoot}
 use Rattle.cloud_facts.specs.Chains.Links.{first_link, link_of, top_of, NamesBelow}
@@ -19,7 +18,6 @@ use Rattle.cloud_facts.specs.Landings.Landing.{Landing, puts_root}
 use Rattle.byte_format.specs.Format.{greatest}
 use Rattle.node_codec.proofs.EntryLemmas.{fits_to_last}
 use Rattle.node_codec.proofs.NodeLemmas.{in_range_from, in_range_parts}
-use Rattle.node_codec.proofs.SpellingLaws.{tree_again}
 use Rattle.node_codec.proofs.TreeLemmas.{tree_fits, fit_tree}
 use Rattle.node_codec.specs.Node.{Entry as Child}
 use Rattle.node_codec.specs.Tree.{Tree, IsTree as SpellsTree, HasTreeSpelling, tree_bytes, empty_tree}
@@ -39,6 +37,7 @@ use Rattle.tree_parts.specs.Read.{tree_held}
 use Rattle.session_facts.specs.Trees.Charts.{IsRootOf, KnowsRoot}
 use Rattle.session_facts.specs.Trees.Placings.{AreReserved, reserving, IsReservation}
 use Rattle.session_facts.proofs.Trees.PlacingLemmas.{fresh_reserved}
+use Rattle.tree_rising.proofs.Held.{held_spelled}
 
 -- ---- roots
 
@@ -70,10 +69,6 @@ root_names chain nodes roots done cursor h root (inl none) =
 pub spelled_root : (t : Tree) → HasTreeSpelling t → SpellsTree (tree_bytes t) t
 unfolding tree_bytes
 spelled_root t fits = record { fits = fits; is = refl }
-
--- the root that its own spelling is read as
-pub held_root : (t : Tree) → HasTreeSpelling t → tree_held (Some (tree_bytes t)) ≡ t
-held_root t fits = ap (λ (o : Option Tree). unwrap_or o empty_tree) (tree_again t fits)
 
 -- a root with more numbers reserved has a spelling, where its version and its numbers do
 pub reserving_fits : (count : ℕ) (root : Tree) → (root ≡ empty_tree) ⊎ HasTreeSpelling root → root.version ≢ greatest → root.next + count ≤ greatest → HasTreeSpelling (reserving count root)
@@ -161,11 +156,8 @@ module _ (book : Book) (order : List Entry) (s : CloudState) (stands : StandsUnd
     reservation_landing =
         puts_root tree next bytes one two of_tree reservation_spells (same_covers next (ap (λ (t : Tree). t.cursor) (sym newest))) lands_root
 
-    pub reservation_follows : next.version ≡ top.version + 1
-    reservation_follows = ap (λ (t : Tree). t.version + 1) (sym newest)
-
     pub reservation_held : tree_held (Some bytes) ≡ next
-    reservation_held = ap (λ (b : List ℕ). tree_held (Some b)) is.bytes_are ∙ held_root next is.fits
+    reservation_held = ap (λ (b : List ℕ). tree_held (Some b)) is.bytes_are ∙ held_spelled next is.fits
 
     -- behind it the numbers are free
     pub reserved_then : {A X : Type 0} (node : Part A X → Node) (middle : List (Part A X)) → length middle ≡ count

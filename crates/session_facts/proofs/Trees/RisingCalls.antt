@@ -1,5 +1,5 @@
 -- What each put of the way up leaves, whether it landed or not.
-use Rattle.std.proofs.Common.{◌≡◌, ◌+◌, ◌≤◌, ◌⊎◌, inl, inr, ℕ, zero, List, [], ◌∷◌, ◌++◌, length, map, reverse, Option, Some, None, Result, Ok, Err, refl, sym, ap, subst, ◌∙◌}
+use Rattle.std.proofs.Common.{◌≡◌, ◌+◌, ◌⊎◌, inl, inr, ℕ, List, [], ◌∷◌, ◌++◌, length, map, reverse, Option, Some, None, Result, Ok, Err, refl, sym, ap, subst, ◌∙◌}
 use Rattle.cloud_facts.specs.Calls.Acting.{Aside, Setting, Outcome}
 use Rattle.cloud_facts.specs.Calls.Call.{IsCall}
 use Rattle.cloud_facts.specs.Calls.Looks.{audit_of}
@@ -34,16 +34,9 @@ use Rattle.session_facts.specs.Trees.Risings.{PutsNode, PutsWhole, PutsCut, Puts
 use Rattle.session_facts.proofs.Trees.PlacingLemmas.{last_cases, puts_more}
 use Rattle.session_facts.proofs.Trees.RisingEffects.{RisingEffect, reserving_asked, page_asked, last_asked}
 use Rattle.session_facts.proofs.Trees.RisingLast.{new_puts, whole_effect, cut_piece_effect, above_effect}
-use Rattle.session_facts.proofs.Trees.RisingOthers.{rising_others}
 use Rattle.session_facts.proofs.Trees.RisingPuts.{piece_effect, left_effect}
 use Rattle.session_facts.proofs.Trees.RisingReserves.{node_reserves, root_reserves}
-use Rattle.cloud_facts.proofs.Calls.Guarding.{others_itself}
 use Rattle.cloud_facts.proofs.Calls.Outcomes.{stays, put_landed}
-
--- time goes on
-pub rising_later : (st : Store) (now later : ℕ) (lease : Claim) (r : Rising) (ids : List ℕ) → now ≤ later → lease.lock ≡ lock.Tree r.chart.tree → KnowsRising st now lease r ids
-    → KnowsRising st later lease r ids
-rising_later st now later lease r ids after is k = rising_others (lease ∷ []) st st now later lease r ids after (zero, refl) is (others_itself (lease ∷ []) later st) k
 
 -- what is known after an answer
 abbrev pub KnowsAfterRising : Rising → Claim → List ℕ → Answer → Store → ℕ → Type 0
@@ -187,10 +180,3 @@ module _ (who : Caller) (s t : CloudState) (book : Book) (order : List Entry) (p
       on : (o : Option (List ℕ)) → r.last ≡ o → PutsOf st t.now lease r o → Out
       on None e p = node_outcome p e
       on (Some bytes) e p = root bytes e p
-
-pub rising_outcome : (who : Caller) (s t : CloudState) (book : Book) (order : List Entry) (parts : Parts) (mine : List Claim) (note : Audited → Audited) (lease : Claim) (r : Rising) (ids : List ℕ)
-    (reply : Answer) → Setting book order s t.now parts who.session mine → IsIn mine lease → lease.lock ≡ lock.Tree r.chart.tree → note (audit_of book order) ≡ audit_of book order
-    → KnowsRising (store_of book order s) s.now lease r ids → IsCall who (rising_ask r lease) reply s t
-    → Outcome who book order s t parts mine (rising_ask r lease) note (Aside (store_of book order s) (parts who.session) (KnowsAfterRising r lease ids reply))
-rising_outcome who s t book order parts mine note lease r ids reply setting held is same k call =
-    known_outcome who s t book order parts mine note lease r ids reply setting held is same (rising_later (store_of book order s) s.now t.now lease r ids call.later is k) call

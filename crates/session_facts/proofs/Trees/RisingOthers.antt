@@ -24,9 +24,10 @@ use Rattle.cloud_facts.specs.Calls.Links.{SameLinks}
 use Rattle.session_facts.specs.Trees.Placings.{AreReserved}
 use Rattle.session_facts.specs.Trees.Risings.{AppliesRun, ReservesNodes, PutsNode, IsRaised, PutsCut, PutsRoot, whole, cut, ReservesRoot, PutsOf, KnowsRising}
 use Rattle.cloud_facts.specs.Calls.Others.{Others}
-use Rattle.session_facts.proofs.Trees.ChartOthers.{in_grown, root_stays, KeepsNodes, nodes_stay, links_stay, keeps_nodes}
+use Rattle.session_facts.proofs.Trees.ChartOthers.{root_stays, KeepsNodes, nodes_stay, links_stay, keeps_nodes}
 use Rattle.session_facts.proofs.Trees.FoldOthers.{done_stays}
 use Rattle.session_facts.proofs.Trees.PlacingLemmas.{reserved_stays}
+use Rattle.session_facts.proofs.Walks.Caches.{in_grown}
 
 -- ---- what only grows
 

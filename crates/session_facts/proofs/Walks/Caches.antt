@@ -12,8 +12,8 @@ use Rattle.db_base.specs.declared.names.ObjName.TheVariants as object
 use Rattle.db_base.specs.declared.names.Place.TheVariants as place
 use Rattle.db_base.specs.declared.trouble.Trouble.TheVariants as trouble
 use Rattle.cloud_facts.specs.Decoding.Kinds.{IsNode}
-use Rattle.cloud_facts.proofs.Decoding.Reading.{leaf_only, node_reads}
-use Rattle.leaf_view.specs.Leaf.{Leaf, IsLeaf, leaf}
+use Rattle.cloud_facts.proofs.Decoding.Reading.{node_reads}
+use Rattle.leaf_view.specs.Leaf.{Leaf, leaf}
 use Rattle.leaf_view.specs.Lookup.{empty_leaf}
 use Rattle.node_codec.specs.Tree.{Tree, empty_tree}
 use Rattle.node_codec.proofs.SpellingLaws.{tree_only}
@@ -66,10 +66,6 @@ pub served_known : (st : Store) (c : Cache) (name : ObjName) (version : ℕ) →
 served_known st c name version k e = looked (IsServed st) name version c.versions k.versions e
 
 -- ---- what it is read as
-
-pub leaf_in_only : (bytes : List ℕ) (l : Leaf) → IsLeaf bytes l → leaf_in bytes ≡ Some l
-unfolding leaf_in leaf_of_bytes
-leaf_in_only bytes l s = leaf_only bytes l s
 
 -- bytes of a page are read as one node alone
 one_leaf : (bytes : List ℕ) (node : Node) (l : Leaf) → IsNode bytes node → leaf_in bytes ≡ Some l → node ≡ Leafy l
@@ -256,11 +252,3 @@ module _ (st su : Store) (grows : Grows st su) where
 
   pub cache_grows : (c : Cache) → KnowsCache st c → KnowsCache su c
   cache_grows c k = record { objects = objects_grow c.objects k.objects; versions = versions_grow c.versions k.versions }
-
-  pub leaf_grows : (tree page : ℕ) (l : Leaf) → IsSeenLeaf (st.tally.nodes tree page) page l → IsSeenLeaf (su.tally.nodes tree page) page l
-  leaf_grows tree page l (inl none) = inl none
-  leaf_grows tree page l (inr there) = inr (in_grown (st.tally.nodes tree page) (su.tally.nodes tree page) (Leafy l) (grows.nodes tree page) there)
-
-  pub root_grows : (tree : ℕ) (root : Tree) → IsSeenRoot (st.tally.roots tree) root → IsSeenRoot (su.tally.roots tree) root
-  root_grows tree root (inl none) = inl none
-  root_grows tree root (inr there) = inr (in_grown (st.tally.roots tree) (su.tally.roots tree) root (grows.roots tree) there)

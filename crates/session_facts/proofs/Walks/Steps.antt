@@ -1,8 +1,7 @@
 -- Where an object leads that a walk has in hand, by any version of it that landed: on to a page that the walk did not come to before, or to its end.
-use Rattle.std.proofs.Common.{◌≡◌, ◌≢◌, ◌-◌, ◌==◌, ◌||◌, ◌⊎◌, inl, inr, ℕ, zero, suc, Bool, true, false, cond, not, List, [], ◌∷◌, ◌++◌, Option, Some, None, unwrap_or, refl, sym, ap, subst, ◌∙◌, true≢false, arith}
+use Rattle.std.proofs.Common.{◌≡◌, ◌≢◌, ◌-◌, ◌==◌, ◌||◌, ◌⊎◌, inl, inr, ℕ, suc, Bool, true, false, cond, not, List, [], ◌∷◌, ◌++◌, Option, Some, None, unwrap_or, refl, sym, ap, subst, ◌∙◌, true≢false, arith}
 use Rattle.std.specs.Prelude.{slice_get}
 use Rattle.std.proofs.lemmas.Bool.{or_cases, and_from, eqb-true, eq-eqb}
-use Rattle.std.proofs.lemmas.List.Folds.{list_any-append}
 use Rattle.byte_format.specs.Order.{bytes_below, bytes_same, below_bound}
 use Rattle.byte_format.proofs.OrderLemmas.{same_itself}
 use Rattle.cloud_facts.specs.Chains.Chain.{IsVersionOf, ChainHolds}
@@ -32,23 +31,7 @@ use Rattle.tree_walk.specs.Walk.{Spot, Walk, sought, is_among, is_page, came_to,
 use Rattle.tree_walk.proofs.WalkLemmas.{entry_is}
 use Rattle.session_facts.specs.Walks.Caches.{IsSeenRoot, IsSeenLeaf}
 use Rattle.session_facts.specs.Walks.Walks.{AreBehind, IsOnWay, WasUsed, KnowsWalk, IsAtSeenLeaf}
-
--- ---- lists of pages
-
-none_among : (pages : List ℕ) (page : ℕ) → pages ≡ [] → is_among pages page ≡ true → ⊥
-none_among [] page e there = true≢false (sym there)
-none_among (p ∷ pages) page e there = absurd (cc (e))
-
-among_more : (pages : List ℕ) (page other : ℕ) → is_among (pages ++ page ∷ []) other ≡ true → (is_among pages other ≡ true) ⊎ (page ≡ other)
-among_more pages page other e = on (or_cases (is_among pages other) (is_among (page ∷ []) other) (sym (list_any-append (λ p. p == other) pages (page ∷ [])) ∙ e))
-  where
-    last : ((page == other) ≡ true) ⊎ (false ≡ true) → (is_among pages other ≡ true) ⊎ (page ≡ other)
-    last (inl same) = inr (eqb-true page other same)
-    last (inr never) = absurd (true≢false (sym never))
-
-    on : (is_among pages other ≡ true) ⊎ (is_among (page ∷ []) other ≡ true) → (is_among pages other ≡ true) ⊎ (page ≡ other)
-    on (inl old) = inl old
-    on (inr new) = last (or_cases (page == other) false new)
+use Rattle.session_facts.proofs.Scans.Rights.{none_among, among_more, right_page}
 
 -- ---- fences
 
@@ -81,10 +64,6 @@ node_page n some = on (n == 0) refl
     on : (b : Bool) → (n == 0) ≡ b → unwrap_or (cond b None (Some n)) 1 ≡ n
     on true e = absurd (some (eqb-true n 0 e))
     on false e = refl
-
-leaf_page : (n : ℕ) → n ≢ 0 → unwrap_or (page_at n) 1 ≡ n
-leaf_page zero some = absurd (some refl)
-leaf_page (suc n) some = refl
 
 -- a node of level 0 is a leaf, and one of a level above an inner node
 pub leaf_of_level : (level : ℕ) (node : Node) → level ≡ 0 → IsOfLevel level node → (l : Leaf) × (node ≡ Leafy l)
@@ -314,7 +293,7 @@ module _ (st : Store) (h : ChainHolds st) (c : Cache) where
               let t = turned (sought w) l.high (page_at l.right) next e in
               let clash : None ≡ Some next.1 = sym (ap (λ (x : Leaf). x.high) none) ∙ t.0 in
               absurd (cc (clash))
-          on (inr landed) = turns (Leafy l) (page_at l.right) next landed (leaf_page l.right) e
+          on (inr landed) = turns (Leafy l) (page_at l.right) next landed (right_page l.right) e
 
           goes : IsAt chain s.level next.0 next.1 (sought w) × (bytes_below s.low next.1 ≡ true)
           goes = on seen

@@ -22,14 +22,14 @@ use Rattle.page_cache.specs.Cache.{Cache, kept_at, served_at, placed, served, dr
 use Rattle.page_cache.specs.Held.{leaf_at, inner_at, as_leaf, as_inner, as_root}
 use Rattle.page_cache.specs.Spelled.{leaf_version, inner_version, root_version}
 use Rattle.page_cache.proofs.CacheLemmas.{accept_kept}
-use Rattle.page_cache.proofs.ReadingLemmas.{version_spelled}
+use Rattle.page_cache.proofs.ReadingLemmas.{version_spelled, is_leaf_in}
 use Rattle.cloud_facts.specs.Book.Records.{IsIn}
 use Rattle.cloud_facts.specs.Book.Tally.{Store}
 use Rattle.tree_walk.specs.Walk.{Spot, Walk, object_at, object_of, is_leaf, is_leaf_at, is_got, is_among, root_read, node_read, leaf_read, read_at, read_from, read_kept, follow, onward, goes_through, goes_on, got_read, accepted_by, got_by, passed, left_by, beside}
 use Rattle.tree_walk.proofs.Leaves.{leaf_stays}
 use Rattle.session_facts.specs.Walks.Caches.{HasLanded, KnowsCache}
 use Rattle.session_facts.specs.Walks.Walks.{KnowsWalk, IsAtSeenLeaf, MayStop, WalkLeads}
-use Rattle.session_facts.proofs.Walks.Caches.{kept_known, leaf_in_only, cache_drops_all, MayServe, cache_accepts}
+use Rattle.session_facts.proofs.Walks.Caches.{kept_known, cache_drops_all, MayServe, cache_accepts}
 use Rattle.session_facts.proofs.Walks.Steps.{StepLeads, leaf_of_level, inner_of_level, version, first, root_leads, node_leads, leaf_leads}
 
 -- ---- one object
@@ -66,7 +66,7 @@ module _ (st : Store) (h : ChainHolds st) (c : Cache) where
         (leaf_read here empty_leaf, ap (option_map (leaf_read here)) is, leaf_leads st h c w s k bottom empty_leaf (inl (one, refl)) is)
     as_a_leaf bottom (Some bytes) (node, spelled, there) e =
         let l = leaf_of_level s.level node bottom (version st h c w s k node there).level_is in
-        let is : leaf_at c page_name ≡ Some l.0 = ap as_leaf e ∙ leaf_in_only bytes l.0 (subst (IsNode bytes) l.1 spelled) in (
+        let is : leaf_at c page_name ≡ Some l.0 = ap as_leaf e ∙ is_leaf_in bytes l.0 (subst (IsNode bytes) l.1 spelled) in (
           leaf_read here l.0,
           ap (option_map (leaf_read here)) is,
           leaf_leads st h c w s k bottom l.0 (inr (subst (IsIn (st.tally.nodes w.tree s.page)) l.1 there)) is,

@@ -1,10 +1,6 @@
 -- Walks over a cloud: they begin, go on and end at leaves that hold the key, and stop for no fault of the tree.
-use Rattle.std.proofs.Common.{◌≡◌, ℕ, zero, Bool, true, not, List, Option, Some, None, refl, sym, ap, subst}
-use Rattle.std.specs.Prelude.{slice_get}
-use Rattle.std.proofs.lemmas.Bool.{and_parts, not-true}
-use Rattle.byte_format.specs.Order.{bytes_below, below_bound}
+use Rattle.std.proofs.Common.{◌≡◌, ℕ, Bool, List, Option, Some, None, refl, sym, subst}
 use Rattle.cloud_facts.specs.Chains.Chain.{ChainHolds}
-use Rattle.cloud_facts.specs.Chains.Links.{first_link}
 use Rattle.cloud_facts.proofs.Meanings.Steps.{at_stays, passed_stays}
 use Rattle.cloud_facts.specs.Calls.Call.{IsCall}
 use Rattle.cloud_facts.specs.Calls.Standing.{StandsUnder}
@@ -22,11 +18,9 @@ use Rattle.db_base.specs.declared.names.ObjName.{ObjName}
 use Rattle.db_base.specs.declared.names.ObjName.TheVariants as object
 use Rattle.db_base.specs.declared.trouble.Trouble.{Trouble}
 use Rattle.cloud_facts.proofs.Decoding.Values.{version_decodes, read_node, read_root}
-use Rattle.leaf_view.specs.Lookup.{holds}
-use Rattle.node_codec.proofs.NodeLemmas.{not_below_empty}
 use Rattle.page_cache.specs.Cache.{Cache}
 use Rattle.report_types.specs.declared.entry.Entry.{Entry}
-use Rattle.cloud_facts.specs.Book.Book.{Book, Link}
+use Rattle.cloud_facts.specs.Book.Book.{Book}
 use Rattle.cloud_facts.specs.Book.Growth.{Grows}
 use Rattle.cloud_facts.specs.Book.Premises.{IsLeafAtMost}
 use Rattle.cloud_facts.specs.Book.Tally.{Store}
@@ -34,8 +28,8 @@ use Rattle.cloud_facts.specs.Tellings.Told.{store_of}
 use Rattle.tree_walk.specs.Walk.{Spot, Walk, new_walk, sought, object_of, goes_on, got_by, beside, rested, walk_ready, walk_next}
 use Rattle.tree_walk.proofs.Leaves.{Unended, through_unended}
 use Rattle.session_facts.specs.Walks.Caches.{KnowsCache}
-use Rattle.session_facts.specs.Walks.Walks.{IsOnWay, StandsAt, WasUsed, KnowsWalk, KnowsWalking, IsAtSeenLeaf, MayStop, WalkLeads}
-use Rattle.session_facts.proofs.Walks.Caches.{MayServe, cache_grows}
+use Rattle.session_facts.specs.Walks.Walks.{IsOnWay, StandsAt, WasUsed, KnowsWalk, KnowsWalking, MayStop, WalkLeads}
+use Rattle.session_facts.proofs.Walks.Caches.{MayServe}
 use Rattle.session_facts.proofs.Walks.Steps.{StepLeads}
 use Rattle.session_facts.proofs.Walks.Turns.{through, MayAnswer, by_leads, beside_leads}
 
@@ -65,25 +59,6 @@ module _ (st : Store) (h : ChainHolds st) where
   pub walk_turns : (w : Walk) (c : Cache) (a : Answer) → KnowsWalking st w c → MayAnswer st (object_of w) (got_of a) → WalkLeads st MayStop (walk_next (w, c) a)
   walk_turns w c a k may =
       beside_leads st (got_by (rested w) c (got_of a)) (by_leads st h c (rested w) (rests st w k.walk) k.cache (got_of a) may)
-
-  -- page 1 is a leaf whose low key is above no key
-  pub first_at_most : (tree : ℕ) → IsTree tree → (key : List ℕ) → IsLeafAtMost st.book tree 1 key
-  first_at_most tree is key = record {
-    link = first_link;
-    linked = (zero, ap (λ (ls : List Link). slice_get ls 0) (h tree is).levels.leaves.1);
-    page_is = refl;
-    low = not_below_empty key;
-  }
-
--- the leaf at which a walk ended is at most each key that it holds
-pub seen_at_most : (st : Store) (w : Walk) (c : Cache) (page : ℕ) (a : IsAtSeenLeaf st w c page) (key : List ℕ) → holds a.leaf key ≡ true
-    → IsLeafAtMost st.book w.tree page key
-seen_at_most st w c page a key holds_it = record {
-  link = record { low = a.leaf.low; page = page };
-  linked = a.linked;
-  page_is = refl;
-  low = not-true (bytes_below key a.leaf.low) (and_parts (not (bytes_below key a.leaf.low)) (below_bound key a.leaf.high) holds_it).0;
-}
 
 -- ---- over a cloud
 
@@ -155,6 +130,3 @@ module _ (st su : Store) (grows : Grows st su) where
     stands = stands_grow w.tree (sought w) w.nodes w.leaves w.spot k.stands;
     used = used_grows w.tree (sought w) w.used k.used;
   }
-
-  pub walking_grows : (w : Walk) (c : Cache) → KnowsWalking st w c → KnowsWalking su w c
-  walking_grows w c k = record { walk = walk_grows w k.walk; cache = cache_grows st su grows c k.cache }

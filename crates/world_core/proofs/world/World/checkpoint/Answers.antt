@@ -2,7 +2,6 @@ use Rattle.std.proofs.Common.{ap, inr, subst}
 use Rattle.std.proofs.lemmas.Result.{on_err_weaker}
 use Rattle.cloud_trait.specs.Caller.{Caller}
 use Rattle.client_work.specs.declared.answer.Answer.TheVariants as answer
-use Rattle.db_base.specs.declared.trouble.Trouble.TheVariants as trouble
 use Rattle.world_core.specs.Handled.{BeginsCheckpoint, BreaksOff, ComesTo}
 use Rattle.world_core.proofs.Checkpointing.{answers_checkpoint, answers_none}
 use Rattle.world_core.proofs.world.World.checkpoint.Goals as goal

@@ -1,4 +1,4 @@
-use Rattle.std.proofs.Common.{Ok, ap, subst}
+use Rattle.std.proofs.Common.{ap, subst}
 use Rattle.cloud_trait.specs.Caller.{Caller}
 use Rattle.world_core.specs.Handled.{NotesCall, NotesEnd}
 use Rattle.world_core.proofs.Checkpointing.{step_grows, step_noted, step_unnoted}

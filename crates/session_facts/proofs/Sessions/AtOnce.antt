@@ -127,12 +127,10 @@ answer_is : (a b : Answer) → (let x : Begun = Answered a in let y : Begun = An
 answer_is a b e = cc
 
 -- a commit that is refused at once
-spent_well : (s : CloudState) (c : CommitAnswer) → IsTold c → EndsBy MayStopAtOnce c → CommitsWell s c
+spent_well : (s : CloudState) (c : CommitAnswer) → IsTold c → EndsBy (MayStopAtOnce s) c → CommitsWell s c
 spent_well s (Committed txn) told may = tt
 spent_well s InDoubt told may = may
-spent_well s (NotCommitted (trouble.Exhausted counter.Txn)) told may = tt
-spent_well s (NotCommitted (trouble.Exhausted counter.Number)) told may = tt
-spent_well s (NotCommitted (trouble.Exhausted what)) told may = absurd may
+spent_well s (NotCommitted (trouble.Exhausted what)) told may = may
 spent_well s (NotCommitted trouble.Memory) told may = absurd (told refl)
 spent_well s (NotCommitted t) told may = may
 spent_well s (CommittedOpen (trouble.Exhausted what)) told may = told tt

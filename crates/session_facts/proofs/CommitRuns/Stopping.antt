@@ -19,7 +19,6 @@ use Rattle.commit_run.specs.Draft.{Draft, new_draft, pruned_by_root, pruned_by_k
 use Rattle.commit_run.specs.Run.{Run, new_run, target_of, asks, ask_at, wrote, refused, troubled, by_turn, begun_turn, walk_to, seek, plan_on, stale_at, is_stale, walk_stopped, walk_turned, walked, long_walk, pending_target, begin_walks, run_ready, next_at, run_next}
 use Rattle.session_facts.specs.CommitRuns.Running.{KnowsSeeking, KnowsHand, KnowsRun}
 use Rattle.session_facts.specs.Openings.Client.{AreCounted}
-use Rattle.session_facts.specs.Sessions.Spent.{IsOfCommit}
 use Rattle.session_facts.specs.CommitRuns.Stopping.{MayStop, EndsBy}
 use Rattle.session_facts.proofs.CommitRuns.Steps.{Step}
 use Rattle.commit_writes.specs.declared.stage.Stage.{Stage}
@@ -29,7 +28,6 @@ use Rattle.db_base.specs.Ids.{IsTree}
 use Rattle.db_base.specs.declared.names.ObjName.{ObjName}
 use Rattle.db_base.specs.declared.names.ObjName.TheVariants as object
 use Rattle.db_base.specs.declared.trouble.CommitAnswer.{CommitAnswer}
-use Rattle.db_base.specs.declared.trouble.Counter.{Counter}
 use Rattle.db_base.specs.declared.trouble.Counter.TheVariants as counter
 use Rattle.db_base.specs.declared.trouble.Trouble.{Trouble}
 use Rattle.db_base.specs.declared.trouble.Trouble.TheVariants as trouble

@@ -41,7 +41,7 @@ use Rattle.cloud_facts.specs.Book.Records.{IsIn, entry_of, entries_of}
 use Rattle.cloud_facts.specs.Book.Tally.{Store, at}
 use Rattle.cloud_facts.proofs.Book.GrowthLemmas.{head_grows}
 use Rattle.cloud_facts.proofs.Book.Names.{at_same}
-use Rattle.cloud_facts.proofs.Book.Places.{in_either, in_front, in_behind}
+use Rattle.cloud_facts.proofs.Book.Places.{in_either, in_behind}
 use Rattle.cloud_facts.specs.Tellings.Told.{store_of}
 use Rattle.session_facts.proofs.Openings.Counted.{counted_in, log_in}
 use Rattle.session_facts.proofs.Openings.Entries.{records_in}

@@ -1,5 +1,5 @@
 -- The counters of a head that landed are the counts of its client's records, and at most their counts from then on.
-use Rattle.std.proofs.Common.{◌≡◌, ◌+◌, ◌≤◌, ℕ, List, ◌++◌, sym, ap, subst, arith}
+use Rattle.std.proofs.Common.{ℕ, List, sym, ap, subst, arith}
 use Rattle.cloud_facts.proofs.Numbers.Queues.{count_of-append}
 use Rattle.cloud_facts.specs.Book.Growth.{Grows}
 use Rattle.cloud_facts.proofs.Book.Places.{in_front}

@@ -22,7 +22,6 @@ use Rattle.db_base.specs.declared.refusal.Refused.{Refused}
 use Rattle.db_base.specs.declared.refusal.Refused.TheVariants as refused
 use Rattle.db_base.specs.declared.trouble.CommitAnswer.{CommitAnswer}
 use Rattle.db_base.specs.declared.trouble.CommitAnswer.TheVariants.{Committed, NotCommitted, InDoubt, CommittedOpen}
-use Rattle.db_base.specs.declared.trouble.Counter.TheVariants as counter
 use Rattle.db_base.specs.declared.trouble.Trouble.{Trouble}
 use Rattle.db_base.specs.declared.trouble.Trouble.TheVariants as trouble
 use Rattle.page_cache.specs.Cache.{Cache}

@@ -19,8 +19,6 @@ use Rattle.cloud_trait.specs.State.{CloudState, Counts}
 use Rattle.cloud_trait.specs.Weather.{Makes}
 use Rattle.commit_run.specs.Run.{Run, home_of, run_ask, run_next}
 use Rattle.commit_run.specs.Sound.{IsSoundRun}
-use Rattle.db_base.specs.declared.trouble.Counter.{Counter}
-use Rattle.db_base.specs.declared.trouble.Counter.TheVariants as counter
 use Rattle.db_base.specs.declared.trouble.CommitAnswer.{CommitAnswer}
 use Rattle.db_base.specs.declared.trouble.CommitAnswer.TheVariants.{Committed, NotCommitted, InDoubt, CommittedOpen}
 use Rattle.db_base.specs.declared.trouble.Trouble.{Trouble}

@@ -1,5 +1,5 @@
 -- A page has no more entries than there are numbers of pages: they name links of one level, whose pages differ.
-use Rattle.std.proofs.Common.{◌≡◌, ◌≢◌, ◌+◌, ◌-◌, ◌^◌, ◌<◌, ◌≤◌, ◌==◌, ◌⊎◌, inl, inr, ℕ, Bool, true, false, cond, nat_lt, List, [], ◌∷◌, ◌++◌, length, map, drop, Option, Some, None, refl, sym, ap, subst, ◌∙◌, arith}
+use Rattle.std.proofs.Common.{◌≡◌, ◌+◌, ◌-◌, ◌^◌, ◌<◌, ◌≤◌, ◌⊎◌, inl, inr, ℕ, Bool, true, false, cond, nat_lt, List, [], ◌∷◌, ◌++◌, length, map, drop, Option, Some, None, refl, ap, subst, ◌∙◌, arith}
 use Rattle.std.specs.Prelude.{◌&&◌, nat_le}
 use Rattle.std.proofs.lemmas.Bool.{and_parts}
 use Rattle.std.proofs.lemmas.List.{length-map}
@@ -19,9 +19,9 @@ use Rattle.node_codec.proofs.NodeLemmas.{in_range_parts}
 use Rattle.node_codec.proofs.TreeLemmas.{tree_fits}
 use Rattle.node_codec.specs.Inner.{Inner, HasInnerSpelling}
 use Rattle.node_codec.specs.Node.{Entry, entry, may_stand, with_entry}
-use Rattle.node_codec.specs.Tree.{Tree, HasTreeSpelling, IsSoundTree, with_child}
+use Rattle.node_codec.specs.Tree.{Tree, IsSoundTree, with_child}
 use Rattle.session_facts.proofs.Settled.TreeLists.{pages_fit}
-use Rattle.session_facts.proofs.Trees.Naming.{links_name, named_names, named_rest}
+use Rattle.session_facts.proofs.Trees.Naming.{links_name, named_names}
 use Rattle.session_facts.proofs.Trees.RisingSpells.{ArePages, links_fit, named_spelled}
 use Rattle.session_facts.proofs.Trees.RisingPlaces.{parts_count}
 use Rattle.session_facts.specs.TreeCheckpoints.Counting.{Apart}

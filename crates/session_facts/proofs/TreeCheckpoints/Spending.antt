@@ -8,7 +8,6 @@ use Rattle.cloud_facts.specs.Book.Records.{IsIn}
 use Rattle.cloud_facts.specs.Book.Tally.{Branch, Leafy, Store}
 use Rattle.cloud_facts.specs.Book.Telling.{nodes_of, roots_of}
 use Rattle.cloud_facts.specs.Chains.Chain.{IsChained}
-use Rattle.cloud_facts.specs.Chains.Links.{top_of}
 use Rattle.cloud_facts.proofs.Chains.Pieces.{none_in}
 use Rattle.cloud_trait.specs.Claim.{Claim}
 use Rattle.cloud_trait.specs.State.{CloudState, newest}

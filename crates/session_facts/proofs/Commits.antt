@@ -17,5 +17,6 @@ pub mod Deleting
 pub mod CommitLemmas
 pub mod HeadPuts
 pub mod CommitHands
+pub mod Near
 pub mod Begins
 pub mod CommitLeases

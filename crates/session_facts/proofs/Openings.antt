@@ -5,6 +5,7 @@ pub mod Sends
 pub mod Marks
 pub mod Begins
 pub mod Entries
+pub mod Counted
 pub mod Others
 pub mod Leading
 pub mod Sifting

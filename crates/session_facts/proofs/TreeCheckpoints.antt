@@ -14,6 +14,8 @@ pub mod Guards
 pub mod UpGuards
 pub mod Hands
 pub mod Meeting
+pub mod RunLengths
+pub mod EntryCounts
 pub mod Spending
 pub mod Explaining
 pub mod Steps

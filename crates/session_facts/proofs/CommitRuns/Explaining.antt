@@ -23,6 +23,7 @@ use Rattle.commit_writes.specs.Writing.{Writing, head_ask, send_ask, ask_at as s
 use Rattle.db_base.specs.declared.names.ObjName.TheVariants as object
 use Rattle.db_base.specs.declared.names.QueueName.TheVariants as queue
 use Rattle.db_base.specs.declared.trouble.Counter.{Counter}
+use Rattle.db_base.specs.declared.trouble.Counter.TheVariants as counter
 use Rattle.db_base.specs.declared.trouble.Trouble.{Trouble}
 use Rattle.db_base.specs.declared.trouble.Trouble.TheVariants as trouble
 use Rattle.cloud_facts.specs.Homes.Homes.{Home, Part}
@@ -36,8 +37,10 @@ use Rattle.cloud_facts.specs.Tellings.Told.{store_of}
 use Rattle.session_facts.specs.Commits.Committing.{KnowsCommitAt}
 use Rattle.session_facts.specs.CommitRuns.Running.{KnowsSeeking, KnowsHand, KnowsRun}
 use Rattle.session_facts.specs.Sessions.Explaining.{IsShown}
-use Rattle.session_facts.specs.Sessions.Spent.{IsOfCommit}
+use Rattle.session_facts.specs.Sessions.Spent.{IsSpentToCommit}
 use Rattle.session_facts.proofs.CommitRuns.Stopping.{IsFair, IsOpeningFair, MayAnswerAt, MayAnswerIn, EndsWell, run_ends_by}
+use Rattle.session_facts.proofs.Commits.Near.{near_told}
+use Rattle.session_facts.proofs.Sessions.Spending.{all_behind, number_later}
 use Rattle.session_facts.proofs.Sessions.Showing.{sent_shown, put_shown}
 use Rattle.session_facts.specs.Walks.Walks.{WalkLeads}
 use Rattle.session_facts.proofs.Walks.Explaining.{walk_shown}
@@ -95,9 +98,11 @@ module _ (book : Book) (order : List Entry) (s : CloudState) (stands : StandsUnd
 
   -- a call of a commit that found memory ends it for nothing that it does not show
   pub run_shown : (m : Run × Cache) (part : Part) (reply : Answer) → KnowsRun st t.now m part → IsSoundRun m.0 → Makes who (run_ask m.0) reply before after → reply ≢ Memory
-      → ((what : Counter) → IsOfCommit what → Spent t what) → EndsWell (Shown (run_ask m.0)) (run_next m reply)
+      → ((what : Counter) → IsSpentToCommit t what → Spent t what) → EndsWell (Shown (run_ask m.0)) (run_next m reply)
   run_shown m part reply k sound made some own =
-      run_ends_by (Shown (run_ask m.0)) own book order s stands (Shown (run_ask m.0)) (λ trouble shown stale. shown) who t m part reply k
+      run_ends_by (Shown (run_ask m.0)) (own counter.Txn tt) book order s stands
+      (λ client counters counted near. own counter.Number (number_later s t (all_behind who (run_ask m.0) reply before after s t told told_after made) (near_told book order s stands client counters counted near)))
+      (Shown (run_ask m.0)) (λ trouble shown stale. shown) who t m part reply k
       (call_of who (run_ask m.0) reply before after s t made told told_after) (on m.0.hand k.hand sound made)
     where
       walks : (w : Walk) → KnowsSeeking st t.now m.0.draft w part → Makes who (walk_ask w) reply before after → WalkLeads st (Shown (walk_ask w)) (walk_next (w, m.1) reply)

@@ -3,7 +3,7 @@ use Rattle.std.proofs.Common.{◌≡◌, ℕ, Option, Some, None, refl, sym, sub
 use Rattle.cloud_facts.specs.Calls.Acting.{IsPruned, KnowsHome}
 use Rattle.cloud_facts.proofs.Calls.OthersLemmas.{pruned_again}
 use Rattle.cloud_trait.specs.Claim.{Lasts}
-use Rattle.session_facts.specs.Openings.Client.{AreOfRecords}
+use Rattle.session_facts.specs.Openings.Client.{AreOfRecords, AreCounted}
 use Rattle.session_facts.specs.Commits.Committing.{KnowsTaken}
 use Rattle.commit_run.specs.Draft.{Draft, pruned_by_root, pruned_by_kept, pruned_with, pruned_behind}
 use Rattle.session_facts.specs.CommitRuns.Running.{KnowsDraft}
@@ -43,10 +43,10 @@ taken_entries st now home part h t lasts = own_entries st home.client home.head 
 module _ (st : Store) (now : ℕ) (h : Holds st) (part : Part) (d : Draft) (k : KnowsDraft st now d part) where
   -- with a head that is pruned once more
   with_pruned : (head : Head) → head.epoch ≡ d.writes.home.head.epoch → head.txn ≡ d.writes.home.head.txn → head.phase ≡ d.writes.home.head.phase
-      → (Lasts now d.writes.home.lease → IsPruned st.tally d.writes.home.client d.writes.home.head head)
+      → head.counters ≡ d.writes.home.head.counters → (Lasts now d.writes.home.lease → IsPruned st.tally d.writes.home.client d.writes.home.head head)
       → ((p : Pending) → IsIn head.pending p → IsIn d.writes.home.head.pending p) → KnowsDraft st now (record d { writes = pruned d.writes head }) part
-  with_pruned head epoch txn phase prunes from = record {
-    taken = record { before = k.taken.before; taken = k.taken.taken; home = record { at = home; trees = λ p is. k.taken.home.trees p (from p is); of_records = λ p is. k.taken.home.of_records p (from p is) } };
+  with_pruned head epoch txn phase counters prunes from = record {
+    taken = record { before = k.taken.before; taken = k.taken.taken; home = record { at = home; trees = λ p is. k.taken.home.trees p (from p is); of_records = λ p is. k.taken.home.of_records p (from p is); counted = subst (AreCounted st.book.log d.writes.home.client) (sym counters) k.taken.home.counted } };
     may = k.may;
     some = k.some;
     none = k.none;
@@ -83,7 +83,7 @@ module _ (st : Store) (now : ℕ) (h : Holds st) (part : Part) (d : Draft) (k : 
         → KnowsDraft st now (record d { writes = pruned_by_root d.writes tree o }) part
     by_root tree used None e = k
     by_root tree used (Some root) e =
-        with_pruned (pruned_by_tree d.writes.home.head d.writes.home.client tree root) refl refl refl
+        with_pruned (pruned_by_tree d.writes.home.head d.writes.home.client tree root) refl refl refl refl
         (λ lasts. root_prunes st h.chains d.writes.home.client tree k.taken.home.at.is_client (subst IsTree (sym used) walk.tree) h.numbers d.writes.home.head
         (own lasts) root (seen_root st c tree root cache e))
         (λ p is. kept_from (is_covered_by root d.writes.home.client tree) d.writes.home.head.pending p is)
@@ -92,7 +92,7 @@ module _ (st : Store) (now : ℕ) (h : Holds st) (part : Part) (d : Draft) (k : 
         → KnowsDraft st now (record d { writes = pruned_by_kept d.writes tree o }) part
     by_leaf tree page used None e = k
     by_leaf tree page used (Some leaf) e =
-        with_pruned (pruned_by_leaf d.writes.home.head d.writes.home.client tree leaf) refl refl refl
+        with_pruned (pruned_by_leaf d.writes.home.head d.writes.home.client tree leaf) refl refl refl refl
         (λ lasts. leaf_prunes st h.chains d.writes.home.client tree k.taken.home.at.is_client (subst IsTree (sym used.0) walk.tree) d.writes.home.head page (sought w)
         leaf
         (subst (λ t. IsLeafAtMost st.book t page (sought w)) (sym used.0) used.1) (seen_leaf st c tree page leaf cache e))

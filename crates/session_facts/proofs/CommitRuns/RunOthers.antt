@@ -19,6 +19,7 @@ use Rattle.cloud_facts.specs.Book.Tally.{Store}
 use Rattle.tree_walk.specs.Walk.{Walk}
 use Rattle.session_facts.proofs.Walks.Caches.{cache_grows}
 use Rattle.session_facts.proofs.Walks.Walks.{walk_grows}
+use Rattle.session_facts.proofs.Openings.Counted.{counted_stay}
 use Rattle.session_facts.proofs.Openings.Entries.{records_stay}
 
 module _ (st su : Store) (now later : ℕ) (part : Part) (after : now ≤ later) where
@@ -31,6 +32,7 @@ module _ (st su : Store) (now later : ℕ) (part : Part) (after : now ≤ later)
         at = home_others st su now later d.writes.home.client d.writes.home.lease d.writes.home.head k.taken.before part (d.writes.home.lease ∷ []) after (0, refl) o k.taken.home.at;
         trees = k.taken.home.trees;
         of_records = records_stay st su d.writes.home.client d.writes.home.head.pending o.passes.grows k.taken.home.of_records;
+        counted = counted_stay st su d.writes.home.client d.writes.home.head.counters o.passes.grows k.taken.home.counted;
       };
     };
     may = k.may;

@@ -1,5 +1,5 @@
 -- Why a commit ends with nothing committed, or stays open: while its lease lasts its walks know their way, and no object is damaged.
-use Rattle.std.proofs.Common.{◌≡◌, ◌+◌, ℕ, Bool, true, false, cond, List, [], ◌∷◌, ◌++◌, length, Option, Some, None, Result, Ok, Err, refl, sym, subst}
+use Rattle.std.proofs.Common.{◌≡◌, ◌+◌, ◌≤◌, ℕ, Bool, true, false, cond, List, [], ◌∷◌, ◌++◌, length, Option, Some, None, Result, Ok, Err, refl, sym, subst}
 use Rattle.std.specs.Prelude.{nat_lt, slice_get}
 use Rattle.std.specs.Option.{option_map}
 use Rattle.cloud_facts.specs.Calls.Call.{IsCall}
@@ -11,13 +11,14 @@ use Rattle.cloud_trait.specs.Machine.{Next, Goes, Ends, Stops}
 use Rattle.cloud_trait.specs.State.{CloudState}
 use Rattle.cloud_trait.specs.Views.{trouble_of, sent_of, done_of}
 use Rattle.session_facts.specs.Commits.Committing.{MayCommit}
+use Rattle.session_facts.proofs.Commits.Near.{IsNear, near_routed}
 use Rattle.session_facts.proofs.Commits.Begins.{KnowsHeld}
 use Rattle.commit_run.specs.declared.hand.Hand.{Hand}
 use Rattle.commit_run.specs.declared.hand.Hand.TheVariants.{Writes, First, Change}
 use Rattle.commit_run.specs.Draft.{Draft, new_draft, pruned_by_root, pruned_by_kept, pruned_with, pruned_behind, planned, leaf_noted, paged}
 use Rattle.commit_run.specs.Run.{Run, new_run, target_of, asks, ask_at, wrote, refused, troubled, by_turn, begun_turn, walk_to, seek, plan_on, stale_at, is_stale, walk_stopped, walk_turned, walked, long_walk, pending_target, begin_walks, run_ready, next_at, run_next}
 use Rattle.session_facts.specs.CommitRuns.Running.{KnowsSeeking, KnowsHand, KnowsRun}
-use Rattle.session_facts.specs.Sessions.Spent.{IsOfCommit}
+use Rattle.session_facts.specs.Openings.Client.{AreCounted}
 use Rattle.session_facts.specs.CommitRuns.Stopping.{MayStop, EndsBy}
 use Rattle.session_facts.proofs.CommitRuns.Steps.{Step}
 use Rattle.commit_writes.specs.declared.stage.Stage.{Stage}
@@ -27,10 +28,10 @@ use Rattle.db_base.specs.Ids.{IsTree}
 use Rattle.db_base.specs.declared.names.ObjName.{ObjName}
 use Rattle.db_base.specs.declared.names.ObjName.TheVariants as object
 use Rattle.db_base.specs.declared.trouble.CommitAnswer.{CommitAnswer}
-use Rattle.db_base.specs.declared.trouble.Counter.{Counter}
 use Rattle.db_base.specs.declared.trouble.Counter.TheVariants as counter
 use Rattle.db_base.specs.declared.trouble.Trouble.{Trouble}
 use Rattle.db_base.specs.declared.trouble.Trouble.TheVariants as trouble
+use Rattle.head_codec.specs.declared.lists.QueueCount.{QueueCount}
 use Rattle.head_codec.specs.declared.lists.Pending.{Pending}
 use Rattle.cloud_facts.specs.Homes.Homes.{Part}
 use Rattle.cloud_facts.specs.Landings.Holding.{Holds}
@@ -97,7 +98,11 @@ EndsWell May (Goes m) = Unit {0}
 EndsWell May (Ends m a) = EndsBy May a
 EndsWell May (Stops m t) = May t
 
-module _ (May : Trouble → Type 0) (spent : (what : Counter) → IsOfCommit what → May (trouble.Exhausted what)) where
+module _ (May : Trouble → Type 0) (txn : May (trouble.Exhausted counter.Txn)) where
+  -- a head whose counter is near the end may stop it
+  abbrev MayPass : List QueueCount → Type 0
+  MayPass counters = IsNear counters → May (trouble.Exhausted counter.Number)
+
   logs : (w : Writing) (o : Option AtomicRec) → WritesWell May (log_or_open w o)
   logs w (Some r) = tt
   logs w None = tt
@@ -156,12 +161,13 @@ module _ (May : Trouble → Type 0) (spent : (what : Counter) → IsOfCommit wha
       on Deleting may = deleted w (done_of a) may
       on Finished may = may
 
-  routes : (w : Writing) (pages : List ℕ) → WritesWell May (routing w pages)
-  routes w pages = on (passes (routed_of w.home w.changes pages))
+  routes : (w : Writing) (pages : List ℕ) → length w.changes ≤ 200 → MayPass w.home.head.counters → WritesWell May (routing w pages)
+  routes w pages few may = on (passes (routed_of w.home w.changes pages)) refl
     where
-      on : (b : Bool) → WritesWell May (cond b (not_committed w (trouble.Exhausted counter.Number)) (begun w (routed_of w.home w.changes pages)))
-      on true = spent counter.Number tt
-      on false = logs (record w { records = routed_of w.home w.changes pages; place = 0 }) (slice_get (routed_of w.home w.changes pages) 0)
+      on : (b : Bool) → passes (routed_of w.home w.changes pages) ≡ b
+          → WritesWell May (cond b (not_committed w (trouble.Exhausted counter.Number)) (begun w (routed_of w.home w.changes pages)))
+      on true e = may (near_routed w.home w.changes pages few e)
+      on false e = logs (record w { records = routed_of w.home w.changes pages; place = 0 }) (slice_get (routed_of w.home w.changes pages) 0)
 
   -- ---- where a step leads
 
@@ -194,12 +200,12 @@ module _ (May : Trouble → Type 0) (spent : (what : Counter) → IsOfCommit wha
     walk_to_well : (first : Bool) (d : Draft) (c : Cache) (to : ℕ × List ℕ) → KnowsCache st c → IsTree to.0 → EndsWell May (walk_to first d c to)
     walk_to_well first d c to cache tree = begun_well first d (walk_ready (new_walk to.0 (Some to.1) first, c)) (begins to.0 to.1 first c tree cache)
 
-    plan_on_well : (d : Draft) (c : Cache) → MayCommit d.writes.changes → KnowsCache st c → EndsWell May (plan_on d c)
-    plan_on_well d c may cache = on (slice_get d.writes.changes (length (planned d).plan.pages)) refl
+    plan_on_well : (d : Draft) (c : Cache) → MayCommit d.writes.changes → MayPass d.writes.home.head.counters → KnowsCache st c → EndsWell May (plan_on d c)
+    plan_on_well d c may pass cache = on (slice_get d.writes.changes (length (planned d).plan.pages)) refl
       where
         on : (o : Option Noted) → slice_get d.writes.changes (length (planned d).plan.pages) ≡ o → EndsWell May (seek (planned d) c (option_map target_of o))
         on (Some n) e = walk_to_well false (planned d) c (target_of n) cache (may.each n (length (planned d).plan.pages, e)).0
-        on None e = wrote_well (planned d) c (routing d.writes (planned d).plan.pages) (routes d.writes (planned d).plan.pages)
+        on None e = wrote_well (planned d) c (routing d.writes (planned d).plan.pages) (routes d.writes (planned d).plan.pages may.noted.most pass)
 
     -- pruning leaves the changes
     same_changes : (w : Writing) (c : Cache) (used : Option ObjName) → MayCommit w.changes → MayCommit (pruned_with w c used).changes
@@ -216,35 +222,51 @@ module _ (May : Trouble → Type 0) (spent : (what : Counter) → IsOfCommit wha
         on (Some leaf) = may
         on None = may
 
-    long_well : (d : Draft) (c : Cache) → MayCommit d.writes.changes → KnowsCache st c → (o : Option Pending) → ((e : Pending) → o ≡ Some e → IsTree e.tree)
+    same_counters : (w : Writing) (c : Cache) (used : Option ObjName) → MayPass w.home.head.counters → MayPass (pruned_with w c used).home.head.counters
+    same_counters w c None pass = pass
+    same_counters w c (Some (object.Head client)) pass = pass
+    same_counters w c (Some (object.Tree tree)) pass = on (root_at c (object.Tree tree))
+      where
+        on : (o : Option Tree) → MayPass (pruned_by_root w tree o).home.head.counters
+        on (Some root) = pass
+        on None = pass
+    same_counters w c (Some (object.Page tree page)) pass = on (leaf_at c (object.Page tree page))
+      where
+        on : (o : Option Leaf) → MayPass (pruned_by_kept w tree o).home.head.counters
+        on (Some leaf) = pass
+        on None = pass
+
+    long_well : (d : Draft) (c : Cache) → MayCommit d.writes.changes → MayPass d.writes.home.head.counters → KnowsCache st c → (o : Option Pending) → ((e : Pending) → o ≡ Some e → IsTree e.tree)
         → EndsWell May (long_walk d c (option_map pending_target o))
-    long_well d c may cache (Some e) tree = walk_to_well true d c (pending_target e) cache (tree e refl)
-    long_well d c may cache None tree = plan_on_well d c may cache
+    long_well d c may pass cache (Some e) tree = walk_to_well true d c (pending_target e) cache (tree e refl)
+    long_well d c may pass cache None tree = plan_on_well d c may pass cache
 
     -- a turn of a walk, whose stale pages are passed over
     module _ (MayWalk : Trouble → Type 0) (fair : (t : Trouble) → MayWalk t → is_stale t ≡ false → May t) where
-      stopped_well : (first : Bool) (d : Draft) (c : Cache) (t : Trouble) → MayCommit d.writes.changes → KnowsCache st c → MayWalk t → EndsWell May (walk_stopped first d c t)
-      stopped_well first d c t may cache stops = on (is_stale t) refl
+      stopped_well : (first : Bool) (d : Draft) (c : Cache) (t : Trouble) → MayCommit d.writes.changes → MayPass d.writes.home.head.counters → KnowsCache st c → MayWalk t
+          → EndsWell May (walk_stopped first d c t)
+      stopped_well first d c t may pass cache stops = on (is_stale t) refl
         where
           passed_over : (b : Bool) → EndsWell May (stale_at b d c)
-          passed_over true = plan_on_well d c may cache
-          passed_over false = plan_on_well (paged d 1) c may cache
+          passed_over true = plan_on_well d c may pass cache
+          passed_over false = plan_on_well (paged d 1) c may pass cache
 
           on : (b : Bool) → is_stale t ≡ b → EndsWell May (cond b (stale_at first d c) (troubled d c t))
           on true e = passed_over first
           on false e = troubled_well d c t (fair t stops e)
 
-      turned_well : (first : Bool) (d : Draft) (n : Next (Walk × Cache) ℕ) → MayCommit d.writes.changes → LeavesKnown st n → WalkLeads st MayWalk n
-          → EndsWell May (by_turn (walk_turned first d) n)
-      turned_well first d (Goes m) may cache leads = tt
-      turned_well first d (Ends m page) may cache leads =
-          plan_on_well (leaf_noted (pruned_behind d m.0 m.1) m.0 m.1 page) m.1 (same_changes d.writes m.1 m.0.used may) cache
-      turned_well first d (Stops m t) may cache leads =
-          stopped_well first (pruned_behind d m.0 m.1) m.1 t (same_changes d.writes m.1 m.0.used may) cache leads.1
+      turned_well : (first : Bool) (d : Draft) (n : Next (Walk × Cache) ℕ) → MayCommit d.writes.changes → MayPass d.writes.home.head.counters → LeavesKnown st n
+          → WalkLeads st MayWalk n → EndsWell May (by_turn (walk_turned first d) n)
+      turned_well first d (Goes m) may pass cache leads = tt
+      turned_well first d (Ends m page) may pass cache leads =
+          plan_on_well (leaf_noted (pruned_behind d m.0 m.1) m.0 m.1 page) m.1 (same_changes d.writes m.1 m.0.used may) (same_counters d.writes m.1 m.0.used pass) cache
+      turned_well first d (Stops m t) may pass cache leads =
+          stopped_well first (pruned_behind d m.0 m.1) m.1 t (same_changes d.writes m.1 m.0.used may) (same_counters d.writes m.1 m.0.used pass) cache leads.1
 
   -- ---- a call, by what it may have answered
 
-  module _ (book : Book) (order : List Entry) (s : CloudState) (stands : StandsUnder book order s) where
+  module _ (book : Book) (order : List Entry) (s : CloudState) (stands : StandsUnder book order s)
+      (number : (client : ℕ) (counters : List QueueCount) → AreCounted book.log client counters → MayPass counters) where
     pub run_ends_by : (MayWalk : Trouble → Type 0) (fair : (t : Trouble) → MayWalk t → is_stale t ≡ false → May t) (who : Caller) (t : CloudState) (m : Run × Cache) (part : Part) (reply : Answer) → KnowsRun (store_of book order s) t.now m part
         → IsCall who (asks m) reply s t → MayAnswerIn May MayWalk (store_of book order s) m.0.hand m.0.draft m.1 reply → EndsWell May (run_next m reply)
     run_ends_by MayWalk fair who t m part reply k call may = on m.0.hand k.hand call may
@@ -253,6 +275,7 @@ module _ (May : Trouble → Type 0) (spent : (what : Counter) → IsOfCommit wha
             → WalkLeads (store_of book order s) MayWalk (walk_next (w, m.1) reply) → EndsWell May (walked first m.0.draft w m.1 reply)
         walks first w seeks call leads =
             turned_well (store_of book order s) stands.holds MayWalk fair first m.0.draft (walk_next (w, m.1) reply) seeks.draft.may
+            (number m.0.draft.writes.home.client m.0.draft.writes.home.head.counters seeks.draft.taken.home.counted)
             (turn_leaves (store_of book order s) w m.1 reply k.cache (call_answers book order s stands who (object_of w) reply t call)) leads
 
         on : (hand : Hand) → KnowsHand hand (store_of book order s) t.now m.0.draft part → IsCall who (ask_at hand m.0.draft.writes) reply s t
@@ -267,16 +290,19 @@ module _ (May : Trouble → Type 0) (spent : (what : Counter) → IsOfCommit wha
       abbrev numbered : Draft
       numbered = new_draft (with_home (waiting home changes) (with_attempt home))
 
+      pass : MayPass home.head.counters
+      pass = number home.client home.head.counters k.counted
+
       long : (b : Bool) → EndsWell May (long_walk numbered c (cond b (option_map pending_target (slice_get home.head.pending 0)) None))
-      long true = long_well (store_of book order s) stands.holds numbered c may cache (slice_get home.head.pending 0) (λ e is. k.trees e (0, is))
-      long false = plan_on_well (store_of book order s) stands.holds numbered c may cache
+      long true = long_well (store_of book order s) stands.holds numbered c may pass cache (slice_get home.head.pending 0) (λ e is. k.trees e (0, is))
+      long false = plan_on_well (store_of book order s) stands.holds numbered c may pass cache
 
       pub ready_ends_by : EndsWell May (run_ready (new_run home changes, c))
       ready_ends_by = on (is_spent home)
         where
           on : (b : Bool) → EndsWell May (cond b (refused (new_draft (waiting home changes)) c (trouble.Exhausted counter.Txn))
               (begin_walks (new_draft (cond b (waiting home changes) (with_home (waiting home changes) (with_attempt home)))) c))
-          on true = spent counter.Txn tt
+          on true = txn
           on false = long (nat_lt 256 (length home.head.pending))
 
 -- ---- answers that bring no value
@@ -332,7 +358,7 @@ module _ (book : Book) (order : List Entry) (s : CloudState) (stands : StandsUnd
   pub run_ends : (who : Caller) (t : CloudState) (m : Run × Cache) (part : Part) (reply : Answer) → KnowsRun (store_of book order s) t.now m part
       → IsCall who (asks m) reply s t → EndsWell MayStop (run_next m reply)
   run_ends who t m part reply k call =
-      run_ends_by MayStop (λ what of. of) book order s stands MayStopWalk walk_fair who t m part reply k call (on m.0.hand k.hand call)
+      run_ends_by MayStop tt book order s stands (λ client counters counted near. tt) MayStopWalk walk_fair who t m part reply k call (on m.0.hand k.hand call)
     where
       walks : (w : Walk) → KnowsSeeking (store_of book order s) t.now m.0.draft w part → IsCall who (ask_at (Change w) m.0.draft.writes) reply s t
           → WalkLeads (store_of book order s) MayStopWalk (walk_next (w, m.1) reply)

@@ -40,6 +40,7 @@ taken_left st now home part t = record {
   };
   trees = t.home.trees;
   of_records = t.home.of_records;
+  counted = t.home.counted;
 }
   where
     k : KnowsHome st now home.client home.lease home.head t.before part
@@ -91,6 +92,7 @@ module _ (st : Store) (now : ℕ) (parts : Parts) (session : ℕ) (w : Writing) 
     newest = k.newest;
     trees = t.home.trees;
     of_records = t.home.of_records;
+    counted = t.home.counted;
     uncommitted = uncommitted;
   }
 

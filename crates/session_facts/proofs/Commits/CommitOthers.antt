@@ -22,6 +22,7 @@ use Rattle.cloud_facts.specs.Book.Growth.{PhaseRises, IsLater, Grows}
 use Rattle.cloud_facts.specs.Book.Records.{IsIn}
 use Rattle.cloud_facts.specs.Book.Tally.{Store}
 use Rattle.txn_buffer.specs.Noted.{Noted}
+use Rattle.session_facts.proofs.Openings.Counted.{counted_stay}
 use Rattle.session_facts.proofs.Openings.Entries.{records_stay}
 
 -- nothing of the transaction joins the log
@@ -101,6 +102,7 @@ module _ (st su : Store) (now later : ℕ) (x : Attempt) (after : now ≤ later)
     newest = λ lasts. pruned_stays st su x.client base is_client grows (still lasts) (a.newest (earlier lasts));
     trees = a.trees;
     of_records = records_stay st su x.client base.pending grows a.of_records;
+    counted = counted_stay st su x.client base.counters grows a.counted;
     uncommitted = λ r is of. a.uncommitted r (none r is of) of;
   }
 
@@ -176,6 +178,7 @@ commit_others st su now later w part after o joins k =
       newest = λ lasts. still lasts ∙ a.newest (omega (arith, lasts, after));
       trees = a.trees;
       of_records = records_stay st su w.home.client w.home.head.pending (o.passes).grows a.of_records;
+      counted = counted_stay st su w.home.client w.home.head.counters (o.passes).grows a.counted;
       needed = a.needed;
       messages = messages a.messages;
     }

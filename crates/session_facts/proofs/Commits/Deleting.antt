@@ -63,6 +63,7 @@ module _ (who : Caller) (book : Book) (order : List Entry) (s t : CloudState) (p
     newest = a.newest;
     trees = a.trees;
     of_records = a.of_records;
+    counted = a.counted;
     needed = a.needed;
     messages = messages_stay st su (attempt_of w) w.ids (log_mark_grows st client id) a.messages;
   }

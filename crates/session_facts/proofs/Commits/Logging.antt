@@ -132,7 +132,7 @@ module _ (who : Caller) (book : Book) (order : List Entry) (s t : CloudState) (p
     where
       left : (u : Store) (p : Part) (h : Home) → Stands (attempt_of w) w.changes p h → Routes u t.now (attempt_of w) w.changes w.records w.home.head
           → KnowsClient u t.now client w.home.lease w.home.head w.home.attempt p
-      left u p h stands routes = knows_home u t.now (attempt_of w) w.changes p h w.home.head stands refl (let e = routes.later in omega (arith, e)) routes.settled routes.newest routes.trees routes.of_records
+      left u p h stands routes = knows_home u t.now (attempt_of w) w.changes p h w.home.head stands refl (let e = routes.later in omega (arith, e)) routes.settled routes.newest routes.trees routes.of_records routes.counted
 
       -- the records are routed as before
       routes_after : Routes su t.now (attempt_of w) w.changes w.records w.home.head

@@ -2,7 +2,7 @@
 use Rattle.std.proofs.Common.{◌≡◌, ◌≤◌, ◌+◌, ℕ, List, [], ◌∷◌, ◌++◌, take, Option, Some, None, Result, Ok, Err, refl, sym, ap, subst, ◌∙◌, arith}
 use Rattle.std.specs.Prelude.{slice_get}
 use Rattle.cloud_facts.specs.Calls.Acting.{IsPruned}
-use Rattle.session_facts.specs.Openings.Client.{AreOfTrees, AreOfRecords, KnowsClient}
+use Rattle.session_facts.specs.Openings.Client.{AreOfTrees, AreOfRecords, AreCounted, KnowsClient}
 use Rattle.cloud_facts.proofs.Calls.OthersLemmas.{pruned_itself}
 use Rattle.cloud_trait.specs.Claim.{Lasts}
 use Rattle.cloud_trait.specs.Machine.{Next, Goes, Ends, Stops}
@@ -78,8 +78,8 @@ stands_of st now w part k = record { client = k.client; lock = k.lock; changes_m
 -- a settled head of the epoch is left
 pub knows_home : (u : Store) (now : ℕ) (x : Attempt) (changes : List Noted) (part : Part) (g : Home) (head : Head) → Stands x changes part g → head.epoch ≡ x.epoch → head.txn ≤ x.txn
     → head.phase ≡ phase.Settled → (Lasts now x.lease → IsPruned u.tally x.client (u.tally.head x.client) head) → AreOfTrees head.pending
-    → AreOfRecords u.book.log x.client head.pending → KnowsClient u now x.client x.lease head x.txn part
-knows_home u now x changes part g head stands epoch within settled newest trees of_records = record {
+    → AreOfRecords u.book.log x.client head.pending → AreCounted u.book.log x.client head.counters → KnowsClient u now x.client x.lease head x.txn part
+knows_home u now x changes part g head stands epoch within settled newest trees of_records counted = record {
   at = record {
     is_client = stands.client;
     lock_is = stands.lock;
@@ -95,6 +95,7 @@ knows_home u now x changes part g head stands epoch within settled newest trees 
   };
   trees = trees;
   of_records = of_records;
+  counted = counted;
 }
 
 -- ---- the next call
@@ -166,11 +167,11 @@ module _ (u : Store) (now : ℕ) (w : Writing) (part : Part) (g : Home) (stands 
     changes = stands.changes_may;
     home = g;
     at_home = stands.home;
-    at = record { committed = a.committed; settled = a.settled; txn_is = a.txn_is; past = a.past; newest = a.newest; trees = a.trees; of_records = a.of_records; needed = a.needed; messages = a.messages };
+    at = record { committed = a.committed; settled = a.settled; txn_is = a.txn_is; past = a.past; newest = a.newest; trees = a.trees; of_records = a.of_records; counted = a.counted; needed = a.needed; messages = a.messages };
   }
   delete_next n None a =
       knows_home u now (attempt_of w) w.changes part g w.home.head stands refl (let e = a.txn_is in omega (arith, e)) a.settled
-      (λ lasts. subst (λ (h : Head). IsPruned u.tally w.home.client h w.home.head) (sym (a.newest lasts)) (pruned_itself u.tally w.home.client w.home.head)) a.trees a.of_records
+      (λ lasts. subst (λ (h : Head). IsPruned u.tally w.home.client h w.home.head) (sym (a.newest lasts)) (pruned_itself u.tally w.home.client w.home.head)) a.trees a.of_records a.counted
 
   pub deletes_at : (n : ℕ) → Deletes u now w g → Known (delete_at w n) u now part
   deletes_at n a = delete_next n (slice_get w.ids n) a

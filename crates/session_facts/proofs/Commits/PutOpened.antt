@@ -1,5 +1,5 @@
 -- What the put that commits leaves.
-use Rattle.std.proofs.Common.{◌≡◌, ◌⊎◌, inl, inr, ℕ, List, [], ◌∷◌, ◌++◌, map, Some, None, Ok, refl, sym, ap, subst, ◌∙◌, arith}
+use Rattle.std.proofs.Common.{◌≡◌, ◌⊎◌, inl, inr, ℕ, List, [], ◌∷◌, ◌++◌, map, Some, None, Ok, refl, sym, ap, subst, ◌∙◌, arith, append-nil}
 use Rattle.std.proofs.lemmas.List.{map-append}
 use Rattle.cloud_facts.specs.Calls.Acting.{IsPruned}
 use Rattle.cloud_facts.specs.Calls.Call.{IsCall}
@@ -10,6 +10,7 @@ use Rattle.cloud_trait.specs.declared.answer.Answer.{Answer}
 use Rattle.cloud_trait.specs.Ask.{Lands}
 use Rattle.cloud_trait.specs.Caller.{Caller}
 use Rattle.cloud_trait.specs.Claim.{Lasts}
+use Rattle.cloud_trait.specs.Growth.{BeginsWith}
 use Rattle.cloud_trait.specs.State.{CloudState, called}
 use Rattle.cloud_trait.specs.Views.{done_of}
 use Rattle.session_facts.specs.Commits.Committing.{attempt_of, IsOfAttempt, AreMessagesOf, OpensBehind, HasOpened, HasCommitted, KnowsNext}
@@ -40,8 +41,9 @@ use Rattle.cloud_facts.specs.Book.Records.{IsIn, entry_of, entries_of}
 use Rattle.cloud_facts.specs.Book.Tally.{Store, at}
 use Rattle.cloud_facts.proofs.Book.GrowthLemmas.{head_grows}
 use Rattle.cloud_facts.proofs.Book.Names.{at_same}
-use Rattle.cloud_facts.proofs.Book.Places.{in_either, in_front, in_behind}
+use Rattle.cloud_facts.proofs.Book.Places.{in_either, in_behind}
 use Rattle.cloud_facts.specs.Tellings.Told.{store_of}
+use Rattle.session_facts.proofs.Openings.Counted.{counted_in, log_in}
 use Rattle.session_facts.proofs.Openings.Entries.{records_in}
 
 module _ (who : Caller) (book : Book) (order : List Entry) (s t : CloudState) (parts : Parts) (w : Writing) (reply : Answer) (part : Part) (g : Home)
@@ -57,12 +59,12 @@ module _ (who : Caller) (book : Book) (order : List Entry) (s t : CloudState) (p
   step = next_at Opening w reply
 
   -- the head as it was is left where the put was late
-  left : (u : Store) → (Lasts t.now w.home.lease → IsPruned u.tally client (u.tally.head client) a.base) → ((r : AtomicRec) → IsIn book.log r → IsIn u.book.log r)
-      → IsLeft u t.now w part (restored w.home.head w.before)
-  left u newest stays =
+  left : (u : Store) → (Lasts t.now w.home.lease → IsPruned u.tally client (u.tally.head client) a.base) → BeginsWith book.log u.book.log → IsLeft u t.now w part (restored w.home.head w.before)
+  left u newest grows =
       subst (λ h. IsLeft u t.now w part h) (sym (restored_is w a.base a.head a.before))
       (knows_home u t.now (attempt_of w) w.changes part g a.base ready.stands (a.routes).epoch_is (let e = (a.routes).later in omega (arith, e)) (a.routes).settled newest (a.routes).trees
-      (records_in book.log u.book.log client (a.base).pending stays (a.routes).of_records))
+      (records_in book.log u.book.log client (a.base).pending (log_in book.log u.book.log grows) (a.routes).of_records)
+      (counted_in book.log u.book.log client (a.base).counters grows (a.routes).counted))
 
   -- ---- where it landed
 
@@ -166,7 +168,7 @@ module _ (who : Caller) (book : Book) (order : List Entry) (s t : CloudState) (p
         (next_homes su.tally t.now parts who.session part step after_homes)
         (opened_known su t.now w part (done_of reply)
         (λ done. sends_at su t.now w part g ready.stands 0 has_opened has_committed (λ place r less there. absurd (omega (arith, less))) messages)
-        (λ end late e. left su (λ still. absurd (put_late who (object.Head client) w.out w.home.lease reply s t call end late e still)) (λ r is. in_front book.log recs r is)))
+        (λ end late e. left su (λ still. absurd (put_late who (object.Head client) w.out w.home.lease reply s t call end late e still)) (recs, refl)))
         noted
 
   pub opening_outcome : OutcomeAt who book order s t parts w reply Opening
@@ -176,5 +178,5 @@ module _ (who : Caller) (book : Book) (order : List Entry) (s t : CloudState) (p
       on (inl p) =
           stays who book order s t parts (w.home.lease ∷ []) (head_ask w) (noted_at Opening w (head_ask w)) (KnowsNext step) p.0 (ready.setting).cloud (part_next step part)
           (next_homes st.tally t.now parts who.session part step (homes who book order s t.now parts w part g ready))
-          (opened_known st t.now w part (done_of reply) (λ done. absurd (p.1 done)) (λ end late e. left st (a.routes).newest (λ r is. is)))
+          (opened_known st t.now w part (done_of reply) (λ done. absurd (p.1 done)) (λ end late e. left st (a.routes).newest ([], sym (append-nil book.log))))
       on (inr lands) = opened_outcome (put_lasts who (object.Head client) w.out w.home.lease None (called who t.now s) t lands) lands

@@ -11,6 +11,7 @@ use Rattle.cloud_trait.specs.Caller.{Caller}
 use Rattle.cloud_trait.specs.Claim.{Lasts}
 use Rattle.cloud_trait.specs.State.{CloudState, called}
 use Rattle.cloud_trait.specs.Views.{done_of}
+use Rattle.session_facts.proofs.Openings.Counted.{counted_in, settled_counted}
 use Rattle.session_facts.proofs.Openings.Entries.{settled_trees, settled_records, records_in}
 use Rattle.session_facts.specs.Commits.Committing.{attempt_of, SettlesOpened, Deletes, KnowsNext}
 use Rattle.session_facts.specs.Commits.Noting.{noted_at}
@@ -103,6 +104,7 @@ module _ (who : Caller) (book : Book) (order : List Entry) (s t : CloudState) (p
       trees = settled_trees st client w.home.head (ready.setting).cloud.holds settles;
       of_records = records_in book.log su.book.log client w.home.head.pending (λ r is. in_front book.log [] r is)
           (settled_records st client w.home.head settles (ready.setting).cloud.holds);
+      counted = counted_in book.log su.book.log client w.home.head.counters ([], refl) (settled_counted st client w.home.head settles (ready.setting).cloud.holds.numbers);
       needed = refl;
       messages = messages_stay st su (attempt_of w) w.ids (head_grows st client w.home.head [] (settles_later (st.tally.head client) w.home.head settles.behind settles.phase)) k.messages;
     }

@@ -52,6 +52,7 @@ use Rattle.cloud_facts.specs.Book.Book.{Book}
 use Rattle.cloud_facts.specs.Book.Effects.{after_head, after_log_mark, after_posted}
 use Rattle.cloud_facts.specs.Book.Messages.{IsLogMessage, IsDeleted}
 use Rattle.cloud_facts.specs.Book.Premises.{MarksLog, Settles}
+use Rattle.session_facts.proofs.Openings.Counted.{counted_stay, settled_counted}
 use Rattle.session_facts.proofs.Openings.Entries.{settled_trees, settled_records, records_stay}
 use Rattle.cloud_facts.specs.Book.Records.{IsIn}
 use Rattle.cloud_facts.specs.Book.Tally.{Store, at}
@@ -271,6 +272,7 @@ module _ (who : Caller) (book : Book) (order : List Entry) (s t : CloudState) (p
           at = home_at;
           trees = settled_trees st r.client r.head setting.cloud.holds settles_so;
           of_records = records_stay st put_store r.client r.head.pending passes.grows (settled_records st r.client r.head settles_so setting.cloud.holds);
+          counted = counted_stay st put_store r.client r.head.counters passes.grows (settled_counted st r.client r.head settles_so setting.cloud.holds.numbers);
         };
         later = let e : r.wanted.epoch ≡ k.read.before.epoch = ap (λ (w : Wanted). w.epoch) k.read.wanted_is in omega (arith, e, epoch);
       }

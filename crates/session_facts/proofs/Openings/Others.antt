@@ -28,6 +28,7 @@ use Rattle.cloud_facts.specs.Book.Messages.{IsDeleted}
 use Rattle.cloud_facts.specs.Book.Records.{IsIn}
 use Rattle.cloud_facts.specs.Book.Tally.{Store}
 use Rattle.cloud_facts.proofs.Book.Places.{in_front, in_behind}
+use Rattle.session_facts.proofs.Openings.Counted.{counted_stay}
 use Rattle.session_facts.proofs.Openings.Entries.{records_stay}
 
 -- ---- leases in hand
@@ -127,6 +128,7 @@ home_passes st su now later client lease head attempt part after grows same c = 
   };
   trees = c.trees;
   of_records = records_stay st su client head.pending grows c.of_records;
+  counted = counted_stay st su client head.counters grows c.counted;
 }
   where
     k : KnowsHome st now client lease head attempt part

@@ -22,7 +22,6 @@ use Rattle.db_base.specs.declared.refusal.Refused.{Refused}
 use Rattle.db_base.specs.declared.refusal.Refused.TheVariants as refused
 use Rattle.db_base.specs.declared.trouble.CommitAnswer.{CommitAnswer}
 use Rattle.db_base.specs.declared.trouble.CommitAnswer.TheVariants.{Committed, NotCommitted, InDoubt, CommittedOpen}
-use Rattle.db_base.specs.declared.trouble.Counter.TheVariants as counter
 use Rattle.db_base.specs.declared.trouble.Trouble.{Trouble}
 use Rattle.db_base.specs.declared.trouble.Trouble.TheVariants as trouble
 use Rattle.page_cache.specs.Cache.{Cache}
@@ -127,12 +126,10 @@ answer_is : (a b : Answer) → (let x : Begun = Answered a in let y : Begun = An
 answer_is a b e = cc
 
 -- a commit that is refused at once
-spent_well : (s : CloudState) (c : CommitAnswer) → IsTold c → EndsBy MayStopAtOnce c → CommitsWell s c
+spent_well : (s : CloudState) (c : CommitAnswer) → IsTold c → EndsBy (MayStopAtOnce s) c → CommitsWell s c
 spent_well s (Committed txn) told may = tt
 spent_well s InDoubt told may = may
-spent_well s (NotCommitted (trouble.Exhausted counter.Txn)) told may = tt
-spent_well s (NotCommitted (trouble.Exhausted counter.Number)) told may = tt
-spent_well s (NotCommitted (trouble.Exhausted what)) told may = absurd may
+spent_well s (NotCommitted (trouble.Exhausted what)) told may = may
 spent_well s (NotCommitted trouble.Memory) told may = absurd (told refl)
 spent_well s (NotCommitted t) told may = may
 spent_well s (CommittedOpen (trouble.Exhausted what)) told may = told tt

@@ -14,10 +14,12 @@ use Rattle.cloud_trait.specs.declared.turn.Turn.TheVariants.{More, Ended, Stoppe
 use Rattle.cloud_trait.specs.Machine.{Next, Goes, Stops}
 use Rattle.cloud_trait.specs.State.{CloudState}
 use Rattle.session_facts.specs.CommitRuns.Stopping.{MayStop, MayStopAtOnce, EndsBy, MayEnd}
+use Rattle.session_facts.proofs.Commits.Near.{near_told}
 use Rattle.session_facts.proofs.CommitRuns.Stopping.{EndsWell, ready_ends_by}
 use Rattle.db_base.specs.Ids.{IsTree}
 use Rattle.db_base.specs.declared.trouble.CommitAnswer.{CommitAnswer}
 use Rattle.db_base.specs.declared.trouble.CommitAnswer.TheVariants.{Committed, NotCommitted, InDoubt, CommittedOpen}
+use Rattle.db_base.specs.declared.trouble.Counter.TheVariants as counter
 use Rattle.db_base.specs.declared.trouble.Trouble.{Trouble}
 use Rattle.db_base.specs.declared.trouble.Trouble.TheVariants as trouble
 use Rattle.page_cache.specs.Cache.{Cache}
@@ -60,16 +62,18 @@ end_is : (a b : CommitAnswer) → (let x : Begun = Answered (answer.Commit a) in
 end_is a b e = cc
 
 -- what may come without a call may come, and is the trouble of the end of a commit
-may_then : (t : Trouble) → MayStopAtOnce t → MayStop t
-may_then (trouble.Exhausted what) may = may
-may_then trouble.Memory may = tt
-may_then t may = absurd may
+may_then : (s : CloudState) (t : Trouble) → MayStopAtOnce s t → MayStop t
+may_then s (trouble.Exhausted counter.Txn) may = tt
+may_then s (trouble.Exhausted counter.Number) may = tt
+may_then s (trouble.Exhausted what) may = absurd may
+may_then s trouble.Memory may = tt
+may_then s t may = absurd may
 
-at_once_may : (a : CommitAnswer) → EndsBy MayStopAtOnce a → MayEnd a
-at_once_may (Committed txn) may = tt
-at_once_may (NotCommitted t) may = may_then t may
-at_once_may InDoubt may = tt
-at_once_may (CommittedOpen t) may = may_then t may
+at_once_may : (s : CloudState) (a : CommitAnswer) → EndsBy (MayStopAtOnce s) a → MayEnd a
+at_once_may s (Committed txn) may = tt
+at_once_may s (NotCommitted t) may = may_then s t may
+at_once_may s InDoubt may = tt
+at_once_may s (CommittedOpen t) may = may_then s t may
 
 module _ (book : Book) (order : List Entry) (s : CloudState) (sessions : Sessions) (session : ℕ) (new : Acting) (stand : SessionsStand book order s sessions) where
   abbrev old : Acting
@@ -142,11 +146,11 @@ module _ (book : Book) (order : List Entry) (s : CloudState) (sessions : Session
 
   -- ---- the end of a commit
 
-  commit_ends : (home : Home) (a : CommitAnswer) → old.work ≡ Idle home → CommitsNoted home old.buffer old.cache new.cache new.work (Answered (answer.Commit a)) → EndsBy MayStopAtOnce a
-  commit_ends home a idle (inl nothing) = subst (EndsBy MayStopAtOnce) (sym (end_is a (Committed 0) nothing.answer)) tt
+  commit_ends : (home : Home) (a : CommitAnswer) → old.work ≡ Idle home → CommitsNoted home old.buffer old.cache new.cache new.work (Answered (answer.Commit a)) → EndsBy (MayStopAtOnce s) a
+  commit_ends home a idle (inl nothing) = subst (EndsBy (MayStopAtOnce s)) (sym (end_is a (Committed 0) nothing.answer)) tt
   commit_ends home a idle (inr (some, (m, leads, left))) =
-      subst (EndsWell MayStopAtOnce) leads
-      (ready_ends_by MayStopAtOnce (λ what of. of) book order s stand.cloud s.now (stand.parts session) home old.buffer old.cache (home_known home idle) (stand.each session).buffer (cache_known home idle))
+      subst (EndsWell (MayStopAtOnce s)) leads
+      (ready_ends_by (MayStopAtOnce s) tt book order s stand.cloud (near_told book order s stand.cloud) s.now (stand.parts session) home old.buffer old.cache (home_known home idle) (stand.each session).buffer (cache_known home idle))
 
   scan_no_end : (tree : ℕ) (from to : Option (List ℕ)) (home : Home) (a : CommitAnswer) → ScansIn tree from to old home new (Answered (answer.Commit a)) → ⊥
   scan_no_end tree from to home a (same, p) = on p.moved p.turn p.follows p.begins
@@ -179,7 +183,7 @@ module _ (book : Book) (order : List Entry) (s : CloudState) (sessions : Session
       on (Stopped q) turn (work_is, none, stopped) begun = troubled q (at turn (Ended (answer.Trouble q)) stopped begun)
 
   -- that of one that is answered at once: a counter stands at its last value
-  pub begin_spent : (o : Op) (a : CommitAnswer) → Begins o old new (Ok (Answered (answer.Commit a))) → EndsBy MayStopAtOnce a
+  pub begin_spent : (o : Op) (a : CommitAnswer) → Begins o old new (Ok (Answered (answer.Commit a))) → EndsBy (MayStopAtOnce s) a
   begin_spent (op.Open client) a never = absurd never
   begin_spent op.Close a (home, idle, does) = absurd (no_work home old new (Closing home.lease) (answer.Commit a) does)
   begin_spent op.Renew a (home, idle, does) = absurd (no_work home old new (Renewing home) (answer.Commit a) does)
@@ -190,4 +194,4 @@ module _ (book : Book) (order : List Entry) (s : CloudState) (sessions : Session
   begin_spent (op.Tree tree) a (home, idle, does) = absurd (no_work home old new (folding_begun_by tree home) (answer.Commit a) does)
 
   pub begin_ends : (o : Op) (a : CommitAnswer) → Begins o old new (Ok (Answered (answer.Commit a))) → MayEnd a
-  begin_ends o a begins = at_once_may a (begin_spent o a begins)
+  begin_ends o a begins = at_once_may s a (begin_spent o a begins)

@@ -33,7 +33,7 @@ use Rattle.session_facts.specs.Sessions.Sessions.{KnowsKept, KnowsWork, Sessions
 use Rattle.session_facts.proofs.Openings.Explaining.{opening_explains}
 use Rattle.session_facts.proofs.Sessions.Laws.{setting_of, known_at}
 use Rattle.session_facts.proofs.Sessions.Quiet.{paging_quiet, making_quiet, run_quiet}
-use Rattle.session_facts.proofs.Sessions.Spending.{told_later}
+use Rattle.session_facts.proofs.Sessions.Spending.{grown_all, told_later}
 use Rattle.session_facts.proofs.Sessions.Waiting.{opening_waits, settling_waits, quiet_waits}
 use Rattle.session_facts.proofs.Steps.{MadeCall, made_call}
 use Rattle.session_facts.proofs.Sessions.FoldingExplaining.{folding_explains}
@@ -110,17 +110,17 @@ module _ (who : Caller) (before after : Seen) (s t : CloudState) (book : Book) (
       let knows : KnowsScanning st l.scan kept = record { scan = (known_now (Scanning home l) is).1; cache = cache_now (Scanning home l) is } in
       (scan_ask l.scan, refl, λ found. scanning_explains who before after s t book order told told_after stand.cloud home l kept knows buffer c new shown turn shows)
   by_work buffer (Folding home m) new c shown turn is steps shows =
-      (making_ask m, refl, folding_explains who before after s t book order sessions told told_after stand home m is (grown_at (Folding home m) new turn steps).versions new turn steps)
+      (making_ask m, refl, folding_explains who before after s t book order sessions told told_after stand home m is (grown_all s t (grown_at (Folding home m) new turn steps)) new turn steps)
   by_work buffer (Paging home p) new c shown turn is steps shows = (
     paging_ask p,
     refl,
     paging_explains who before after s t told told_after st s.now home p (known_now (Paging home p) is).1
-        (told_later book order s t (grown_at (Paging home p) new turn steps).versions) new turn steps,
+        (told_later book order s t stand.cloud (grown_all s t (grown_at (Paging home p) new turn steps))) new turn steps,
   )
   by_work buffer (Closing l) new c shown turn is steps shows = (Release l, refl, λ found. closing_explains who before after s t told told_after l new turn steps)
   by_work buffer (Renewing home) new c shown turn is steps shows = (Renew home.lease 600, refl, λ found. renewing_explains who before after s t told told_after home new turn steps)
   by_work buffer (Settling m) new c shown turn is steps shows =
-      (settle_ask m, refl, settling_explains who before after s t book order sessions told told_after stand m is (grown_at (Settling m) new turn steps).versions steps.0 new turn steps.1)
+      (settle_ask m, refl, settling_explains who before after s t book order sessions told told_after stand m is (grown_all s t (grown_at (Settling m) new turn steps)) steps.0 new turn steps.1)
   by_work buffer Closed new c shown turn is never shows = absurd never
   by_work buffer (Idle home) new c shown turn is never shows = absurd never
   by_work buffer (Broken l) new c shown turn is never shows = absurd never

@@ -98,7 +98,7 @@ module _ (who : Caller) (before after : Seen) (s t : CloudState) (book : Book) (
   pub folding_explains : (home : Home) (m : Making) → old ≡ Folding home m → HasAll s t → (work : Work) (turn : Turn Answer) → (steps : StepsFolding home who before after m work turn)
       → folding_reply home who before after m work turn steps ≢ Memory → Explains (making_ask m) before.counts after.counts s t (Folding home m) work turn
   folding_explains home m is grown work turn steps found =
-      making_explains who before after s t told told_after (store_of book order s) s.now home m known (told_later book order s t grown) work turn steps found
+      making_explains who before after s t told told_after (store_of book order s) s.now home m known (told_later book order s t stand.cloud grown) work turn steps found
     where
       known : KnowsMaking (store_of book order s) s.now m
       known = (subst (λ w. KnowsWork (store_of book order s) s.now (sessions who.session).cache w (stand.parts who.session)) is (stand.each who.session).work).1

@@ -43,6 +43,7 @@ use Rattle.tree_ckpt.specs.Making.{Making, MakingLeads, making_ask}
 use Rattle.session_facts.specs.TreeCheckpoints.Checkpoint.{KnowsMaking, KnowsAfter, leases_of_making, making_note}
 use Rattle.session_facts.proofs.TreeCheckpoints.Hands.{making_handles, making_home_handles}
 use Rattle.session_facts.proofs.TreeCheckpoints.Steps.{making_outcome}
+use Rattle.session_facts.proofs.Openings.Counted.{counted_stay}
 use Rattle.session_facts.proofs.Openings.Entries.{records_stay}
 
 -- what the audit takes
@@ -95,6 +96,7 @@ module _ (who : Caller) (before after : Seen) (book : Book) (order : List Entry)
       at = home_aside st u s.now t.now home.client home.lease home.head home.attempt (parts who.session) part (KnowsAfter m reply) call.later grows knows_home.at a;
       trees = knows_home.trees;
       of_records = records_stay st u home.client home.head.pending grows knows_home.of_records;
+      counted = counted_stay st u home.client home.head.counters grows knows_home.counted;
     }
 
     -- what is known by the whole outcome, at the clock that the call leaves

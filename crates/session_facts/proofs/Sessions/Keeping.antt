@@ -26,6 +26,7 @@ use Rattle.cloud_facts.proofs.Book.Places.{in_behind}
 use Rattle.session_facts.specs.TreeCheckpoints.Checkpoint.{leases_of_making}
 use Rattle.session_facts.proofs.TreeCheckpoints.MakingOthers.{making_others}
 use Rattle.session_facts.proofs.Walks.Walks.{walk_grows}
+use Rattle.session_facts.proofs.Openings.Counted.{counted_stay}
 use Rattle.session_facts.proofs.Openings.Entries.{records_stay}
 
 -- ---- what a session knows it knows still
@@ -37,6 +38,7 @@ home_stays st su now later home part mine after here o k =
       at = home_others st su now later home.client home.lease home.head home.attempt part mine after here o k.at;
       trees = k.trees;
       of_records = records_stay st su home.client home.head.pending o.passes.grows k.of_records;
+      counted = counted_stay st su home.client home.head.counters o.passes.grows k.counted;
     }
 
 pub work_others : (st su : Store) (now later : ℕ) (c : Cache) (work : Work) (part : Part) → now ≤ later → Others (leases_of work) later st su → NoneJoins part st su

@@ -157,6 +157,7 @@ module _ (who : Caller) (before after : Seen) (book : Book) (order : List Entry)
       };
       trees = (knows_at call.later).trees;
       of_records = (knows_at call.later).of_records;
+      counted = (knows_at call.later).counted;
     }
 
     open_outcome : Outcome who book order s t parts (home.lease ∷ []) (Renew home.lease 600) (λ a. a) (λ su now p. IsHome su now new p)

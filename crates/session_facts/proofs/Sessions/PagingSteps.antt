@@ -40,6 +40,7 @@ use Rattle.cloud_facts.specs.Book.Growth.{Grows}
 use Rattle.cloud_facts.specs.Book.Tally.{Store}
 use Rattle.cloud_facts.specs.Tellings.Told.{store_of}
 use Rattle.session_facts.specs.Walks.Caches.{KnowsCache}
+use Rattle.session_facts.proofs.Openings.Counted.{counted_stay}
 use Rattle.session_facts.proofs.Openings.Entries.{records_stay}
 
 -- what the audit takes
@@ -88,6 +89,7 @@ module _ (who : Caller) (before after : Seen) (book : Book) (order : List Entry)
       at = home_aside st u s.now t.now home.client home.lease home.head home.attempt (parts who.session) part (KnowsAfter p reply) call.later grows knows_home.at a;
       trees = knows_home.trees;
       of_records = records_stay st u home.client home.head.pending grows knows_home.of_records;
+      counted = counted_stay st u home.client home.head.counters grows knows_home.counted;
     }
 
     -- what is known by the whole outcome, at the clock that the call leaves

@@ -19,8 +19,6 @@ use Rattle.cloud_trait.specs.State.{CloudState, Counts}
 use Rattle.cloud_trait.specs.Weather.{Makes}
 use Rattle.commit_run.specs.Run.{Run, home_of, run_ask, run_next}
 use Rattle.commit_run.specs.Sound.{IsSoundRun}
-use Rattle.db_base.specs.declared.trouble.Counter.{Counter}
-use Rattle.db_base.specs.declared.trouble.Counter.TheVariants as counter
 use Rattle.db_base.specs.declared.trouble.CommitAnswer.{CommitAnswer}
 use Rattle.db_base.specs.declared.trouble.CommitAnswer.TheVariants.{Committed, NotCommitted, InDoubt, CommittedOpen}
 use Rattle.db_base.specs.declared.trouble.Trouble.{Trouble}
@@ -40,7 +38,6 @@ use Rattle.session_facts.specs.CommitRuns.Running.{KnowsRun}
 use Rattle.session_facts.specs.Scans.Scans.{KnowsScanning, ScanLeads}
 use Rattle.session_facts.specs.Sessions.Explaining.{trouble_in, left_in, trouble_of_commit, trouble_of_answer, Meets, IsShown, left_told, Explains, spent_for}
 use Rattle.session_facts.specs.Sessions.Calls.{commit_reply}
-use Rattle.session_facts.specs.Sessions.Spent.{IsOfCommit, IsSpentToCommit}
 use Rattle.session_facts.specs.Sessions.Sessions.{leases_of}
 use Rattle.session_facts.specs.Walks.Walks.{KnowsWalking, WalkLeads}
 use Rattle.session_facts.proofs.CommitRuns.Explaining.{run_shown}
@@ -182,17 +179,11 @@ module _ (who : Caller) (before after : Seen) (s t : CloudState) (book : Book) (
     abbrev ShowsCommit : Trouble → Type 0
     ShowsCommit k = IsShown (run_ask r) (leases_of (Committing r)) (spent_for (Committing r)) before.counts after.counts s t k
 
-    -- what it finds spent is told
-    own : (what : Counter) → IsOfCommit what → IsSpentToCommit t what
-    own counter.Txn of = of
-    own counter.Number of = of
-    own what of = absurd of
-
     -- where its call leads
     leads : (reply : Reply) → Makes who (run_ask r) reply before after → reply ≢ Memory → EndsWell ShowsCommit (run_next (r, kept) reply)
     leads reply made some =
         run_shown book order s stands who before after t told told_after (leases_of (Committing r)) (spent_for (Committing r)) (r, kept) part reply
-        (known (call_of who (run_ask r) reply before after s t made told told_after).later) sound made some own
+        (known (call_of who (run_ask r) reply before after s t made told told_after).later) sound made some (λ what is. is)
 
     -- the trouble of the end of a commit
     end_shown : (a : CommitAnswer) (k : Trouble) → trouble_of_commit a ≡ Some k → EndsBy ShowsCommit a → ShowsCommit k

@@ -62,21 +62,21 @@ module _ (who : Caller) (before after : Seen) (s t : CloudState) (book : Book) (
       goes_on n leads = record {
         shown = shown;
         kept = λ k waits.
-            settle_keeps who before after s t book order told told_after stand.cloud (stand.parts who.session) holds reply found (told_later book order s t grown) m knows.work sound made (Goes n) leads k waits;
-        left = settle_left who before after s t book order told told_after stand.cloud (stand.parts who.session) holds reply found (told_later book order s t grown) m knows.work sound made (Goes n) leads;
+            settle_keeps who before after s t book order told told_after stand.cloud (stand.parts who.session) holds reply found (told_later book order s t stand.cloud grown) m knows.work sound made (Goes n) leads k waits;
+        left = settle_left who before after s t book order told told_after stand.cloud (stand.parts who.session) holds reply found (told_later book order s t stand.cloud grown) m knows.work sound made (Goes n) leads;
       }
         where
           shown : trouble_of_part m.part ≡ None → left_of_part m.part ≡ 0 → (k : Trouble) → k ≢ trouble.Memory → Meets (Settling n) More k
               → IsShown (settle_ask m) (leases_of (Settling m)) IsSpentToSettle before.counts after.counts s t k
           shown none clean k other (inl e) =
-              settle_shows who before after s t book order told told_after stand.cloud (stand.parts who.session) holds reply found (told_later book order s t grown) m knows.work sound made (Goes n) leads none clean k e
+              settle_shows who before after s t book order told told_after stand.cloud (stand.parts who.session) holds reply found (told_later book order s t stand.cloud grown) m knows.work sound made (Goes n) leads none clean k e
           shown none clean k other (inr e) = absurd (cc)
 
       ends : (n : SettlingState) (x : Settled) → SettleLeads m reply (Ends n x) → Explained Closed (Ended (answer.Settled x))
       ends n x leads = record {
         shown = λ none clean k other meets. never k meets;
         kept = λ k waits.
-            absurd (settle_keeps who before after s t book order told told_after stand.cloud (stand.parts who.session) holds reply found (told_later book order s t grown) m knows.work sound made (Ends n x) leads k waits);
+            absurd (settle_keeps who before after s t book order told told_after stand.cloud (stand.parts who.session) holds reply found (told_later book order s t stand.cloud grown) m knows.work sound made (Ends n x) leads k waits);
         left = inl (omega arith);
       }
         where
@@ -90,14 +90,14 @@ module _ (who : Caller) (before after : Seen) (s t : CloudState) (book : Book) (
         kept = λ k waits.
             waited_is Closed q k
             (λ other.
-            settle_keeps who before after s t book order told told_after stand.cloud (stand.parts who.session) holds reply found (told_later book order s t grown) m knows.work sound made (Stops n q) (leads other) k waits);
+            settle_keeps who before after s t book order told told_after stand.cloud (stand.parts who.session) holds reply found (told_later book order s t stand.cloud grown) m knows.work sound made (Stops n q) (leads other) k waits);
         left = inl (omega arith);
       }
         where
           shown : trouble_of_part m.part ≡ None → left_of_part m.part ≡ 0 → (k : Trouble) → k ≢ trouble.Memory → q ≡ k
               → IsShown (settle_ask m) (leases_of (Settling m)) IsSpentToSettle before.counts after.counts s t k
           shown none clean k other same =
-              settle_shows who before after s t book order told told_after stand.cloud (stand.parts who.session) holds reply found (told_later book order s t grown) m knows.work sound made (Stops n q)
+              settle_shows who before after s t book order told told_after stand.cloud (stand.parts who.session) holds reply found (told_later book order s t stand.cloud grown) m knows.work sound made (Stops n q)
               (leads (λ memory. other (sym same ∙ memory))) none clean k same
 
     pub settling_explains : (work : Work) (turn : Turn Answer) → (steps : StepsSettling who before after m work turn) → settling_reply who before after m work turn steps ≢ Memory

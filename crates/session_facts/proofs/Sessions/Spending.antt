@@ -1,15 +1,19 @@
 -- What landed is told from then on, and so is a counter that is spent.
-use Rattle.std.proofs.Common.{◌≡◌, ◌==◌, ◌^◌, ◌⊎◌, inl, inr, ℕ, Bool, true, false, cond, List, map, Option, Some, None, Result, Ok, Err, sym, ap, subst, ◌∙◌}
+use Rattle.std.proofs.Common.{◌≡◌, ◌+◌, ◌≤◌, ◌==◌, ◌^◌, ◌⊎◌, inl, inr, ℕ, Bool, true, false, cond, List, map, Option, Some, None, Result, Ok, Err, sym, ap, subst, ◌∙◌, arith}
 use Rattle.std.specs.Prelude.{◌-◌, length}
 use Rattle.std.specs.Result.{result_ok}
-use Rattle.std.proofs.lemmas.List.{map-append}
+use Rattle.std.proofs.lemmas.List.{map-append, length-append, length-map}
 use Rattle.ckpt_parts.specs.Leaves.{fenced, HoldsLeaf, HoldsLinked}
 use Rattle.byte_format.specs.Order.{bytes_same}
+use Rattle.byte_format.specs.Format.{greatest}
 use Rattle.byte_format.specs.Whole.{whole}
 use Rattle.cloud_facts.proofs.Book.Places.{get_map, in_front}
 use Rattle.cloud_facts.proofs.Decoding.Newest.{newest_last}
 use Rattle.cloud_facts.proofs.Decoding.Reading.{node_reads}
 use Rattle.cloud_facts.specs.Book.Book.{Book}
+use Rattle.cloud_facts.specs.Calls.Standing.{StandsUnder}
+use Rattle.cloud_facts.specs.Chains.Chain.{ChainHolds}
+use Rattle.cloud_facts.specs.Chains.Links.{top_of}
 use Rattle.cloud_facts.specs.Book.Records.{IsIn}
 use Rattle.cloud_facts.specs.Book.Tally.{Node, Leafy, Store}
 use Rattle.cloud_facts.specs.Book.Telling.{leaf_of_bytes, node_in, node_or, root_in, nodes_of, roots_of}
@@ -18,26 +22,47 @@ use Rattle.cloud_trait.proofs.RowLemmas.{leaves_grown}
 use Rattle.cloud_trait.specs.declared.answer.Answer.{Answer}
 use Rattle.cloud_trait.specs.Ask.{Ask}
 use Rattle.cloud_trait.specs.Caller.{Caller}
-use Rattle.cloud_trait.specs.Growth.{BeginsWith}
+use Rattle.cloud_trait.specs.Growth.{BeginsWith, HasGrown}
 use Rattle.cloud_trait.specs.Seen.{Seen}
 use Rattle.cloud_trait.specs.State.{CloudState, newest}
+use Rattle.cloud_trait.specs.Upto.{posts_of}
 use Rattle.cloud_trait.specs.Weather.{Makes}
+use Rattle.cloud_trait.specs.declared.state.Posted.{Posted}
 use Rattle.cloud_trait.specs.declared.state.Version.{Version}
+use Rattle.db_base.specs.Ids.{IsTree}
 use Rattle.db_base.specs.declared.names.ObjName.{ObjName}
 use Rattle.db_base.specs.declared.names.ObjName.TheVariants as object
+use Rattle.db_base.specs.declared.names.QueueName.{QueueName}
+use Rattle.db_base.specs.declared.names.QueueName.TheVariants.{TreePu}
 use Rattle.db_base.specs.declared.trouble.Counter.{Counter}
 use Rattle.db_base.specs.declared.trouble.Counter.TheVariants as counter
 use Rattle.db_base.specs.declared.trouble.Trouble.{Trouble}
 use Rattle.db_base.specs.declared.trouble.Trouble.TheVariants as trouble
 use Rattle.leaf_view.specs.Leaf.{Leaf, IsLeaf, leaf}
 use Rattle.leaf_view.specs.Lookup.{empty_leaf}
-use Rattle.node_codec.specs.Tree.{Tree}
+use Rattle.node_codec.specs.Tree.{Tree, empty_tree}
 use Rattle.report_types.specs.declared.entry.Entry.{Entry}
-use Rattle.session_facts.specs.Sessions.Spent.{HasLastEpoch, HasLastPage, HasLastRoot, IsSpentToOpen, IsSpentToCommit, IsSpentInPages, IsSpentInTree, IsSpentToSettle}
+use Rattle.session_facts.proofs.TreeCheckpoints.EntryCounts.{pieces_more}
+use Rattle.session_facts.proofs.Trees.RisingGrounds.{top_most}
+use Rattle.session_facts.specs.Sessions.Spent.{HasLastEpoch, HasLastNumber, HasLastPage, HasLastPages, HasLastRoot, IsLeafOf, MayNeed, IsSpentToOpen, IsSpentToCommit, IsSpentInPages, IsSpentInTree, IsSpentToSettle}
 
--- nothing that landed is lost
-abbrev pub HasAll : CloudState → CloudState → Type 0
-HasAll s t = (name : ObjName) → BeginsWith (s.versions name) (t.versions name)
+-- nothing that landed is lost, and no message
+pub record HasAll (s t : CloudState) : Type 0 where
+  pub versions : (name : ObjName) → BeginsWith (s.versions name) (t.versions name)
+  pub messages : (queue : QueueName) → length (s.messages queue) ≤ length (t.messages queue)
+
+longer : {X : Type 0} (xs ys : List X) → BeginsWith xs ys → length xs ≤ length ys
+longer xs ys grown = let all = ap length grown.1 ∙ length-append xs grown.0 in omega (arith, all)
+
+pub grown_all : (s t : CloudState) → HasGrown s t → HasAll s t
+grown_all s t grown = record { versions = grown.versions; messages = λ queue. more (s.messages queue) (t.messages queue) (grown.messages queue) }
+  where
+    more : (ms ns : List Posted) → BeginsWith (posts_of ms) (posts_of ns) → length ms ≤ length ns
+    more ms ns begins =
+        let one = length-map {B = Caller × List ℕ} ms (λ (m : Posted). (m.who, m.bytes)) in
+        let other = length-map {B = Caller × List ℕ} ns (λ (m : Posted). (m.who, m.bytes)) in
+        let few = longer (posts_of ms) (posts_of ns) begins in
+        omega (arith, one, other, few)
 
 -- ---- what landed
 
@@ -52,29 +77,41 @@ page_later : (s t : CloudState) → HasAll s t → (tree page : ℕ) (n : Node) 
 page_later s t grown tree page n is =
     let vs : List Version = s.versions (object.Page tree page) in
     let ws : List Version = t.versions (object.Page tree page) in
-    in_grown (map node_in vs) (map node_in ws) n (map_grown node_in vs ws (grown (object.Page tree page))) is
+    in_grown (map node_in vs) (map node_in ws) n (map_grown node_in vs ws (grown.versions (object.Page tree page))) is
 
 root_later : (s t : CloudState) → HasAll s t → (tree : ℕ) (root : Tree) → IsIn (roots_of s tree) root → IsIn (roots_of t tree) root
 root_later s t grown tree root is =
     let vs : List Version = s.versions (object.Tree tree) in
     let ws : List Version = t.versions (object.Tree tree) in
-    in_grown (map root_in vs) (map root_in ws) root (map_grown root_in vs ws (grown (object.Tree tree))) is
+    in_grown (map root_in vs) (map root_in ws) root (map_grown root_in vs ws (grown.versions (object.Tree tree))) is
 
--- a cloud tells all pages and tree objects that a store has
+-- a cloud tells all pages, tree objects and messages that a store has, whose trees are chained and whose pages are numbered in 64 bits
 pub record IsToldBy (st : Store) (t : CloudState) : Type 0 where
   pub pages : (tree page : ℕ) (n : Node) → IsIn (st.tally.nodes tree page) n → IsIn (nodes_of t tree page) n
   pub roots : (tree : ℕ) (root : Tree) → IsIn (st.tally.roots tree) root → IsIn (roots_of t tree) root
+  pub posts : (tree : ℕ) → length (st.tally.posts tree 0) ≤ length (t.messages (TreePu tree))
+  pub chains : ChainHolds st
+  pub next : (tree : ℕ) → IsTree tree → (top_of (st.tally.roots tree)).next ≤ greatest
 
-pub told_later : (book : Book) (order : List Entry) (s t : CloudState) → HasAll s t → IsToldBy (store_of book order s) t
-told_later book order s t grown = record { pages = page_later s t grown; roots = root_later s t grown }
+pub told_later : (book : Book) (order : List Entry) (s t : CloudState) → StandsUnder book order s → HasAll s t → IsToldBy (store_of book order s) t
+told_later book order s t stands grown = record {
+  pages = page_later s t grown;
+  roots = root_later s t grown;
+  posts = λ tree. grown.messages (TreePu tree);
+  chains = stands.holds.chains;
+  next = λ tree of_tree. top_most book order s stands tree of_tree;
+}
 
 -- so it does behind a call
-pub told_behind : (who : Caller) (ask : Ask) (reply : Answer) (before after : Seen) (book : Book) (order : List Entry) (s t : CloudState) → before.state ≡ Some s → after.state ≡ Some t
-    → Makes who ask reply before after → IsToldBy (store_of book order s) t
-told_behind who ask reply before after book order s t told told_after made =
+pub all_behind : (who : Caller) (ask : Ask) (reply : Answer) (before after : Seen) (s t : CloudState) → before.state ≡ Some s → after.state ≡ Some t → Makes who ask reply before after → HasAll s t
+all_behind who ask reply before after s t told told_after made =
     let l = made.state s told in
     let same : l.after ≡ t = cc (sym l.told ∙ told_after) in
-    told_later book order s t (subst (λ (u : CloudState). HasAll s u) same (leaves_grown who ask reply before.counts after.counts s after.state l).versions)
+    grown_all s t (subst (λ (u : CloudState). HasGrown s u) same (leaves_grown who ask reply before.counts after.counts s after.state l))
+
+pub told_behind : (who : Caller) (ask : Ask) (reply : Answer) (before after : Seen) (book : Book) (order : List Entry) (s t : CloudState) → StandsUnder book order s → before.state ≡ Some s
+    → after.state ≡ Some t → Makes who ask reply before after → IsToldBy (store_of book order s) t
+told_behind who ask reply before after book order s t stands told told_after made = told_later book order s t stands (all_behind who ask reply before after s t told told_after made)
 
 -- ---- a leaf
 
@@ -143,7 +180,7 @@ module _ (s t : CloudState) (grown : HasAll s t) where
         client = is.client;
         version = is.version;
         head = is.head;
-        landed = in_grown vs (t.versions (object.Head is.client)) is.version (grown (object.Head is.client)) is.landed;
+        landed = in_grown vs (t.versions (object.Head is.client)) is.version (grown.versions (object.Head is.client)) is.landed;
         reads = is.reads;
         last = is.last;
       }
@@ -154,13 +191,43 @@ module _ (s t : CloudState) (grown : HasAll s t) where
   last_root_later : (tree : ℕ) → HasLastRoot s tree → HasLastRoot t tree
   last_root_later tree is = record { root = is.root; landed = root_later s t grown tree is.root is.landed; last = is.last }
 
+  leaf_later : (tree : ℕ) (l : Leaf) → IsLeafOf s tree l → IsLeafOf t tree l
+  leaf_later tree l (inl empty) = inl empty
+  leaf_later tree l (inr (page, landed)) = inr (page, page_later s t grown tree page (Leafy l) landed)
+
+  need_later : (tree pages : ℕ) → MayNeed s tree pages → MayNeed t tree pages
+  need_later tree pages (inl few) = inl few
+  need_later tree pages (inr (l, leaf, few)) =
+      let more = grown.messages (TreePu tree) in
+      let least = pieces_more (length l.records + length (s.messages (TreePu tree))) (length l.records + length (t.messages (TreePu tree))) (omega (arith, more)) in
+      inr (l, leaf_later tree l leaf, omega (arith, few, least))
+
+  last_pages_later : (tree : ℕ) → HasLastPages s tree → HasLastPages t tree
+  last_pages_later tree is = record { root = is.root; landed = landed is.landed; pages = is.pages; needed = need_later tree is.pages is.needed; last = is.last }
+    where
+      landed : (is.root ≡ empty_tree) ⊎ IsIn (roots_of s tree) is.root → (is.root ≡ empty_tree) ⊎ IsIn (roots_of t tree) is.root
+      landed (inl empty) = inl empty
+      landed (inr there) = inr (root_later s t grown tree is.root there)
+
+  pub number_later : HasLastNumber s → HasLastNumber t
+  number_later is = record {
+    client = is.client;
+    version = is.version;
+    head = is.head;
+    landed = in_grown (s.versions (object.Head is.client)) (t.versions (object.Head is.client)) is.version (grown.versions (object.Head is.client)) is.landed;
+    reads = is.reads;
+    tree = is.tree;
+    page = is.page;
+    last = is.last;
+  }
+
   pub open_later : (what : Counter) → IsSpentToOpen s what → IsSpentToOpen t what
   open_later counter.Epoch is = epoch_later is
   open_later what is = absurd is
 
   pub commit_later : (what : Counter) → IsSpentToCommit s what → IsSpentToCommit t what
   commit_later counter.Txn is = is
-  commit_later counter.Number is = is
+  commit_later counter.Number is = number_later is
   commit_later what is = absurd is
 
   pub pages_later : (tree : ℕ) (what : Counter) → IsSpentInPages tree s what → IsSpentInPages tree t what
@@ -170,7 +237,7 @@ module _ (s t : CloudState) (grown : HasAll s t) where
   pub tree_later : (tree : ℕ) (what : Counter) → IsSpentInTree tree s what → IsSpentInTree tree t what
   tree_later tree counter.Version (inl root) = inl (last_root_later tree root)
   tree_later tree counter.Version (inr page) = inr (last_page_later tree page)
-  tree_later tree counter.Pages is = is
+  tree_later tree counter.Pages is = last_pages_later tree is
   tree_later tree what is = absurd is
 
   pub settle_later : (what : Counter) → IsSpentToSettle s what → IsSpentToSettle t what

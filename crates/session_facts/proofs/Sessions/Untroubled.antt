@@ -14,11 +14,10 @@ use Rattle.cloud_trait.specs.declared.turn.Turn.TheVariants.{More, Ended, Stoppe
 use Rattle.cloud_trait.specs.Ask.{Ask, Release}
 use Rattle.cloud_trait.specs.Caller.{Caller}
 use Rattle.cloud_trait.specs.Claim.{Lasts}
-use Rattle.cloud_trait.specs.Growth.{BeginsWith, HasGrown}
+use Rattle.cloud_trait.specs.Growth.{HasGrown}
 use Rattle.cloud_trait.specs.Seen.{Seen}
 use Rattle.cloud_trait.specs.State.{CloudState, Counts}
 use Rattle.cloud_trait.specs.Weather.{Rose}
-use Rattle.db_base.specs.declared.names.ObjName.{ObjName}
 use Rattle.db_base.specs.declared.trouble.Counter.{Counter}
 use Rattle.db_base.specs.declared.trouble.CommitAnswer.{CommitAnswer}
 use Rattle.db_base.specs.declared.trouble.CommitAnswer.TheVariants.{Committed, NotCommitted, InDoubt, CommittedOpen}
@@ -37,7 +36,7 @@ use Rattle.session_facts.specs.Sessions.Spent.{IsSpentToCommit, IsSpentInPages, 
 use Rattle.session_facts.specs.Sessions.Untroubled.{GivesBackLasting, StepsCalmly, IsOfNoCall, IsExcused, IsUntroubled, IsSpent, CommitsWell}
 use Rattle.session_facts.proofs.CommitRuns.Telling.{EndsTold, IsByNoCall, IsTold, run_tells}
 use Rattle.session_facts.proofs.PageCheckpoints.Explaining.{paging_goes}
-use Rattle.session_facts.proofs.Sessions.Spending.{HasAll, open_later, commit_later, pages_later, tree_later, settle_later}
+use Rattle.session_facts.proofs.Sessions.Spending.{HasAll, grown_all, open_later, commit_later, pages_later, tree_later, settle_later}
 use Rattle.session_facts.proofs.Sessions.Troubles.{memory_or}
 
 -- one trouble is told
@@ -150,7 +149,7 @@ module _ (ask : Ask) (c d : Counts) (s t : CloudState) (old new : Work) (turn : 
   kept_none k was = on k (well.trouble k was)
     where
       stays : (k : Trouble) → IsOfNoCall (spent_for old) s k → IsOfNoCall (spent_for old) t k
-      stays k none = no_call_by (spent_for old) (spent_for old) s t (spent_later s t old calm.grown.versions) k none
+      stays k none = no_call_by (spent_for old) (spent_for old) s t (spent_later s t old (grown_all s t calm.grown)) k none
 
       on : (k : Trouble) → IsExcused s old k → IsOfNoCall (spent_for old) t k
       on (trouble.Waiting have need) late = absurd (none_late late)
@@ -286,7 +285,7 @@ answer_untroubled who before after old new a p calm explained well =
 
 -- ---- behind the calls of others
 
-pub untroubled_later : (s t : CloudState) (w : Work) → ((name : ObjName) → BeginsWith (s.versions name) (t.versions name)) → s.now ≤ t.now → IsUntroubled s w → IsUntroubled t w
+pub untroubled_later : (s t : CloudState) (w : Work) → HasAll s t → s.now ≤ t.now → IsUntroubled s w → IsUntroubled t w
 untroubled_later s t w grown later well = record { trouble = λ k is. on k (well.trouble k is); left = well.left }
   where
     on : (k : Trouble) → IsExcused s w k → IsExcused t w k

@@ -17,6 +17,7 @@ use Rattle.cloud_trait.specs.Seen.{Seen}
 use Rattle.cloud_trait.specs.State.{CloudState, called, newest}
 use Rattle.cloud_trait.specs.Views.{given_of, got_of, received_of, done_of}
 use Rattle.cloud_trait.specs.Weather.{Makes, Rose}
+use Rattle.db_base.specs.Ids.{IsTree}
 use Rattle.db_base.specs.declared.names.Lock.TheVariants as lock
 use Rattle.db_base.specs.declared.names.ObjName.TheVariants as object
 use Rattle.db_base.specs.declared.names.QueueName.TheVariants as queue
@@ -209,68 +210,68 @@ module _ (who : Caller) (before after : Seen) (s t : CloudState) (told : before.
           held_newest who (object.Page f.chart.tree f.page) f.lease reply before.counts after.counts (called who t.now s) t
           (row_of who before after s t told told_after held Spent (GetHeld (object.Page f.chart.tree f.page) f.lease) reply call) got e
 
-  work_meets : (st : Store) (now tree : ℕ) → IsToldBy st t → OwnOf tree → (w : Work) → KnowsWork st now tree w → Call (work_ask tree w) → (next : Step) → Leads tree w reply next
+  work_meets : (st : Store) (now tree : ℕ) → IsTree tree → IsToldBy st t → OwnOf tree → (w : Work) → KnowsWork st now tree w → Call (work_ask tree w) → (next : Step) → Leads tree w reply next
       → WorkMeets tree w next
-  work_meets st now tree tells own work.TakingTree k call next leads =
+  work_meets st now tree of_tree tells own work.TakingTree k call next leads =
       stays_at tree work.TakingTree next _ leads
       (taken_meets (Met None (take_tree tree)) (free_met None (take_tree tree)) (given_of (lock.Tree tree) reply)
       (λ q e. inr (given_shown who before after s t told told_after held Spent (lock.Tree tree) 60 reply call q e)))
-  work_meets st now tree tells own (work.GettingTree l) k call next leads =
+  work_meets st now tree of_tree tells own (work.GettingTree l) k call next leads =
       stays_at tree (work.GettingTree l) next _ leads
       (got_meets (Met None (GetHeld (object.Tree tree) l)) (free_met None (GetHeld (object.Tree tree) l)) tree l (got_of reply)
       (λ q e. inr (got_shown who before after s t told told_after held Spent (object.Tree tree) l reply call q e)))
-  work_meets st now tree tells own (work.Receiving l root) k call next leads =
+  work_meets st now tree of_tree tells own (work.Receiving l root) k call next leads =
       stays_at tree (work.Receiving l root) next next refl
       (received_meets (Met None (Receive (queue.TreePu tree) 256)) (free_met None (Receive (queue.TreePu tree) 256)) tree l root (received_of reply) next
       (λ q e. inr (received_shown who before after s t told told_after held Spent (queue.TreePu tree) 256 reply call q e))
-      (λ run. spends_bare st now t tells tree l (Met None (Receive (queue.TreePu tree) 256)) (free_met None (Receive (queue.TreePu tree) 256)) (spent_met tree own None (Receive (queue.TreePu tree) 256)) root run k.1)
+      (λ run. spends_bare st now t tells tree of_tree l (Met None (Receive (queue.TreePu tree) 256)) (free_met None (Receive (queue.TreePu tree) 256)) (spent_met tree own None (Receive (queue.TreePu tree) 256)) root run k.1)
       leads)
-  work_meets st now tree tells own (work.Descending h d) k call next leads =
+  work_meets st now tree of_tree tells own (work.Descending h d) k call next leads =
       let ask : Ask = GetHeld (object.Page d.chart.tree d.page) h.lease in
       stays_at tree (work.Descending h d) next _ leads
       (descending_meets (Met None ask) (free_met None ask) h (descent_next d reply)
       (descent_for (Met None ask) (free_met None ask) d (got_of reply)
       (λ q e. inr (got_shown who before after s t told told_after held Spent (object.Page d.chart.tree d.page) h.lease reply call q e))))
-  work_meets st now tree tells own (work.TakingPage h c) k call next leads =
+  work_meets st now tree of_tree tells own (work.TakingPage h c) k call next leads =
       let ask : Ask = Take (lock.Page c.chart.tree c.page) 30 in
       stays_at tree (work.TakingPage h c) next _ leads
       (page_meets (Met None ask) (free_met None ask) h c (given_of (lock.Page c.chart.tree c.page) reply)
       (λ q e. inr (given_shown who before after s t told told_after held Spent (lock.Page c.chart.tree c.page) 30 reply call q e)))
-  work_meets st now tree tells own (work.Folding h f) k call next leads =
+  work_meets st now tree of_tree tells own (work.Folding h f) k call next leads =
       let ask : Ask = folding_ask f h.lease in
       stays_at tree (work.Folding h f) next _ leads
       (folding_meets (Met None ask) (free_met None ask) h (folding_next f reply)
       (folding_for (Met None ask) (free_met None ask) f reply (λ none q e. inr (leaf_got f h.lease call none q e)) (λ some q e. inr (leaf_put f h.lease call some q e))
       (λ none.
-      spends_leaf st now t tells tree h.lease (Met None ask) (free_met None ask) (spent_met tree own None ask) f h.deletions.ids (k.0).tree_is k.1 (got_of reply)
+      spends_leaf st now t tells tree of_tree h.lease (Met None ask) (free_met None ask) (spent_met tree own None ask) f h.deletions.ids (k.0).tree_is k.1 (got_of reply)
       (λ got e. leaf_newest tree f h.lease (k.0).tree_is call none got e))))
-  work_meets st now tree tells own (work.ReleasingPage h l o) k call next leads =
+  work_meets st now tree of_tree tells own (work.ReleasingPage h l o) k call next leads =
       stays_at tree (work.ReleasingPage h l o) next _ leads (left_meets (Met None (Release l)) (free_met None (Release l)) h o (onward o k.1))
     where
       onward : (o : Onward) → KnowsOnward st now tree h o → SpendsOnward (Met None (Release l)) (free_met None (Release l)) o
       onward (Right c) known = tt
       onward (Handled c) known =
-          spends_begun st now t tells tree h.lease (Met None (Release l)) (free_met None (Release l)) (spent_met tree own None (Release l)) c (known.0).tree_is (known.1).chart
-  work_meets st now tree tells own (work.LeftPage h o) k call next leads = absurd k
-  work_meets st now tree tells own (work.Rising h r) k call next leads =
+          spends_begun st now t tells tree of_tree h.lease (Met None (Release l)) (free_met None (Release l)) (spent_met tree own None (Release l)) c (known.0).tree_is (known.1).chart
+  work_meets st now tree of_tree tells own (work.LeftPage h o) k call next leads = absurd k
+  work_meets st now tree of_tree tells own (work.Rising h r) k call next leads =
       let ask : Ask = rising_ask r h.lease in
       stays_at tree (work.Rising h r) next _ leads
       (rising_meets (Met None ask) (free_met None ask) h (rising_next r reply)
       (risen_for (Met None ask) (free_met None ask) r (done_of reply) (λ q e. inr (up_put r h.lease (rising_put st now h.lease r h.deletions.ids k.1) call q e))
-      (spends_behind st now t tells tree h.lease (Met None ask) (free_met None ask) (spent_met tree own None ask) r h.deletions.ids (k.0).tree_is k.1)))
-  work_meets st now tree tells own (work.Deleting h applied) k call next leads = at_deleting tree h applied next h.deletions.ids refl k.2 call leads
-  work_meets st now tree tells own (work.Releasing held_so end) k call next leads =
+      (spends_behind st now t tells tree of_tree h.lease (Met None ask) (free_met None ask) (spent_met tree own None ask) r h.deletions.ids (k.0).tree_is k.1)))
+  work_meets st now tree of_tree tells own (work.Deleting h applied) k call next leads = at_deleting tree h applied next h.deletions.ids refl k.2 call leads
+  work_meets st now tree of_tree tells own (work.Releasing held_so end) k call next leads =
       let ask : Ask = work_ask tree (work.Releasing held_so end) in
       stays_at tree (work.Releasing held_so end) next _ leads
       (released_meets (Met (trouble_of_ending (Some end)) ask) (free_met (trouble_of_ending (Some end)) ask) (without_newest held_so) end (newest_lease (without_newest held_so))
       (λ q e. inl e))
-  work_meets st now tree tells own work.Finished k call next leads = absurd k
+  work_meets st now tree of_tree tells own work.Finished k call next leads = absurd k
 
   -- ---- a call of a checkpoint
 
   module _ (st : Store) (now : ℕ) (m : Making) (knows : KnowsMaking st now m) (call : Call (making_ask m)) (tells : IsToldBy st t) (own : OwnOf m.tree) where
     met : (next : Step) → Leads m.tree m.work reply next → WorkMeets m.tree m.work next
-    met next leads = work_meets st now m.tree tells own m.work knows.work call next leads
+    met next leads = work_meets st now m.tree knows.tree tells own m.work knows.work call next leads
 
     -- where none was kept, the call shows it
     shown_by : trouble_of_making m ≡ None → (k : Trouble) → Met (trouble_of_making m) (making_ask m) k → Shows (making_ask m) k

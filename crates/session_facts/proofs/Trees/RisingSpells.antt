@@ -43,7 +43,7 @@ behind_first l ls pages k there = pages k (in_rest l ls k there)
 
 -- ---- a node with more entries
 
-links_fit : (n : Inner) (ls : List Found) (es : List Entry) → ArePages ls → list_fits false (entry n.low n.high greatest) None es ≡ true
+pub links_fit : (n : Inner) (ls : List Found) (es : List Entry) → ArePages ls → list_fits false (entry n.low n.high greatest) None es ≡ true
     → list_fits false (entry n.low n.high greatest) None (with_links n ls es) ≡ true
 links_fit n [] es pages fits = fits
 links_fit n (l ∷ ls) es pages fits = links_fit n ls (cond (goes_to n l) (with_entry l.low l.page es) es) (behind_first l ls pages) (on (goes_to n l) refl)

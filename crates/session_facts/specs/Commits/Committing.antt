@@ -19,7 +19,7 @@ use Rattle.cloud_facts.specs.Homes.Homes.{Home, Part, Away, AtHome, Parts, Homes
 use Rattle.cloud_facts.specs.Lefts.Left.{IsCopied}
 use Rattle.log_codec.specs.declared.record.AtomicRec.{AtomicRec}
 use Rattle.recover_run.specs.declared.home.Home.{Home as Held}
-use Rattle.session_facts.specs.Openings.Client.{AreOfTrees, AreOfRecords, KnowsClient}
+use Rattle.session_facts.specs.Openings.Client.{AreOfTrees, AreOfRecords, AreCounted, KnowsClient}
 use Rattle.route_plan.specs.Heads.{opened_head, settled_head}
 use Rattle.route_plan.specs.Route.{routed}
 use Rattle.cloud_facts.specs.Book.Book.{Book}
@@ -73,7 +73,8 @@ abbrev pub AreLeavesFor : Book → List Noted → List ℕ → Type 0
 AreLeavesFor book changes pages = (place : ℕ) (n : Noted) (page : ℕ) → StandsAt changes place n → StandsAt pages place page → IsLeafFor book n.tree n.change page
 
 -- the records are those of the changes, each with its page, behind a settled head, and none of them is committed; while the lease lasts the
--- pages are those of leaves, and the head is the newest but for pruned entries; its pending entries are of trees and of committed records
+-- pages are those of leaves, and the head is the newest but for pruned entries; its pending entries are of trees and of committed records, and its
+-- counters at most their counts
 pub record Routes (st : Store) (now : ℕ) (x : Attempt) (changes : List Noted) (records : List AtomicRec) (base : Head) : Type 0 where
   pub settled : base.phase ≡ Settled
   pub epoch_is : base.epoch ≡ x.epoch
@@ -86,6 +87,7 @@ pub record Routes (st : Store) (now : ℕ) (x : Attempt) (changes : List Noted) 
   pub newest : Lasts now x.lease → IsPruned st.tally x.client (st.tally.head x.client) base
   pub trees : AreOfTrees base.pending
   pub of_records : AreOfRecords st.book.log x.client base.pending
+  pub counted : AreCounted st.book.log x.client base.counters
   pub uncommitted : (r : AtomicRec) → IsIn st.book.log r → IsOfAttempt x r → ⊥
 
 -- a home that took the next attempt number, and wrote nothing of that transaction yet
@@ -161,7 +163,8 @@ pub record SettlesOpened (st : Store) (now : ℕ) (w : Writing) : Type 0 where
   pub messages : AreMessagesOf st (attempt_of w) w.ids
 
 -- the head that settles landed: it is the newest or an earlier one, and the newest while the lease lasts; the ATOMIC messages of the
--- transaction are needed no more; its pending entries are of trees and of committed records; the transaction committed the changes
+-- transaction are needed no more; its pending entries are of trees and of committed records, and its counters at most their counts; the transaction
+-- committed the changes
 pub record Deletes (st : Store) (now : ℕ) (w : Writing) (g : Home) : Type 0 where
   pub committed : HasCommitted st.book.log (attempt_of w) w.changes
   pub settled : w.home.head.phase ≡ Settled
@@ -170,6 +173,7 @@ pub record Deletes (st : Store) (now : ℕ) (w : Writing) (g : Home) : Type 0 wh
   pub newest : Lasts now w.home.lease → st.tally.head w.home.client ≡ w.home.head
   pub trees : AreOfTrees w.home.head.pending
   pub of_records : AreOfRecords st.book.log w.home.client w.home.head.pending
+  pub counted : AreCounted st.book.log w.home.client w.home.head.counters
   pub needed : g.needed ≡ []
   pub messages : AreMessagesOf st (attempt_of w) w.ids
 

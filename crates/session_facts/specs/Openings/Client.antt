@@ -1,6 +1,6 @@
 -- What an open client that works on no commit knows.
-use Rattle.std.specs.Prelude.{ℕ, ◌≡◌, List}
-use Rattle.cloud_facts.specs.Book.Records.{IsIn}
+use Rattle.std.specs.Prelude.{ℕ, ◌≡◌, ◌≤◌, List}
+use Rattle.cloud_facts.specs.Book.Records.{IsIn, count_of}
 use Rattle.cloud_facts.specs.Book.Tally.{Store}
 use Rattle.cloud_facts.specs.Calls.Acting.{KnowsHome}
 use Rattle.cloud_facts.specs.Homes.Homes.{Part}
@@ -9,7 +9,9 @@ use Rattle.cloud_trait.specs.Claim.{Claim}
 use Rattle.db_base.specs.Ids.{IsTree}
 use Rattle.head_codec.specs.declared.head.Head.{Head}
 use Rattle.head_codec.specs.declared.lists.Pending.{Pending}
+use Rattle.head_codec.specs.declared.lists.QueueCount.{QueueCount}
 use Rattle.log_codec.specs.declared.record.AtomicRec.{AtomicRec}
+use Rattle.route_plan.specs.Queue.{number_of_queue}
 use Rattle.route_plan.specs.Record.{pending_of}
 
 -- pending entries are of trees
@@ -20,8 +22,14 @@ AreOfTrees pending = (p : Pending) → IsIn pending p → IsTree p.tree
 abbrev pub AreOfRecords : List AtomicRec → ℕ → List Pending → Type 0
 AreOfRecords log client pending = (p : Pending) → IsIn pending p → (r : AtomicRec) × IsOwn log client r × (p ≡ pending_of r)
 
--- its home, and that the pending entries of its head are of trees and of its committed records, whether its lease lasts or not
+-- counters are at most the counts of the client's records in the log
+abbrev pub AreCounted : List AtomicRec → ℕ → List QueueCount → Type 0
+AreCounted log client counters = (tree page : ℕ) → number_of_queue counters tree page ≤ count_of tree page client log
+
+-- its home, and that the pending entries of its head are of trees and of its committed records, and its counters at most their counts, whether its lease
+-- lasts or not
 pub record KnowsClient (st : Store) (now client : ℕ) (lease : Claim) (head : Head) (attempt : ℕ) (part : Part) : Type 0 where
   pub at : KnowsHome st now client lease head attempt part
   pub trees : AreOfTrees head.pending
   pub of_records : AreOfRecords st.book.log client head.pending
+  pub counted : AreCounted st.book.log client head.counters

@@ -27,7 +27,7 @@ use Rattle.schedule_run.specs.Shell.{AreShellLines, HasBadShellLine, ShellWent, 
 use Rattle.schedule_run.specs.declared.status.Status.{Status}
 use Rattle.schedule_run.specs.declared.status.Status.TheVariants as status
 use Rattle.schedule_run.specs.Status.{ended_as, status_of_input, status_of_line, status_of_settle, status_of_shell, status_of_dump, status_of_load}
-use Rattle.schedule_run.specs.Run.{AsksToDump, AsksToLoad, AsksToLook, AsksToOpen, AsksToSettle, limit_of, Replays, replay_unread, replay_went, RunsShell, shell_unread, shell_went, RunsDump, dump_unasked, dump_went, RunsLoad, load_unread, load_went, Ran, WasBad, WasTooLong}
+use Rattle.schedule_run.specs.Run.{IsOf, limit_of, Replays, replay_unread, replay_went, RunsShell, shell_unread, shell_went, RunsDump, dump_unasked, dump_went, RunsLoad, load_unread, load_went, Ran, WasBad, WasTooLong}
 use Rattle.schedule_run.specs.Loading.{SpellsNoDump, FillEnded, fill_went, fill_bad, fill_unread}
 use Rattle.schedule_run.specs.declared.loading.LoadingFault.{LoadingFault}
 use Rattle.schedule_run.specs.declared.loading.LoadingFault.TheVariants as load
@@ -134,17 +134,11 @@ all_good (Load dir) left rest w u s t known ran bad = load_good left rest w u s 
 
 -- the causes of the statuses
 pub record Caused (asked : Option Shape) (result : Status) (left rest : Told) (written now_written : Written) : Type 0 where
-  pub bad_words : result ≡ status.BadWords → ⊥
+  pub only : IsOf asked result
   pub read_fault : result ≡ status.ReadFault → left.faults < rest.faults
   pub too_long : result ≡ status.TooLong → WasTooLong (limit_of asked) left rest
   pub bad_line : result ≡ status.BadLine → ReadBadLine asked left rest
   pub write_fault : result ≡ status.WriteFault → written.faults < now_written.faults
-  pub not_settled : result ≡ status.NotSettled → AsksToSettle asked
-  pub not_opened : result ≡ status.NotOpened → AsksToOpen asked
-  pub not_quiet : result ≡ status.NotQuiet → AsksToDump asked
-  pub not_empty : result ≡ status.NotEmpty → AsksToLoad asked
-  pub not_loaded : result ≡ status.NotLoaded → AsksToLoad asked
-  pub stopped : result ≡ status.Stopped → AsksToLook asked
 
 -- this status is one of those with which it may end
 is_one : (wanted : Status) (shape : Shape) (result : Status) (w u : Written) (s t : Seen) → result ≡ wanted → EndsWith wanted (Some shape) result w u s t
@@ -189,7 +183,7 @@ stopped (Err settle.NotSettled) w u s t e so = so
 stopped (Err settle.WriteFault) w u s t e so = absurd (cc)
 stopped (Err settle.Memory) w u s t e so = absurd (cc)
 
-unsettled : (wanted : Status) (shape : Shape) (left rest : Told) (w u : Written) (s t : Seen) → Fit wanted shape left rest → AsksToSettle (Some shape) → Ran (Some shape) status.NotSettled left rest w u s t
+unsettled : (wanted : Status) (shape : Shape) (left rest : Told) (w u : Written) (s t : Seen) → Fit wanted shape left rest → IsOf (Some shape) status.NotSettled → Ran (Some shape) status.NotSettled left rest w u s t
     → EndsWith wanted (Some shape) status.NotSettled w u s t
 unsettled wanted Replay left rest w u s t fit asks ran = absurd asks
 unsettled wanted (Gen number count) left rest w u s t fit asks ran = absurd asks
@@ -216,7 +210,7 @@ not_opened : (client : ℕ) (left rest : Told) (w u : Written) (s t : Seen) → 
 not_opened client left rest w u s t (shell_unread fault e nothing) = absurd (unread_not_opened fault e)
 not_opened client left rest w u s t (shell_went read ended e went) = closed client ended read.bytes w u s t e went
 
-unopened : (wanted : Status) (shape : Shape) (left rest : Told) (w u : Written) (s t : Seen) → Fit wanted shape left rest → AsksToOpen (Some shape) → Ran (Some shape) status.NotOpened left rest w u s t
+unopened : (wanted : Status) (shape : Shape) (left rest : Told) (w u : Written) (s t : Seen) → Fit wanted shape left rest → IsOf (Some shape) status.NotOpened → Ran (Some shape) status.NotOpened left rest w u s t
     → EndsWith wanted (Some shape) status.NotOpened w u s t
 unopened wanted Replay left rest w u s t fit asks ran = absurd asks
 unopened wanted (Gen number count) left rest w u s t fit asks ran = absurd asks
@@ -250,7 +244,7 @@ dump_stopped : (w u : Written) (s t : Seen) → RunsDump status.Stopped w u s t 
 dump_stopped w u s t (dump_unasked e nothing) = absurd (cc)
 dump_stopped w u s t (dump_went ended e went) = looks_stopped ended w u s t e went
 
-unquiet : (wanted : Status) (shape : Shape) (left rest : Told) (w u : Written) (s t : Seen) → AsksToDump (Some shape) → Ran (Some shape) status.NotQuiet left rest w u s t
+unquiet : (wanted : Status) (shape : Shape) (left rest : Told) (w u : Written) (s t : Seen) → IsOf (Some shape) status.NotQuiet → Ran (Some shape) status.NotQuiet left rest w u s t
     → EndsWith wanted (Some shape) status.NotQuiet w u s t
 unquiet wanted Replay left rest w u s t asks ran = absurd asks
 unquiet wanted (Gen number count) left rest w u s t asks ran = absurd asks
@@ -259,7 +253,7 @@ unquiet wanted (Settle dir) left rest w u s t asks ran = absurd asks
 unquiet wanted (Dump dir) left rest w u s t asks ran = inr (inl (refl, dump_not_quiet w u s t ran.1))
 unquiet wanted (Load dir) left rest w u s t asks ran = absurd asks
 
-looked : (wanted : Status) (shape : Shape) (left rest : Told) (w u : Written) (s t : Seen) → Fit wanted shape left rest → AsksToLook (Some shape) → Ran (Some shape) status.Stopped left rest w u s t
+looked : (wanted : Status) (shape : Shape) (left rest : Told) (w u : Written) (s t : Seen) → Fit wanted shape left rest → IsOf (Some shape) status.Stopped → Ran (Some shape) status.Stopped left rest w u s t
     → EndsWith wanted (Some shape) status.Stopped w u s t
 looked wanted Replay left rest w u s t fit asks ran = absurd asks
 looked wanted (Gen number count) left rest w u s t fit asks ran = absurd asks
@@ -268,9 +262,29 @@ looked wanted (Settle dir) left rest w u s t fit asks ran = absurd asks
 looked wanted (Dump dir) left rest w u s t fit asks ran = inr (inr (refl, dump_stopped w u s t ran.1))
 looked wanted (Load dir) left rest w u s t fit asks ran = load_stops wanted status.Stopped dir left rest w u s t tt fit ran
 
+abbrev IsLoad : Shape → Type 0
+IsLoad (Load dir) = Unit {0}
+IsLoad shape = ⊥
+
+empty_loads : (shape : Shape) → IsOf (Some shape) status.NotEmpty → IsLoad shape
+empty_loads Replay none = none
+empty_loads (Gen number count) none = none
+empty_loads (Shell client dir) none = none
+empty_loads (Settle dir) none = none
+empty_loads (Dump dir) none = none
+empty_loads (Load dir) is = tt
+
+commit_loads : (shape : Shape) → IsOf (Some shape) status.NotLoaded → IsLoad shape
+commit_loads Replay none = none
+commit_loads (Gen number count) none = none
+commit_loads (Shell client dir) none = none
+commit_loads (Settle dir) none = none
+commit_loads (Dump dir) none = none
+commit_loads (Load dir) is = tt
+
 -- a load whose cloud was not empty, or that did not commit
 unloaded : (wanted result : Status) (shape : Shape) (left rest : Told) (w u : Written) (s t : Seen) → Falls result → Fit wanted shape left rest
-    → AsksToLoad (Some shape) → Ran (Some shape) result left rest w u s t → EndsWith wanted (Some shape) result w u s t
+    → IsLoad shape → Ran (Some shape) result left rest w u s t → EndsWith wanted (Some shape) result w u s t
 unloaded wanted result Replay left rest w u s t f fit asks ran = absurd asks
 unloaded wanted result (Gen number count) left rest w u s t f fit asks ran = absurd asks
 unloaded wanted result (Shell client dir) left rest w u s t f fit asks ran = absurd asks
@@ -278,27 +292,45 @@ unloaded wanted result (Settle dir) left rest w u s t f fit asks ran = absurd as
 unloaded wanted result (Dump dir) left rest w u s t f fit asks ran = absurd asks
 unloaded wanted result (Load dir) left rest w u s t f fit asks ran = load_stops wanted result dir left rest w u s t f fit ran
 
+pub of_words : (shape : Shape) → IsOf (Some shape) status.BadWords → ⊥
+of_words Replay none = none
+of_words (Gen number count) none = none
+of_words (Shell client dir) none = none
+of_words (Settle dir) none = none
+of_words (Dump dir) none = none
+of_words (Load dir) none = none
+
+-- memory may run out whatever is asked
+pub memory_of : (asked : Option Shape) → IsOf asked status.Memory
+memory_of (Some Replay) = tt
+memory_of (Some (Gen number count)) = tt
+memory_of (Some (Shell client dir)) = tt
+memory_of (Some (Settle dir)) = tt
+memory_of (Some (Dump dir)) = tt
+memory_of (Some (Load dir)) = tt
+memory_of None = tt
+
 -- where all went in order, a run is done or ended by a bad line, unless it ends as it may
 in_order : (wanted : Status) (shape : Shape) (result : Status) (left rest : Told) (w u : Written) (s t : Seen) → Caused (Some shape) result left rest w u
     → Ran (Some shape) result left rest w u s t → WentInOrder (Some shape) left rest w u → Fit wanted shape left rest → (result ≡ status.Done → EndsWith wanted (Some shape) result w u s t)
     → (result ≡ status.BadLine → EndsWith wanted (Some shape) result w u s t) → EndsWith wanted (Some shape) result w u s t
 in_order wanted shape status.Done left rest w u s t c ran order fit done bad = done refl
 in_order wanted shape status.BadLine left rest w u s t c ran order fit done bad = bad refl
-in_order wanted shape status.BadWords left rest w u s t c ran order fit done bad = absurd (c.bad_words refl)
+in_order wanted shape status.BadWords left rest w u s t c ran order fit done bad = absurd (of_words shape c.only)
 in_order wanted shape status.ReadFault left rest w u s t c ran order fit done bad =
     let more : left.faults < rest.faults = c.read_fault refl in
     let no_more : rest.faults ≤ left.faults = order.reads in absurd (omega arith)
 in_order wanted shape status.WriteFault left rest w u s t c ran order fit done bad =
     let more : w.faults < u.faults = c.write_fault refl in
     let no_more : u.faults ≤ w.faults = order.writes in absurd (omega arith)
-in_order wanted shape status.NotSettled left rest w u s t c ran order fit done bad = unsettled wanted shape left rest w u s t fit (c.not_settled refl) ran
+in_order wanted shape status.NotSettled left rest w u s t c ran order fit done bad = unsettled wanted shape left rest w u s t fit c.only ran
 in_order wanted shape status.TooLong left rest w u s t c ran order fit done bad = absurd (order.within (c.too_long refl))
-in_order wanted shape status.NotOpened left rest w u s t c ran order fit done bad = unopened wanted shape left rest w u s t fit (c.not_opened refl) ran
+in_order wanted shape status.NotOpened left rest w u s t c ran order fit done bad = unopened wanted shape left rest w u s t fit c.only ran
 in_order wanted shape status.Memory left rest w u s t c ran order fit done bad = out_of_memory wanted (Some shape) w u s t
-in_order wanted shape status.NotQuiet left rest w u s t c ran order fit done bad = unquiet wanted shape left rest w u s t (c.not_quiet refl) ran
-in_order wanted shape status.NotEmpty left rest w u s t c ran order fit done bad = unloaded wanted status.NotEmpty shape left rest w u s t tt fit (c.not_empty refl) ran
-in_order wanted shape status.NotLoaded left rest w u s t c ran order fit done bad = unloaded wanted status.NotLoaded shape left rest w u s t tt fit (c.not_loaded refl) ran
-in_order wanted shape status.Stopped left rest w u s t c ran order fit done bad = looked wanted shape left rest w u s t fit (c.stopped refl) ran
+in_order wanted shape status.NotQuiet left rest w u s t c ran order fit done bad = unquiet wanted shape left rest w u s t c.only ran
+in_order wanted shape status.NotEmpty left rest w u s t c ran order fit done bad = unloaded wanted status.NotEmpty shape left rest w u s t tt fit (empty_loads shape c.only) ran
+in_order wanted shape status.NotLoaded left rest w u s t c ran order fit done bad = unloaded wanted status.NotLoaded shape left rest w u s t tt fit (commit_loads shape c.only) ran
+in_order wanted shape status.Stopped left rest w u s t c ran order fit done bad = looked wanted shape left rest w u s t fit c.only ran
 
 pub completes : (shape : Shape) (result : Status) (left rest : Told) (w u : Written) (s t : Seen) → Caused (Some shape) result left rest w u
     → Ran (Some shape) result left rest w u s t → IsComplete (Some shape) result left rest w u s t

@@ -76,56 +76,6 @@ pub record WasBad (IsBad : List ℕ → Type 0) (before after : Told) : Type 0 w
 
 -- ---- the words
 
--- the words ask for a settling, or for a load, which settles at its end
-abbrev pub AsksToSettle : Option Shape → Type 0
-AsksToSettle (Some (Settle dir)) = Unit {0}
-AsksToSettle (Some (Load dir)) = Unit {0}
-AsksToSettle (Some (Dump dir)) = ⊥
-AsksToSettle (Some (Shell client dir)) = ⊥
-AsksToSettle (Some (Gen number count)) = ⊥
-AsksToSettle (Some Replay) = ⊥
-AsksToSettle None = ⊥
-
--- the words ask for a shell or a load, which open a session
-abbrev pub AsksToOpen : Option Shape → Type 0
-AsksToOpen (Some (Shell client dir)) = Unit {0}
-AsksToOpen (Some (Settle dir)) = ⊥
-AsksToOpen (Some (Load dir)) = Unit {0}
-AsksToOpen (Some (Dump dir)) = ⊥
-AsksToOpen (Some (Gen number count)) = ⊥
-AsksToOpen (Some Replay) = ⊥
-AsksToOpen None = ⊥
-
--- the words ask for a dump
-abbrev pub AsksToDump : Option Shape → Type 0
-AsksToDump (Some (Dump dir)) = Unit {0}
-AsksToDump (Some (Load dir)) = ⊥
-AsksToDump (Some (Settle dir)) = ⊥
-AsksToDump (Some (Shell client dir)) = ⊥
-AsksToDump (Some (Gen number count)) = ⊥
-AsksToDump (Some Replay) = ⊥
-AsksToDump None = ⊥
-
--- the words ask for a load
-abbrev pub AsksToLoad : Option Shape → Type 0
-AsksToLoad (Some (Load dir)) = Unit {0}
-AsksToLoad (Some (Dump dir)) = ⊥
-AsksToLoad (Some (Settle dir)) = ⊥
-AsksToLoad (Some (Shell client dir)) = ⊥
-AsksToLoad (Some (Gen number count)) = ⊥
-AsksToLoad (Some Replay) = ⊥
-AsksToLoad None = ⊥
-
--- the words ask for a dump or a load, which look at what is there
-abbrev pub AsksToLook : Option Shape → Type 0
-AsksToLook (Some (Dump dir)) = Unit {0}
-AsksToLook (Some (Load dir)) = Unit {0}
-AsksToLook (Some (Settle dir)) = ⊥
-AsksToLook (Some (Shell client dir)) = ⊥
-AsksToLook (Some (Gen number count)) = ⊥
-AsksToLook (Some Replay) = ⊥
-AsksToLook None = ⊥
-
 -- no more rounds are asked for than are generated
 abbrev pub AsksWithin : Shape → Type 0
 AsksWithin (Gen number count) = count ≤ 10000
@@ -185,6 +135,22 @@ abbrev pub IsOfLoad : Status → Type 0
 IsOfLoad status.BadWords = ⊥
 IsOfLoad status.NotQuiet = ⊥
 IsOfLoad result = Unit {0}
+
+-- a status that words of no shape lead to
+abbrev pub IsOfNone : Status → Type 0
+IsOfNone status.BadWords = Unit {0}
+IsOfNone status.Memory = Unit {0}
+IsOfNone result = ⊥
+
+-- a status that words of this shape lead to
+abbrev pub IsOf : Option Shape → Status → Type 0
+IsOf (Some Replay) = IsOfReplay
+IsOf (Some (Gen number count)) = IsOfSchedule
+IsOf (Some (Shell client dir)) = IsOfShell
+IsOf (Some (Settle dir)) = IsOfSettling
+IsOf (Some (Dump dir)) = IsOfDump
+IsOf (Some (Load dir)) = IsOfLoad
+IsOf None = IsOfNone
 
 -- ---- what each command reads, writes and leaves
 

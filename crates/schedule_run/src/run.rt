@@ -5,7 +5,7 @@ ghost use Rattle.schedule_run.specs.Loading.{SpellsNoDump};
 ghost use Rattle.schedule_run.specs.Replayed.{HasBadLine};
 ghost use Rattle.schedule_run.specs.Shell.{HasBadShellLine};
 ghost use Rattle.schedule_run.specs.Complete.{IsComplete, StopsAtBadLine};
-ghost use Rattle.schedule_run.specs.Run.{AsksToDump, AsksToLoad, AsksToLook, AsksToOpen, AsksToSettle, AsksWithin, Generates, HasBad, IsOfDump, IsOfLoad, IsOfReplay, IsOfSchedule, IsOfSettling, IsOfShell, Ran, Replays, RunsDump, RunsLoad, RunsSettling, RunsShell, WasBad, WasTooLong, WasWithin, limit_of};
+ghost use Rattle.schedule_run.specs.Run.{AsksWithin, Generates, HasBad, IsOf, IsOfDump, IsOfLoad, IsOfReplay, IsOfSchedule, IsOfSettling, IsOfShell, Ran, Replays, RunsDump, RunsLoad, RunsSettling, RunsShell, WasBad, WasTooLong, WasWithin, limit_of};
 
 use crate::dumping::{DumpingFault, dump};
 use crate::generated::generate;
@@ -34,9 +34,7 @@ pub fn run<I: Source, O: Sink, C: Bench>(
     sink: &mut O,
     cloud: &mut C,
 ) -> Status
-    ensures bad_words { result ≡ Status.BadWords → shape_of (map string_bytes words.now) ≡ None }
-    ensures no_shape { shape_of (map string_bytes words.now) ≡ None
-        → (result ≡ Status.BadWords) ⊎ (result ≡ Status.Memory) }
+    ensures only { IsOf (shape_of (map string_bytes words.now)) result }
     ensures unread { result ≡ Status.BadWords → I.told source.new ≡ I.told source.old }
     ensures read_fault { result ≡ Status.ReadFault
         → (I.told source.old).faults < (I.told source.new).faults }
@@ -52,12 +50,6 @@ pub fn run<I: Source, O: Sink, C: Bench>(
         → (O.told sink.old).faults < (O.told sink.new).faults }
     ensures writes { (result ≡ Status.WriteFault)
         ⊎ ((O.told sink.new).faults ≡ (O.told sink.old).faults) }
-    ensures not_settled { result ≡ Status.NotSettled → AsksToSettle (shape_of (map string_bytes words.now)) }
-    ensures not_opened { result ≡ Status.NotOpened → AsksToOpen (shape_of (map string_bytes words.now)) }
-    ensures not_quiet { result ≡ Status.NotQuiet → AsksToDump (shape_of (map string_bytes words.now)) }
-    ensures not_empty { result ≡ Status.NotEmpty → AsksToLoad (shape_of (map string_bytes words.now)) }
-    ensures not_loaded { result ≡ Status.NotLoaded → AsksToLoad (shape_of (map string_bytes words.now)) }
-    ensures stopped { result ≡ Status.Stopped → AsksToLook (shape_of (map string_bytes words.now)) }
     // Where no read or write failed, the input was not too long and no line of it is bad, it is done.
     ensures complete { IsComplete (shape_of (map string_bytes words.now)) result
         (I.told source.old) (I.told source.new) (O.told sink.old) (O.told sink.new)
@@ -87,7 +79,7 @@ fn run_asked<I: Source, O: Sink, C: Bench>(
     cloud: &mut C,
 ) -> Status
     requires { AsksWithin asked }
-    ensures not_words { result ≡ Status.BadWords → ⊥ }
+    ensures only { IsOf (Some asked) result }
     ensures read_fault { result ≡ Status.ReadFault
         → (I.told source.old).faults < (I.told source.new).faults }
     ensures reads { (result ≡ Status.ReadFault)
@@ -99,12 +91,6 @@ fn run_asked<I: Source, O: Sink, C: Bench>(
         → (O.told sink.old).faults < (O.told sink.new).faults }
     ensures writes { (result ≡ Status.WriteFault)
         ⊎ ((O.told sink.new).faults ≡ (O.told sink.old).faults) }
-    ensures not_settled { result ≡ Status.NotSettled → AsksToSettle (Some asked) }
-    ensures not_opened { result ≡ Status.NotOpened → AsksToOpen (Some asked) }
-    ensures not_quiet { result ≡ Status.NotQuiet → AsksToDump (Some asked) }
-    ensures not_empty { result ≡ Status.NotEmpty → AsksToLoad (Some asked) }
-    ensures not_loaded { result ≡ Status.NotLoaded → AsksToLoad (Some asked) }
-    ensures stopped { result ≡ Status.Stopped → AsksToLook (Some asked) }
     ensures ran { Ran (Some asked) result (I.told source.old) (I.told source.new) (O.told sink.old) (O.told sink.new)
         (C.seen cloud.old) (C.seen cloud.new) }
 {

@@ -1,19 +1,24 @@
-use Rattle.std.proofs.Common.{◌≡◌, Some, None, map, sym, ◌∙◌, subst}
+use Rattle.std.proofs.Common.{Some, map, subst}
 use Rattle.std.specs.Prelude.{string_bytes}
-use Rattle.schedule_run.specs.Run.{AsksToSettle, AsksToOpen, AsksToDump, AsksToLoad, AsksToLook}
+use Rattle.schedule_run.specs.Run.{IsOf}
 use Rattle.schedule_run.proofs.RunLemmas.{asked_within, not_asked}
-use Rattle.schedule_run.proofs.CompleteLemmas.{completes, stops_at_bad_line, out_of_memory}
+use Rattle.schedule_run.proofs.CompleteLemmas.{completes, memory_of, of_words, stops_at_bad_line, out_of_memory}
 use Rattle.schedule_run.proofs.run.run.Goals as goal
 
 pub run_asked-requires : goal.run_asked-requires
 run_asked-requires g c = asked_within (map string_bytes c.args.words.now) _ c.in-Ok.ensures
 
-pub returns-in-Ok-clause-bad_words : goal.returns-in-Ok-clause-bad_words
-returns-in-Ok-clause-bad_words g c e = absurd (c.run_asked.ensures.not_words e)
+pub returns-in-Ok-clause-only : goal.returns-in-Ok-clause-only
+returns-in-Ok-clause-only g c = rw c.in-Ok.ensures c.run_asked.ensures.only
 
-pub returns-in-Ok-clause-no_shape : goal.returns-in-Ok-clause-no_shape
-returns-in-Ok-clause-no_shape g c none =
-    let clash : Some c.in-Ok.asked ≡ None = sym c.in-Ok.ensures ∙ none in absurd (cc)
+pub returns-in-Ok-clause-unread : goal.returns-in-Ok-clause-unread
+returns-in-Ok-clause-unread g c e = absurd (of_words c.in-Ok.asked (subst (IsOf (Some c.in-Ok.asked)) e c.run_asked.ensures.only))
+
+pub returns-in-Err-BadWords-clause-only : goal.returns-in-Err-BadWords-clause-only
+returns-in-Err-BadWords-clause-only g c = rw c.in-Err-BadWords.ensures tt
+
+pub returns-in-Err-Memory-clause-only : goal.returns-in-Err-Memory-clause-only
+returns-in-Err-Memory-clause-only g c = memory_of _
 
 pub returns-in-Ok-clause-too_long : goal.returns-in-Ok-clause-too_long
 returns-in-Ok-clause-too_long g c e = rw c.in-Ok.ensures (c.run_asked.ensures.too_long e)
@@ -23,24 +28,6 @@ returns-in-Ok-clause-within g c = rw c.in-Ok.ensures c.run_asked.ensures.within
 
 pub returns-in-Ok-clause-bad_line : goal.returns-in-Ok-clause-bad_line
 returns-in-Ok-clause-bad_line g c e = rw c.in-Ok.ensures (c.run_asked.ensures.bad_line e)
-
-pub returns-in-Ok-clause-not_settled : goal.returns-in-Ok-clause-not_settled
-returns-in-Ok-clause-not_settled g c e = subst AsksToSettle (sym c.in-Ok.ensures) (c.run_asked.ensures.not_settled e)
-
-pub returns-in-Ok-clause-not_opened : goal.returns-in-Ok-clause-not_opened
-returns-in-Ok-clause-not_opened g c e = subst AsksToOpen (sym c.in-Ok.ensures) (c.run_asked.ensures.not_opened e)
-
-pub returns-in-Ok-clause-not_quiet : goal.returns-in-Ok-clause-not_quiet
-returns-in-Ok-clause-not_quiet g c e = subst AsksToDump (sym c.in-Ok.ensures) (c.run_asked.ensures.not_quiet e)
-
-pub returns-in-Ok-clause-not_empty : goal.returns-in-Ok-clause-not_empty
-returns-in-Ok-clause-not_empty g c e = subst AsksToLoad (sym c.in-Ok.ensures) (c.run_asked.ensures.not_empty e)
-
-pub returns-in-Ok-clause-not_loaded : goal.returns-in-Ok-clause-not_loaded
-returns-in-Ok-clause-not_loaded g c e = subst AsksToLoad (sym c.in-Ok.ensures) (c.run_asked.ensures.not_loaded e)
-
-pub returns-in-Ok-clause-stopped : goal.returns-in-Ok-clause-stopped
-returns-in-Ok-clause-stopped g c e = subst AsksToLook (sym c.in-Ok.ensures) (c.run_asked.ensures.stopped e)
 
 pub returns-in-Ok-clause-ran : goal.returns-in-Ok-clause-ran
 returns-in-Ok-clause-ran g c = rw c.in-Ok.ensures c.run_asked.ensures.ran
@@ -54,17 +41,11 @@ returns-in-Ok-clause-complete g c =
     rw c.in-Ok.ensures
     (completes _ _ _ _ _ _ _ _
     (record {
-      bad_words = e.not_words;
+      only = e.only;
       read_fault = e.read_fault;
       too_long = e.too_long;
       bad_line = e.bad_line;
       write_fault = e.write_fault;
-      not_settled = e.not_settled;
-      not_opened = e.not_opened;
-      not_quiet = e.not_quiet;
-      not_empty = e.not_empty;
-      not_loaded = e.not_loaded;
-      stopped = e.stopped;
     })
     e.ran)
 
@@ -74,17 +55,11 @@ returns-in-Ok-clause-at_bad_line g c =
     rw c.in-Ok.ensures
     (stops_at_bad_line _ _ _ _ _ _ _ _
     (record {
-      bad_words = e.not_words;
+      only = e.only;
       read_fault = e.read_fault;
       too_long = e.too_long;
       bad_line = e.bad_line;
       write_fault = e.write_fault;
-      not_settled = e.not_settled;
-      not_opened = e.not_opened;
-      not_quiet = e.not_quiet;
-      not_empty = e.not_empty;
-      not_loaded = e.not_loaded;
-      stopped = e.stopped;
     })
     e.ran)
 

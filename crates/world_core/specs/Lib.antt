@@ -13,6 +13,7 @@ pub mod Explained
 pub mod Bounded
 pub mod Named
 pub mod Calm
+pub mod Alone
 pub mod Settled
 pub mod Added
 pub mod Opened
@@ -20,6 +21,7 @@ pub mod World
 pub mod Writers
 pub mod Metered
 pub mod Passed
+pub mod Spared
 pub mod Begun
 pub mod Caused
 pub mod Shown

@@ -33,3 +33,6 @@ pub mod ReadingExplaining
 pub mod Explaining
 pub mod Untroubled
 pub mod AtOnce
+pub mod AloneLeases
+pub mod Alone
+pub mod Replied

@@ -7,3 +7,4 @@ pub mod Answering
 pub mod Explaining
 pub mod Calls
 pub mod Untroubled
+pub mod Alone

@@ -20,6 +20,7 @@ pub mod Sound
 pub mod CommitReplies
 pub mod Acknowledged
 pub mod LeftNone
+pub mod EachHeld
 pub mod Explained
 pub mod Counting
 pub mod Bounded
@@ -28,6 +29,7 @@ pub mod UnsentPages
 pub mod UnsentSteps
 pub mod SpentTroubles
 pub mod Calm
+pub mod Alone
 pub mod Settled
 pub mod Seeing
 pub mod AddedSteps
@@ -44,7 +46,10 @@ pub mod MeteredCheckpoints
 pub mod MeteredWork
 pub mod MeteredLines
 pub mod PassedOver
+pub mod Landed
+pub mod SentLines
 pub mod EachAny
+pub mod EachWhere
 pub mod Begun
 pub mod Caused
 pub mod Shown

@@ -14,6 +14,7 @@ pub mod Bounded
 pub mod Named
 pub mod UnsentPages
 pub mod Calm
+pub mod Alone
 pub mod Settled
 pub mod Added
 pub mod Opened
@@ -21,6 +22,7 @@ pub mod World
 pub mod Writers
 pub mod Metered
 pub mod Passed
+pub mod Spared
 pub mod Begun
 pub mod Caused
 pub mod Shown

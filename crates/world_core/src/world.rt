@@ -91,6 +91,7 @@ impl<S: SessionCalls> World<S> {
     ghost use Rattle.world_core.specs.Shown.{ShowsSteps};
     ghost use Rattle.world_core.specs.ShownByLines.{ShowsStepsBy};
     ghost use Rattle.world_core.specs.Calm.{AnswersWell};
+    ghost use Rattle.world_core.specs.Alone.{KeepsAlone};
     ghost use Rattle.world_core.specs.Bounded.{MakesFewCalls};
     ghost use Rattle.world_core.specs.LeftShort.{LeavesShort};
     ghost use Rattle.world_core.specs.Metered.{KeepsMeter};
@@ -167,6 +168,8 @@ impl<S: SessionCalls> World<S> {
         // What it shows is by what the lines say of its client.
         ensures shown_by_lines { ShowsStepsBy n event.now (C.seen cloud.old) (C.seen cloud.new) self.old self.new result }
         ensures calm { AnswersWell n event.now (C.seen cloud.old) (C.seen cloud.new) self.old self.new result }
+        // A session that is alone finds its locks free.
+        ensures alone { KeepsAlone n event.now (C.seen cloud.old) (C.seen cloud.new) self.old self.new result }
         ensures bounded { MakesFewCalls n event.now (C.seen cloud.old) (C.seen cloud.new) self.old self.new result }
         // A tree checkpoint that is done finds each new piece named by the level above.
         ensures named { NamesSteps n event.now (C.seen cloud.old) (C.seen cloud.new) self.old self.new result }

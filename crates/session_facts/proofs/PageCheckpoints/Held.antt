@@ -1,5 +1,5 @@
 -- A page checkpoint goes on with the leases that it had, but for one that it was given or gave back.
-use Rattle.std.proofs.Common.{◌≡◌, List, [], Option, refl, sym, subst}
+use Rattle.std.proofs.Common.{◌≡◌, List, Option, refl, sym, subst}
 use Rattle.ckpt_parts.specs.declared.leases.Leases.{Leases}
 use Rattle.ckpt_parts.specs.Leasing.{claims_of}
 use Rattle.cloud_trait.specs.declared.answer.Answer.{Answer}
@@ -14,13 +14,12 @@ use Rattle.page_ckpt.proofs.Outcomes.{Onward, Clears, Fails, Comes, comes}
 use Rattle.page_ckpt.proofs.Outcomes as step
 use Rattle.session_facts.specs.PageCheckpoints.Checkpoint.{leases_of_paging, leases_next}
 use Rattle.cloud_facts.specs.Book.Records.{IsIn}
-use Rattle.cloud_facts.proofs.Book.Places.{in_none}
 
 -- a step goes on with these leases
 abbrev pub On : Leases → Step → Type 0
 On held (Goes n) = n.held ≡ held
 On held (Ends n a) = ⊥
-On held (Stops n t) = Unit {0}
+On held (Stops n t) = ⊥
 
 -- a step has no lease but these
 abbrev pub Within : List Claim → Step → Type 0
@@ -30,7 +29,7 @@ Within ls step = (x : Claim) → IsIn (leases_next step) x → IsIn ls x
 pub within : (p : Paging) (next : Step) → On p.held next → Within (leases_of_paging p) next
 within p (Goes n) same x is = subst (λ (held : Leases). IsIn (claims_of held) x) same is
 within p (Ends n a) never x is = absurd never
-within p (Stops n t) any x is = absurd (in_none [] x refl is)
+within p (Stops n t) never x is = absurd never
 
 -- the call in hand takes no lease, and is none of the last
 abbrev pub IsMiddle : Stage → Type 0

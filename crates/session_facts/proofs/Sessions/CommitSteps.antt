@@ -142,7 +142,7 @@ run_noted r (Release l) a is = none_noted r.hand r.draft.writes (Release l) a re
 -- ---- where a step leads
 
 -- what is in hand where a step leads, and the cache that is left there
-abbrev LeadsTo : Next (Run × Cache) CommitAnswer → Cache → Work → Type 0
+abbrev pub LeadsTo : Next (Run × Cache) CommitAnswer → Cache → Work → Type 0
 LeadsTo (Goes m) d work = (work ≡ Committing m.0) × (m.1 ≡ d)
 LeadsTo (Ends m a) d work = (work ≡ committed_work a (home_of m.0)) × (m.1 ≡ d)
 LeadsTo (Stops m t) d work = (work ≡ Broken (home_of m.0).lease) × (m.1 ≡ d)
@@ -170,7 +170,7 @@ end_leases home InDoubt = refl
 end_leases home (CommittedOpen t) = refl
 
 -- the home's lease is in hand still
-next_leases : (l : Claim) (step : Next (Run × Cache) CommitAnswer) (d : Cache) (work : Work) → LeadsTo step d work → RunLeaseStays l step → leases_of work ≡ l ∷ []
+pub next_leases : (l : Claim) (step : Next (Run × Cache) CommitAnswer) (d : Cache) (work : Work) → LeadsTo step d work → RunLeaseStays l step → leases_of work ≡ l ∷ []
 next_leases l (Goes m) d work (is, same) stays = ap leases_of is ∙ ap (λ (x : Claim). x ∷ []) stays
 next_leases l (Ends m a) d work (is, same) stays = ap leases_of is ∙ (end_leases (home_of m.0) a ∙ ap (λ (x : Claim). x ∷ []) stays)
 next_leases l (Stops m t) d work (is, same) stays = ap leases_of is ∙ ap (λ (x : Claim). x ∷ []) stays

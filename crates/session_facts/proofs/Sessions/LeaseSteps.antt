@@ -94,7 +94,7 @@ module _ (who : Caller) (before after : Seen) (book : Book) (order : List Entry)
 -- ---- a renewal
 
 -- what it leaves of the lease, between two states
-renews_both : (who : Caller) (l m : Claim) (reply : Reply) (before after : Seen) (s t : CloudState) → IsCall who (Renew l 600) reply s t → before.state ≡ Some s → after.state ≡ Some t
+pub renews_both : (who : Caller) (l m : Claim) (reply : Reply) (before after : Seen) (s t : CloudState) → IsCall who (Renew l 600) reply s t → before.state ≡ Some s → after.state ≡ Some t
     → RenewsLease who 600 l m reply before after → RenewsBoth who 600 l m (called who t.now s) t
 renews_both who l m (Renewed end) before after s t call e f is = inr (call.row.0, is ∙ ap (extended l) call.row.1)
 renews_both who l m Failed before after s t call e f is = is.1 s t e f

@@ -35,7 +35,7 @@ use Rattle.cloud_facts.specs.Tellings.Told.{store_of}
 use Rattle.session_facts.specs.Walks.Caches.{KnowsCache}
 
 -- what is in hand where a step leads
-abbrev LeadsTo : Step → Work → Type 0
+abbrev pub LeadsTo : Step → Work → Type 0
 LeadsTo (Goes m) work = work ≡ Opening m
 LeadsTo (Ends m a) work = work ≡ opened_work (home_of m)
 LeadsTo (Stops m t) work = work ≡ Closed
@@ -53,7 +53,7 @@ end_leases : (o : Option Home) → leases_of_end o ≡ leases_of (opened_work o)
 end_leases (Some h) = refl
 end_leases None = refl
 
-next_leases : (step : Step) (work : Work) → LeadsTo step work → leases_of_next step ≡ leases_of work
+pub next_leases : (step : Step) (work : Work) → LeadsTo step work → leases_of_next step ≡ leases_of work
 next_leases (Goes m) work is = sym (ap leases_of is)
 next_leases (Ends m a) work is = end_leases (home_of m) ∙ sym (ap leases_of is)
 next_leases (Stops m t) work is = sym (ap leases_of is)

@@ -1,5 +1,5 @@
 -- A tree's checkpoint that is done, of any session and with nobody else at work, marks just what it received; where at most 256 waited it leaves none.
-use Rattle.std.proofs.Common.{◌≡◌, ◌≤◌, ℕ, List, [], ◌∷◌, length, take, Some, refl, sym, ap, subst, ◌∙◌, arith}
+use Rattle.std.proofs.Common.{◌≡◌, ◌≤◌, ℕ, List, [], ◌∷◌, length, take, refl, sym, ap, subst, ◌∙◌, arith}
 use Rattle.std.proofs.lemmas.List.{length-map, length-take}
 use Rattle.std.proofs.lemmas.List.Sorted.{length_permutation}
 use Rattle.cloud_facts.specs.Calls.Call.{IsCall}

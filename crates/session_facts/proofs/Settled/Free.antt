@@ -36,7 +36,7 @@ use Rattle.tree_ckpt.specs.Making.{Making}
 -- ---- the part at work
 
 part_uses : (st : Store) (now : ℕ) (w : AtWork) (part : Part) → KnowsAtWork st now w part → IsSoundPart w → UsesOwn (part_ask w) (leases_at_work w)
-part_uses st now (Client client m) part k sound = recovery_uses st now m part k.aim_is k.knows sound
+part_uses st now (Client client m) part k sound = recovery_uses st now m part k.knows sound
 part_uses st now (Tree tree m) part k sound = making_uses st now m k.knows
 part_uses st now (Page tree page m) part k sound = paging_uses st now m k.knows
 
@@ -77,20 +77,20 @@ again_none (Page tree page m) = refl
 anew_none : (next : Step) → BeginsAnew next → HoldsNext leases_of_settling [] next
 anew_none (Goes n) anew = subst (λ (w : AtWork). leases_at_work w ≡ []) anew (again_none n.part)
 anew_none (Ends n x) anew = refl
-anew_none (Stops n t) anew = tt
+anew_none (Stops n t) anew = refl
 
 ended_none : (s : Settling) (left : ℕ) → HoldsNext leases_of_settling [] (ended_by s left)
 ended_none s left = on (left == 0)
   where
     on : (b : Bool) → HoldsNext leases_of_settling [] (cond b (passed s) (Stops s trouble.Failed))
     on true = anew_none (passed s) (passed_anew s)
-    on false = tt
+    on false = refl
 
 moved_holds : (s : Settling) (held : List Claim) (x : Next AtWork ℕ) → HoldsNext leases_at_work held x → HoldsNext leases_of_settling held (moved s x)
 moved_holds s held (Goes w) same = same
 moved_holds s held (Ends w left) none =
     subst (λ (cs : List Claim). HoldsNext leases_of_settling cs (ended_by (counted (with_part s w)) left)) (sym none) (ended_none (counted (with_part s w)) left)
-moved_holds s held (Stops w t) any = tt
+moved_holds s held (Stops w t) none = none
 
 -- ---- a settling
 
@@ -98,20 +98,25 @@ moved_holds s held (Stops w t) any = tt
 pub begins_alone : (s : CloudState) → ((l : Lock) → (s.locks l).until ≤ s.now) → HoldsAlone (leases_of_settling new_settling) s
 begins_alone s free l = inl (free l)
 
-module _ (st : Store) (now : ℕ) (m : Settling) (part : Part) (knows : KnowsAtWork st now m.part part) (sound : IsSoundPart m.part) (s : CloudState)
-    (alone : HoldsAlone (leases_of_settling m) s) where
-  -- the lock that its call takes is free
-  pub settling_takes_free : (later : ℕ) → s.now ≤ later → TakesFree (settle_ask m) s later
-  settling_takes_free later after = takes_free (settle_ask m) (leases_of_settling m) s later alone (part_uses st now m.part part knows sound) after
+module _ (st : Store) (now : ℕ) (m : Settling) (part : Part) (knows : KnowsAtWork st now m.part part) (sound : IsSoundPart m.part) where
+  -- it takes no lock of one of its leases
+  pub settling_uses : UsesOwn (settle_ask m) (leases_of_settling m)
+  settling_uses = part_uses st now m.part part knows sound
 
-  -- and behind a call that found memory and did not fail it is so again
-  pub settling_alone : (who : Caller) (a : Answer) (c d : Counts) (t : CloudState) → s.now ≤ t.now → Weather who (settle_ask m) a c d (called who t.now s) t → a ≢ Failed → a ≢ Memory
-      → (n : Settling) → SettleLeads m a (Goes n) → HoldsAlone (leases_of_settling n) t
-  settling_alone who a c d t later row failed memory n (x, leads, to) =
-      subst (λ (cs : List Claim). HoldsAlone cs t) (sym same)
-      (call_alone who (settle_ask m) a c d s t later row (leases_of_settling m) alone (part_uses st now m.part part knows sound) failed memory)
-    where
-      same : leases_of_settling n ≡ outstanding_after (settle_ask m) a (leases_of_settling m)
-      same =
-          subst (HoldsNext leases_of_settling (outstanding_after (settle_ask m) a (leases_of_settling m))) (sym to)
-          (moved_holds m (outstanding_after (settle_ask m) a (leases_of_settling m)) x (part_holds st now m.part part knows sound a x leads))
+  -- and has those that its call left it
+  pub settling_holds : (a : Answer) (next : Step) → SettleLeads m a next → HoldsNext leases_of_settling (outstanding_after (settle_ask m) a (leases_of_settling m)) next
+  settling_holds a next (x, leads, to) =
+      subst (HoldsNext leases_of_settling (outstanding_after (settle_ask m) a (leases_of_settling m))) (sym to)
+      (moved_holds m (outstanding_after (settle_ask m) a (leases_of_settling m)) x (part_holds st now m.part part knows sound a x leads))
+
+  module _ (s : CloudState) (alone : HoldsAlone (leases_of_settling m) s) where
+    -- the lock that its call takes is free
+    pub settling_takes_free : (later : ℕ) → s.now ≤ later → TakesFree (settle_ask m) s later
+    settling_takes_free later after = takes_free (settle_ask m) (leases_of_settling m) s later alone settling_uses after
+
+    -- and behind a call that found memory and did not fail it is so again
+    pub settling_alone : (who : Caller) (a : Answer) (c d : Counts) (t : CloudState) → s.now ≤ t.now → Weather who (settle_ask m) a c d (called who t.now s) t → a ≢ Failed → a ≢ Memory
+        → (n : Settling) → SettleLeads m a (Goes n) → HoldsAlone (leases_of_settling n) t
+    settling_alone who a c d t later row failed memory n leads =
+        subst (λ (cs : List Claim). HoldsAlone cs t) (sym (settling_holds a (Goes n) leads))
+        (call_alone who (settle_ask m) a c d s t later row (leases_of_settling m) alone settling_uses failed memory)

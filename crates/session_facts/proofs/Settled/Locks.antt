@@ -1,6 +1,8 @@
 -- Where nobody has a lease but one session, a call of that session that finds memory and does not fail leaves it so, and finds its lock free.
-use Rattle.std.proofs.Common.{◌≡◌, ◌≢◌, ◌+◌, ◌<◌, ◌≤◌, ◌==◌, inl, inr, ℕ, zero, suc, Bool, true, false, cond, nat_lt, List, [], ◌∷◌, Err, refl, sym, ap, subst, ◌∙◌, arith}
-use Rattle.std.proofs.lemmas.Bool.{and_from, eq-eqb, lt-ltb, ltb-false}
+use Rattle.std.proofs.Common.{◌≡◌, ◌≢◌, ◌+◌, ◌<◌, ◌≤◌, ◌==◌, inl, inr, ℕ, zero, suc, Bool, true, false, cond, nat_lt, Ordering, List, [], ◌∷◌, Err, refl, sym, ap, subst, ◌∙◌, arith}
+use Rattle.std.proofs.lemmas.Bool.{and_from, and_parts, eq-eqb, lt-ltb, ltb-false, ltb-true}
+use Rattle.std.proofs.lemmas.Cmp.{tied_itself}
+use Rattle.std.specs.declared.cmp.Ordering.TheVariants.{Less, Equal, Greater}
 use Rattle.std.specs.Ordering.{is_eq}
 use Rattle.calm_calls.specs.Calm.{TakesFree}
 use Rattle.ckpt_parts.specs.Leasing.{outstanding_after}
@@ -10,7 +12,7 @@ use Rattle.cloud_trait.specs.declared.answer.Answer.TheVariants.{Got, Sent, Rece
 use Rattle.cloud_trait.specs.declared.state.Hold.{Hold}
 use Rattle.cloud_trait.specs.Ask.{Ask, Get, GetHeld, PutHeld, Send, Receive, Delete, Take, Renew, Release, MovesNoLock}
 use Rattle.cloud_trait.specs.Caller.{Caller}
-use Rattle.cloud_trait.specs.Claim.{Claim}
+use Rattle.cloud_trait.specs.Claim.{Claim, extended}
 use Rattle.cloud_trait.specs.Machine.{Next, Goes, Ends, Stops}
 use Rattle.cloud_trait.specs.Names.{lock_cmp}
 use Rattle.cloud_trait.specs.State.{CloudState, Counts, called, put_at, end_after, lease_given, taken, is_current, moved, released, held_so}
@@ -46,7 +48,7 @@ own_later : (held : List Claim) (now later : ℕ) (l : Lock) (hold : Hold) → n
 own_later held now later l hold after (inl free) = inl (omega (arith, free, after))
 own_later held now later l hold after (inr own) = inr own
 
-same_alone : (held : List Claim) (s t : CloudState) → t.locks ≡ s.locks → s.now ≤ t.now → HoldsAlone held s → HoldsAlone held t
+pub same_alone : (held : List Claim) (s t : CloudState) → t.locks ≡ s.locks → s.now ≤ t.now → HoldsAlone held s → HoldsAlone held t
 same_alone held s t same after alone l = subst (λ (locks : Lock → Hold). IsOwn held t.now l (locks l)) (sym same) (own_later held s.now t.now l (s.locks l) after (alone l))
 
 pub quiet_after : (ask : Ask) (a : Answer) (held : List Claim) → MovesNoLock ask → outstanding_after ask a held ≡ held
@@ -151,6 +153,49 @@ module _ (c : Claim) (cs : List Claim) (b : CloudState) (alone : HoldsAlone (c �
       on true e = inside (is_current c b) refl
       on false e = let over = ltb-false b.now c.end e in over_own (omega (arith, over))
 
+-- ---- a lease that was renewed
+
+module _ (c : Claim) (end : ℕ) (cs : List Claim) (b : CloudState) (alone : HoldsAlone (c ∷ cs) b) where
+  abbrev longer : Hold
+  longer = record { generation = c.generation; until = end }
+
+  abbrev IsRenewed : Lock → Hold → Type 0
+  IsRenewed l hold = IsOwn (extended c end ∷ cs) b.now l hold
+
+  more_own : (l : Lock) (hold : Hold) → IsOwn cs b.now l hold → IsRenewed l hold
+  more_own l hold (inl free) = inl free
+  more_own l hold (inr (x, inside, is, said)) = inr (x, in_behind (extended c end ∷ []) cs x inside, is, said)
+
+  -- the lock of the lease has the new end
+  longer_own : 0 < c.generation → (l : Lock) → c.lock ≡ l → IsRenewed l longer
+  longer_own given l is = inr (extended c end, (zero, refl), is, record { given = given; current = refl; ends = refl })
+
+  put_own : 0 < c.generation → (l : Lock) → IsRenewed l (put_at lock_cmp b.locks c.lock longer l)
+  put_own given l = by (lock_cmp c.lock l) refl
+    where
+      before : IsOwn (c ∷ cs) b.now l (b.locks l) → c.lock ≢ l → IsRenewed l (b.locks l)
+      before (inl free) other = inl free
+      before (inr (x, (suc place, there), is, said)) other = more_own l (b.locks l) (inr (x, (place, there), is, said))
+      before (inr (x, (zero, there), is, said)) other = let same : c ≡ x = cc in absurd (other (ap (λ (y : Claim). y.lock) same ∙ is))
+
+      differs : (o : Ordering) → lock_cmp c.lock l ≡ o → is_eq o ≡ false → c.lock ≢ l
+      differs o e unequal same =
+          let yes : is_eq (lock_cmp c.lock l) ≡ true = subst (λ (q : Lock). is_eq (lock_cmp c.lock q) ≡ true) same (ap is_eq (tied_itself lock_cmp-total c.lock)) in
+          let other : true ≡ false = sym yes ∙ (ap is_eq e ∙ unequal) in
+          cc (other)
+
+      by : (o : Ordering) → lock_cmp c.lock l ≡ o → IsRenewed l (cond (is_eq o) longer (b.locks l))
+      by Equal e = longer_own given l (lock_cmp-equal c.lock l e)
+      by Less e = before (alone l) (differs Less e refl)
+      by Greater e = before (alone l) (differs Greater e refl)
+
+  pub renewed_alone : HoldsAlone (extended c end ∷ cs) (moved c end b)
+  renewed_alone = on (is_current c b) refl
+    where
+      on : (now_is : Bool) → is_current c b ≡ now_is → HoldsAlone (extended c end ∷ cs) (cond now_is (held_so c.lock longer b) b)
+      on true e = put_own (ltb-true 0 c.generation (and_parts (nat_lt 0 c.generation) ((b.locks c.lock).generation == c.generation) e).0)
+      on false e = λ l. more_own l (b.locks l) (past_own c cs b alone e l)
+
 -- ---- a call
 
 module _ (who : Caller) (c d : Counts) (s t : CloudState) (later : s.now ≤ t.now) (held : List Claim) (alone : HoldsAlone held s) where
@@ -244,11 +289,11 @@ none_of lock c there e = in_none [] c refl there
 pub one_of : (l : Claim) (lock : Lock) → l.lock ≢ lock → HasNone (l ∷ []) lock
 one_of l lock other c (place, there) e = other (ap (λ (x : Claim). x.lock) (get_single l place c there) ∙ e)
 
--- where a step goes on, these leases are in hand, and none where it ends
+-- where a step goes on, these leases are in hand, and none where it ends or stops
 abbrev pub HoldsNext : {M A : Type 0} → (M → List Claim) → List Claim → Next M A → Type 0
 HoldsNext leases held (Goes n) = leases n ≡ held
 HoldsNext leases held (Ends n x) = held ≡ []
-HoldsNext leases held (Stops n t) = Unit {0}
+HoldsNext leases held (Stops n t) = held ≡ []
 
 -- a call that moves no lock leaves them
 pub quiet_holds : {M A : Type 0} → (leases : M → List Claim) (ask : Ask) (a : Answer) (held : List Claim) (next : Next M A) → MovesNoLock ask → HoldsNext leases held next

@@ -24,7 +24,7 @@ use Rattle.session_facts.proofs.Settled.Locks.{HoldsNext, quiet_holds, quiet_use
 on_next : (held : Leases) (next : Step) → On held next → HoldsNext leases_of_paging (claims_of held) next
 on_next held (Goes n) same = ap (λ (h : Leases). claims_of h) same
 on_next held (Ends n a) never = absurd never
-on_next held (Stops n t) any = tt
+on_next held (Stops n t) never = absurd never
 
 -- ---- leases that are taken or given back
 
@@ -32,7 +32,7 @@ home_taken_on : (p : Paging) (a : Answer) (g : Result Claim Trouble) → given_o
     → HoldsNext leases_of_paging (outstanding_after (take_home p) a []) (home_taken_by p g)
 home_taken_on p a (Ok l) e =
     subst (λ (x : Answer). HoldsNext leases_of_paging (outstanding_after (take_home p) x []) (home_taken_by p (Ok l))) (sym (given_of-ok (lock.Page p.tree p.page) a l e)) refl
-home_taken_on p a (Err k) e = tt
+home_taken_on p a (Err k) e = not_given (lock.Page p.tree p.page) 30 a [] k e
 
 right_taken_on : (p : Paging) (has : HasPage p) (a : Answer) (g : Result Claim Trouble) → given_of (lock.Page p.tree p.at.page) a ≡ g
     → HoldsNext leases_of_paging (outstanding_after (take_right p) a (leases_of_paging p)) (right_taken_by p g)
@@ -43,7 +43,7 @@ right_taken_on p has a (Ok l) e =
 right_taken_on p has a (Err k) e = sym (not_given (lock.Page p.tree p.at.page) 30 a (leases_of_paging p) k e)
 
 finished_on : (p : Paging) (t : Option Trouble) → HoldsNext leases_of_paging [] (finished_by p t)
-finished_on p (Some t) = tt
+finished_on p (Some t) = refl
 finished_on p None = refl
 
 -- behind a release

@@ -38,7 +38,7 @@ use Rattle.tree_rising.specs.Rising.{rising_ask, rising_next}
 
 taken_on : (tree : ℕ) (a : Answer) (g : Result Claim Trouble) → given_of (lock.Tree tree) a ≡ g → On (outstanding_after (take_tree tree) a []) (tree_taken g)
 taken_on tree a (Ok l) e = subst (λ (x : Answer). On (outstanding_after (take_tree tree) x []) (tree_taken (Ok l))) (sym (given_of-ok (lock.Tree tree) a l e)) refl
-taken_on tree a (Err k) e = tt
+taken_on tree a (Err k) e = not_given (lock.Tree tree) 60 a [] k e
 
 page_on : (h : Held) (c : Coming) (a : Answer) (g : Result Claim Trouble) → given_of (lock.Page c.chart.tree c.page) a ≡ g
     → On (outstanding_after (Take (lock.Page c.chart.tree c.page) 30) a (h.lease ∷ [])) (page_taken h c g)
@@ -49,7 +49,7 @@ page_on h c a (Err k) e = sym (not_given (lock.Page c.chart.tree c.page) 30 a (h
 
 finished_on : (end : Result CkptAnswer Trouble) → On [] (finished end)
 finished_on (Ok a) = refl
-finished_on (Err t) = tt
+finished_on (Err t) = refl
 
 -- ---- the call in hand
 
@@ -144,4 +144,4 @@ pub making_holds : (st : Store) (now : ℕ) (m : Making) → KnowsMaking st now 
     → HoldsNext leases_of_making (outstanding_after (making_ask m) a (leases_of_making m)) next
 making_holds st now m k a (Goes n) leads = work_on st now m.tree m.work k.work a (Goes n.work) leads.1
 making_holds st now m k a (Ends n x) leads = work_on st now m.tree m.work k.work a (Ends n.work x) leads.1
-making_holds st now m k a (Stops n t) leads = tt
+making_holds st now m k a (Stops n t) leads = work_on st now m.tree m.work k.work a (Stops n.work t) leads.1

@@ -1,4 +1,5 @@
 use Rattle.world_core.proofs.Counting.{stands_after}
+use Rattle.world_core.proofs.Alone.{keeps_alone}
 use Rattle.world_core.proofs.Bounded.{few_calls}
 use Rattle.world_core.proofs.Calm.{well_after}
 use Rattle.world_core.proofs.Caused.{caused}
@@ -39,6 +40,9 @@ returns-clause-shown_by_lines g c = shown_by _ _ _ _ _ _ _
 
 pub returns-clause-calm : goal.returns-clause-calm
 returns-clause-calm g c = well_after _ _ _ _ _ _ _
+
+pub returns-clause-alone : goal.returns-clause-alone
+returns-clause-alone g c = keeps_alone _ _ _ _ _ _ _
 
 pub returns-clause-bounded : goal.returns-clause-bounded
 returns-clause-bounded g c = few_calls _ _ _ _ _ _ _

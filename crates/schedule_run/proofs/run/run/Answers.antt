@@ -3,6 +3,7 @@ use Rattle.std.specs.Prelude.{string_bytes}
 use Rattle.schedule_run.specs.Run.{AsksToSettle, AsksToOpen, AsksToDump, AsksToLoad, AsksToLook}
 use Rattle.schedule_run.proofs.RunLemmas.{asked_within, not_asked}
 use Rattle.schedule_run.proofs.CompleteLemmas.{completes, stops_at_bad_line, out_of_memory}
+use Rattle.schedule_run.proofs.LoadCompleting.{load_completes, load_out_of_memory}
 use Rattle.schedule_run.proofs.run.run.Goals as goal
 
 pub run_asked-requires : goal.run_asked-requires
@@ -68,6 +69,27 @@ returns-in-Ok-clause-complete g c =
     })
     e.ran)
 
+pub returns-in-Ok-clause-complete_load : goal.returns-in-Ok-clause-complete_load
+returns-in-Ok-clause-complete_load g c =
+    let e = c.run_asked.ensures in
+    rw c.in-Ok.ensures
+    (load_completes _ _ _ _ _ _ _ _
+    (completes _ _ _ _ _ _ _ _
+    (record {
+      bad_words = e.not_words;
+      read_fault = e.read_fault;
+      too_long = e.too_long;
+      bad_line = e.bad_line;
+      write_fault = e.write_fault;
+      not_settled = e.not_settled;
+      not_opened = e.not_opened;
+      not_quiet = e.not_quiet;
+      not_empty = e.not_empty;
+      not_loaded = e.not_loaded;
+      stopped = e.stopped;
+    })
+    e.ran))
+
 pub returns-in-Ok-clause-at_bad_line : goal.returns-in-Ok-clause-at_bad_line
 returns-in-Ok-clause-at_bad_line g c =
     let e = c.run_asked.ensures in
@@ -93,3 +115,6 @@ returns-in-Err-Memory-clause-complete g c order good = out_of_memory _ _ _ _ _ _
 
 pub returns-in-Err-Memory-clause-at_bad_line : goal.returns-in-Err-Memory-clause-at_bad_line
 returns-in-Err-Memory-clause-at_bad_line g c order known bad = out_of_memory _ _ _ _ _ _
+
+pub returns-in-Err-Memory-clause-complete_load : goal.returns-in-Err-Memory-clause-complete_load
+returns-in-Err-Memory-clause-complete_load g c = load_out_of_memory _ _ _ _ _ _ _

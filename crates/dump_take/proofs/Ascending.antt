@@ -95,7 +95,7 @@ module _ (s : CloudState) (tree : ℕ) where
       each_record l.low l.high l.records (records_of leaves) (read_within tree from (newest s (object.Page tree from)) l lead.1) (each_from l.right leaves to lead.2)
 
   -- leaves that lead from a page to none are determined
-  same_chain : (from : ℕ) (xs ys : List Leaf) → Leads s tree from xs 0 → Leads s tree from ys 0 → xs ≡ ys
+  pub same_chain : (from : ℕ) (xs ys : List Leaf) → Leads s tree from xs 0 → Leads s tree from ys 0 → xs ≡ ys
   same_chain from [] [] a b = refl
   same_chain from [] (y ∷ ys) a b = absurd (omega (arith, a, b.0))
   same_chain from (x ∷ xs) [] a b = absurd (omega (arith, b, a.0))

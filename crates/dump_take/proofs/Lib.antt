@@ -4,3 +4,4 @@ pub mod Resting
 pub mod Ascending
 pub mod Dumping
 pub mod Taking
+pub mod OneDump

@@ -24,3 +24,5 @@ pub mod CompleteLemmas
 pub mod LoadFronts
 pub mod LoadLogged
 pub mod LoadLeaves
+pub mod LoadAgain
+pub mod LoadCompleting

@@ -7,6 +7,8 @@ use Rattle.cloud_trait.specs.State.{CloudState, IsEmptyCloud}
 use Rattle.cloud_trait.specs.Upto.{upto}
 use Rattle.db_base.specs.declared.trouble.CommitAnswer.{CommitAnswer}
 use Rattle.db_base.specs.declared.trouble.CommitAnswer.TheVariants.{Committed, NotCommitted, InDoubt, CommittedOpen}
+use Rattle.dump_take.proofs.OneDump.{have_dumped}
+use Rattle.dump_take.specs.Taken.{AreDumped}
 use Rattle.dump_text.specs.Dump.{IsDumpable}
 use Rattle.dump_text.specs.declared.dump.DumpedTree.{DumpedTree}
 use Rattle.event_text.specs.declared.event.Event.{Event}
@@ -39,6 +41,7 @@ use Rattle.schedule_run.specs.Shell.{IsWhole, alone, with_run as whole_run, AreW
 use Rattle.schedule_run.specs.declared.load.LoadStop.{LoadStop}
 use Rattle.schedule_run.specs.declared.load.Loaded.{Loaded}
 use Rattle.schedule_run.proofs.GoingLemmas.{fresh_stands}
+use Rattle.schedule_run.proofs.LoadAgain.{dumps_as}
 use Rattle.schedule_run.proofs.LoadFronts.{push_same}
 use Rattle.schedule_run.proofs.LoadLogged.{load_logs, whole_once}
 use Rattle.schedule_run.proofs.SoundLemmas.{take_whole, each_more, went_soundly, same_some}
@@ -149,7 +152,8 @@ all_kept lines world u stands stay =
     (subst (λ ls. AreKept ls (committed ls (upto u (length lines)))) (take_whole lines (length lines) refl) (stay (length lines) (omega arith)))
 
 pub load_leaves : (loaded : Loaded) (trees : List DumpedTree) (before now : Seen) → IsDumpable trees → LoadDone loaded trees before now → LeavesLoaded trees before now
-load_leaves loaded trees before now dumpable done t told empty = (u, o.1, record { commits = load_commits trees; logged = logged; contents = λ still. load_contents trees lines world u dumpable through o.2 kept (nothing still); nothing = nothing })
+load_leaves loaded trees before now dumpable done t told empty =
+    (u, o.1, record { commits = load_commits trees; logged = logged; contents = has; nothing = nothing; dumped = is_dumped; again = λ still. dumps_as u now trees o.1 (is_dumped still) })
   where
     lines : List Line
     lines = done.run.lines
@@ -190,6 +194,12 @@ load_leaves loaded trees before now dumpable done t told empty = (u, o.1, record
         let last = last_line done.mid played.first lines now world played.went (played.explained t told_mid empty) through.before _ through.last in
         let left = settling_left through.before through.calls done.mid played.first now world last (still ∙ sym done.empty.looked.looked.withheld) in
         subst LeavesNothing (same_some left.state u (sym left.told ∙ o.1)) left.nothing
+
+    has : now.counts.withheld ≡ before.counts.withheld → HasContents u trees
+    has still = load_contents trees lines world u dumpable through o.2 kept (nothing still)
+
+    is_dumped : now.counts.withheld ≡ before.counts.withheld → AreDumped u trees
+    is_dumped still = have_dumped u trees dumpable (has still)
 
 -- at the end of a load that was done
 pub ended_leaves : (trees : List DumpedTree) (result : Result Loaded LoadStop) (before now : Seen) → IsDumpable trees → LoadEnded result trees before now

@@ -11,6 +11,7 @@ use Rattle.schedule_run.specs.declared.settling.SettleFault.TheVariants as settl
 use Rattle.schedule_run.specs.declared.load.LoadStop.{LoadStop}
 use Rattle.schedule_run.specs.Dumping.{DumpEnded}
 use Rattle.schedule_run.specs.Load.{LoadEnded}
+use Rattle.schedule_run.specs.LoadComplete.{Completes}
 use Rattle.schedule_run.specs.Loading.{load_end, load_text}
 use Rattle.schedule_run.specs.Status.{ended_as, status_of_load}
 use Rattle.schedule_run.specs.Settling.{SettleEnded}
@@ -71,3 +72,24 @@ IsComplete asked result left rest written now_written start now =
 abbrev pub StopsAtBadLine : Option Shape → Status → Told → Told → Written → Written → Seen → Seen → Type 0
 StopsAtBadLine asked result left rest written now_written start now =
     WentInOrder asked left rest written now_written → IsKnown left → ReadBadLine asked left rest → EndsWith BadLine asked result written now_written start now
+
+-- ---- of a load
+
+-- the load of a dump stopped, which ends the run by its status; where all went well, it stopped for a counter that is spent
+pub record StopsSpent (result : Status) (start now : Seen) : Type 0 where
+  pub trees : List DumpedTree
+  pub stop : LoadStop
+  pub leads : result ≡ ended_as status_of_load (load_end (Err stop))
+  pub completes : Completes (Err stop) trees start now
+
+-- where all went in order and the text spells a dump, a load is done, or memory ran out, or it stopped so
+abbrev pub LoadCompletes : Option Shape → Status → Told → Told → Written → Written → Seen → Seen → Type 0
+LoadCompletes (Some (Load dir)) result left rest written now_written start now =
+    WentInOrder (Some (Load dir)) left rest written now_written → (ReadBadLine (Some (Load dir)) left rest → ⊥)
+    → IsOrMemory Done result ⊎ StopsSpent result start now
+LoadCompletes (Some Replay) result left rest written now_written start now = Unit {0}
+LoadCompletes (Some (Gen number count)) result left rest written now_written start now = Unit {0}
+LoadCompletes (Some (Shell client dir)) result left rest written now_written start now = Unit {0}
+LoadCompletes (Some (Settle dir)) result left rest written now_written start now = Unit {0}
+LoadCompletes (Some (Dump dir)) result left rest written now_written start now = Unit {0}
+LoadCompletes None result left rest written now_written start now = Unit {0}

@@ -10,6 +10,7 @@ pub mod InPlay
 pub mod PlainCalls
 pub mod LoadCalm
 pub mod Load
+pub mod LoadComplete
 pub mod Status
 pub mod Arguments
 pub mod Run

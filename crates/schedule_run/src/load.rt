@@ -5,6 +5,7 @@ ghost use Rattle.dump_text.specs.Dump.{IsDumpable};
 ghost use Rattle.event_text.specs.declared.event.Event.TheVariants.{Open, Commit};
 ghost use Rattle.schedule_run.specs.Load.{LoadEnded, Loads, Settles, Runs, IsPassedOver, GoesThrough, answer_of, calls_of, stop_of_look};
 ghost use Rattle.load_plan.specs.Events.{Placed, records_of, parts, parts_of, insert_of, checkpoint_at, checkpoints_of, part_events, later_events, commit_events};
+ghost use Rattle.schedule_run.specs.LoadComplete.{Completes};
 ghost use Rattle.schedule_run.specs.LoadLeft.{LeavesLoaded};
 ghost use Rattle.schedule_run.specs.PlainCalls.{CallsPlainly};
 
@@ -57,7 +58,9 @@ pub enum LoadStop {
 pub fn load<C: Bench>(alloc: Global, cloud: &mut C, dump: &Dump) -> Result<Loaded, LoadStop>
     requires { IsDumpable dump.now.trees }
     ensures went { LoadEnded result dump.now.trees (C.seen cloud.old) (C.seen cloud.new) }
-    // Done, over a cloud that was empty: what is logged, and what each tree has.
+    // Over a cloud that was empty, where no count rose and each step was calm: it is done, or a counter is spent, or memory ran out.
+    ensures complete { Completes result dump.now.trees (C.seen cloud.old) (C.seen cloud.new) }
+    // Done, over a cloud that was empty: what is logged, what each tree has, and that a dump of it writes the same text.
     ensures leaves { IfOk result (λ loaded. LeavesLoaded dump.now.trees (C.seen cloud.old) (C.seen cloud.new)) }
     // Whatever it answers: its calls are plain steps of its session and of its settling.
     ensures calls { CallsPlainly (C.seen cloud.old) (C.seen cloud.new) }

@@ -4,7 +4,7 @@ ghost use Rattle.line_io.specs.declared.input.TheConstants.{MAX_DUMP, MAX_LINES}
 ghost use Rattle.schedule_run.specs.Loading.{SpellsNoDump};
 ghost use Rattle.schedule_run.specs.Replayed.{HasBadLine};
 ghost use Rattle.schedule_run.specs.Shell.{HasBadShellLine};
-ghost use Rattle.schedule_run.specs.Complete.{IsComplete, StopsAtBadLine};
+ghost use Rattle.schedule_run.specs.Complete.{IsComplete, LoadCompletes, StopsAtBadLine};
 ghost use Rattle.schedule_run.specs.Run.{AsksWithin, Generates, HasBad, IsOf, IsOfDump, IsOfLoad, IsOfReplay, IsOfSchedule, IsOfSettling, IsOfShell, Ran, Replays, RunsDump, RunsLoad, RunsSettling, RunsShell, WasBad, WasTooLong, WasWithin, limit_of};
 
 use crate::dumping::{DumpingFault, dump};
@@ -52,6 +52,10 @@ pub fn run<I: Source, O: Sink, C: Bench>(
         ⊎ ((O.told sink.new).faults ≡ (O.told sink.old).faults) }
     // Where no read or write failed, the input was not too long and no line of it is bad, it is done.
     ensures complete { IsComplete (shape_of (map string_bytes words.now)) result
+        (I.told source.old) (I.told source.new) (O.told sink.old) (O.told sink.new)
+        (C.seen cloud.old) (C.seen cloud.new) }
+    // A load of a dump, where besides no count of the cloud rose and each step was calm, too, unless a counter is spent.
+    ensures complete_load { LoadCompletes (shape_of (map string_bytes words.now)) result
         (I.told source.old) (I.told source.new) (O.told sink.old) (O.told sink.new)
         (C.seen cloud.old) (C.seen cloud.new) }
     // Where a line of it is bad, it ends by that.

@@ -1,6 +1,10 @@
+use Rattle.std.proofs.Common.{Err}
 use Rattle.schedule_run.proofs.LoadCalls.{plain_both, plain_first, load_calls}
+use Rattle.schedule_run.proofs.LoadCompleting.{completes_so}
 use Rattle.schedule_run.proofs.LoadEnds.{ended_by, ended_looking}
 use Rattle.schedule_run.proofs.LoadLeaves.{ended_leaves}
+use Rattle.schedule_run.specs.Load.{out_before}
+use Rattle.schedule_run.specs.declared.load.LoadStop.TheVariants.{Memory}
 use Rattle.schedule_run.proofs.load.load.Goals as goal
 
 pub returns-in-Ok-unseeing-clause-went : goal.returns-in-Ok-unseeing-clause-went
@@ -19,3 +23,11 @@ pub returns-in-Ok-unseeing-clause-leaves : goal.returns-in-Ok-unseeing-clause-le
 returns-in-Ok-unseeing-clause-leaves g c =
     ended_leaves c.args.dump.now.trees c.load_in.result _ _ c.requires
     (ended_by c.args.dump.now.trees c.load_in.result _ _ _ _ _ c.in-Ok.ensures c.in-Ok-unseeing.ensures.fresh c.load_in.ensures)
+
+pub returns-in-Ok-unseeing-clause-complete : goal.returns-in-Ok-unseeing-clause-complete
+returns-in-Ok-unseeing-clause-complete g c =
+    completes_so c.load_in.result c.args.dump.now.trees _ _
+    (ended_by c.args.dump.now.trees c.load_in.result _ _ _ _ _ c.in-Ok.ensures c.in-Ok-unseeing.ensures.fresh c.load_in.ensures)
+
+pub returns-in-Err-unseeing-clause-complete : goal.returns-in-Err-unseeing-clause-complete
+returns-in-Err-unseeing-clause-complete g c = completes_so (Err Memory) c.args.dump.now.trees _ _ (out_before c.in-Ok.ensures)

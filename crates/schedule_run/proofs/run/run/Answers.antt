@@ -3,6 +3,7 @@ use Rattle.std.specs.Prelude.{string_bytes}
 use Rattle.schedule_run.specs.Run.{IsOf}
 use Rattle.schedule_run.proofs.RunLemmas.{asked_within, not_asked}
 use Rattle.schedule_run.proofs.CompleteLemmas.{completes, memory_of, of_words, stops_at_bad_line, out_of_memory}
+use Rattle.schedule_run.proofs.LoadCompleting.{load_completes, load_out_of_memory}
 use Rattle.schedule_run.proofs.run.run.Goals as goal
 
 pub run_asked-requires : goal.run_asked-requires
@@ -49,6 +50,21 @@ returns-in-Ok-clause-complete g c =
     })
     e.ran)
 
+pub returns-in-Ok-clause-complete_load : goal.returns-in-Ok-clause-complete_load
+returns-in-Ok-clause-complete_load g c =
+    let e = c.run_asked.ensures in
+    rw c.in-Ok.ensures
+    (load_completes _ _ _ _ _ _ _ _
+    (completes _ _ _ _ _ _ _ _
+    (record {
+      only = e.only;
+      read_fault = e.read_fault;
+      too_long = e.too_long;
+      bad_line = e.bad_line;
+      write_fault = e.write_fault;
+    })
+    e.ran))
+
 pub returns-in-Ok-clause-at_bad_line : goal.returns-in-Ok-clause-at_bad_line
 returns-in-Ok-clause-at_bad_line g c =
     let e = c.run_asked.ensures in
@@ -68,3 +84,6 @@ returns-in-Err-Memory-clause-complete g c order good = out_of_memory _ _ _ _ _ _
 
 pub returns-in-Err-Memory-clause-at_bad_line : goal.returns-in-Err-Memory-clause-at_bad_line
 returns-in-Err-Memory-clause-at_bad_line g c order known bad = out_of_memory _ _ _ _ _ _
+
+pub returns-in-Err-Memory-clause-complete_load : goal.returns-in-Err-Memory-clause-complete_load
+returns-in-Err-Memory-clause-complete_load g c = load_out_of_memory _ _ _ _ _ _ _

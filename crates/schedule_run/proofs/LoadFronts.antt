@@ -14,7 +14,8 @@ use Rattle.world_core.specs.Stands.{WorldStands, StandsFor}
 use Rattle.world_core.specs.World.{World}
 use Rattle.schedule_run.specs.Answered.{WentOn, start, further}
 use Rattle.schedule_run.proofs.SoundLemmas.{AreSoundly, went_soundly, same_some}
-use Rattle.schedule_run.proofs.StayLemmas.{HasLanded, landed_none, landed_on, begins_same, begins_on, committed_begins, lands_asked}
+use Rattle.schedule_run.proofs.StayLemmas.{HasLanded, landed_none, landed_on, begins_on, committed_begins, lands_asked}
+use Rattle.cloud_trait.proofs.EffectLemmas.{begins_same}
 
 -- ---- the last line
 

@@ -111,9 +111,6 @@ passed_renewal = record { goes = λ r. refl; unasked = λ tree asked. absurd (cc
 pub passed_closing : IsPassedOver (event.Close 1)
 passed_closing = record { goes = λ r. refl; unasked = λ tree asked. absurd (cc) }
 
-pub passed_checkpoint : (t : ℕ) → IsPassedOver (event.Tree 1 t)
-passed_checkpoint t = record { goes = λ r. refl; unasked = λ tree asked. absurd (cc) }
-
 pub settles_by : (r : Reply) (s t : Seen) (old new : Play) → IsRun event.Settle r s t old new → Settles (calls_of r) s t old new
 settles_by (reply.Settled calls) s t old new run = run
 settles_by (reply.NotSettled why) s t old new run =

@@ -4,7 +4,7 @@ use Rattle.std.specs.Prelude.{slice_get, All, cond, None}
 use Rattle.std.specs.Bool.{◌==◌}
 use Rattle.std.specs.Option.{option_map}
 use Rattle.std.proofs.lemmas.Bool.{cases_lt}
-use Rattle.std.proofs.lemmas.List.{append-nil, take-append-le}
+use Rattle.std.proofs.lemmas.List.{take-append-le}
 use Rattle.std.proofs.lemmas.List.Concat.{flat_map-append}
 use Rattle.std.proofs.lemmas.List.Elements.{All-head, All-tail, All-weaker}
 use Rattle.client_work.specs.Session.{StepsAt}
@@ -51,6 +51,7 @@ use Rattle.world_core.proofs.Counting.{stands_after}
 use Rattle.world_core.proofs.StandsLemmas.{no_memory}
 use Rattle.schedule_run.specs.Answered.{WentOn, start, further, IsKeptLine, AreKept, AcknowledgedStay}
 use Rattle.schedule_run.proofs.SoundLemmas.{each_more, take_whole, same_some, went_soundly}
+use Rattle.cloud_trait.proofs.EffectLemmas.{begins_same}
 
 -- ---- what a line leaves of a cloud
 
@@ -59,9 +60,6 @@ pub record HasLanded (n : ℕ) (s t : CloudState) : Type 0 where
   pub versions : (name : ObjName) → BeginsWith (s.versions name) (t.versions name)
   pub trace : BeginsWith s.trace t.trace
   pub agree : (k : ℕ) → k < n → AgreeUpto k s t
-
-pub begins_same : {X : Type 0} (xs ys : List X) → ys ≡ xs → BeginsWith xs ys
-begins_same xs ys e = ([], e ∙ sym (append-nil xs))
 
 pub begins_on : {X : Type 0} (xs ys zs : List X) → BeginsWith xs ys → BeginsWith ys zs → BeginsWith xs zs
 begins_on xs ys zs a b = (a.0 ++ b.0, b.1 ∙ ap (λ l. l ++ b.0) a.1 ∙ append_assoc xs a.0 b.0)

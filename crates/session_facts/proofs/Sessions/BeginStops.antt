@@ -27,7 +27,6 @@ use Rattle.range_scan.specs.Scan.{Scan, new_scan, scan_ready}
 use Rattle.recover_run.specs.declared.home.Home.{Home}
 use Rattle.report_types.specs.declared.entry.Entry.{Entry}
 use Rattle.session_facts.proofs.Scans.Scans.{scan_begins}
-use Rattle.session_facts.specs.Sessions.Explaining.{trouble_of_commit, trouble_of_answer}
 use Rattle.session_facts.specs.Sessions.Sessions.{IsHome, KnowsWork, KnowsKept, Sessions, SessionsStand, IsRightOp}
 use Rattle.session_facts.proofs.Sessions.Troubles.{memory_or}
 use Rattle.cloud_facts.specs.Book.Book.{Book}
@@ -74,12 +73,6 @@ at_once_may s (Committed txn) may = tt
 at_once_may s (NotCommitted t) may = may_then s t may
 at_once_may s InDoubt may = tt
 at_once_may s (CommittedOpen t) may = may_then s t may
-
-at_once : (s : CloudState) (a : CommitAnswer) (k : Trouble) → trouble_of_commit a ≡ Some k → EndsBy (MayStopAtOnce s) a → MayStopAtOnce s k
-at_once s (Committed txn) k e may = absurd (cc (e))
-at_once s (NotCommitted t) k e may = let same : t ≡ k = cc in subst (MayStopAtOnce s) same may
-at_once s InDoubt k e may = absurd may
-at_once s (CommittedOpen t) k e may = let same : t ≡ k = cc in subst (MayStopAtOnce s) same may
 
 module _ (book : Book) (order : List Entry) (s : CloudState) (sessions : Sessions) (session : ℕ) (new : Acting) (stand : SessionsStand book order s sessions) where
   abbrev old : Acting
@@ -201,19 +194,3 @@ module _ (book : Book) (order : List Entry) (s : CloudState) (sessions : Session
 
   pub begin_ends : (o : Op) (a : CommitAnswer) → Begins o old new (Ok (Answered (answer.Commit a))) → MayEnd a
   begin_ends o a begins = at_once_may s a (begin_spent o a begins)
-
-  -- ---- the whole
-
-  -- an operation that is answered at once is answered with no trouble but a counter at its last value or want of memory
-  pub begin_explains : (o : Op) (a : Answer) (k : Trouble) → IsRightOp o → Begins o old new (Ok (Answered a)) → trouble_of_answer a ≡ Some k → MayStopAtOnce s k
-  begin_explains o (answer.Trouble t) k is begins e =
-      let same : t ≡ k = cc in
-      subst (MayStopAtOnce s) same (subst (MayStopAtOnce s) (sym (begin_stops o t is begins)) tt)
-  begin_explains o (answer.Commit a) k is begins e = at_once s a k e (begin_spent o a begins)
-  begin_explains o (answer.Opened epoch) k is begins e = absurd (cc (e))
-  begin_explains o answer.Closed k is begins e = absurd (cc (e))
-  begin_explains o (answer.Renewed end) k is begins e = absurd (cc (e))
-  begin_explains o (answer.Done n) k is begins e = absurd (cc (e))
-  begin_explains o answer.Value k is begins e = absurd (cc (e))
-  begin_explains o answer.Scan k is begins e = absurd (cc (e))
-  begin_explains o (answer.Settled n) k is begins e = absurd (cc (e))

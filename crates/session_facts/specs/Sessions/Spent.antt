@@ -56,7 +56,7 @@ pub record HasLastNumber (t : CloudState) : Type 0 where
 abbrev pub IsLeafOf : CloudState → ℕ → Leaf → Type 0
 IsLeafOf t tree l = (l ≡ empty_leaf) ⊎ ((page : ℕ) × IsIn (nodes_of t tree page) (Leafy l))
 
--- so many pages may be needed at once: fewer than a 32nd of all page numbers, or as many as a leaf is cut into that takes each record that was ever sent
+-- so many pages may be needed at once: at most a 32nd of all page numbers, or as many as a leaf is cut into that takes each record that was ever sent
 -- to the tree's queue
 abbrev pub MayNeed : CloudState → ℕ → ℕ → Type 0
 MayNeed t tree pages = (pages ≤ 2 ^ 59) ⊎ ((l : Leaf) × IsLeafOf t tree l × (pages ≤ count_of (length l.records + length (t.messages (TreePu tree)))))

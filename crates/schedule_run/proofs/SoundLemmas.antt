@@ -9,17 +9,18 @@ use Rattle.cloud_trait.specs.Seen.{Seen}
 use Rattle.cloud_trait.specs.State.{CloudState}
 use Rattle.event_text.specs.declared.event.Event.{Event}
 use Rattle.event_text.specs.declared.event.Event.TheVariants as event
-use Rattle.replay_meaning.specs.Standing.{Line, session_of}
+use Rattle.replay_meaning.specs.Standing.{Line, session_of, standing}
 use Rattle.reply_text.specs.declared.reply.Reply.{Reply}
 use Rattle.reply_text.specs.declared.reply.Reply.TheVariants as reply
 use Rattle.session_facts.proofs.BookLemmas.{book_of}
 use Rattle.session_facts.specs.Facts.{session_at, SomeBookStands}
 use Rattle.session_facts.specs.Sessions.Untroubled.{IsUntroubled}
-use Rattle.world_core.specs.Calm.{work_at}
+use Rattle.world_core.specs.Calm.{RepliesWell, work_at}
 use Rattle.world_core.specs.World.{World}
 use Rattle.world_core.specs.Handled.{Handled}
 use Rattle.world_core.specs.Settled.{SettlingLeaves, SettlingEnds}
 use Rattle.world_core.specs.Stands.{WorldStands, LeftIsRight}
+use Rattle.world_core.specs.UnsentPages.{LeavesUnsent}
 use Rattle.world_core.proofs.Acknowledged.{durable_after}
 use Rattle.world_core.proofs.Bounded.{few_calls}
 use Rattle.world_core.proofs.Counting.{stands_after}
@@ -117,6 +118,13 @@ pub ends_so : (n : ℕ) (e : Event) (before after : Seen) (old new : World) (r :
 ends_so n e before after old new r law t told stands handled s seen =
     subst (λ x. EndsSo x n e before after old new r handled) (same_some t s (sym told ∙ seen)) (ends_here n e before after old new r law t told stands handled)
 
+-- a session that was untroubled as a cloud told before a line is so behind it, and the line is answered well
+abbrev IsWellFrom : List Line → Line → World → World → CloudState → CloudState → Type 0
+IsWellFrom lines line old new u t =
+    IsUntroubled t (work_at old (session_of line.event))
+    → IsUntroubled u (work_at new (session_of line.event)) × RepliesWell u line.event (standing lines (session_of line.event)).posture line.reply
+    × LeavesUnsent t u line.event (standing lines (session_of line.event)).posture (work_at old (session_of line.event)) (work_at new (session_of line.event)) line.reply
+
 -- and each of them explains itself
 pub went_explained : (before : Seen) (old : World) (t : CloudState) (lines : List Line) (after : Seen) (new : World) → (went : WentOn before old lines after new) → before.state ≡ Some t
     → WorldStands [] old t → AreExplained before old lines after new went
@@ -126,9 +134,9 @@ went_explained before old t lines after new (further earlier line mid _ world _ 
       went_explained before old t earlier mid world went told stands,
       record {
         explains = explained (length earlier + 1) line.event mid after world new (Ok line.reply) earlier o.state refl o.told o.stands handled;
-        calm = λ each s u seen told_after well.
-            well_after (length earlier + 1) line.event mid after world new (Ok line.reply) earlier o.state u refl o.told told_after o.stands handled each
-            (subst (λ x. IsUntroubled x (work_at world (session_of line.event))) (same_some s o.state (sym seen ∙ o.told)) well);
+        calm = λ each s u seen told_after.
+            subst (IsWellFrom earlier line world new u) (same_some o.state s (sym o.told ∙ seen))
+            (well_after (length earlier + 1) line.event mid after world new (Ok line.reply) earlier o.state u refl o.told told_after o.stands handled each);
         passed = λ each. passes_well (length earlier + 1) line.event mid after world new (Ok line.reply) earlier o.state refl o.told o.stands handled each;
         bounded = few_calls (length earlier + 1) line.event mid after world new (Ok line.reply) earlier o.state refl o.told o.stands handled;
         names = names_pieces (length earlier + 1) line.event mid after world new (Ok line.reply) earlier o.state refl o.told o.stands handled;

@@ -42,6 +42,7 @@ use Rattle.world_core.specs.ShownByLines.{StepShowsBy}
 use Rattle.world_core.specs.Settled.{SettledLeaves, AnswersSettled, NoLockHeld, StepGoesWell}
 use Rattle.world_core.specs.Sound.{IsSoundFor}
 use Rattle.world_core.specs.Stands.{LeftIsRight}
+use Rattle.world_core.specs.UnsentPages.{LeavesUnsent}
 use Rattle.world_core.specs.Writers.{stage_of}
 
 -- a world whose sessions are closed, and that saw nothing; blind where it looks at no put
@@ -74,7 +75,8 @@ abbrev pub IsKeptLine : List Entry → List Line → Line → Type 0
 IsKeptLine entries before line = IsKeptReply entries (standing before (session_of line.event)).client (standing before (session_of line.event)).posture line.reply
 
 -- a line that was handled explains the steps that it made; where its session was untroubled and each of these was calm, the session is untroubled
--- behind it, and the line is answered well, and a work passes none over but for a spent counter or its page; the calls of a checkpoint are few up to it, and that of a tree names its new pieces at its end; a settling
+-- behind it, and the line is answered well, a work passes none over but for a spent counter or its page, and no page to whose queue a message was ever sent is found
+-- absent, or no leaf; the calls of a checkpoint are few up to it, and that of a tree names its new pieces at its end; a settling
 -- leaves nothing and comes to its end so;
 -- a commit that it answers as committed is among what was committed, and of one that it answers as not committed nothing is; the two numbers of a
 -- report count what is left then; and a read and a scan show what their own calls served, by what the lines say of the client
@@ -84,6 +86,7 @@ pub record IsExplained (lines : List Line) (line : Line) (before after : Seen) (
   pub calm : EachStep StepIsCalm (length lines + 1) line.event before after old new (Ok line.reply) handled → (t u : CloudState)
       → before.state ≡ Some t → after.state ≡ Some u → IsUntroubled t (work_at old (session_of line.event))
       → IsUntroubled u (work_at new (session_of line.event)) × RepliesWell u line.event (standing lines (session_of line.event)).posture line.reply
+      × LeavesUnsent t u line.event (standing lines (session_of line.event)).posture (work_at old (session_of line.event)) (work_at new (session_of line.event)) line.reply
   pub passed : EachStep StepIsCalm (length lines + 1) line.event before after old new (Ok line.reply) handled
       → AskedPassed (length lines + 1) handled.asked before after old new (Ok line.reply) handled.answers
   pub bounded : AnswersSoon lines (length lines + 1) handled.asked before after old new (Ok line.reply) handled.answers

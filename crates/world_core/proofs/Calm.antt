@@ -1,7 +1,7 @@
 -- A line whose calls are all calm is answered well.
 use Rattle.std.proofs.Common.{◌≡◌, ◌+◌, arith, inl, inr, ℕ, List, [], length, Bool, true, false, Option, Some, None, Result, Ok, Err, refl, sym, ap, subst, ◌∙◌}
 use Rattle.std.specs.Prelude.{unwrap_or}
-use Rattle.client_work.specs.Session.{Acting, StepsSession, StepsAt, Follows, Begins, closed_session, settling_session, value_of}
+use Rattle.client_work.specs.Session.{Acting, StepsSession, StepsAt, Follows, Begins, closed_session, paging_begun_by, settling_session, value_of}
 use Rattle.client_work.specs.declared.answer.Answer.{Answer}
 use Rattle.client_work.specs.declared.answer.Answer.TheVariants as answer
 use Rattle.client_work.specs.declared.answer.Begun.{Begun}
@@ -25,7 +25,6 @@ use Rattle.db_base.specs.declared.refusal.Refused.{Refused}
 use Rattle.db_base.specs.declared.refusal.Refused.TheVariants as refused
 use Rattle.db_base.specs.declared.trouble.CommitAnswer.{CommitAnswer}
 use Rattle.db_base.specs.declared.trouble.Counter.{Counter}
-use Rattle.db_base.specs.declared.trouble.Counter.TheVariants as counter
 use Rattle.db_base.specs.declared.trouble.Trouble.{Trouble}
 use Rattle.db_base.specs.declared.trouble.Trouble.TheVariants as trouble
 use Rattle.db_base.specs.declared.wish.Wish.{Wish}
@@ -40,24 +39,18 @@ use Rattle.session_facts.specs.Answers.{IsSoundReply}
 use Rattle.session_facts.specs.Facts.{session_at, WorksAs}
 use Rattle.reply_text.specs.declared.reply.Reply.{Reply}
 use Rattle.reply_text.specs.declared.reply.Reply.TheVariants as reply
-use Rattle.session_facts.specs.CommitRuns.Stopping.{MayStop as MayStopCommit}
-use Rattle.session_facts.specs.Openings.Opening.{MayStop as MayStopOpening}
-use Rattle.session_facts.specs.PageCheckpoints.Checkpoint.{MayStop as MayStopPage}
-use Rattle.session_facts.specs.Sessions.Answering.{MayRefuse, MaySettle}
 use Rattle.session_facts.specs.Sessions.Explaining.{left_told, spent_for, trouble_of_answer}
 use Rattle.session_facts.specs.Sessions.Sessions.{Sessions, IsRightOp}
-use Rattle.session_facts.specs.Sessions.Spent.{IsOfSettling, IsSpentToOpen, IsSpentToCommit, IsSpentInPages, IsSpentInTree, IsSpentToSettle}
-use Rattle.session_facts.specs.Sessions.Untroubled.{StepsCalmly, IsOfNoCall, IsUntroubled, IsSpent, IsSpentOrOf}
-use Rattle.session_facts.specs.TreeCheckpoints.Checkpoint.{MayStop as MayStopTree}
-use Rattle.session_facts.specs.Walks.Walks.{MayStop as MayStopWalk}
+use Rattle.session_facts.specs.Sessions.Untroubled.{StepsCalmly, IsOfNoCall, IsUntroubled}
 use Rattle.session_facts.proofs.CommitRuns.Telling.{IsTold}
 use Rattle.session_facts.proofs.Sessions.AtOnce.{IsAtOnce, begins_at_once, begins_untroubled}
-use Rattle.session_facts.proofs.Sessions.Spending.{pages_in_tree}
-use Rattle.session_facts.proofs.Sessions.Untroubled.{IsAtRest, no_call_by, rested, untroubled_later, step_untroubled, answer_untroubled, answered_rests, closed_rests, at_rest, commit_tells, commit_well}
+use Rattle.session_facts.proofs.Sessions.Untroubled.{IsAtRest, no_call_by, rested, untroubled_later, step_untroubled, answer_untroubled, answered_rests, closed_rests, at_rest, rests_as, commit_tells, commit_well}
 use Rattle.tree_walk.specs.Walk.{sought}
 use Rattle.txn_buffer.specs.Noted.{Noted}
 use Rattle.ckpt_policy.specs.declared.role.Role.{Role}
-use Rattle.world_core.proofs.Workers.{open_rests, within_works}
+use Rattle.world_core.proofs.SpentTroubles.{opening_spent, commit_spent, tree_spent, settled_spent, page_spent, refuse_never, walk_never}
+use Rattle.world_core.proofs.UnsentSteps.{IsPagingOf, UnsentAt, answer_unsent, answers_page, paging_went, rests_unsent, step_unsent, went_unsent}
+use Rattle.world_core.proofs.Workers.{HoldsWithin, open_rests, within_works}
 use Rattle.world_core.specs.declared.asked.Asked.{Asked}
 use Rattle.world_core.specs.declared.asked.Asked.TheVariants.{Session, Wait, Report, Settle}
 use Rattle.world_core.specs.declared.asked.Request.{Request}
@@ -72,85 +65,12 @@ use Rattle.world_core.specs.Handled.{Declines, Has, BeginsOp, NotesChange, Drops
 use Rattle.world_core.specs.Replying.{RepliesTo, RepliesBegun, RepliesSettled, RepliesTurn, value_reply}
 use Rattle.world_core.specs.Sessions.{Changes, NotesIn, AbortsIn}
 use Rattle.world_core.specs.Sound.{IsSoundFor}
+use Rattle.world_core.specs.UnsentPages.{GoesOnUnsent, IsOfUnsent, KeepsUnsent, LeavesUnsent, RepliesUnsent}
 use Rattle.world_core.proofs.Behind.{LinesStand}
 use Rattle.world_core.proofs.Explained.{explained}
 use Rattle.world_core.proofs.Sound.{sound_after}
 use Rattle.world_core.proofs.Texts.{commit_is}
 use Rattle.world_core.proofs.StandsLemmas.{IsUnderWay, changed_at, changed_was, has_at, way_begins, steps_own, went_on, no_stop, no_memory, replies_to, end_later, settler}
-
--- ---- troubles that no call brought
-
-opening_spent : (u : CloudState) (k : Trouble) → MayStopOpening k → IsOfNoCall IsSpentToOpen u k → (k ≡ trouble.Memory → ⊥) → IsSpent IsSpentToOpen u k
-opening_spent u (trouble.Exhausted what) may none other = none
-opening_spent u trouble.Memory may none other = other refl
-opening_spent u trouble.Failed may none other = none
-opening_spent u (trouble.Late end now) may none other = none
-opening_spent u (trouble.Busy lock until) may none other = none
-opening_spent u (trouble.Waiting have need) may none other = none
-opening_spent u k may none other = may
-
-commit_spent : (u : CloudState) (k : Trouble) → MayStopCommit k → IsOfNoCall IsSpentToCommit u k → (k ≡ trouble.Memory → ⊥) → IsSpent IsSpentToCommit u k
-commit_spent u (trouble.Exhausted what) may none other = none
-commit_spent u trouble.Memory may none other = other refl
-commit_spent u trouble.Failed may none other = none
-commit_spent u (trouble.Late end now) may none other = none
-commit_spent u k may none other = may
-
-pub tree_spent : (u : CloudState) (tree : ℕ) (k : Trouble) → MayStopTree k → IsOfNoCall (IsSpentInTree tree) u k → (k ≡ trouble.Memory → ⊥) → IsSpent (IsSpentInTree tree) u k
-tree_spent u tree (trouble.Exhausted what) may none other = none
-tree_spent u tree trouble.Memory may none other = other refl
-tree_spent u tree trouble.Failed may none other = none
-tree_spent u tree (trouble.Late end now) may none other = none
-tree_spent u tree (trouble.Busy lock until) may none other = none
-tree_spent u tree k may none other = may
-
--- whatever is at work, a counter of a settling is spent as it is for a settling
-settles_by : (u : CloudState) (w : Work) (what : Counter) → IsOfSettling what → spent_for w u what → IsSpentToSettle u what
-settles_by u (work.Opening r) what may is = inl is
-settles_by u (work.Committing r) counter.Txn may is = absurd may
-settles_by u (work.Committing r) counter.Number may is = absurd may
-settles_by u (work.Committing r) what may is = absurd is
-settles_by u (work.Folding home m) what may is = inr (m.tree, is)
-settles_by u (work.Paging home p) what may is = inr (p.tree, pages_in_tree p.tree u what is)
-settles_by u (work.Settling m) what may is = is
-settles_by u (work.Reading home m) what may is = absurd is
-settles_by u (work.Scanning home m) what may is = absurd is
-settles_by u (work.Closing l) what may is = absurd is
-settles_by u (work.Renewing home) what may is = absurd is
-settles_by u work.Closed what may is = absurd is
-settles_by u (work.Idle home) what may is = absurd is
-settles_by u (work.Broken l) what may is = absurd is
-
-settled_spent : (u : CloudState) (w : Work) (k : Trouble) → MaySettle k → IsOfNoCall (spent_for w) u k → (k ≡ trouble.Memory → ⊥) → IsSpent IsSpentToSettle u k
-settled_spent u w (trouble.Exhausted what) may none other = settles_by u w what may none
-settled_spent u w trouble.Memory may none other = other refl
-settled_spent u w trouble.Failed may none other = none
-settled_spent u w (trouble.Late end now) may none other = none
-settled_spent u w (trouble.Busy lock until) may none other = none
-settled_spent u w (trouble.Waiting have need) may none other = none
-settled_spent u w k may none other = may
-
-pub page_spent : (u : CloudState) (tree page : ℕ) (k : Trouble) → MayStopPage page k → IsOfNoCall (IsSpentInPages tree) u k → (k ≡ trouble.Memory → ⊥) → IsSpentOrOf tree page u k
-page_spent u tree page (trouble.Exhausted what) may none other = none
-page_spent u tree page (trouble.Absent named) may none other = may
-page_spent u tree page (trouble.NotALeaf named) may none other = may
-page_spent u tree page trouble.Memory may none other = other refl
-page_spent u tree page trouble.Failed may none other = none
-page_spent u tree page (trouble.Late end now) may none other = none
-page_spent u tree page (trouble.Busy lock until) may none other = none
-page_spent u tree page k may none other = may
-
-refuse_never : (u : CloudState) (Spent : CloudState → Counter → Type 0) (k : Trouble) → MayRefuse k → IsOfNoCall Spent u k → (k ≡ trouble.Memory → ⊥) → ⊥
-refuse_never u Spent trouble.Memory may none other = other refl
-refuse_never u Spent trouble.Failed may none other = none
-refuse_never u Spent (trouble.Late end now) may none other = none
-refuse_never u Spent k may none other = may
-
-walk_never : (u : CloudState) (Spent : CloudState → Counter → Type 0) (k : Trouble) → MayStopWalk k → IsOfNoCall Spent u k → (k ≡ trouble.Memory → ⊥) → ⊥
-walk_never u Spent trouble.Memory may none other = other refl
-walk_never u Spent trouble.Failed may none other = none
-walk_never u Spent (trouble.Stale page least got) may none other = none
-walk_never u Spent k may none other = may
 
 -- ---- the answer of an operation
 
@@ -268,6 +188,29 @@ answer_well u (Reading tree key) a left r of sound e none = absurd of
 answer_well u (Scanning tree from to) a left r of sound e none = absurd of
 answer_well u (Paging tree page) a left r of sound e none = absurd of
 answer_well u (Folding tree) a left r of sound e none = absurd of
+
+-- ---- the checkpoint of a page
+
+-- what a session at work on it has in hand
+paging_of : (w : Work) (s : Standing) (tree page : ℕ) → WorksAs w s → s.posture ≡ Working (Paging tree page) → IsPagingOf tree page w
+paging_of (work.Paging home p) s tree page acts is = let same : Working (Paging p.tree p.page) ≡ Working (Paging tree page) = sym acts.0 ∙ is in (cc (same), cc (same))
+paging_of work.Closed s tree page acts is = absurd (cc (acts, is))
+paging_of (work.Idle home) s tree page acts is = absurd (cc (acts.0, is))
+paging_of (work.Opening m) s tree page acts is = absurd (cc (acts.0, is))
+paging_of (work.Committing m) s tree page acts is = absurd (cc (acts.0, is))
+paging_of (work.Reading home m) s tree page acts is = absurd (cc (acts.0, is))
+paging_of (work.Scanning home m) s tree page acts is = absurd (cc (acts.0, is))
+paging_of (work.Folding home m) s tree page acts is = absurd (cc (acts.0, is))
+paging_of (work.Closing lease) s tree page acts is = absurd (cc (acts, is))
+paging_of (work.Renewing home) s tree page acts is = absurd (cc (acts.0, is))
+paging_of (work.Settling m) s tree page acts is = absurd acts
+paging_of (work.Broken lease) s tree page acts is = absurd (cc (acts, is))
+
+-- of other sessions nothing is said
+goes_unsent : (t u : CloudState) (posture : Posture) (v w : Work) (r : Reply)
+    → ((tree page : ℕ) → posture ≡ Working (Paging tree page) → KeepsUnsent tree page t v → RepliesUnsent tree page u w r) → GoesOnUnsent t u posture v w r
+goes_unsent t u (Working (Paging tree page)) v w r each = each tree page refl
+goes_unsent t u posture v w r each = tt
 
 -- ---- steps
 
@@ -559,6 +502,75 @@ module _ (lines : List Line) (n k : ℕ) (before after : Seen) (old new : World)
       on (Err (refused.Rule rule)) does e = let is : r ≡ reply.Refused rule = cc (e) in subst (OpWell o) (sym is) (op_refused o rule)
       on (Err refused.Memory) does e = absurd (cc (e))
 
+  -- ---- the checkpoint of a page
+
+  abbrev Unsent : ℕ → ℕ → Type 0
+  Unsent tree page = RepliesUnsent tree page u (work_at new k) r
+
+  at_page : (tree page : ℕ) → posture ≡ Working (Paging tree page) → IsPagingOf tree page (work_at old k)
+  at_page tree page is = paging_of (work_at old k) (standing lines k) tree page (stands.acts k).work is
+
+  kept_here : (tree page : ℕ) → KeepsUnsent tree page t (work_at old k) → UnsentAt tree page k before old
+  kept_here tree page kept x told_x = subst (λ (y : CloudState). KeepsUnsent tree page y (work_at old k)) (state_is t x (sym told ∙ told_x)) kept
+
+  within : (world : World) (seen : Seen) → IsUnderWay lines world seen → HoldsWithin (length lines + 1) lines world seen
+  within world seen on = record { state = on.after; told = on.told; holds = on.goes.holds }
+
+  refused_unsent : (tree page : ℕ) (rule : Refusal) → r ≡ reply.Refused rule → Unsent tree page
+  refused_unsent tree page rule is = subst (RepliesUnsent tree page u (work_at new k)) (sym is) tt
+
+  answered_unsent : (tree page : ℕ) (wish : Wish) (mid : Seen) (world : World) (a : Answer) → HoldsWithin (length lines + 1) lines world mid → IsPagingOf tree page (work_at world k)
+      → UnsentAt tree page k mid world → (p : StepsLooked who wish mid after world new (Ended a)) → StepIsCalm who wish mid after world new (Ended a) p → RepliesTo a p.session.after (Ok r)
+      → Unsent tree page
+  answered_unsent tree page wish mid world (answer.Trouble q) h at kept p calm e =
+      let is = replies_to (answer.Trouble q) p.session.after r e in
+      subst (RepliesUnsent tree page u (work_at new k)) (sym is.0.0)
+      (subst (λ (x : CloudState). IsOfUnsent tree page x q) (state_is calm.calm.after u (sym (p.look_after.stays calm.calm.after calm.calm.left) ∙ told_after))
+      (answer_unsent (length lines + 1) lines who wish mid after world new h tree page at kept q p calm is.0.1))
+  answered_unsent tree page wish mid world (answer.Done x) h at kept p calm e =
+      let is : r ≡ reply.Done x = cc (e) in
+      subst (RepliesUnsent tree page u (work_at new k)) (sym is) tt
+  answered_unsent tree page wish mid world a h at kept p calm e = absurd (answers_page (length lines + 1) lines who wish mid after world new h tree page at kept a p)
+
+  step_leaves : (wish : Wish) (h : MakesStep n k wish before after old new (Ok r)) → EachMade StepIsCalm n k wish before after old new (Ok r) h → (tree page : ℕ)
+      → posture ≡ Working (Paging tree page) → KeepsUnsent tree page t (work_at old k) → Unsent tree page
+  step_leaves wish (inl refuses) calm tree page is kept = let no = not_done _ refuses.declines in refused_unsent tree page no.1.0 no.1.1
+  step_leaves wish (inr (inl step)) calm tree page is kept = on step.turn step.steps step.replies calm
+    where
+      on : (turn : Turn Answer) (p : StepsLooked who wish before after old new turn) → RepliesTurn turn p.session.after (Ok r) → StepIsCalm who wish before after old new turn p → Unsent tree page
+      on More p e calm =
+          let same : r ≡ reply.Called = cc in
+          subst (RepliesUnsent tree page u (work_at new k)) (sym same)
+          (step_unsent (length lines + 1) lines who wish before after old new (within old before way) tree page (at_page tree page is) (kept_here tree page kept) p calm u told_after)
+      on (Ended a) p e calm = answered_unsent tree page wish before old a (within old before way) (at_page tree page is) (kept_here tree page kept) p calm e
+      on (Stopped q) p e calm = absurd (no_stop _ p.under p.to p.session.before p.session.after q p.session.does)
+  step_leaves wish (inr (inr memory)) calm tree page is kept = absurd (no_memory r memory.0)
+
+  run_leaves : (h : Runs n k before after old new (Ok r)) → EachRun StepIsCalm n k before after old new (Ok r) h → (tree page : ℕ) → posture ≡ Working (Paging tree page)
+      → KeepsUnsent tree page t (work_at old k) → Unsent tree page
+  run_leaves (inl refuses) calm tree page is kept = let no = not_done _ refuses.declines in refused_unsent tree page no.1.0 no.1.1
+  run_leaves (inr (inl run)) calm tree page is kept =
+      let c = run.comes in
+      answered_unsent tree page Plain c.mid c.world run.answer (here_on c.mid c.world c.went) (paging_went who tree page before old c.mid c.world c.went (at_page tree page is))
+      (went_unsent (length lines + 1) lines who tree page before old here_on (at_page tree page is) (kept_here tree page kept) c.mid c.world c.went calm.0) c.steps calm.1 run.replies
+    where
+      here_on : (mid : Seen) (world : World) → Went who before old mid world → HoldsWithin (length lines + 1) lines world mid
+      here_on mid world went = within world mid (went_on lines who before old mid world (sym number) way went)
+  run_leaves (inr (inr memory)) calm tree page is kept = absurd (no_memory r memory.0)
+
+  page_begins : (tree page : ℕ) → Changes k (BeginsOp (op.Page tree page) (Ok r)) old.sessions new.sessions → Unsent tree page
+  page_begins tree page c = on c.does.begun c.does.begins c.does.replies
+    where
+      on : (begun : Result Begun Refused) → Begins (op.Page tree page) c.before c.after begun → RepliesBegun begun c.after (Ok r) → Unsent tree page
+      on (Ok BegunWorking) does e =
+          let is : r ≡ reply.Begun = cc (e) in
+          let rest : IsAtRest c.after.work = rests_as c.after.work _ (ap (λ (a : Acting). a.work) does.2.1) (at_rest (paging_begun_by tree page does.0) refl refl) in
+          subst (RepliesUnsent tree page u (work_at new k)) (sym is)
+          (rests_unsent tree page k after new (subst (λ (a : Acting). IsAtRest a.work) (sym (changes_to k _ old new c)) rest) u told_after)
+      on (Ok (Answered a)) does e = let no = does.2.0 in absurd (cc (no))
+      on (Err (refused.Rule rule)) does e = refused_unsent tree page rule (cc (e))
+      on (Err refused.Memory) does e = absurd (cc (e))
+
   -- ---- what is asked
 
   -- what a request does, each step of it calm and explained
@@ -736,12 +748,47 @@ module _ (lines : List Line) (n : ℕ) (before after : Seen) (old new : World) (
       (IsNoted (tree_noted e) (IsMade (change_noted e))) asked asks h calm explains
       (λ request is does. noted_well lines n (session_of e) before after old new r t number told stands well u told_after (tree_noted e) (IsMade (change_noted e)) request is does)
 
+  -- the lines of a session that is at work on a page
+  asked_unsent : (e : Event) (asked : Asked) → Asks e asked → (h : Answers n asked before after old new (Ok r)) → EachAsked StepIsCalm n asked before after old new (Ok r) h
+      → EachAsked StepExplains n asked before after old new (Ok r) h → IsSoundFor e (standing lines (session_of e)).posture r → SessionIsUntroubled (session_of e) before old
+      → LeavesUnsent t u e (standing lines (session_of e)).posture (work_at old (session_of e)) (work_at new (session_of e)) r
+  asked_unsent (event.Page k tree page) asked asks h calm explains sound well =
+      (request_well lines n k before after old new r t number told stands well u told_after (RepliesUnsent tree page u (work_at new k)) (λ rule. tt) (IsPaging tree page) asked asks h calm explains
+      (λ request is does.
+      let d = as_asked lines n k before after old new r t number told stands well u told_after request (Begin (op.Page tree page)) (ap (λ q. Ok q) is.2) does in (
+        (begins_well lines n k before after old new r t number told stands well u told_after (op.Page tree page) (is.0, is.1) d.0.0.seen d.0.1).0,
+        page_begins lines n k before after old new r t number told stands well u told_after tree page d.0.1,
+      ))).1
+  asked_unsent (event.Step k wish) asked asks h calm explains sound well =
+      (request_well lines n k before after old new r t number told stands well u told_after
+      (GoesOnUnsent t u (standing lines k).posture (work_at old k) (work_at new k))
+      (λ rule. goes_unsent t u (standing lines k).posture (work_at old k) (work_at new k) (reply.Refused rule) (λ tree page is kept. tt)) (IsStep wish) asked asks h calm explains
+      (λ request is does.
+      let d = as_asked lines n k before after old new r t number told stands well u told_after request (Step wish) (ap (λ q. Ok q) is) does in (
+        (makes_well lines n k before after old new r t number told stands well u told_after wish d.0 d.1 d.2 sound).0,
+        goes_unsent t u (standing lines k).posture (work_at old k) (work_at new k) r
+            (step_leaves lines n k before after old new r t number told stands well u told_after wish d.0 d.1),
+      ))).1
+  asked_unsent (event.Run k) asked asks h calm explains sound well =
+      (request_well lines n k before after old new r t number told stands well u told_after
+      (GoesOnUnsent t u (standing lines k).posture (work_at old k) (work_at new k))
+      (λ rule. goes_unsent t u (standing lines k).posture (work_at old k) (work_at new k) (reply.Refused rule) (λ tree page is kept. tt)) (λ request. request ≡ Ok Run) asked asks h calm explains
+      (λ request is does.
+      let d = as_asked lines n k before after old new r t number told stands well u told_after request Run is does in (
+        (runs_well lines n k before after old new r t number told stands well u told_after d.0 d.1 d.2 sound).0,
+        goes_unsent t u (standing lines k).posture (work_at old k) (work_at new k) r
+            (run_leaves lines n k before after old new r t number told stands well u told_after d.0 d.1),
+      ))).1
+  asked_unsent e asked asks h calm explains sound well = tt
+
 pub well_after : (n : ℕ) (e : Event) (before after : Seen) (old new : World) (result : Result Reply WorldFault) → AnswersWell n e before after old new result
 well_after n e before after old new (Ok r) = λ lines t u number told told_after stands handled calm well.
-    let is =
-    asked_well lines n before after old new r t number told stands.by_lines u told_after e handled.asked handled.asks handled.answers calm
-    (explained n e before after old new (Ok r) lines t number told stands handled)
-    (sound_after n e before after old new (Ok r) handled lines t number told stands)
-    (λ x told_x. subst (λ (y : CloudState). IsUntroubled y (work_at old (session_of e))) (state_is t x (sym told ∙ told_x)) well) in
-    (is.0 u told_after, is.1)
+    let explains = explained n e before after old new (Ok r) lines t number told stands handled in
+    let sound = sound_after n e before after old new (Ok r) handled lines t number told stands in
+    let still : SessionIsUntroubled (session_of e) before old = λ x told_x. subst (λ (y : CloudState). IsUntroubled y (work_at old (session_of e))) (state_is t x (sym told ∙ told_x)) well in
+    let is = asked_well lines n before after old new r t number told stands.by_lines u told_after e handled.asked handled.asks handled.answers calm explains sound still in (
+      is.0 u told_after,
+      is.1,
+      asked_unsent lines n before after old new r t number told stands.by_lines u told_after e handled.asked handled.asks handled.answers calm explains sound still,
+    )
 well_after n e before after old new (Err fault) = tt

@@ -25,6 +25,9 @@ pub mod Explained
 pub mod Counting
 pub mod Bounded
 pub mod Named
+pub mod UnsentPages
+pub mod UnsentSteps
+pub mod SpentTroubles
 pub mod Calm
 pub mod Alone
 pub mod Settled

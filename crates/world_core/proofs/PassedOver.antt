@@ -1,4 +1,5 @@
--- A line that works passes over no checkpoint whose calls were calm, but for a spent counter or a page that is absent or no leaf.
+-- A line that works passes over no checkpoint whose calls were calm, but for a spent counter, or a page that is absent or no leaf and to whose queue no
+-- message was ever sent.
 use Rattle.std.proofs.Common.{◌≡◌, ◌+◌, inl, inr, ℕ, List, [], ◌∷◌, ◌++◌, length, Some, Result, Ok, Err, refl, sym, ap, subst, ◌∙◌}
 use Rattle.client_work.specs.declared.answer.Answer.{Answer}
 use Rattle.client_work.specs.declared.answer.Answer.TheVariants as answer
@@ -26,7 +27,6 @@ use Rattle.reply_text.specs.declared.reply.Reply.{Reply}
 use Rattle.reply_text.specs.declared.reply.Reply.TheVariants as reply
 use Rattle.session_facts.proofs.CallKinds.{IsNoWant, IsWorkersRow}
 use Rattle.session_facts.proofs.LineLemmas.{line_of}
-use Rattle.session_facts.proofs.PagingPage.{same_page}
 use Rattle.session_facts.proofs.Sessions.Stopping.{session_stops}
 use Rattle.session_facts.proofs.Sessions.Untroubled.{IsAtRest, at_rest, rested, rests_as}
 use Rattle.session_facts.proofs.Steps.{wish_holds}
@@ -36,9 +36,11 @@ use Rattle.session_facts.specs.Sessions.Explaining.{spent_for}
 use Rattle.session_facts.specs.Sessions.Sessions.{Sessions}
 use Rattle.session_facts.specs.Sessions.Spent.{IsSpentInTree}
 use Rattle.session_facts.specs.Sessions.Untroubled.{IsOfNoCall, IsSpent, IsSpentOrOf}
-use Rattle.world_core.proofs.Calm.{GoesWellAt, IsOfNone, answers_calmly, page_spent, tree_spent, went_calmly}
+use Rattle.world_core.proofs.Calm.{GoesWellAt, IsOfNone, answers_calmly, went_calmly}
 use Rattle.world_core.proofs.Explained.{explained}
+use Rattle.world_core.proofs.SpentTroubles.{page_spent, tree_spent}
 use Rattle.world_core.proofs.StandsLemmas.{changed_at, changed_was}
+use Rattle.world_core.proofs.UnsentSteps.{IsPagingOf, answer_unsent, paging_goes, paging_went, rests_unsent, went_unsent}
 use Rattle.world_core.proofs.Workers.{HoldsWithin, IsBetween, holds_begun, holds_went, holds_works, open_rests, passable, within_begun, within_works, worker, worker_begins, worker_rows}
 use Rattle.world_core.specs.Calm.{StepIsCalm, work_at}
 use Rattle.world_core.specs.EachStep.{EachAsked, EachCome, EachDone, EachServed, EachThrough, EachWork}
@@ -46,6 +48,7 @@ use Rattle.world_core.specs.Explained.{StepExplains}
 use Rattle.world_core.specs.Handled.{Answers, Checkpoints, Does, IsPassable, Serves, StepsLooked, Went, Works, WorksThrough, checkpoint_more, checkpoint_of, further, no_checkpoint, start}
 use Rattle.world_core.specs.Passed.{AskedPassed, DonePassed, EachPassed, MayPass, PassesSo, PassesWell, ServedPassed, ThroughPassed}
 use Rattle.world_core.specs.Stands.{WorldStands}
+use Rattle.world_core.specs.UnsentPages.{IsOfUnsent}
 use Rattle.world_core.specs.World.{World}
 use Rattle.world_core.specs.declared.asked.Asked.{Asked}
 use Rattle.world_core.specs.declared.asked.Asked.TheVariants.{Session, Wait, Report, Settle}
@@ -59,17 +62,13 @@ use Rattle.world_core.specs.declared.world.WorldFault.{WorldFault}
 abbrev IsFor : QueueName → Work → Type 0
 IsFor (TreePu tree) (Folding home m) = m.tree ≡ tree
 IsFor (TreePu tree) w = ⊥
-IsFor (PagePu tree page) (Paging home p) = (p.tree ≡ tree) × (p.page ≡ page)
-IsFor (PagePu tree page) w = ⊥
+IsFor (PagePu tree page) w = IsPagingOf tree page w
 IsFor (Atomic client) w = ⊥
 
 for_goes : (who : Caller) (before after : Seen) (queue : QueueName) (w new : Work) → StepsAt who before after w new More → IsFor queue w → IsFor queue new
 for_goes who before after (TreePu tree) (Folding home m) new p is = subst (IsFor (TreePu tree)) (sym p.2) (p.1.took.0.0 ∙ is)
 for_goes who before after (TreePu tree) w new p is = absurd is
-for_goes who before after (PagePu tree page) (Paging home m) new p is =
-    let same = same_page m p.0 p.1.answer p.1.took in
-    subst (IsFor (PagePu tree page)) (sym p.2) (same.0 ∙ is.0, same.1 ∙ is.1)
-for_goes who before after (PagePu tree page) w new p is = absurd is
+for_goes who before after (PagePu tree page) w new p is = paging_goes who before after tree page w new p is
 for_goes who before after (Atomic client) w new p is = absurd is
 
 for_begun : (queue : QueueName) (a b : Acting) → IsPending queue → Begins (checkpoint_of queue) a b (Ok Working) → IsFor queue b.work × IsAtRest b.work
@@ -88,13 +87,21 @@ for_went who queue before old after new (further mid _ world _ went step) is =
     (for_goes who step.under step.to queue step.session.before.work step.session.after.work step.session.does.work
     (subst (λ (a : Acting). IsFor queue a.work) (changed_was who.session _ world.sessions new.sessions step.session) (for_went who queue before old mid world went is)))
 
-may_pass : (queue : QueueName) (w : Work) (u : CloudState) (k : Trouble) → IsFor queue w → MayAnswer w k → IsOfNoCall (spent_for w) u k → (k ≡ trouble.Memory → ⊥) → MayPass queue u k
-may_pass (TreePu tree) (Folding home m) u k is may none other = subst (λ (j : ℕ). IsSpent (IsSpentInTree j) u k) is (tree_spent u m.tree k may none other)
-may_pass (TreePu tree) w u k is may none other = absurd is
-may_pass (PagePu tree page) (Paging home p) u k is may none other =
-    subst (λ (j : ℕ). IsSpentOrOf j page u k) is.0 (subst (λ (j : ℕ). IsSpentOrOf p.tree j u k) is.1 (page_spent u p.tree p.page k may none other))
-may_pass (PagePu tree page) w u k is may none other = absurd is
-may_pass (Atomic client) w u k is may none other = absurd is
+-- of a page's queue, a page that is absent or no leaf comes where no message was ever sent to it
+abbrev OfQueue : QueueName → CloudState → Trouble → Type 0
+OfQueue (PagePu tree page) u k = IsOfUnsent tree page u k
+OfQueue queue u k = Unit {0}
+
+may_pass : (queue : QueueName) (w : Work) (u : CloudState) (k : Trouble) → IsFor queue w → MayAnswer w k → IsOfNoCall (spent_for w) u k → OfQueue queue u k → (k ≡ trouble.Memory → ⊥)
+    → MayPass queue u k
+may_pass (TreePu tree) (Folding home m) u k is may none unsent other = subst (λ (j : ℕ). IsSpent (IsSpentInTree j) u k) is (tree_spent u m.tree k may none other)
+may_pass (TreePu tree) w u k is may none unsent other = absurd is
+may_pass (PagePu tree page) (Paging home p) u k is may none unsent other = (
+  subst (λ (j : ℕ). IsSpentOrOf j page u k) is.0 (subst (λ (j : ℕ). IsSpentOrOf p.tree j u k) is.1 (page_spent u p.tree p.page k may none other)),
+  unsent,
+)
+may_pass (PagePu tree page) w u k is may none unsent other = absurd is
+may_pass (Atomic client) w u k is may none unsent other = absurd is
 
 -- ---- each of them
 
@@ -107,7 +114,7 @@ module _ (n session : ℕ) (lines : List Line) (home : Home) (row : IsWorkersRow
       → (c : Checkpoints who queue before after old new (answer.Trouble k)) → EachCome StepIsCalm who before after c.begun new (answer.Trouble k) c.comes
       → EachCome StepExplains who before after c.begun new (answer.Trouble k) c.comes → PassesSo queue after (answer.Trouble k)
   one_passed queue before after old new k passes w h c calm explains =
-      (u, p.look_after.stays u calm.1.calm.left, may_pass queue p.session.before.work u k is may (none.trouble k refl) other)
+      (u, p.look_after.stays u calm.1.calm.left, may_pass queue p.session.before.work u k is may (none.trouble k refl) (of_page queue (subst (λ (a : Acting). IsFor queue a.work) (sym begun_is) begun.0)) other)
     where
       p : StepsLooked who Plain c.comes.mid after c.comes.world new (Ended (answer.Trouble k))
       p = c.comes.steps
@@ -157,6 +164,14 @@ module _ (n session : ℕ) (lines : List Line) (home : Home) (row : IsWorkersRow
 
       other : k ≡ trouble.Memory → ⊥
       other e = subst (λ (t : Trouble). IsNoWant (answer.Trouble t)) e (passable (answer.Trouble k) passes)
+
+      of_page : (q : QueueName) → IsFor q (work_at c.begun session) → OfQueue q u k
+      of_page (PagePu tree page) at =
+          answer_unsent n lines who Plain c.comes.mid after c.comes.world new here tree page (paging_went who tree page before c.begun c.comes.mid c.comes.world c.comes.went at)
+          (went_unsent n lines who tree page before c.begun
+          (λ mid world went. holds_went n session lines home row first before c.begun mid world (within_begun session home first queue old c.begun w c.begins) held went) at
+          (rests_unsent tree page session before c.begun (subst (λ (a : Acting). IsAtRest a.work) (sym begun_is) begun.1)) c.comes.mid c.comes.world c.comes.went calm.0) k p calm.1 other
+      of_page q at = tt
 
   one_so : (queue : QueueName) (before after : Seen) (old new : World) (a : Answer) → IsPassable a → IsBetween session home first old → HoldsWithin n lines old before
       → (c : Checkpoints who queue before after old new a) → EachCome StepIsCalm who before after c.begun new a c.comes → EachCome StepExplains who before after c.begun new a c.comes

@@ -17,6 +17,7 @@ use Rattle.world_core.specs.declared.world.WorldFault.{WorldFault}
 use Rattle.world_core.specs.EachStep.{StepFact, EachStep}
 use Rattle.world_core.specs.Handled.{Handled}
 use Rattle.world_core.specs.Stands.{WorldStands}
+use Rattle.world_core.specs.UnsentPages.{LeavesUnsent}
 
 -- a step of a session was calm
 abbrev pub StepIsCalm : StepFact
@@ -102,10 +103,12 @@ RepliesWell u event posture reply = Unit {0}
 -- ---- every line
 
 -- Whatever lines a world and a cloud stood for before a line: where its session was untroubled and each step of the line was calm, however it was
--- handled, the session is untroubled behind it, and the line is answered well.
+-- handled, the session is untroubled behind it, and the line is answered well; and the checkpoint of a page finds it absent, or no leaf, only where no
+-- message was ever sent to its queue.
 abbrev pub AnswersWell : ℕ → Event → Seen → Seen → World → World → Result Reply WorldFault → Type 0
 AnswersWell n event before after old new (Ok reply) =
     (lines : List Line) (t u : CloudState) → length lines + 1 ≡ n → before.state ≡ Some t → after.state ≡ Some u → WorldStands lines old t
     → (handled : Handled n event before after old new (Ok reply)) → EachStep StepIsCalm n event before after old new (Ok reply) handled
     → IsUntroubled t (work_at old (session_of event)) → IsUntroubled u (work_at new (session_of event)) × RepliesWell u event (standing lines (session_of event)).posture reply
+    × LeavesUnsent t u event (standing lines (session_of event)).posture (work_at old (session_of event)) (work_at new (session_of event)) reply
 AnswersWell n event before after old new (Err fault) = Unit {0}

@@ -12,6 +12,7 @@ pub mod EachStep
 pub mod Explained
 pub mod Bounded
 pub mod Named
+pub mod UnsentPages
 pub mod Calm
 pub mod Alone
 pub mod Settled

@@ -19,6 +19,7 @@ use Rattle.world_core.specs.Calm.{StepIsCalm}
 use Rattle.world_core.specs.EachStep.{EachStep}
 use Rattle.world_core.specs.Handled.{Answers, Does, Handled, Serves, Works, WorksThrough, checkpoint_more, no_checkpoint}
 use Rattle.world_core.specs.Stands.{WorldStands}
+use Rattle.world_core.specs.UnsentPages.{IsOfUnsent}
 use Rattle.world_core.specs.World.{World}
 use Rattle.world_core.specs.declared.asked.Asked.{Asked}
 use Rattle.world_core.specs.declared.asked.Asked.TheVariants.{Session, Wait, Report, Settle}
@@ -26,10 +27,10 @@ use Rattle.world_core.specs.declared.asked.Request.{Request}
 use Rattle.world_core.specs.declared.asked.Request.TheVariants.{Begin, Note, Abort, Policy, Work, Step, Run, Crash}
 use Rattle.world_core.specs.declared.world.WorldFault.{WorldFault}
 
--- a counter of the tree is spent, as the cloud tells, or the page that was named is absent or no leaf
+-- a counter of the tree is spent, as the cloud tells, or the page that was named is absent or no leaf, and no message was ever sent to its queue
 abbrev pub MayPass : QueueName → CloudState → Trouble → Type 0
 MayPass (TreePu tree) u k = IsSpent (IsSpentInTree tree) u k
-MayPass (PagePu tree page) u k = IsSpentOrOf tree page u k
+MayPass (PagePu tree page) u k = IsSpentOrOf tree page u k × IsOfUnsent tree page u k
 MayPass (Atomic client) u k = ⊥
 
 -- the checkpoint of a queue that a trouble stopped was stopped so
@@ -74,7 +75,7 @@ AskedPassed n (Report tree) before after old new result answers = Unit {0}
 AskedPassed n Settle before after old new result answers = Unit {0}
 
 -- Whatever lines a world and a cloud stood for before a line, where each step of it was calm, however it was handled: it passes over no checkpoint but for
--- a spent counter, or a page that it names and that is absent or no leaf.
+-- a spent counter, or a page that it names and that is absent or no leaf, and to whose queue no message was ever sent.
 abbrev pub PassesWell : ℕ → Event → Seen → Seen → World → World → Result Reply WorldFault → Type 0
 PassesWell n event before after old new result =
     (lines : List Line) (t : CloudState) → length lines + 1 ≡ n → before.state ≡ Some t → WorldStands lines old t

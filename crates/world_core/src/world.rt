@@ -175,7 +175,7 @@ impl<S: SessionCalls> World<S> {
         ensures named { NamesSteps n event.now (C.seen cloud.old) (C.seen cloud.new) self.old self.new result }
         // A writer that works behind each of its commits leaves few messages.
         ensures metered { KeepsMeter n event.now (C.seen cloud.old) (C.seen cloud.new) self.old self.new result }
-        // A work whose calls are all calm passes a checkpoint over for a spent counter, or its page, alone.
+        // A work whose calls are all calm passes a checkpoint over for a spent counter alone, or a page to which no message was ever sent.
         ensures passed { PassesWell n event.now (C.seen cloud.old) (C.seen cloud.new) self.old self.new result }
         ensures settled { SettlingLeaves n event.now (C.seen cloud.old) (C.seen cloud.new) self.old self.new result }
         ensures settles { SettlingEnds n event.now (C.seen cloud.old) (C.seen cloud.new) self.old self.new result }

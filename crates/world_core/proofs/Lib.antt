@@ -48,6 +48,7 @@ pub mod MeteredLines
 pub mod PassedOver
 pub mod Landed
 pub mod SentLines
+pub mod Spared
 pub mod EachAny
 pub mod EachWhere
 pub mod Begun

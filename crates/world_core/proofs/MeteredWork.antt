@@ -249,7 +249,7 @@ module _ (n k session : ℕ) (lines : List Line) where
 -- ---- the line
 
 -- the queues that are due to a writer
-due_to : (k : ℕ) (notes : List Note) (book : Notebook) (queues : List QueueName) → (is : IsWriters k notes book) → IsDue book queues → queues ≡ due Writer k is.account.client notes
+pub due_to : (k : ℕ) (notes : List Note) (book : Notebook) (queues : List QueueName) → (is : IsWriters k notes book) → IsDue book queues → queues ≡ due Writer k is.account.client notes
 due_to k notes book queues is due_so =
     let so : AreDue (Some is.account) queues = subst (λ (o : Option Account). AreDue o queues) is.ledger due_so in
     so notes is.stands

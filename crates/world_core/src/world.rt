@@ -97,6 +97,7 @@ impl<S: SessionCalls> World<S> {
     ghost use Rattle.world_core.specs.Metered.{KeepsMeter};
     ghost use Rattle.world_core.specs.Named.{NamesSteps};
     ghost use Rattle.world_core.specs.Passed.{PassesWell};
+    ghost use Rattle.world_core.specs.Spared.{SparesWriter};
     ghost use Rattle.world_core.specs.Settled.{SettlingEnds, SettlingIsRight, SettlingLeaves};
     ghost use Rattle.world_core.specs.Stands.{KeepsABook, WorldStands, StandsOn};
     ghost use Rattle.world_core.specs.Sessions.{Changes, IsNotWorking, IsAtWork, HasPut};
@@ -177,6 +178,8 @@ impl<S: SessionCalls> World<S> {
         ensures metered { KeepsMeter n event.now (C.seen cloud.old) (C.seen cloud.new) self.old self.new result }
         // A work whose calls are all calm passes a checkpoint over for a spent counter alone, or a page to which no message was ever sent.
         ensures passed { PassesWell n event.now (C.seen cloud.old) (C.seen cloud.new) self.old self.new result }
+        // A writer that is alone passes none over.
+        ensures spared { SparesWriter n event.now (C.seen cloud.old) (C.seen cloud.new) self.old self.new result }
         ensures settled { SettlingLeaves n event.now (C.seen cloud.old) (C.seen cloud.new) self.old self.new result }
         ensures settles { SettlingEnds n event.now (C.seen cloud.old) (C.seen cloud.new) self.old self.new result }
         ensures settling { SettlingIsRight n event.now (C.seen cloud.old) (C.seen cloud.new) self.old self.new result }

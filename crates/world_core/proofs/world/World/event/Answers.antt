@@ -12,6 +12,7 @@ use Rattle.world_core.proofs.PassedOver.{passes_well}
 use Rattle.world_core.proofs.Shown.{shown}
 use Rattle.world_core.proofs.ShownByLines.{shown_by}
 use Rattle.world_core.proofs.Sound.{sound_after}
+use Rattle.world_core.proofs.Spared.{spares_writer}
 use Rattle.world_core.proofs.Acknowledged.{durable_after}
 use Rattle.world_core.proofs.LeftNone.{nothing_after}
 use Rattle.world_core.proofs.LeftShort.{left_short}
@@ -55,6 +56,9 @@ returns-clause-metered g c = keeps_meter _ _ _ _ _ _ _
 
 pub returns-clause-passed : goal.returns-clause-passed
 returns-clause-passed g c = passes_well _ _ _ _ _ _ _
+
+pub returns-clause-spared : goal.returns-clause-spared
+returns-clause-spared g c = spares_writer _ _ _ _ _ _ _
 
 pub returns-clause-settled : goal.returns-clause-settled
 returns-clause-settled g c = settling_leaves _ _ _ _ _ _ _

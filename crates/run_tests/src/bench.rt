@@ -61,7 +61,7 @@ fn ended_by<C: Bench>(
 }
 
 /// Whether a command over this cloud ends with this status, and has written just this.
-fn runs_over<C: Bench>(
+pub(crate) fn runs_over<C: Bench>(
     alloc: Global,
     words: &[&str],
     input: &[u8],
@@ -73,6 +73,24 @@ fn runs_over<C: Bench>(
         Ok(mut sink) => {
             ended_by(alloc, words, input, &[], &mut sink, cloud) == status
                 && sink.written() == output
+        }
+        Err(_) => false,
+    }
+}
+
+/// Whether a command over this cloud ends with this status, and what it has written begins so.
+pub(crate) fn begins_over<C: Bench>(
+    alloc: Global,
+    words: &[&str],
+    input: &[u8],
+    status: Status,
+    beginning: &[u8],
+    cloud: &mut C,
+) -> bool {
+    match MemorySink::new(alloc, &[]) {
+        Ok(mut sink) => {
+            ended_by(alloc, words, input, &[], &mut sink, cloud) == status
+                && sink.written().starts_with(beginning)
         }
         Err(_) => false,
     }

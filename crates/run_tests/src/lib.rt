@@ -16,6 +16,10 @@ mod dumps;
 #[cfg(test)]
 mod ends;
 #[cfg(test)]
+mod killed_loads;
+#[cfg(test)]
+mod long_dumps;
+#[cfg(test)]
 mod old_store;
 #[cfg(test)]
 mod planted;

@@ -5,7 +5,7 @@ use schedule_run::status::Status;
 use std::alloc::Global;
 
 /// Adds these bytes so many times.
-fn add_times(input: &mut Vec<u8>, part: &[u8], times: usize) -> bool {
+pub(crate) fn add_times(input: &mut Vec<u8>, part: &[u8], times: usize) -> bool {
     for _ in 0..times {
         if input.extend_from_slice(part).is_err() {
             return false;
@@ -15,7 +15,7 @@ fn add_times(input: &mut Vec<u8>, part: &[u8], times: usize) -> bool {
 }
 
 /// The parts behind one another, each so many times.
-fn joined(alloc: Global, parts: &[(&[u8], usize)]) -> Option<Vec<u8>> {
+pub(crate) fn joined(alloc: Global, parts: &[(&[u8], usize)]) -> Option<Vec<u8>> {
     let mut input = Vec::new(alloc);
     for (part, times) in parts {
         if !add_times(&mut input, part, *times) {

@@ -118,7 +118,7 @@ settles_so lines event.Settle r before after old new t told stands handled =
       right.sound (standing lines 0).posture,
       record {
         explains = right.explains;
-        calm = λ each s u seen told_after well. right.calm each u told_after;
+        calm = λ each s u seen told_after well. let is = right.calm each u told_after in (is.0, is.1, tt);
         passed = λ each. no_passed (length lines + 1) handled.asked before after old new (Ok r) handled.asks handled.answers;
         bounded = no_run lines (length lines + 1) handled.asked before after old new (Ok r) handled.asks handled.answers;
         names = no_checkpoint (length lines + 1) handled.asked before after old new (Ok r) handled.asks handled.answers;

@@ -6,6 +6,7 @@ use Rattle.std.proofs.lemmas.Option.{slice_get_within}
 use Rattle.std.proofs.lemmas.Bool.{cases_lt}
 use Rattle.cloud_trait.specs.State.{CloudState, IsEmptyCloud}
 use Rattle.cloud_trait.specs.Seen.{Seen}
+use Rattle.cloud_trait.specs.declared.state.Hold.{Hold}
 use Rattle.cloud_trait.specs.Traced.{IsTraced}
 use Rattle.cloud_trait.specs.Upto.{upto, AgreeUpto, IsUpto, posts_of}
 use Rattle.cloud_trait.proofs.StateLemmas.{slice_get-push}
@@ -24,6 +25,7 @@ use Rattle.session_facts.proofs.UptoRight.{HoldTheSame, right_same, kinds_upto}
 use Rattle.world_core.specs.World.{World}
 use Rattle.world_core.specs.declared.world.WorldFault.{WorldFault}
 use Rattle.world_core.specs.declared.world.WorldFault.TheVariants as world
+use Rattle.world_core.specs.Alone.{IsAloneIn}
 use Rattle.world_core.specs.Handled.{Handled}
 use Rattle.world_core.specs.Stands.{WorldStands, StandsOn, Grows}
 use Rattle.world_core.proofs.StartLemmas.{new_stands}
@@ -149,10 +151,15 @@ pub lines_explained : {blind : Bool} → (lines : List Line) (s t : Seen) (first
     → AreExplained s first lines t world went
 lines_explained lines s t first world x went fresh told empty = went_explained s first x lines t world went told (fresh_stands first x fresh empty)
 
+-- over an empty cloud every session is alone
+fresh_alone : (world : World) (x : CloudState) → IsEmptyCloud x → (session : ℕ) → IsAloneIn session world x
+fresh_alone world x empty session l = inl (let never : (x.locks l).until ≡ 0 = ap (λ (h : Hold). h.until) (empty.locks l) in omega (arith, never))
+
 -- and a writer leaves few messages
 pub lines_metered : {blind : Bool} → (lines : List Line) (s t : Seen) (first world : World) (x : CloudState) → (went : WentOn s first lines t world) → IsNew blind first → s.state ≡ Some x → IsEmptyCloud x
     → AreMetered s first lines t world went
-lines_metered lines s t first world x went fresh told empty = went_metered s first x lines t world went told (fresh_stands first x fresh empty)
+lines_metered lines s t first world x went fresh told empty =
+    went_metered s first x lines t world went told (fresh_stands first x fresh empty) (fresh_alone first x empty)
 
 -- and where no look failed reports come
 pub reports_come : (lines : List Line) (s t : Seen) (first world : World) (x : CloudState) → WentOn s first lines t world → IsNew false first → s.state ≡ Some x → IsEmptyCloud x

@@ -1,12 +1,16 @@
 -- Every reply of lines that were handled one behind another is sound.
-use Rattle.std.proofs.Common.{◌≡◌, ◌<◌, ◌≤◌, ◌+◌, ◌⊎◌, ℕ, List, [], ◌∷◌, ◌++◌, length, take, Some, Ok, refl, sym, ap, subst, ◌∙◌, inl, inr, arith, length-append}
+use Rattle.std.proofs.Common.{◌≡◌, ◌<◌, ◌≤◌, ◌+◌, ◌⊎◌, ℕ, List, [], ◌∷◌, ◌++◌, length, map, take, Some, Ok, refl, sym, ap, subst, ◌∙◌, inl, inr, arith, length-append}
 use Rattle.std.specs.Prelude.{slice_get}
-use Rattle.std.proofs.lemmas.List.{take-append-le, take_all, get_or_append_left}
+use Rattle.std.proofs.lemmas.List.{map-append, take-append-le, take_all, get_or_append_left}
 use Rattle.std.proofs.lemmas.Option.{slice_get_within, slice_get-get_or}
 use Rattle.std.proofs.lemmas.Bool.{cases_lt}
 use Rattle.cloud_trait.proofs.StateLemmas.{slice_get-push}
+use Rattle.client_work.specs.declared.answer.Answer.{Answer}
+use Rattle.cloud_trait.specs.Caller.{Caller}
 use Rattle.cloud_trait.specs.Seen.{Seen}
-use Rattle.cloud_trait.specs.State.{CloudState}
+use Rattle.cloud_trait.specs.State.{CloudState, Counts}
+use Rattle.cloud_trait.specs.declared.turn.Turn.{Turn}
+use Rattle.db_base.specs.declared.wish.Wish.{Wish}
 use Rattle.event_text.specs.declared.event.Event.{Event}
 use Rattle.event_text.specs.declared.event.Event.TheVariants as event
 use Rattle.replay_meaning.specs.Standing.{Line, session_of, standing}
@@ -17,27 +21,32 @@ use Rattle.session_facts.specs.Facts.{session_at, SomeBookStands}
 use Rattle.session_facts.specs.Sessions.Untroubled.{IsUntroubled}
 use Rattle.world_core.specs.Calm.{RepliesWell, work_at}
 use Rattle.world_core.specs.World.{World}
-use Rattle.world_core.specs.Handled.{Handled}
+use Rattle.world_core.specs.Alone.{IsAloneIn, StepIsUndisturbed}
+use Rattle.world_core.specs.Handled.{Handled, StepsLooked}
 use Rattle.world_core.specs.Settled.{SettlingLeaves, SettlingEnds}
 use Rattle.world_core.specs.Stands.{WorldStands, LeftIsRight}
 use Rattle.world_core.specs.UnsentPages.{LeavesUnsent}
 use Rattle.world_core.proofs.Acknowledged.{durable_after}
+use Rattle.world_core.proofs.Alone.{keeps_alone}
 use Rattle.world_core.proofs.Bounded.{few_calls}
 use Rattle.world_core.proofs.Counting.{stands_after}
 use Rattle.world_core.proofs.Calm.{well_after}
+use Rattle.world_core.proofs.EachWhere.{asked_where}
 use Rattle.world_core.proofs.Explained.{explained}
 use Rattle.world_core.proofs.MeteredLines.{keeps_meter}
 use Rattle.world_core.proofs.PassedOver.{passes_well}
+use Rattle.world_core.proofs.Spared.{spares_writer}
 use Rattle.world_core.proofs.Unsent.{stage_line}
-use Rattle.world_core.specs.Metered.{LeavesFewAt, MetersAt}
-use Rattle.world_core.specs.Writers.{Stage, stage_of}
+use Rattle.world_core.specs.Metered.{LeavesFewAt, MetersAt, StepGoesThrough}
+use Rattle.world_core.specs.Spared.{HasSentAt, PassesNoneAt, none_passed, unpassed}
+use Rattle.world_core.specs.Writers.{Stage, Unbound, Even, Owing, Astray, by_line, stage_of}
 use Rattle.world_core.proofs.LeftNone.{nothing_after}
 use Rattle.world_core.proofs.Named.{names_pieces}
 use Rattle.world_core.proofs.Shown.{shown}
 use Rattle.world_core.proofs.ShownByLines.{shown_by}
 use Rattle.world_core.proofs.Settled.{settling_leaves, settling_ends}
 use Rattle.world_core.proofs.Sound.{sound_after}
-use Rattle.schedule_run.specs.Answered.{WentOn, start, further, LeavesSo, EndsSo, AreExplained, GoThrough, AreMetered, IsSoundLine, RepliesAreSound}
+use Rattle.schedule_run.specs.Answered.{WentOn, start, further, LeavesSo, EndsSo, AreExplained, GoAlone, GoThrough, AreMetered, IsSoundLine, RepliesAreSound}
 
 -- ---- places of lines
 
@@ -170,12 +179,72 @@ meters_behind before old t lines after new (further earlier line mid _ world _ w
     let same = sym (stage_line session k earlier line) in
     (subst (λ (stage : Stage). MetersAt stage session k new u) same kept.0, subst (λ (stage : Stage). LeavesFewAt stage k u) same kept.1)
 
+-- ---- a writer that is alone
+
+-- a step that was undisturbed went through
+goes_through : (who : Caller) (wish : Wish) (before after : Seen) (old new : World) (turn : Turn Answer) (p : StepsLooked who wish before after old new turn)
+    → StepIsUndisturbed who wish before after old new turn p → StepGoesThrough who wish before after old new turn p
+goes_through who wish before after old new turn p x = (ap (λ (c : Counts). c.withheld) x.counts, ap (λ (c : Counts). c.faults) x.counts)
+
+-- where its works passed none over, they may be told so
+worked_same : (session k : ℕ) (e : Event) (done passed : ℕ) (stage : Stage) → PassesNoneAt stage e (reply.Worked done passed)
+    → by_line session k e (reply.Worked done 0) stage ≡ by_line session k e (reply.Worked done passed) stage
+worked_same session k (event.Work s) done passed Unbound none = refl
+worked_same session k (event.Work s) done passed Even none = ap (λ (n : ℕ). by_line session k (event.Work s) (reply.Worked done n) Even) (sym none)
+worked_same session k (event.Work s) done passed Owing none = ap (λ (n : ℕ). by_line session k (event.Work s) (reply.Worked done n) Owing) (sym none)
+worked_same session k (event.Work s) done passed Astray none = refl
+worked_same session k e done passed Unbound none = refl
+worked_same session k e done passed Even none = refl
+worked_same session k e done passed Owing none = refl
+worked_same session k e done passed Astray none = refl
+
+unpassed_same : (session k : ℕ) (e : Event) (r : Reply) (stage : Stage) → PassesNoneAt stage e r → by_line session k e (none_passed r) stage ≡ by_line session k e r stage
+unpassed_same session k e (reply.Worked done passed) stage none = worked_same session k e done passed stage none
+unpassed_same session k e r stage none = refl
+
+-- how it stands behind these lines
+record IsAloneBehind (session k : ℕ) (lines : List Line) (world : World) (t : CloudState) : Type 0 where
+  alone : IsAloneIn session world t
+  sent : HasSentAt (stage_of session k lines) session k world t
+  meters : MetersAt (stage_of session k lines) session k world t
+  few : LeavesFewAt (stage_of session k lines) k t
+  same : stage_of session k (map unpassed lines) ≡ stage_of session k lines
+
+alone_behind : (before : Seen) (old : World) (t : CloudState) (lines : List Line) (after : Seen) (new : World) → (went : WentOn before old lines after new) → before.state ≡ Some t
+    → WorldStands [] old t → (session k : ℕ) → IsAloneIn session old t → GoAlone session before old lines after new went → (u : CloudState) → after.state ≡ Some u
+    → IsAloneBehind session k lines new u
+alone_behind before old t lines after new start told stands session k free alone u seen =
+    record { alone = subst (λ (x : CloudState). IsAloneIn session old x) (same_some t u (sym told ∙ seen)) free; sent = tt; meters = tt; few = tt; same = refl }
+alone_behind before old t lines after new (further earlier line mid _ world _ went handled) told stands session k free goes u seen =
+    let o = went_soundly before old t earlier mid world went told stands in
+    let m = alone_behind before old t earlier mid world went told stands session k free goes.0 o.state o.told in
+    let stays =
+    keeps_alone (length earlier + 1) line.event mid after world new (Ok line.reply) earlier o.state u refl o.told seen o.stands handled goes.2 session goes.1 m.alone in
+    let spared =
+    spares_writer (length earlier + 1) line.event mid after world new (Ok line.reply) earlier o.state u refl o.told seen o.stands handled goes.2 goes.3 session k goes.1 m.alone m.sent in
+    let kept =
+    keeps_meter (length earlier + 1) line.event mid after world new (Ok line.reply) earlier o.state u refl o.told seen o.stands handled
+    (asked_where StepIsUndisturbed StepGoesThrough goes_through (length earlier + 1) mid after world new (Ok line.reply) handled.asked handled.answers goes.2) session k m.meters in
+    let on = stage_line session k earlier line in
+    record {
+      alone = stays.0;
+      sent = subst (λ (stage : Stage). HasSentAt stage session k new u) (sym on) spared.1;
+      meters = subst (λ (stage : Stage). MetersAt stage session k new u) (sym on) kept.0;
+      few = subst (λ (stage : Stage). LeavesFewAt stage k u) (sym on) kept.1;
+      same = ap (stage_of session k) (map-append unpassed earlier (line ∷ [])) ∙ (stage_line session k (map unpassed earlier) (unpassed line)
+          ∙ (ap (by_line session k line.event (none_passed line.reply)) m.same
+          ∙ (unpassed_same session k line.event line.reply (stage_of session k earlier) spared.0 ∙ sym on)));
+    }
+
 -- a writer leaves few behind each of them
 pub went_metered : (before : Seen) (old : World) (t : CloudState) (lines : List Line) (after : Seen) (new : World) → (went : WentOn before old lines after new) → before.state ≡ Some t
-    → WorldStands [] old t → AreMetered before old lines after new went
-went_metered before old t lines after new start told stands = tt
-went_metered before old t lines after new (further earlier line mid _ world _ went handled) told stands = (
-  went_metered before old t earlier mid world went told stands,
+    → WorldStands [] old t → ((session : ℕ) → IsAloneIn session old t) → AreMetered before old lines after new went
+went_metered before old t lines after new start told stands free = tt
+went_metered before old t lines after new (further earlier line mid _ world _ went handled) told stands free = (
+  went_metered before old t earlier mid world went told stands free,
   λ through session k u seen.
       (meters_behind before old t (earlier ++ line ∷ []) after new (further earlier line mid after world new went handled) told stands through session k u seen).1,
+  λ session k u alone seen.
+      let b = alone_behind before old t (earlier ++ line ∷ []) after new (further earlier line mid after world new went handled) told stands session k (free session) alone u seen in
+      (b.same, subst (λ (stage : Stage). LeavesFewAt stage k u) (sym b.same) b.few),
 )

@@ -26,6 +26,7 @@ use Rattle.session_notes.specs.Notebook.{blank}
 use Rattle.world_core.specs.World.{World}
 use Rattle.world_core.specs.declared.world.WorldFault.{WorldFault}
 use Rattle.world_core.specs.Added.{WorldAdds}
+use Rattle.world_core.specs.Alone.{LeavesAlone, StepIsUndisturbed}
 use Rattle.world_core.specs.Bounded.{AnswersSoon}
 use Rattle.world_core.specs.Caused.{LineHasCauses}
 use Rattle.world_core.specs.Calm.{StepIsCalm, RepliesWell, work_at}
@@ -41,6 +42,7 @@ use Rattle.world_core.specs.Shown.{StepShows}
 use Rattle.world_core.specs.ShownByLines.{StepShowsBy}
 use Rattle.world_core.specs.Settled.{SettledLeaves, AnswersSettled, NoLockHeld, StepGoesWell}
 use Rattle.world_core.specs.Sound.{IsSoundFor}
+use Rattle.world_core.specs.Spared.{StepSpendsNone, unpassed}
 use Rattle.world_core.specs.Stands.{LeftIsRight}
 use Rattle.world_core.specs.UnsentPages.{LeavesUnsent}
 use Rattle.world_core.specs.Writers.{stage_of}
@@ -117,11 +119,29 @@ abbrev pub LeavesFewSo : (before : Seen) (old : World) (lines : List Line) (afte
 LeavesFewSo before old lines after new went =
     GoThrough before old lines after new went → (session k : ℕ) (u : CloudState) → after.state ≡ Some u → LeavesFewAt (stage_of session k lines) k u
 
+-- These lines leave a session alone: only it acts, and it does not die. In no step of them a count rose or a counter was spent, each lease lasted that its
+-- call named or gave back, and memory was found.
+abbrev pub GoAlone : (session : ℕ) (before : Seen) (old : World) (lines : List Line) (after : Seen) (new : World) → WentOn before old lines after new → Type 0
+GoAlone session before old lines after new start = Unit {0}
+GoAlone session before old _ after new (further lines line mid _ world _ went handled) =
+    GoAlone session before old lines mid world went
+    × LeavesAlone session line.event
+    × EachStep StepIsUndisturbed (length lines + 1) line.event mid after world new (Ok line.reply) handled
+    × EachStep StepSpendsNone (length lines + 1) line.event mid after world new (Ok line.reply) handled
+
+-- then a session that works as a writer of k behind each commit, whatever its works tell that they passed over, leaves few behind each of them: none was passed over
+abbrev pub LeavesFewAlone : (before : Seen) (old : World) (lines : List Line) (after : Seen) (new : World) → WentOn before old lines after new → Type 0
+LeavesFewAlone before old lines after new went =
+    (session k : ℕ) (u : CloudState) → GoAlone session before old lines after new went → after.state ≡ Some u
+    → (stage_of session k (map unpassed lines) ≡ stage_of session k lines) × LeavesFewAt (stage_of session k (map unpassed lines)) k u
+
 -- so it does behind each of these lines
 abbrev pub AreMetered : (before : Seen) (old : World) (lines : List Line) (after : Seen) (new : World) → WentOn before old lines after new → Type 0
 AreMetered before old lines after new start = Unit {0}
 AreMetered before old _ after new (further lines line mid _ world _ went handled) =
-    AreMetered before old lines mid world went × LeavesFewSo before old (lines ++ line ∷ []) after new (further lines line mid after world new went handled)
+    AreMetered before old lines mid world went
+    × LeavesFewSo before old (lines ++ line ∷ []) after new (further lines line mid after world new went handled)
+    × LeavesFewAlone before old (lines ++ line ∷ []) after new (further lines line mid after world new went handled)
 
 -- the reply to a line is sound by how the lines before it say that its session stood: it shows no trouble that only damage could cause
 abbrev pub IsSoundLine : List Line → Line → Type 0

@@ -4,7 +4,7 @@ use Rattle.std.specs.Prelude.{slice_get, Option, Bool, true}
 use Rattle.std.specs.List.{AllByRecursion}
 use Rattle.db_base.specs.declared.names.ObjName.TheVariants as object
 use Rattle.cloud_trait.specs.declared.turn.Turn.TheVariants.{Ended}
-use Rattle.commit_plan.specs.Ended.{Ended as EndedLeaf}
+use Rattle.commit_run.specs.Ended.{Ended as EndedLeaf}
 use Rattle.commit_run.specs.Draft.{IsWithin}
 use Rattle.commit_run.specs.Trips.{cache_behind, WasRead}
 use Rattle.commit_run.specs.Meaning.{IsRouted}

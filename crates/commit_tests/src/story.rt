@@ -1,6 +1,6 @@
 //! What a commit did, as a text: a line for each call, and then its answer.
 
-use call_text::call_text;
+use reply_text::call_text;
 use cloud_trait::call::Call;
 use db_base::trouble::{CommitAnswer, Trouble};
 use recover_run::home::Home;

@@ -15,7 +15,7 @@ use Rattle.dump_text.specs.Maps.{trees_from, dump_of}
 use Rattle.dump_text.specs.declared.dump.DumpedTree.{DumpedTree}
 use Rattle.leaf_view.specs.Fits.{Ascend}
 use Rattle.report_types.specs.declared.stored.Stored.{Stored}
-use Rattle.tree_meaning.specs.Chain.{Walked}
+use Rattle.replay_meaning.specs.Chain.{Walked}
 use Rattle.world_audit.specs.Finding.{Shown, LeavesFound}
 use Rattle.world_audit.specs.Stop.{SlipOr, ChainStops, ChainIsWhole}
 use Rattle.dump_take.specs.Sight.{Sees, pages_to, no_queue}

@@ -19,7 +19,7 @@ use Rattle.cloud_trait.specs.Seen.{Seen}
 use Rattle.cloud_trait.specs.State.{Counts}
 use Rattle.cloud_trait.specs.Views.{got_of}
 use Rattle.cloud_trait.specs.Weather.{Makes, Fits}
-use Rattle.calm_calls.specs.Calm.{IsCalm}
+use Rattle.cloud_trait.specs.Calm.{IsCalm}
 use Rattle.page_cache.specs.Cache.{Cache, accepts}
 use Rattle.page_cache.specs.Held.{leaf_at}
 use Rattle.page_cache.proofs.ViewLemmas.{accept_leaf}

@@ -23,7 +23,7 @@ use Rattle.cloud_trait.specs.Machine.{Next, Goes, Ends, Stops}
 use Rattle.cloud_trait.specs.Seen.{Seen}
 use Rattle.cloud_trait.specs.State.{CloudState, newest, version_at}
 use Rattle.cloud_trait.specs.Weather.{Makes, Rose}
-use Rattle.calm_calls.specs.Calm.{IsCalm}
+use Rattle.cloud_trait.specs.Calm.{IsCalm}
 use Rattle.page_cache.specs.Cache.{Cache, accepts, kept_at}
 use Rattle.page_cache.specs.Held.{leaf_at, inner_at, root_at}
 use Rattle.page_cache.specs.Refused.{IsDamaged}

@@ -14,7 +14,7 @@ use Rattle.cloud_facts.specs.Chains.Chain.{NamesRight, IsVersionOf, IsChained}
 use Rattle.cloud_facts.specs.Chains.Links.{first_link, link_of, top_of, IsOfLevel, NamesBelow}
 use Rattle.cloud_facts.proofs.Chains.Pieces.{in_first, in_cases, none_in, not_itself}
 use Rattle.cloud_facts.proofs.Chains.Newest.{last_in}
-use Rattle.tree_meaning.specs.Index.{IsRightOf}
+use Rattle.replay_meaning.specs.Index.{IsRightOf}
 use Rattle.cloud_facts.specs.Meanings.Meets.{IsFrom, MeetsRight, MeetsBelow}
 use Rattle.cloud_facts.proofs.Meanings.Children.{child_found}
 

@@ -16,7 +16,7 @@ use Rattle.cloud_facts.specs.Book.Tally.{Node, Branch, right_of, high_of}
 use Rattle.cloud_facts.specs.Chains.Chain.{IsChained}
 use Rattle.cloud_facts.specs.Chains.Links.{link_of, NamesBelow}
 use Rattle.cloud_facts.proofs.Chains.Monotone.{Stay}
-use Rattle.tree_meaning.specs.Index.{IsRightOf, IsWithin}
+use Rattle.replay_meaning.specs.Index.{IsRightOf, IsWithin}
 use Rattle.cloud_facts.specs.Meanings.Meets.{MeetsRight, MeetsBelow, IsAt, IsPassed}
 use Rattle.cloud_facts.proofs.Meanings.Stale.{stale_right, stale_down, stale_root, absent_root, never_again, other_level}
 

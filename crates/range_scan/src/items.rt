@@ -9,6 +9,7 @@ use crate::sight::Sight;
 use db_base::change::{Change, act};
 use db_base::ids::TreeId;
 use db_base::value::Value;
+use head_codec::entry::Entry;
 use head_codec::lists::Pending;
 use leaf_view::Records;
 use std::alloc::{AllocError, Global};
@@ -109,12 +110,12 @@ impl<'a> Items<'a> {
         Ok(())
     }
 
-    fn add_pending(&mut self, sight: &Sight<'a>, pending: &'a [Pending]) -> Result<(), AllocError>
+    fn add_pending(&mut self, sight: &Sight<'a>, pending: &'a [Entry]) -> Result<(), AllocError>
         ensures { OnOk result (self.new ≡ fold (with_pending sight.now) self.old pending.now) }
     {
         let mut left = pending;
         while let Some((entry, rest)) = left.split_first() {
-            self.add_entry(sight, entry)?;
+            self.add_entry(sight, entry.get())?;
             left = rest;
         }
         Ok(())

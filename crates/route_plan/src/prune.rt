@@ -28,7 +28,7 @@ pub fn prune_leaf(head: &mut Head, client: ClientId, tree: TreeId, view: &LeafVi
     ensures { head.new ≡ pruned_by_leaf head.old client tree view.now }
 {
     head.pending
-        .retain(|entry| !is_applied_in(view, client, tree, entry));
+        .retain(|entry| !is_applied_in(view, client, tree, entry.get()));
 }
 
 /// Removes the pending entries of the client's head that the root of the tree shows to be applied. Takes no memory.
@@ -36,5 +36,5 @@ pub fn prune_tree(head: &mut Head, client: ClientId, tree: TreeId, view: &TreeVi
     ensures { head.new ≡ pruned_by_tree head.old client tree view.now }
 {
     head.pending
-        .retain(|entry| !is_covered_by(view, client, tree, entry));
+        .retain(|entry| !is_covered_by(view, client, tree, entry.get()));
 }

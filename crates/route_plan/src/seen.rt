@@ -6,6 +6,7 @@ ghost use Rattle.route_plan.specs.Seen.{after_buffered, after_pending, is_lacked
 use db_base::change::{Change, act};
 use db_base::ids::{ClientId, TreeId};
 use db_base::value::Value;
+use head_codec::entry::Entry;
 use head_codec::head::Head;
 use head_codec::lists::Pending;
 use leaf_view::LeafView;
@@ -51,14 +52,14 @@ fn after_pending<'a>(
     tree: TreeId,
     key: &[u8],
     client: ClientId,
-    pending: &'a [Pending],
+    pending: &'a [Entry],
 ) -> Option<Value<'a>>
     ensures { result ≡ after_pending value.entry (filter (is_lacked_by view.now client tree key.now) pending.now) }
 {
     let mut value = value;
     let mut left = pending;
     while let Some((entry, rest)) = left.split_first() {
-        value = after_entry(value, view, client, tree, key, entry);
+        value = after_entry(value, view, client, tree, key, entry.get());
         left = rest;
     }
     value

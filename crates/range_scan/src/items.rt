@@ -10,7 +10,6 @@ use db_base::change::{Change, act};
 use db_base::ids::TreeId;
 use db_base::value::Value;
 use head_codec::entry::Entry;
-use head_codec::lists::Pending;
 use leaf_view::Records;
 use std::alloc::{AllocError, Global};
 use std::collections::BTreeMap;
@@ -76,11 +75,11 @@ impl<'a> Items<'a> {
         Ok(())
     }
 
-    fn add_entry(&mut self, sight: &Sight<'a>, entry: &'a Pending) -> Result<(), AllocError>
+    fn add_entry(&mut self, sight: &Sight<'a>, entry: &'a Entry) -> Result<(), AllocError>
         ensures { OnOk result (self.new ≡ with_pending sight.now self.old entry.now) }
     {
         if sight.lists_pending(entry) {
-            self.change(&entry.change)?;
+            self.change(&entry.get().change)?;
         }
         Ok(())
     }
@@ -115,7 +114,7 @@ impl<'a> Items<'a> {
     {
         let mut left = pending;
         while let Some((entry, rest)) = left.split_first() {
-            self.add_entry(sight, entry.get())?;
+            self.add_entry(sight, entry)?;
             left = rest;
         }
         Ok(())

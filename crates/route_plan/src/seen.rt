@@ -8,7 +8,6 @@ use db_base::ids::{ClientId, TreeId};
 use db_base::value::Value;
 use head_codec::entry::Entry;
 use head_codec::head::Head;
-use head_codec::lists::Pending;
 use leaf_view::LeafView;
 use txn_buffer::buffer::TxnBuffer;
 
@@ -18,10 +17,11 @@ fn is_lacked_by(
     client: ClientId,
     tree: TreeId,
     key: &[u8],
-    entry: &Pending,
+    entry: &Entry,
 ) -> bool
     ensures { result ≡ is_lacked_by view.now client tree key.now entry.now }
 {
+    let entry = entry.get();
     entry.tree.get() == tree.get()
         && entry.change.key().as_slice() == key
         && view.done(entry.page, client) < entry.number
@@ -34,12 +34,12 @@ fn after_entry<'a>(
     client: ClientId,
     tree: TreeId,
     key: &[u8],
-    entry: &'a Pending,
+    entry: &'a Entry,
 ) -> Option<Value<'a>>
     ensures { result ≡ (if is_lacked_by view.now client tree key.now entry.now then act value.entry entry.now.change else value.entry) }
 {
     if is_lacked_by(view, client, tree, key, entry) {
-        act(value, &entry.change)
+        act(value, &entry.get().change)
     } else {
         value
     }
@@ -59,7 +59,7 @@ fn after_pending<'a>(
     let mut value = value;
     let mut left = pending;
     while let Some((entry, rest)) = left.split_first() {
-        value = after_entry(value, view, client, tree, key, entry.get());
+        value = after_entry(value, view, client, tree, key, entry);
         left = rest;
     }
     value

@@ -7,7 +7,6 @@ ghost use Rattle.route_plan.specs.Queue.{is_pending_of, last_pending};
 
 use db_base::ids::TreeId;
 use head_codec::entry::Entry;
-use head_codec::lists::Pending;
 use std::alloc::{AllocError, Global};
 
 const SLOTS: usize = 4096;
@@ -45,9 +44,10 @@ fn slot_of(key: &[u8]) -> usize
 }
 
 /// Whether an entry is of a tree and key.
-fn is_of(entry: &Pending, tree: TreeId, key: &[u8]) -> bool
+fn is_of(entry: &Entry, tree: TreeId, key: &[u8]) -> bool
     ensures { result ≡ is_pending_of tree key.now entry.now }
 {
+    let entry = entry.get();
     entry.tree.get() == tree.get() && entry.change.key().as_slice() == key
 }
 
@@ -144,7 +144,7 @@ fn last_in<'a>(
     let slot = slot_of(key);
     let mut upto = newest[slot];
     while let Some(entry) = entry_upto(pending, upto) {
-        if is_of(entry.get(), tree, key) {
+        if is_of(entry, tree, key) {
             return Some(entry);
         }
         let at = upto - 1;

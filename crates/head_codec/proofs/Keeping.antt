@@ -7,7 +7,8 @@ use Rattle.head_codec.specs.declared.lists.QueueCount.{QueueCount}
 use Rattle.head_codec.specs.declared.lists.Pending.{Pending}
 use Rattle.head_codec.specs.Head.{empty_head, next_head}
 use Rattle.head_codec.specs.Counters.{AreCounters}
-use Rattle.head_codec.specs.Spelling.{IsPhase, HasSpelling, FitsPending, FitsTypes}
+use Rattle.head_codec.specs.Pending.{FitsPending}
+use Rattle.head_codec.specs.Spelling.{IsPhase, HasSpelling, FitsTypes}
 
 pub AllByRecursion-append : {A : Type 0} (P : A → Type 0) (xs ys : List A) → AllByRecursion P xs → AllByRecursion P ys → AllByRecursion P (xs ++ ys)
 AllByRecursion-append P [] ys front back = back

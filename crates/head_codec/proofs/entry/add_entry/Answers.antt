@@ -3,7 +3,7 @@ use Rattle.std.specs.Int.{w8, w64, to_be_bytes}
 use Rattle.change_codec.specs.Change.{change_bytes}
 use Rattle.change_codec.proofs.Appends.{append_more}
 use Rattle.head_codec.proofs.Front.{front_bytes}
-use Rattle.head_codec.proofs.pending.add_entry.Goals as goal
+use Rattle.head_codec.proofs.entry.add_entry.Goals as goal
 
 pub returns-clause-spelling : goal.returns-clause-spelling
 returns-clause-spelling c =

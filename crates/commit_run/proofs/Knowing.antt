@@ -87,10 +87,6 @@ pub record KnowsWrites (home : Home) (changes : List Noted) (c : Cache) (h : Lis
   pub begun_so : KnowsBegun home changes c (told first) start
   pub came : Came writing_ask (LeadsBy writing_next) start later w
 
--- the home that writes
-abbrev pub home_at : {home : Home} {changes : List Noted} {c : Cache} {h : List Deed} {w : Writing} → KnowsWrites home changes c h w → Home
-home_at {home = home} k = walked_home home (uses_of k.begun_so.routed.trips)
-
 -- ---- where a turn behind walks leads: to a walk, or to the first write
 
 abbrev pub KnowsHand : Home → List Noted → Cache → Calls → Draft → Hand → Cache → Type 0

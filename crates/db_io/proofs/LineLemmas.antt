@@ -99,16 +99,3 @@ drop_line text n e = ap (drop n) (text_is text) ∙ drop_at (first_line text) (b
 -- the first line and the bytes behind it have as many bytes as the text
 pub length-text : (text : List ℕ) → length (first_line text) + length (behind_line text) ≡ length text
 length-text text = sym (length-append (first_line text) (behind_line text)) ∙ ap length (sym (text_is text))
-
--- a text without a line feed, and then one, is a first line
-pub first_line-line : (text rest : List ℕ) → position_or_len is_line_feed text ≡ length text
-    → (first_line (text ++ 10 ∷ rest) ≡ text ++ 10 ∷ []) × (behind_line (text ++ 10 ∷ rest) ≡ rest)
-first_line-line [] rest none = (refl, refl)
-first_line-line (byte ∷ text) rest none = on (nat_eq byte 10) none (first_line-line text rest)
-  where
-    on : (b : Bool) → cond (not b) (1 + position_or_len is_line_feed text) 0 ≡ length (byte ∷ text)
-        → (position_or_len is_line_feed text ≡ length text → (first_line (text ++ 10 ∷ rest) ≡ text ++ 10 ∷ []) × (behind_line (text ++ 10 ∷ rest) ≡ rest))
-        → (cond b (byte ∷ []) (byte ∷ first_line (text ++ 10 ∷ rest)) ≡ byte ∷ (text ++ 10 ∷ []))
-        × (cond b (text ++ 10 ∷ rest) (behind_line (text ++ 10 ∷ rest)) ≡ rest)
-    on true none later = absurd (omega arith)
-    on false none later = let parts = later (omega arith) in (ap (λ (l : List ℕ). byte ∷ l) parts.0, parts.1)

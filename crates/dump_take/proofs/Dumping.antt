@@ -71,9 +71,6 @@ each_tree tree ((s ∷ rest) ∷ contents) some most all = (
 
 -- ---- one tree further
 
-abbrev ChainsWhole : CloudState → ℕ → Type 0
-ChainsWhole s n = (tree : ℕ) → IsTree tree → tree < n → ChainIsWhole s tree
-
 -- the contents of the trees up to a number, and that their chains are whole
 pub record Holds (s : CloudState) (n : ℕ) (contents : List (List Stored)) : Type 0 where
   pub are : AreContents s 1 contents

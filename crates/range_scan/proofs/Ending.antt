@@ -1,5 +1,5 @@
 -- A scan has fewer calls left behind each call that it goes on from.
-use Rattle.std.proofs.Common.{◌≡◌, ℕ, ◌+◌, ◌-◌, ◌^◌, ◌<◌, ◌≤◌, Bool, true, false, List, [], ◌∷◌, ◌++◌, length, Option, Some, None, Result, Ok, Err, refl, ap, subst, arith, length-append, ◌∙◌}
+use Rattle.std.proofs.Common.{◌≡◌, ℕ, ◌+◌, ◌-◌, ◌^◌, ◌<◌, Bool, true, false, List, [], ◌∷◌, ◌++◌, length, Option, Some, None, Result, Ok, Err, refl, ap, subst, arith, length-append, ◌∙◌}
 use Rattle.std.specs.Prelude.{◌&&◌, if◌then◌else◌, is_some}
 use Rattle.byte_format.specs.Order.{bytes_same, below_bound}
 use Rattle.db_base.specs.declared.trouble.Trouble.{Trouble}
@@ -7,14 +7,13 @@ use Rattle.db_base.specs.declared.trouble.Trouble.TheVariants as trouble
 use Rattle.leaf_view.specs.Leaf.{Leaf}
 use Rattle.leaf_view.specs.Lookup.{page_at}
 use Rattle.cloud_trait.specs.declared.turn.Turn.{Turn}
-use Rattle.cloud_trait.specs.declared.turn.Turn.TheVariants.{More, Ended, Stopped}
+use Rattle.cloud_trait.specs.declared.turn.Turn.TheVariants.{Ended}
 use Rattle.cloud_trait.specs.Machine.{Next, Goes, Ends, Stops}
 use Rattle.page_cache.specs.Cache.{Cache, accepts}
 use Rattle.page_cache.specs.Held.{leaf_at}
-use Rattle.tree_walk.specs.Moves.{Moves, MovesBeside}
-use Rattle.tree_walk.specs.Walk.{Spot, Walk, object_of}
-use Rattle.tree_walk.specs.Walk.{calls_left as walk_calls_left}
-use Rattle.range_scan.specs.Scan.{Scan, scan_object, right_in, scan_came_to, right_behind, ended_at, leaf_ended, is_wanted, goes_on, moved_on, first_in, walked_on, right_read_in, right_accepted, right_got}
+use Rattle.tree_walk.specs.Moves.{MovesBeside}
+use Rattle.tree_walk.specs.Walk.{Spot}
+use Rattle.range_scan.specs.Scan.{Scan, scan_object, right_in, scan_came_to, right_behind, ended_at, leaf_ended, is_wanted, goes_on, moved_on, right_read_in, right_accepted, right_got}
 use Rattle.range_scan.specs.Ending.{calls_left_at, calls_left}
 
 -- it does not go on by itself, and where it ends it came to these right pages
@@ -32,10 +31,6 @@ at_end s page (Some next) = on (below_bound next.low s.to && scan_came_to s next
 
 leaf_end : (s : Scan) (l : Leaf) (page : ℕ) → EndsAt s.passed (leaf_ended s l page)
 leaf_end s l page = at_end s page (right_behind l.high (page_at l.right))
-
-first_end : (s : Scan) (page : ℕ) (o : Option Leaf) → EndsAt s.passed (first_in s page o)
-first_end s page None = tt
-first_end s page (Some l) = leaf_end s l page
 
 -- the right pages with the one in hand
 abbrev pub with_right : Scan → List ℕ
@@ -70,46 +65,7 @@ moved_left s h = on s.next h where
   on None e = absurd (cc (e))
   on (Some next) e = at (Some next) (below_bound next.low s.to) refl e
 
-first_less : (s n : Scan) → s.spot ≡ None → calls_left n ≤ 2 ^ 64 → calls_left n < calls_left s
-first_less s n e few =
-    let left : calls_left s ≡ (walk_calls_left s.walk + 1) + 2 ^ 64 = ap (calls_left_at s) e in
-    omega (arith, left, few)
-
 -- ---- turns
-
--- the scan of a turn that goes on
-state_in : Scan → Next Scan ℕ → Scan
-state_in d (Goes s) = s
-state_in d (Ends s page) = d
-state_in d (Stops s t) = d
-
--- a turn of its walk
-pub walk_less : (s : Scan) (w : Walk) (c : Cache) (turn result : Turn ℕ) (new : Scan) → s.spot ≡ None → (turn ≡ More → walk_calls_left w < walk_calls_left s.walk)
-    → Moves (walked_on (record s { walk = w }) c turn) new result → result ≡ More → calls_left new < calls_left s
-unfolding state_in
-walk_less s w c turn result new e less moved more =
-    let At : Turn ℕ → Type 0 = Moves (walked_on (record s { walk = w }) c turn) new in
-    on turn less (subst At more moved) where
-      on : (t : Turn ℕ) → (t ≡ More → walk_calls_left w < walk_calls_left s.walk) → walked_on (record s { walk = w }) c t ≡ Goes new → calls_left new < calls_left s
-      on More fewer is =
-          let old : calls_left s ≡ (walk_calls_left s.walk + 1) + 2 ^ 64 = ap (calls_left_at s) e in
-          let now : calls_left (record s { walk = w }) ≡ (walk_calls_left w + 1) + 2 ^ 64 = ap (calls_left_at (record s { walk = w })) e in
-          let falls : calls_left (record s { walk = w }) < calls_left s = omega (arith, old, now, fewer refl) in
-          subst (λ (x : Next Scan ℕ). calls_left (state_in s x) < calls_left s) is falls
-      on (Ended page) fewer is = absurd (subst (EndsAt s.passed) is (first_end (record s { walk = w }) page (leaf_at c (object_of w))))
-      on (Stopped t) fewer is = absurd (cc (is))
-
-pub walk_further : (s new : Scan) → s.spot ≡ None → goes_on new ≡ true → calls_left (moved_on new) < calls_left s
-walk_further s new e on =
-    let few : calls_left (moved_on new) ≤ 2 ^ 64 = omega (arith, moved_left new on) in
-    first_less s (moved_on new) e few
-
--- a right page
-pub right_less : (s : Scan) (c : Cache) (g : Result (Option (List ℕ)) Trouble) (new : Scan) (d : Cache) (result : Turn ℕ)
-    → MovesBeside (right_got s c g) new d result → result ≡ More → calls_left new < calls_left s
-right_less s c g new d result moved more =
-    let At : Turn ℕ → Type 0 = MovesBeside (right_got s c g) new d in
-    absurd (subst (EndsAt (with_right s)) (subst At more moved).0 (got_end s c g))
 
 pub right_further : (s : Scan) (c : Cache) (g : Result (Option (List ℕ)) Trouble) (new : Scan) (d : Cache) (result : Turn ℕ) (page : ℕ) → is_some s.spot ≡ true
     → length s.passed < 2 ^ 64 → MovesBeside (right_got s c g) new d result → result ≡ Ended page → goes_on new ≡ true

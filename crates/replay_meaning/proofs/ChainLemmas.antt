@@ -1,12 +1,11 @@
 -- What is known of the leaves of a tree: each page has one, and they lead from one to the next.
-use Rattle.std.proofs.Common.{◌≡◌, ℕ, zero, suc, List, [], ◌∷◌, ◌++◌, Option, Some, None, Ok, refl, sym, ap, subst, ◌∙◌, arith}
+use Rattle.std.proofs.Common.{◌≡◌, ℕ, zero, suc, List, [], ◌∷◌, ◌++◌, Option, Some, None, Ok, refl, sym, ap, subst, ◌∙◌}
 use Rattle.std.specs.Prelude.{map}
 use Rattle.std.proofs.lemmas.List.{flat_map_more}
 use Rattle.db_base.specs.Ids.{IsPage}
-use Rattle.db_base.specs.declared.names.ObjName.TheVariants as object
 use Rattle.report_types.specs.declared.stored.Stored.{Stored}
 use Rattle.byte_format.proofs.Wholes.{one_value}
-use Rattle.cloud_trait.specs.State.{CloudState, newest}
+use Rattle.cloud_trait.specs.State.{CloudState}
 use Rattle.leaf_view.specs.Leaf.{Leaf, leaf}
 use Rattle.leaf_view.specs.Fits.{Ascend, entry_below, IsHigh}
 use Rattle.leaf_view.specs.Lookup.{page_at}
@@ -47,20 +46,6 @@ no_page (suc n) e = cc
 
 pub records_on : (leaves : List Leaf) (l : Leaf) (old new : List Stored) → old ≡ records_of leaves → new ≡ old ++ map stored_of l.records → new ≡ records_of (leaves ++ l ∷ [])
 records_on leaves l old new o n = n ∙ (ap (λ (x : List Stored). x ++ map stored_of l.records) o ∙ flat_map_more (λ (m : Leaf). map stored_of m.records) [] leaves l)
-
--- ---- a whole chain
-
--- a leaf without a right page ends the chain
-ends_here : (t : CloudState) (tree from : ℕ) (leaves : List Leaf) → from ≡ 0 → Leads t tree from leaves 0 → leaves ≡ []
-ends_here t tree from [] none lead = refl
-ends_here t tree from (l ∷ leaves) none lead = absurd (omega (arith, lead.0))
-
-pub one_chain : (t : CloudState) (tree : ℕ) (leaves : List Leaf) (l : Leaf) → IsNewestLeaf t tree 1 l → l.right ≡ 0 → Leads t tree 1 leaves 0 → leaves ≡ l ∷ []
-one_chain t tree [] l is none lead = absurd (omega arith)
-one_chain t tree (m ∷ leaves) l is none lead =
-    let e : m ≡ l = one_leaf tree 1 (newest t (object.Page tree 1)) m l lead.1 is in
-    let rest : leaves ≡ [] = ends_here t tree m.right leaves (ap (λ (x : Leaf). x.right) e ∙ none) lead.2 in
-    cc
 
 -- ---- a walk
 

@@ -351,7 +351,3 @@ text_again text r spelled =
 -- what is spelled so is read
 pub read_only : (text : List ℕ) (result : Result Reply TextFault) → Reads result (reply_of_lines (parts_of 10 text)) → (r : Reply) → IsReply text r → IsReadTo result r
 read_only text result h r spelled = read_to result (reply_of_lines (parts_of 10 text)) r h (text_again text r spelled)
-
--- a text spells one reply
-pub one_value : (text : List ℕ) (a b : Reply) → IsReply text a → IsReply text b → a ≡ b
-one_value text a b one two = same_Some a b (sym (text_again text a one) ∙ text_again text b two)

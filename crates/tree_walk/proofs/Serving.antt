@@ -17,7 +17,7 @@ use Rattle.cloud_trait.specs.declared.answer.Answer.{Answer}
 use Rattle.cloud_trait.specs.declared.answer.Answer.TheVariants as answer
 use Rattle.cloud_trait.specs.declared.turn.Turn.{Turn}
 use Rattle.cloud_trait.specs.declared.turn.Turn.TheVariants.{More, Ended, Stopped}
-use Rattle.cloud_trait.specs.Ask.{Ask, Get}
+use Rattle.cloud_trait.specs.Ask.{Get}
 use Rattle.cloud_trait.specs.Caller.{Caller}
 use Rattle.cloud_trait.specs.Machine.{Next, Goes, Ends, Stops}
 use Rattle.cloud_trait.specs.Seen.{Seen}
@@ -276,9 +276,6 @@ keeps_got w d got (Ends v page) kept same h =
     let leaf = h.0 in
     let name : object_of w ≡ object.Page v.tree page = sym same ∙ leaf.in_hand in
     (got, refl, name, kept_stays v d page h.1 ∙ ap (kept_at d) (sym name) ∙ kept)
-
-never_keeps : (w v : Walk) (a : Answer) (c : Cache) (t : Trouble) → KeepsGot w a (beside (Stops v t, c))
-never_keeps w v a c t = tt
 
 pub next_keeps : (w : Walk) (c : Cache) (a : Answer) → IsWalk w → KeepsGot w a (walk_next (w, c) a)
 next_keeps w c (answer.Got got) ok = on (accepts c (object_of w) (is_leaf w) got) refl where

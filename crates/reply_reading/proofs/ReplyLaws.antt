@@ -7,7 +7,7 @@ use Rattle.std.proofs.lemmas.Bool.{and_parts, eqb-true}
 use Rattle.std.proofs.lemmas.Option.{same_Some, cond_some}
 use Rattle.db_base.specs.Refusal.{number_of_refusal}
 use Rattle.db_base.specs.declared.refusal.Refusal.{Refusal}
-use Rattle.db_base.specs.declared.refusal.Refusal.TheVariants.{EmptyKey, LongKey, LongPayload, TooManyChanges, BadNumber, NotOpen, AtWork, Broken, AlreadyOpen, NotWorking, BadAttr}
+use Rattle.db_base.specs.declared.refusal.Refusal.TheVariants.{EmptyKey, LongKey, LongPayload, TooManyChanges, BadNumber, NotOpen, AtWork, Broken, AlreadyOpen, NotWorking, BadAttr, LongEntry}
 use Rattle.db_base.specs.declared.trouble.CommitAnswer.{CommitAnswer}
 use Rattle.db_base.specs.declared.trouble.CommitAnswer.TheVariants.{Committed, NotCommitted, InDoubt, CommittedOpen}
 use Rattle.db_base.specs.declared.trouble.Trouble.{Trouble}
@@ -61,6 +61,7 @@ small_number Broken = lit< tt
 small_number AlreadyOpen = lit< tt
 small_number NotWorking = lit< tt
 small_number BadAttr = lit< tt
+small_number LongEntry = lit< tt
 
 refusal_of-again : (r : Refusal) → refusal_of (refusal_word r) ≡ Some r
 refusal_of-again EmptyKey = refl
@@ -74,6 +75,7 @@ refusal_of-again Broken = refl
 refusal_of-again AlreadyOpen = refl
 refusal_of-again NotWorking = refl
 refusal_of-again BadAttr = refl
+refusal_of-again LongEntry = refl
 
 refused_of-again : (r : Refusal) → refused_of (decimal (number_of_refusal r) ∷ refusal_word r ∷ []) ≡ Some r
 unfolding refused_of word_at
@@ -260,6 +262,7 @@ visible_refusal Broken = refl
 visible_refusal AlreadyOpen = refl
 visible_refusal NotWorking = refl
 visible_refusal BadAttr = refl
+visible_refusal LongEntry = refl
 
 -- a reply of a word alone
 word_again : (word : List ℕ) (x : Reply) → reply_of_words (word ∷ []) [] ≡ alone x [] → all_visible (word ∷ []) ≡ true → reply_of_lines (text_of 32 (word ∷ []) ∷ []) ≡ Some x

@@ -5,7 +5,7 @@ ghost use Rattle.commit_plan.specs.Plan.{has_pending, seeks, page_without, page_
 use crate::ended::{EndedLeaf, ended_of, page_at};
 use db_base::change::Change;
 use db_base::ids::{PageId, TreeId};
-use head_codec::lists::Pending;
+use head_codec::entry::Entry;
 use leaf_view::LeafView;
 use std::alloc::{AllocError, Global};
 use std::marker::Model;
@@ -27,16 +27,18 @@ impl Model for LeafPlan {
 }
 
 /// Whether an entry is pending of a tree and key.
-fn has_pending(pending: &[Pending], tree: TreeId, key: &[u8]) -> bool
+fn has_pending(pending: &[Entry], tree: TreeId, key: &[u8]) -> bool
     ensures { result ≡ has_pending pending.now tree key.now }
 {
-    pending.iter().any(|entry| entry.tree.get() == tree.get()
-        && entry.change.key().as_slice() == key)
+    pending.iter().any(|entry| {
+        let entry = entry.get();
+        entry.tree.get() == tree.get() && entry.change.key().as_slice() == key
+    })
 }
 
 /// The page of a change that needs no walk, and None where it needs one.
 fn page_without(
-    pending: &[Pending],
+    pending: &[Entry],
     ended: &[EndedLeaf],
     tree: TreeId,
     change: &Change,
@@ -73,7 +75,7 @@ impl LeafPlan {
     }
 
     /// Adds the pages of the next changes, up to the first that needs a walk. An `Err` comes for memory alone.
-    pub fn advance(&mut self, pending: &[Pending], changes: &TxnBuffer) -> Result<(), AllocError>
+    pub fn advance(&mut self, pending: &[Entry], changes: &TxnBuffer) -> Result<(), AllocError>
         ensures ok { OnOk result (self.new ≡ advanced self.old pending.now changes.now) }
         ensures ended { self.new.ended ≡ self.old.ended }
         ensures within { length self.old.pages ≤ length changes.now → length self.new.pages ≤ length changes.now }
@@ -108,7 +110,7 @@ impl LeafPlan {
 
 /// The page of the change at a place, where one is there and needs no walk.
 fn page_next(
-    pending: &[Pending],
+    pending: &[Entry],
     ended: &[EndedLeaf],
     changes: &TxnBuffer,
     place: usize,
@@ -126,7 +128,7 @@ fn page_next(
 fn advance(
     pages: &mut Vec<PageId>,
     ended: &[EndedLeaf],
-    pending: &[Pending],
+    pending: &[Entry],
     changes: &TxnBuffer,
 ) -> Result<(), AllocError>
     ensures ok { OnOk result (pages.new.items ≡ pages.old.items ++ pages_of pending.now ended.now (drop (length pages.old.items) changes.now)) }

@@ -435,7 +435,10 @@ impl Draft {
             return Ok(None);
         }
         match pending.first() {
-            Some(entry) => Ok(Some((entry.tree, entry.change.key().copied(alloc)?))),
+            Some(entry) => {
+                let entry = entry.get();
+                Ok(Some((entry.tree, entry.change.key().copied(alloc)?)))
+            }
             None => Ok(None),
         }
     }

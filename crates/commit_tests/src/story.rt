@@ -70,6 +70,7 @@ pub(crate) fn tell_answer(
 pub(crate) fn pending_of(alloc: Global, home: &Home) -> Result<String, Fail> {
     let mut text = String::new(alloc);
     for entry in home.head.pending.as_slice() {
+        let entry = entry.get();
         tell_pending(alloc, &mut text, entry.page, entry.number)?;
     }
     Ok(text)

@@ -18,3 +18,4 @@ pub mod Grouping
 pub mod Plainly
 pub mod Exacting
 pub mod Demands
+pub mod Advancing

@@ -12,7 +12,7 @@ use Rattle.cloud_trait.specs.Caller.{Caller}
 use Rattle.cloud_trait.specs.Machine.{Next, Goes, Ends, Stops, LeadsBy, Took}
 use Rattle.cloud_trait.specs.Seen.{Seen}
 use Rattle.cloud_trait.specs.Weather.{Makes, Fits}
-use Rattle.calm_calls.specs.Calm.{IsCalm}
+use Rattle.cloud_trait.specs.Calm.{IsCalm}
 use Rattle.page_cache.specs.Cache.{Cache}
 use Rattle.page_cache.specs.Held.{leaf_at}
 use Rattle.tree_walk.specs.Walk.{Spot, Walk, IsWalk, object_of, walk_next}

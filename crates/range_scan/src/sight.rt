@@ -7,8 +7,8 @@ ghost use Rattle.range_scan.specs.Pairs.{is_listed, is_listed_pending};
 use byte_format::{is_below, is_below_bound};
 use db_base::change::Change;
 use db_base::ids::{ClientId, TreeId};
+use head_codec::entry::Entry;
 use head_codec::head::Head;
-use head_codec::lists::Pending;
 use leaf_view::LeafView;
 use std::marker::Model;
 use txn_buffer::buffer::TxnBuffer;
@@ -56,9 +56,10 @@ impl<'a> Sight<'a> {
     }
 
     /// Whether a pending entry is of a key that is asked for, and the leaf lacks it.
-    pub(crate) fn lists_pending(&self, entry: &Pending) -> bool
+    pub(crate) fn lists_pending(&self, entry: &Entry) -> bool
         ensures { result ≡ is_listed_pending self.now entry.now }
     {
+        let entry = entry.get();
         entry.tree.get() == self.tree.get()
             && self.is_listed(entry.change.key().as_slice())
             && self.leaf.done(entry.page, self.client) < entry.number

@@ -11,7 +11,7 @@ use Rattle.cloud_trait.specs.Caller.{Caller}
 use Rattle.cloud_trait.specs.Seen.{Seen}
 use Rattle.cloud_trait.specs.State.{CloudState, newest}
 use Rattle.cloud_trait.specs.Weather.{Makes, Rose}
-use Rattle.calm_calls.specs.Calm.{IsCalm}
+use Rattle.cloud_trait.specs.Calm.{IsCalm}
 use Rattle.page_cache.specs.Cache.{Cache}
 use Rattle.page_cache.specs.Refused.{IsDamaged}
 use Rattle.tree_walk.specs.Moves.{Moves}

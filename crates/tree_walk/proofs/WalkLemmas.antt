@@ -76,10 +76,6 @@ pub through_more : (c : Cache) (left k : ℕ) (w new : Walk) → left ≡ suc k 
     → goes_through c k new ≡ goes_through c left w
 through_more c left k w new e h = sym (ap (λ n. goes_through c n w) e ∙ through_one c k w (Goes new) h)
 
-pub through_ended : (c : Cache) (left k : ℕ) (w new : Walk) (page : ℕ) → left ≡ suc k → IsSomeAnd (read_kept w c) (λ m. m ≡ Ends new page)
-    → goes_through c left w ≡ Ends new page
-through_ended c left k w new page e h = ap (λ n. goes_through c n w) e ∙ through_one c k w (Ends new page) h
-
 if_some : {X : Type 0} (P : Type 0) (Q : X → Type 0) (o : Option X) → P → IsSomeAnd o (λ m. P → Q m) → IsSomeAnd o Q
 if_some P Q None p h = absurd h
 if_some P Q (Some m) p h = h p

@@ -23,7 +23,7 @@ use Rattle.tree_walk.specs.Moves.{Moves}
 use Rattle.tree_walk.specs.Walk.{Spot, Walk, IsWalk, sought, spot_of, is_leaf, object_at, object_of, is_page, is_among, came_to, use_of, right_of, bad_fence, leaf_left, leaf_read, node_read, read_at, read_from, follow, goes_on, accepted_by, left_by, beside, rested, walk_ready, walk_next}
 use Rattle.tree_walk.specs.Causing.{FailsSo, IsOld, IsStopped, Meets}
 use Rattle.tree_walk.proofs.Causes.{ready_shows}
-use Rattle.tree_walk.proofs.Demands.{memory_or, answer_stops, brought_meets, ready_meets}
+use Rattle.tree_walk.proofs.Demands.{answer_stops, moved_stopped, brought_meets, ready_meets}
 use Rattle.tree_walk.proofs.Refusing.{old_refused, damaged_refused}
 use Rattle.tree_walk.proofs.Served.{IsServedBy, end_served}
 use Rattle.range_scan.specs.Scan.{Scan, scan_object, right_in, scan_came_to, right_behind, ended_at, leaf_ended, first_in, scan_beside, walked_by, right_read_in, right_accepted, right_got, scan_ready, next_at, scan_next, KeepsServed}
@@ -31,18 +31,6 @@ use Rattle.range_scan.specs.Listing.{Range, Move, Scanned, scan_of}
 use Rattle.range_scan.specs.Causing.{RefusesSo, BreaksFence, CausesReady, FirstLeadsBack, LeadsBack, IsExactWalk, IsExactRight, Exact}
 use Rattle.range_scan.proofs.Meaning.{walk_of, scanned_stands}
 use Rattle.range_scan.proofs.Outcomes.{Readies, scan_readies}
-
--- where the pure step stops, so does the code, if not for want of memory
-moved_stopped : (next : Next (Scan × Cache) ℕ) (k n : Scan × Cache) (t : Trouble) (turn : Turn ℕ) → next ≡ Stops k t → Moves next n turn → IsStopped turn t
-moved_stopped next k n t More e moved = absurd (cc (e, moved))
-moved_stopped next k n t (Ended page) e moved = absurd (cc (e, moved))
-moved_stopped next k n t (Stopped u) e moved = on (memory_or u) where
-  on : (u ≡ trouble.Memory) ⊎ (u ≢ trouble.Memory) → IsStopped (Stopped u) t
-  on (inl memory) = inr (ap Stopped memory)
-  on (inr other) =
-      let both : ◌≡◌ {A = Next (Scan × Cache) ℕ} (Stops n u) (Stops k t) = sym (moved other) ∙ e in
-      let same : u ≡ t = cc (both) in
-      inl (ap Stopped same)
 
 took_moves : (m : Scan × Cache) (a : Answer) (n : Scan × Cache) (turn : Turn ℕ) → Took (LeadsBy scan_next) KeepsServed m a n turn → Moves (scan_next m a) n turn
 took_moves m a n More h = h

@@ -28,7 +28,7 @@ use Rattle.range_scan.specs.Scan.{Scan, scan_object_at, scan_object, scan_asks, 
 use Rattle.range_scan.specs.Causing.{deed_of}
 use Rattle.range_scan.specs.Listing.{Range, scan_of, range_of, Move, LedTo, Scanned, IsGot, IsServed as IsServedBy, leaves_of, AreServed, BeginsAt, Continues, AreMeeting, IsPast, IsLed, Means}
 use Rattle.range_scan.proofs.Outcomes as step
-use Rattle.range_scan.proofs.Outcomes.{IsRead, Reaches, EndsAt, Comes, comes, came_by, reached_kept, Readies, scan_readies}
+use Rattle.range_scan.proofs.Outcomes.{IsRead, Reaches, EndsAt, GoesOn, Comes, comes, came_by, reached_kept, Readies, scan_readies}
 
 -- ---- what holds of a scan
 
@@ -221,6 +221,28 @@ pub of_range : (r : Range) (s : Scan) → s.to ≡ r.to → IsTo r.tree r.from s
 of_range r s to walk =
     ap (λ (t : ℕ). record { tree = t; from = s.walk.key; to = s.to }) walk.0
     ∙ (ap (λ (k : Option (List ℕ)). record { tree = r.tree; from = k; to = s.to }) walk.1 ∙ ap (λ (k : Option (List ℕ)). record { tree = r.tree; from = r.from; to = k }) to)
+
+-- a step keeps the range that is looked through, whatever led to it
+ends_to : (m : Scan × Cache) (a : Answer) (s : Scan) (c : Cache) (l : Leaf) (page : ℕ) → Reaches m a s c l page → range_of s ≡ range_of m.0
+ends_to m a _ _ _ _ (step.first w page l none e kept) =
+    of_range (range_of m.0) (record m.0 { walk = w.0 }) refl (subst (WalksBeside m.0.walk.tree m.0.walk.key) e (next_walks m.0.walk.tree m.0.walk.key (m.0.walk, m.1) a (refl, refl)))
+ends_to m a _ _ _ _ (step.right spot c l read same) = refl
+
+pub ends_range : (m n : Scan × Cache) (a : Answer) (page : ℕ) → scan_next m a ≡ Ends n page → range_of n.0 ≡ range_of m.0
+ends_range m n a page leads =
+    let o : EndsAt m a n page = came_by m a (Ends n page) leads in ap range_of o.leaves.is ∙ ends_to m a o.at n.1 o.leaf o.at_page o.reached
+
+pub goes_range : (m n : Scan × Cache) (a : Answer) → scan_next m a ≡ Goes n → range_of n.0 ≡ range_of m.0
+goes_range m n a leads =
+    let o : GoesOn m a n = came_by m a (Goes n) leads in
+    let walk = subst (WalksBeside m.0.walk.tree m.0.walk.key) o.walk (next_walks m.0.walk.tree m.0.walk.key (m.0.walk, m.1) a (refl, refl)) in
+    of_range (range_of m.0) n.0 (ap (λ (s : Scan). s.to) o.is) walk.1
+
+pub ready_range : (r : Range) (c : Cache) (n : Scan × Cache) → scan_ready (scan_of r, c) ≡ Goes n → range_of n.0 ≡ r
+ready_range r c n leads =
+    let (ready, is) = subst (Readies (scan_of r, c)) leads (scan_readies (scan_of r, c)) in
+    let walk = subst (WalksBeside r.tree r.from) ready (ready_walks r.tree r.from false c) in
+    of_range r n.0 (ap (λ (s : Scan). s.to) is) walk.1
 
 -- what led to the right page in hand
 in_hand_led : (r : Range) (ls : List Leaf) (w : Walk) (o : Option Spot) → InHand r ls w o → IsLed ls o

@@ -181,3 +181,7 @@ scan_readies m = on (walk_ready (m.0.walk, m.1)) refl (readies (m.0.walk, m.1)) 
   on (Goes w) e ready = (e, refl)
   on (Ends w page) e never = absurd never
   on (Stops w t) e ready = e
+
+-- .. so no scan ends before its first call
+pub unended_ready : (m n : Scan × Cache) (page : ℕ) → scan_ready m ≡ Ends n page → ⊥
+unended_ready m n page ends = subst (Readies m) ends (scan_readies m)

@@ -67,13 +67,13 @@ nothing_got name (answer.Held until) t fits e = absurd fits
 nothing_got name (answer.Renewed end) t fits e = absurd fits
 nothing_got name (answer.Late end now) t fits e = absurd fits
 
-stop_shows : (m : Walk × Cache) (a : Answer) (v : Walk) (t : Trouble) → Fits (Get (object_of m.0)) a → StopsFor m a v t → (t ≡ trouble.Memory) ⊎ Shows m a v t
-stop_shows m a _ _ fits (step.fails t e) = by (nothing_got (object_of m.0) a t fits e) where
+stop_shows : (m n : Walk × Cache) (a : Answer) (t : Trouble) → Fits (Get (object_of m.0)) a → StopsFor m a n t → (t ≡ trouble.Memory) ⊎ Shows m a n.0 t
+stop_shows m _ a _ fits (step.fails t e) = by (nothing_got (object_of m.0) a t fits e) where
   by : (t ≡ trouble.Memory) ⊎ ((t ≡ trouble.Failed) × (a ≡ answer.Failed)) → (t ≡ trouble.Memory) ⊎ Shows m a (rested m.0) t
   by (inl memory) = inl memory
   by (inr failed) = inr (inl (inl failed))
-stop_shows m a _ _ fits (step.refuses got t is e) = inr (inl (inr (got, is, refused_shows m.1 (object_of m.0) (is_leaf m.0) got t e)))
-stop_shows m a _ _ fits (step.halts d u v t b way halt) =
+stop_shows m _ a _ fits (step.refuses got t is e) = inr (inl (inr (got, is, refused_shows m.1 (object_of m.0) (is_leaf m.0) got t e)))
+stop_shows m _ a _ fits (step.halts d u v t b way halt) =
     inr (inr (d, (b.got, b.version, b.answered, b.accepted), halt_shows d m.0 u v t halt (way_led d m.0 (rested m.0) u way (λ s e. inl e))))
 
 abbrev pub StopsBeside : Walk × Cache → Answer → Next (Walk × Cache) ℕ → Type 0
@@ -86,7 +86,7 @@ next_stops w c a fits = on (walk_next (w, c) a) (comes (w, c) a) where
   on : (x : Next (Walk × Cache) ℕ) → Comes (w, c) a x → StopsBeside (w, c) a x
   on (Goes n) o = tt
   on (Ends n page) o = tt
-  on (Stops n t) o = stop_shows (w, c) a n.0 t fits o
+  on (Stops n t) o = stop_shows (w, c) n a t fits o
 
 -- ---- of the code's step
 
@@ -104,7 +104,7 @@ moved_shows w c n a turn fits moved t stopped other =
 pub ready_shows : (w : Walk) (c : Cache) (n : Walk × Cache) (turn : Turn ℕ) → Moves (walk_ready (w, c)) n turn → CausesReady (w, c) n.0 turn
 ready_shows w c n turn moved t stopped other =
     let At : Turn ℕ → Type 0 = Moves (walk_ready (w, c)) n in
-    let (u, way, halt) = subst (Readies (w, c)) (subst At stopped moved other) (readies (w, c)) in
+    let (left, u, way, halt) = subst (Readies (w, c)) (subst At stopped moved other) (readies (w, c)) in
     halt_shows c w u n.0 t halt (way_led c w (rested w) u way (λ s e. inl e))
 
 -- a call of the walk's object

@@ -49,14 +49,14 @@ memory_or (trouble.Loop page) = inr (λ e. cc)
 memory_or (trouble.Exhausted what) = inr (λ e. cc)
 
 -- where the pure step stops, so does the code, if not for want of memory
-pub moved_stopped : (next : Next (Walk × Cache) ℕ) (k n : Walk × Cache) (t : Trouble) (turn : Turn ℕ) → next ≡ Stops k t → Moves next n turn → IsStopped turn t
+pub moved_stopped : {M : Type 0} (next : Next M ℕ) (k n : M) (t : Trouble) (turn : Turn ℕ) → next ≡ Stops k t → Moves next n turn → IsStopped turn t
 moved_stopped next k n t More e moved = absurd (cc (e, moved))
 moved_stopped next k n t (Ended page) e moved = absurd (cc (e, moved))
-moved_stopped next k n t (Stopped u) e moved = on (memory_or u) where
+moved_stopped {M} next k n t (Stopped u) e moved = on (memory_or u) where
   on : (u ≡ trouble.Memory) ⊎ (u ≢ trouble.Memory) → IsStopped (Stopped u) t
   on (inl memory) = inr (ap Stopped memory)
   on (inr other) =
-      let both : ◌≡◌ {A = Next (Walk × Cache) ℕ} (Stops n u) (Stops k t) = sym (moved other) ∙ e in
+      let both : ◌≡◌ {A = Next M ℕ} (Stops n u) (Stops k t) = sym (moved other) ∙ e in
       let same : u ≡ t = cc (both) in
       inl (ap Stopped same)
 

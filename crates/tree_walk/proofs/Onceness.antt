@@ -185,10 +185,10 @@ halt_still c w _ _ (step.breaks s t at shown) page came = came
 arrives_still : (c : Cache) (w v : Walk) (page : ℕ) → Arrives c w v page → HasStill w v
 arrives_still c w _ _ (step.arrives s l at right) page came = came
 
-stops_still : (m : Walk × Cache) (a : Answer) (v : Walk) (t : Trouble) → StopsFor m a v t → HasStill m.0 v
-stops_still m a _ _ (step.fails t e) page came = came
-stops_still m a _ _ (step.refuses got t is e) page came = came
-stops_still m a _ _ (step.halts d u v t brought way halt) page came = halt_still d u v t halt page (way_still d (rested m.0) u way page came)
+stops_still : (m n : Walk × Cache) (a : Answer) (t : Trouble) → StopsFor m a n t → HasStill m.0 n.0
+stops_still m _ a _ (step.fails t e) page came = came
+stops_still m _ a _ (step.refuses got t is e) page came = came
+stops_still m _ a _ (step.halts d u v t brought way halt) page came = halt_still d u v t halt page (way_still d (rested m.0) u way page came)
 
 abbrev StillBeside : Walk → Next (Walk × Cache) ℕ → Type 0
 StillBeside old (Goes n) = HasStill old n.0
@@ -200,7 +200,7 @@ next_still m a = on (walk_next m a) (comes m a) where
   on : (x : Next (Walk × Cache) ℕ) → Comes m a x → StillBeside m.0 x
   on (Goes n) o = λ page came. way_still n.1 o.next n.0 (way_behind m a n o) page (link_still n.1 (rested m.0) o.next o.link page came)
   on (Ends n last) o = arrives_still o.cache (rested m.0) n.0 last o.arrives
-  on (Stops n t) o = stops_still m a n.0 t o
+  on (Stops n t) o = stops_still m n a t o
 
 -- ---- of the code's step
 

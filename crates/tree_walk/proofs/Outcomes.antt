@@ -199,15 +199,16 @@ pub record EndsAt (m : Walk × Cache) (a : Answer) (n : Walk × Cache) (page : �
   pub left : n.1 ≡ left_by n.0 cache
 
 -- one that stops does so for the answer, or for what was read behind it
-pub data StopsFor (m : Walk × Cache) (a : Answer) : Walk → Trouble → Type 0 where
-  fails : (t : Trouble) → got_of a ≡ Err t → StopsFor m a (rested m.0) t
-  refuses : (got : Option (List ℕ)) (t : Trouble) → a ≡ answer.Got got → accepts m.1 (object_of m.0) (is_leaf m.0) got ≡ Err t → StopsFor m a (rested m.0) t
-  halts : (d : Cache) (u v : Walk) (t : Trouble) → Brought m a d → Way d (rested m.0) u → Halts d u v t → StopsFor m a v t
+pub data StopsFor (m : Walk × Cache) (a : Answer) : Walk × Cache → Trouble → Type 0 where
+  fails : (t : Trouble) → got_of a ≡ Err t → StopsFor m a (rested m.0, left_by (rested m.0) m.1) t
+  refuses : (got : Option (List ℕ)) (t : Trouble) → a ≡ answer.Got got → accepts m.1 (object_of m.0) (is_leaf m.0) got ≡ Err t
+      → StopsFor m a (rested m.0, left_by (rested m.0) m.1) t
+  halts : (d : Cache) (u v : Walk) (t : Trouble) → Brought m a d → Way d (rested m.0) u → Halts d u v t → StopsFor m a (v, left_by v d) t
 
 abbrev pub Comes : Walk × Cache → Answer → Next (Walk × Cache) ℕ → Type 0
 Comes m a (Goes n) = GoesOn m a n
 Comes m a (Ends n page) = EndsAt m a n page
-Comes m a (Stops n t) = StopsFor m a n.0 t
+Comes m a (Stops n t) = StopsFor m a n t
 
 ran_from : (m : Walk × Cache) (a : Answer) (d : Cache) (v : Walk) → Brought m a d → Links d (rested m.0) v → (next : Next Walk ℕ) → goes_on d v ≡ next → Runs d v next → Comes m a (beside (next, d))
 ran_from m a d v brought link (Goes u) ran way = record { brought = brought; next = v; link = link; ran = ran }
@@ -270,11 +271,15 @@ way_behind m a n o = subst (Runs n.1 o.next) o.ran (runs n.1 64 o.next)
 abbrev pub Readies : Walk × Cache → Next (Walk × Cache) ℕ → Type 0
 Readies m (Goes n) = (n.1 ≡ m.1) × (goes_on m.1 (rested m.0) ≡ Goes n.0) × Way m.1 (rested m.0) n.0
 Readies m (Ends n page) = ⊥
-Readies m (Stops n t) = (u : Walk) × Way m.1 (rested m.0) u × Halts m.1 u n.0 t
+Readies m (Stops n t) = (n.1 ≡ left_by n.0 m.1) × ((u : Walk) × Way m.1 (rested m.0) u × Halts m.1 u n.0 t)
 
 pub readies : (m : Walk × Cache) → Readies m (walk_ready m)
 readies m = by (goes_on m.1 (rested m.0)) refl (runs m.1 64 (rested m.0)) where
   by : (x : Next Walk ℕ) → goes_on m.1 (rested m.0) ≡ x → Runs m.1 (rested m.0) x → Readies m (beside (x, m.1))
   by (Goes v) ran way = (refl, ran, way)
   by (Ends v page) ran never = never
-  by (Stops v t) ran halt = halt
+  by (Stops v t) ran halt = (refl, halt)
+
+-- .. so it ends no walk
+pub unended_ready : (m n : Walk × Cache) (page : ℕ) → walk_ready m ≡ Ends n page → ⊥
+unended_ready m n page ends = subst (Readies m) ends (readies m)

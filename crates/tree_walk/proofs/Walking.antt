@@ -85,10 +85,10 @@ halts_to tree key c w _ _ (step.breaks s t at shown) to = to
 arrives_to : (tree : ℕ) (key : Option (List ℕ)) (c : Cache) (w v : Walk) (page : ℕ) → Arrives c w v page → IsTo tree key w → IsTo tree key v
 arrives_to tree key c w _ _ (step.arrives s l at right) to = to
 
-stops_to : (tree : ℕ) (key : Option (List ℕ)) (m : Walk × Cache) (a : Answer) (v : Walk) (t : Trouble) → StopsFor m a v t → IsTo tree key m.0 → IsTo tree key v
-stops_to tree key m a _ _ (step.fails t e) to = to
-stops_to tree key m a _ _ (step.refuses got t is e) to = to
-stops_to tree key m a _ _ (step.halts d u v t brought way halt) to = halts_to tree key d u v t halt (led_to tree key d (rested m.0) u way to)
+stops_to : (tree : ℕ) (key : Option (List ℕ)) (m n : Walk × Cache) (a : Answer) (t : Trouble) → StopsFor m a n t → IsTo tree key m.0 → IsTo tree key n.0
+stops_to tree key m _ a _ (step.fails t e) to = to
+stops_to tree key m _ a _ (step.refuses got t is e) to = to
+stops_to tree key m _ a _ (step.halts d u v t brought way halt) to = halts_to tree key d u v t halt (led_to tree key d (rested m.0) u way to)
 
 abbrev pub WalksBeside : ℕ → Option (List ℕ) → Next (Walk × Cache) ℕ → Type 0
 WalksBeside tree key (Goes m) = IsWalk m.0 × IsTo tree key m.0
@@ -100,7 +100,7 @@ next_walks tree key m answer to = on (walk_next m answer) (comes m answer) where
   on : (x : Next (Walk × Cache) ℕ) → Comes m answer x → WalksBeside tree key x
   on (Goes n) o = way_to tree key n.1 o.next n.0 (way_behind m answer n o) (linked_to tree key n.1 (rested m.0) o.next o.link to)
   on (Ends n page) o = arrives_to tree key o.cache (rested m.0) n.0 page o.arrives to
-  on (Stops n t) o = stops_to tree key m answer n.0 t o to
+  on (Stops n t) o = stops_to tree key m n answer t o to
 
 pub ready_walks : (tree : ℕ) (key : Option (List ℕ)) (fresh : Bool) (c : Cache) → WalksBeside tree key (walk_ready (new_walk tree key fresh, c))
 ready_walks tree key fresh c = on (walk_ready m) (readies m) where
@@ -110,4 +110,4 @@ ready_walks tree key fresh c = on (walk_ready m) (readies m) where
   on : (x : Next (Walk × Cache) ℕ) → Readies m x → WalksBeside tree key x
   on (Goes n) o = way_to tree key c (rested m.0) n.0 o.2 (record { promised = tt; apart = tt }, (refl, refl))
   on (Ends n page) never = absurd never
-  on (Stops n t) (u, way, halt) = halts_to tree key c u n.0 t halt (led_to tree key c (rested m.0) u way (refl, refl))
+  on (Stops n t) (left, u, way, halt) = halts_to tree key c u n.0 t halt (led_to tree key c (rested m.0) u way (refl, refl))

@@ -1,4 +1,4 @@
-use crate::script::{Record, Step, play, play_failing};
+use crate::recoveries::{Record, Step, play, play_failing};
 use std::test::Fail;
 
 /// A head of epoch 2 with transaction 5, Settled, without counters and pending entries.

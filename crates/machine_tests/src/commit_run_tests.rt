@@ -1,4 +1,4 @@
-use crate::bench::{Edit, Mishap, Step, play};
+use crate::commits::{Edit, Mishap, Step, play};
 use crate::trees::{DONE, PASSED, two_leaves};
 use memory_cloud::memory::MemoryCloud;
 use std::test::Fail;

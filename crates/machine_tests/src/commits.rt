@@ -1,13 +1,14 @@
 //! A client that commits over a cloud in memory, step by step of a script.
 
-use crate::story::{pending_of, same, tell_answer, tell_call};
-use crate::trees::{client, put, who};
+use crate::machine::{Calls, run};
+use crate::store::{put_numbered, who};
+use crate::story::Story;
 use cloud_trait::cloud::Bench as Schedule;
 use cloud_trait::lease::Lease;
 use cloud_trait::turn::Turn;
 use commit_run::CommitRun;
 use db_base::change::Change;
-use db_base::ids::TreeId;
+use db_base::ids::{ClientId, TreeId};
 use db_base::key::{Key, Payload};
 use db_base::trouble::CommitAnswer;
 use db_base::wish::Wish;
@@ -55,6 +56,13 @@ pub(crate) enum Step<'a> {
     Pending(&'a str),
 }
 
+/// Of an opening no call is told.
+const UNTOLD: Calls = Calls {
+    first: 0,
+    last: 0,
+    short: 0,
+};
+
 /// An open client 5 with its cache, over a cloud.
 #[derive(Drop)]
 struct Bench {
@@ -87,22 +95,18 @@ fn opened(alloc: Global, cloud: MemoryCloud) -> Result<Bench, Fail> {
 impl Bench {
     /// Opens the client.
     fn open(&mut self) -> Result<(), Fail> {
-        let mut run = RecoverRun::new(self.alloc, client()?, Aim::Opening, None);
-        self.recover(&mut run)?;
-        self.home = run.finish();
+        let client = ClientId::new(5)?;
+        let mut opening = RecoverRun::new(self.alloc, client, Aim::Opening, None);
+        let mut untold = Story::new(self.alloc);
+        run(
+            &mut opening,
+            self.alloc,
+            &mut self.cloud,
+            &mut untold,
+            UNTOLD,
+        )?;
+        self.home = opening.finish();
         Ok(())
-    }
-
-    /// Makes the calls of an opening.
-    fn recover(&mut self, run: &mut RecoverRun) -> Result<(), Fail> {
-        let who = who()?;
-        for _ in 0..9u64 {
-            match run.step(self.alloc, &mut self.cloud, who) {
-                Turn::More => {}
-                _ => return Ok(()),
-            }
-        }
-        Err(Fail::from("no end"))
     }
 
     /// Plays a script.
@@ -122,7 +126,7 @@ impl Bench {
             }
             Step::Commits(edits, wanted) => self.commits(edits, wanted),
             Step::Many(first, count) => self.many(first, count),
-            Step::Puts(number, bytes) => put(&mut self.cloud, number, bytes),
+            Step::Puts(number, bytes) => put_numbered(&mut self.cloud, number, bytes),
             Step::Pending(wanted) => self.pending(wanted),
         }
     }
@@ -131,7 +135,7 @@ impl Bench {
         let mut changes = TxnBuffer::new(self.alloc)?;
         note_all(self.alloc, &mut changes, edits)?;
         let story = self.commit(changes)?;
-        same(story.as_str(), wanted)
+        story.is(wanted)
     }
 
     fn many(&mut self, first: u8, count: u8) -> Result<(), Fail> {
@@ -145,16 +149,13 @@ impl Bench {
 
     fn pending(&self, wanted: &str) -> Result<(), Fail> {
         match &self.home {
-            Some(home) => {
-                let text = pending_of(self.alloc, home)?;
-                same(text.as_str(), wanted)
-            }
+            Some(home) => pending_of(self.alloc, home)?.is(wanted),
             None => Err(Fail::from("no home")),
         }
     }
 
     /// Commits changes: its calls and its answer, a line for each.
-    fn commit(&mut self, changes: TxnBuffer) -> Result<String, Fail> {
+    fn commit(&mut self, changes: TxnBuffer) -> Result<Story, Fail> {
         let home = self.home.take().ok_or("no home")?;
         let mut run = begun(self.alloc, home, changes)?;
         let story = self.run(&mut run)?;
@@ -164,8 +165,8 @@ impl Bench {
     }
 
     /// Runs a commit to its end.
-    fn run(&mut self, run: &mut CommitRun) -> Result<String, Fail> {
-        let mut story = String::new(self.alloc);
+    fn run(&mut self, run: &mut CommitRun) -> Result<Story, Fail> {
+        let mut story = Story::new(self.alloc);
         match run.ready(self.alloc, &mut self.cache) {
             Turn::More => self.drive(run, &mut story)?,
             _ => return Err(Fail::from("no call")),
@@ -174,7 +175,7 @@ impl Bench {
     }
 
     /// Makes the calls of a commit.
-    fn drive(&mut self, run: &mut CommitRun, story: &mut String) -> Result<(), Fail> {
+    fn drive(&mut self, run: &mut CommitRun, story: &mut Story) -> Result<(), Fail> {
         for call in 1..900u64 {
             if self.go(run, story, call)? {
                 return Ok(());
@@ -184,18 +185,11 @@ impl Bench {
     }
 
     /// Tells of a call of a commit, and makes it; true where the commit ended.
-    fn go(&mut self, run: &mut CommitRun, story: &mut String, call: u64) -> Result<bool, Fail> {
-        self.tell(run, story)?;
+    fn go(&mut self, run: &mut CommitRun, story: &mut Story, call: u64) -> Result<bool, Fail> {
+        tell(run, story)?;
         self.spoil(call);
         let turn = self.turn(run)?;
-        tell_turn(self.alloc, story, &turn)
-    }
-
-    /// Tells of the call in hand. The type of a lease is named, for the checker of borrows wants it beside a call.
-    fn tell(&self, run: &CommitRun, story: &mut String) -> Result<(), Fail> {
-        let _none: Option<Lease> = None;
-        let call = run.in_hand();
-        tell_call(self.alloc, story, &call)
+        story.commit(&turn)
     }
 
     /// Makes a call of a commit.
@@ -227,16 +221,20 @@ impl Bench {
     }
 }
 
-/// Adds the answer to a story; true where the turn is one.
-fn tell_turn(alloc: Global, story: &mut String, turn: &Turn<CommitAnswer>) -> Result<bool, Fail> {
-    match turn {
-        Turn::More => Ok(false),
-        Turn::Ended(answer) => {
-            tell_answer(alloc, story, answer)?;
-            Ok(true)
-        }
-        Turn::Stopped(_) => Err(Fail::from("stopped")),
+/// Tells of the call in hand. The type of a lease is named, for the checker of borrows wants it beside a call.
+fn tell(run: &CommitRun, story: &mut Story) -> Result<(), Fail> {
+    let _none: Option<Lease> = None;
+    story.call(&run.in_hand())
+}
+
+/// What is pending: the page of each entry, 0 for the tree, with its number in the queue there.
+fn pending_of(alloc: Global, home: &Home) -> Result<Story, Fail> {
+    let mut story = Story::new(alloc);
+    for entry in home.head.pending.as_slice() {
+        let entry = entry.get();
+        story.pending(entry.page, entry.number)?;
     }
+    Ok(story)
 }
 
 /// A commit before its first call.

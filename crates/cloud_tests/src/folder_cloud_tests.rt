@@ -1,4 +1,4 @@
-use crate::script::{Leases, Step, play};
+use crate::folder_script::{Leases, Step, play};
 use folder_cloud::{FolderCloud, Ticks};
 use std::fs;
 use std::fs::File;

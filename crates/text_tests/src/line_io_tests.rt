@@ -1,4 +1,4 @@
-use crate::script::are_writes;
+use crate::io_script::are_writes;
 use db_io::memory_sink::MemorySink;
 use db_io::memory_source::MemorySource;
 use db_io::sink::Sink;

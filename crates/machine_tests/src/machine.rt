@@ -1,4 +1,4 @@
-//! Recoveries and settlings as one kind of machine.
+//! Recoveries, settlings and checkpoints as one kind of machine.
 
 use crate::store::who;
 use crate::story::Story;
@@ -6,10 +6,12 @@ use cloud_trait::cloud::{Bench, Cloud};
 use cloud_trait::lease::Lease;
 use cloud_trait::who::Who;
 use db_base::wish::{Positions, Wish};
+use page_ckpt::PageCkpt;
 use recover_run::recover::RecoverRun;
 use settle_run::SettleRun;
 use std::alloc::Global;
 use std::test::Fail;
+use tree_ckpt::TreeCkpt;
 
 /// A machine.
 pub(crate) trait Machine {
@@ -61,6 +63,42 @@ impl Machine for SettleRun {
     ) -> Result<bool, Fail> {
         let turn = self.step(alloc, cloud, who);
         story.settled(&turn)
+    }
+}
+
+impl Machine for PageCkpt {
+    fn tell(&self, story: &mut Story) -> Result<(), Fail> {
+        let _none: Option<Lease> = None;
+        story.call(&self.in_hand())
+    }
+
+    fn make<C: Cloud>(
+        &mut self,
+        alloc: Global,
+        cloud: &mut C,
+        who: Who,
+        story: &mut Story,
+    ) -> Result<bool, Fail> {
+        let turn = self.step(alloc, cloud, who);
+        story.checkpoint(&turn)
+    }
+}
+
+impl Machine for TreeCkpt {
+    fn tell(&self, story: &mut Story) -> Result<(), Fail> {
+        let _none: Option<Lease> = None;
+        story.call(&self.in_hand())
+    }
+
+    fn make<C: Cloud>(
+        &mut self,
+        alloc: Global,
+        cloud: &mut C,
+        who: Who,
+        story: &mut Story,
+    ) -> Result<bool, Fail> {
+        let turn = self.step(alloc, cloud, who);
+        story.checkpoint(&turn)
     }
 }
 

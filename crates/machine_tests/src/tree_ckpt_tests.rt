@@ -1,6 +1,5 @@
-use crate::bench::{play, play_over};
+use crate::checkpoints::{Mishap, Step, play, play_over};
 use crate::objects::{LEFT, RIGHT, ROOT, ROOT_65, ROOT_65_LATE};
-use crate::script::{Mishap, Step};
 use std::alloc::Global;
 use std::test::Fail;
 

@@ -1,13 +1,9 @@
 //! Checkpoints of tree 1 over a cloud in memory.
 
-use crate::script::{Mishap, Mishaps, Step};
+use crate::machine::Machine;
+use crate::store::{lock, object, page, put_numbered, queue, send, take, tree, who};
 use crate::story::Story;
-use cloud_trait::cloud::{Bench as Schedule, Cloud};
-use cloud_trait::grant::Grant;
-use cloud_trait::lease::Lease;
-use cloud_trait::who::Who;
-use db_base::ids::{PageId, SessionNo, TreeId};
-use db_base::names::{Lock, ObjName, QueueName};
+use cloud_trait::cloud::Bench as Schedule;
 use db_base::wish::{Positions, Wish};
 use leaf_view::LeafView;
 use memory_cloud::memory::MemoryCloud;
@@ -16,6 +12,55 @@ use page_ckpt::PageCkpt;
 use std::alloc::Global;
 use std::test::Fail;
 use tree_ckpt::TreeCkpt;
+
+/// What is to come over a call.
+#[derive(Clone, Copy)]
+pub(crate) enum Mishap<'a> {
+    /// It fails.
+    Fails,
+    /// So many ticks go by before it.
+    Waits(u64),
+    /// It is a receive, and brings the messages at these positions.
+    Gives(&'a [u64]),
+}
+
+/// What is to come over the calls of a checkpoint, by their numbers from 1.
+pub(crate) type Mishaps<'a> = &'a [(u64, Mishap<'a>)];
+
+/// A step of a script. The tree's lock, object and queue have the number 0, a page's that of the page.
+#[derive(Clone, Copy)]
+pub(crate) enum Step<'a> {
+    /// Puts an object.
+    Puts(u64, &'a [u8]),
+    /// Sends bytes to a queue.
+    Sends(u64, &'a [u8]),
+    /// Sends client 1's inserts to the tree's queue: the first number, the first key, and how many.
+    Inserts(u8, u8, u8),
+    /// Sends a client's update to the queue of page 1: the client, the number, the key and the payload.
+    Updates(u8, u8, u8, u8),
+    /// Takes a lock for so many ticks, and keeps it.
+    Takes(u64, u64),
+    /// So many ticks go by.
+    Waits(u64),
+    /// A checkpoint of the tree, and what it tells: its calls and its answer, a line for each.
+    Tree(Mishaps<'a>, &'a str),
+    /// A checkpoint of the tree that crashes before this call, and what it tells.
+    Crashes(u64, &'a str),
+    /// A checkpoint of a page, and what it tells.
+    Page(u64, Mishaps<'a>, &'a str),
+    /// An object has this version.
+    Has(u64, u64, Option<&'a [u8]>),
+    /// The newest leaf of a page: its version, its right page and how many records it has.
+    Leaf(u64, u64, u64, usize),
+    /// The newest tree object: its version, its next free page and its level.
+    Root(u64, u64, u8),
+    /// The newest tree object leads a key to this page.
+    Leads(&'a [u8], u64),
+    /// Client 1's inserts to an empty tree: so many times 64 of them, their keys of two bytes ascending, and each time a checkpoint.
+    Grows(u16),
+    /// The newest inner node of a page has so many entries.
+    Node(u64, usize),
+}
 
 /// A cloud with what checkpoints of tree 1 find there.
 #[derive(Drop)]
@@ -33,7 +78,7 @@ pub(crate) fn play(alloc: Global, script: &[Step<'_>]) -> Result<(), Fail> {
 /// Plays a script over a cloud with this tree object alone.
 pub(crate) fn play_over(alloc: Global, root: &[u8], script: &[Step<'_>]) -> Result<(), Fail> {
     let mut bench = empty(alloc);
-    bench.put(0, root)?;
+    put_numbered(&mut bench.cloud, 0, root)?;
     bench.play(script)
 }
 
@@ -43,42 +88,6 @@ fn empty(alloc: Global) -> Bench {
         alloc,
         cloud: MemoryCloud::new(alloc),
     }
-}
-
-fn who() -> Result<Who, Fail> {
-    Ok(Who::new(SessionNo::new(3)?, 7))
-}
-
-fn tree() -> Result<TreeId, Fail> {
-    Ok(TreeId::new(1)?)
-}
-
-fn page(number: u64) -> Result<PageId, Fail> {
-    Ok(PageId::new(number)?)
-}
-
-/// A lock by its number.
-fn lock(number: u64) -> Result<Lock, Fail> {
-    if number == 0 {
-        return Ok(Lock::Tree(tree()?));
-    }
-    Ok(Lock::Page(tree()?, page(number)?))
-}
-
-/// An object by its number.
-fn object(number: u64) -> Result<ObjName, Fail> {
-    if number == 0 {
-        return Ok(ObjName::Tree(tree()?));
-    }
-    Ok(ObjName::Page(tree()?, page(number)?))
-}
-
-/// A queue by its number.
-fn queue(number: u64) -> Result<QueueName, Fail> {
-    if number == 0 {
-        return Ok(QueueName::TreePu(tree()?));
-    }
-    Ok(QueueName::PagePu(tree()?, page(number)?))
 }
 
 /// A pending update record of epoch 1 and transaction 1: an insert (1) or an update (2) with its key and payload.
@@ -118,7 +127,7 @@ impl Bench {
     /// Plays a step: what is done before a checkpoint, or a checkpoint, or a look.
     fn step(&mut self, step: Step<'_>) -> Result<(), Fail> {
         match step {
-            Step::Puts(number, bytes) => self.put(number, bytes),
+            Step::Puts(number, bytes) => put_numbered(&mut self.cloud, number, bytes),
             Step::Sends(to, bytes) => self.send(to, bytes),
             Step::Inserts(from, key, count) => self.insert(from, key, count),
             Step::Updates(client, number, key, payload) => {
@@ -143,30 +152,13 @@ impl Bench {
         }
     }
 
-    fn take(&mut self, number: u64, ticks: u64) -> Result<Lease, Fail> {
-        match self.cloud.take(who()?, lock(number)?, ticks)? {
-            Grant::Given(lease) => Ok(lease),
-            Grant::Held(_) => Err(Fail::from("held")),
-        }
-    }
-
     fn hold(&mut self, number: u64, ticks: u64) -> Result<(), Fail> {
-        let _lease = self.take(number, ticks)?;
-        Ok(())
-    }
-
-    fn put(&mut self, number: u64, bytes: &[u8]) -> Result<(), Fail> {
-        let (who, name) = (who()?, object(number)?);
-        let lease = self.take(number, 9)?;
-        self.cloud.put_held(who, name, bytes, &lease, None)?;
-        self.cloud.release(who, lease)?;
+        let _lease = take(&mut self.cloud, lock(number)?, ticks)?;
         Ok(())
     }
 
     fn send(&mut self, number: u64, bytes: &[u8]) -> Result<(), Fail> {
-        let (who, queue) = (who()?, queue(number)?);
-        let _id = self.cloud.send(who, queue, bytes)?;
-        Ok(())
+        send(&mut self.cloud, queue(number)?, bytes)
     }
 
     fn insert(&mut self, from: u8, key: u8, count: u8) -> Result<(), Fail> {
@@ -198,8 +190,8 @@ impl Bench {
     /// Makes a checkpoint of the tree that applies 64 records.
     fn fold(&mut self) -> Result<(), Fail> {
         let mut checkpoint = TreeCkpt::new(self.alloc, tree()?);
-        let mut story = Story::new(self.alloc);
-        self.make_tree(&mut checkpoint, &mut story, &[], 400)?;
+        let mut story = Story::brief(self.alloc);
+        self.make(&mut checkpoint, &mut story, &[], 400)?;
         story.ends("done 64 64 0\n")
     }
 
@@ -238,33 +230,9 @@ impl Bench {
         wanted: &str,
     ) -> Result<(), Fail> {
         let mut checkpoint = TreeCkpt::new(self.alloc, tree()?);
-        let mut story = Story::new(self.alloc);
-        self.make_tree(&mut checkpoint, &mut story, mishaps, crash)?;
+        let mut story = Story::brief(self.alloc);
+        self.make(&mut checkpoint, &mut story, mishaps, crash)?;
         story.is(wanted)
-    }
-
-    /// Makes the calls of a checkpoint of the tree, to its end or to this call.
-    fn make_tree(
-        &mut self,
-        checkpoint: &mut TreeCkpt,
-        story: &mut Story,
-        mishaps: Mishaps<'_>,
-        crash: u64,
-    ) -> Result<(), Fail> {
-        for call in 1..crash {
-            self.spoil(mishaps, call)?;
-            if self.step_tree(checkpoint, story)? {
-                return Ok(());
-            }
-        }
-        Ok(())
-    }
-
-    /// Tells of a call of a checkpoint of the tree, and makes it; true where it ended.
-    fn step_tree(&mut self, checkpoint: &mut TreeCkpt, story: &mut Story) -> Result<bool, Fail> {
-        tell_tree(checkpoint, story)?;
-        let turn = checkpoint.step(self.alloc, &mut self.cloud, who()?);
-        story.answer(&turn)
     }
 
     fn page_checkpoint(
@@ -274,32 +242,32 @@ impl Bench {
         wanted: &str,
     ) -> Result<(), Fail> {
         let mut checkpoint = PageCkpt::new(self.alloc, tree()?, page(number)?);
-        let mut story = Story::new(self.alloc);
-        self.make_page(&mut checkpoint, &mut story, mishaps)?;
+        let mut story = Story::brief(self.alloc);
+        self.make(&mut checkpoint, &mut story, mishaps, 400)?;
         story.is(wanted)
     }
 
-    /// Makes the calls of a checkpoint of a page.
-    fn make_page(
+    /// Makes the calls of a checkpoint, to its end or to this call.
+    fn make<M: Machine>(
         &mut self,
-        checkpoint: &mut PageCkpt,
+        checkpoint: &mut M,
         story: &mut Story,
         mishaps: Mishaps<'_>,
+        crash: u64,
     ) -> Result<(), Fail> {
-        for call in 1..400u64 {
+        for call in 1..crash {
             self.spoil(mishaps, call)?;
-            if self.step_page(checkpoint, story)? {
+            if self.go(checkpoint, story)? {
                 return Ok(());
             }
         }
         Ok(())
     }
 
-    /// Tells of a call of a checkpoint of a page, and makes it; true where it ended.
-    fn step_page(&mut self, checkpoint: &mut PageCkpt, story: &mut Story) -> Result<bool, Fail> {
-        tell_page(checkpoint, story)?;
-        let turn = checkpoint.step(self.alloc, &mut self.cloud, who()?);
-        story.answer(&turn)
+    /// Tells of a call of a checkpoint, and makes it; true where it ended.
+    fn go<M: Machine>(&mut self, checkpoint: &mut M, story: &mut Story) -> Result<bool, Fail> {
+        checkpoint.tell(story)?;
+        checkpoint.make(self.alloc, &mut self.cloud, who()?, story)
     }
 
     fn has(&self, number: u64, version: u64, bytes: Option<&[u8]>) -> Result<(), Fail> {
@@ -338,20 +306,6 @@ fn has_entries(view: &InnerView<'_>, count: usize) -> bool {
         }
     }
     entries.next().is_none()
-}
-
-/// Tells of the call in hand. The type of a lease is named, for the checker of borrows wants it beside a call.
-fn tell_tree(checkpoint: &TreeCkpt, story: &mut Story) -> Result<(), Fail> {
-    let _none: Option<Lease> = None;
-    let call = checkpoint.in_hand();
-    story.call(&call)
-}
-
-/// Tells of the call in hand. The type of a lease is named, for the checker of borrows wants it beside a call.
-fn tell_page(checkpoint: &PageCkpt, story: &mut Story) -> Result<(), Fail> {
-    let _none: Option<Lease> = None;
-    let call = checkpoint.in_hand();
-    story.call(&call)
 }
 
 /// The right page of a leaf, 0 for none.

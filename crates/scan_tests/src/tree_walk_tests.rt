@@ -1,8 +1,9 @@
 use crate::objects::{
     LEAF_3_FAR, LEAF_3_NEWER, LEAF_4_TURNING, NODE_7_HIGH, NODE_8_OF_3, ROOT_OF_7, ROOT_OF_9,
+    THREE_LEVELS,
 };
 use crate::script::Step;
-use crate::session::{THREE_LEVELS, play};
+use crate::session::play;
 use std::test::Fail;
 
 /// Walks to p, to p over what is kept, a fresh one to x, which gets the tree object anew, and one to the left end, which goes down by

@@ -1,7 +1,10 @@
-use crate::objects::LEAF;
-use crate::store::object;
+use crate::objects::{LEAF, TWO_LEVELS};
+use crate::store::{object, put_all, who};
 use crate::story::Story;
+use cloud_trait::cloud::{Bench, Cloud};
 use db_base::blob::Blob;
+use db_base::wish::Wish;
+use memory_cloud::memory::MemoryCloud;
 use page_cache::PageCache;
 use std::alloc::Global;
 use std::test::Fail;
@@ -35,6 +38,15 @@ trait Taking {
         story: &mut Story,
     ) -> Result<(), Fail>;
 
+    /// Gets an object by its number, as a leaf or not, and tells the version or the trouble.
+    fn fetch_from<C: Cloud>(
+        &mut self,
+        cloud: &mut C,
+        number: u64,
+        leaf: bool,
+        story: &mut Story,
+    ) -> Result<(), Fail>;
+
     fn forget(&mut self);
 
     fn count(&self) -> usize;
@@ -51,6 +63,19 @@ impl Taking for PageCache {
         story: &mut Story,
     ) -> Result<(), Fail> {
         match self.accept(object(number)?, got, leaf) {
+            Ok(version) => story.number("version", version),
+            Err(trouble) => story.trouble(&trouble),
+        }
+    }
+
+    fn fetch_from<C: Cloud>(
+        &mut self,
+        cloud: &mut C,
+        number: u64,
+        leaf: bool,
+        story: &mut Story,
+    ) -> Result<(), Fail> {
+        match self.fetch(cloud, who()?, object(number)?, leaf) {
             Ok(version) => story.number("version", version),
             Err(trouble) => story.trouble(&trouble),
         }
@@ -254,4 +279,44 @@ version 1
 #[test]
 fn keeps_64_objects_and_the_versions_of_what_went(rt: HostRuntime) -> Result<(), Fail> {
     play(rt.alloc(), MANY, KEPT)
+}
+
+/// Objects that are fetched, by their numbers, as leaves or not: the tree object, a leaf, an absent leaf, and a leaf as a node.
+const FETCHED: &[(u64, bool)] = &[(0, false), (3, true), (9, true), (4, false)];
+
+/// What is told of them, and of a fetch that fails.
+const FETCHES: &str = "version 1
+version 1
+stale 9 1 0
+damaged page:1:4 0
+objects 2
+failed
+";
+
+/// Fetches objects, and at last one whose get fails.
+fn fetch_all<T: Taking, C: Bench>(
+    cache: &mut T,
+    cloud: &mut C,
+    story: &mut Story,
+) -> Result<(), Fail> {
+    for (number, leaf) in FETCHED {
+        cache.fetch_from(cloud, *number, *leaf, story)?;
+    }
+    story.number("objects", cache.count() as u64)?;
+    cloud.wish(Wish::Fail);
+    cache.fetch_from(cloud, 3, true, story)
+}
+
+fn fetch_over<C: Bench>(alloc: Global, cloud: &mut C, story: &mut Story) -> Result<(), Fail> {
+    put_all(cloud, TWO_LEVELS)?;
+    let mut cache = PageCache::new(alloc)?;
+    fetch_all(&mut cache, cloud, story)
+}
+
+#[test]
+fn fetches_from_a_cloud(rt: HostRuntime) -> Result<(), Fail> {
+    let mut story = Story::new(rt.alloc());
+    let mut cloud = MemoryCloud::new(rt.alloc());
+    fetch_over(rt.alloc(), &mut cloud, &mut story)?;
+    story.is(FETCHES)
 }

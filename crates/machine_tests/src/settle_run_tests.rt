@@ -1,4 +1,4 @@
-use crate::script::{Step, play};
+use crate::recoveries::{Step, play};
 use std::test::Fail;
 
 /// The head of client 1 of epoch 1 with transaction 1, Settled, without counters and pending entries.

@@ -1,6 +1,6 @@
-use crate::objects::HEAD;
+use crate::objects::{HEAD, THREE_LEVELS};
 use crate::script::Step;
-use crate::session::{THREE_LEVELS, play};
+use crate::session::play;
 use std::test::Fail;
 
 /// Reads of n, which leaf 3 has; of m, which it lacks; of p, of which the head has an insert of w pending; and of p again, once an
@@ -10,7 +10,7 @@ const READS: &[Step<'static>] = &[
     Step::Reads(b"n"),
     Step::Reads(b"m"),
     Step::Reads(b"p"),
-    Step::Notes(b"p", b"a"),
+    Step::Inserts(b"p", b"a"),
     Step::Reads(b"p"),
 ];
 
@@ -43,7 +43,7 @@ const READS_OF_ATTRIBUTES: &[Step<'static>] = &[
     Step::Reads(b"o"),
     Step::Updates(b"o", b"w"),
     Step::Reads(b"o"),
-    Step::Notes(b"o", b"x"),
+    Step::Inserts(b"o", b"x"),
     Step::Reads(b"o"),
 ];
 

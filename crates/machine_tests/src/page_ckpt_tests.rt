@@ -1,6 +1,5 @@
-use crate::bench::play;
+use crate::checkpoints::{Mishap, Step, play};
 use crate::objects::{ALONE, ALONE_UPDATED, INNER, LEFT, LEFT_RAISED, RIGHT, RIGHT_UPDATED};
-use crate::script::{Mishap, Step};
 use std::test::Fail;
 
 /// A checkpoint of page 1 with a run of two, one of each of two clients.

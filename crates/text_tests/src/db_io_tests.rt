@@ -1,4 +1,4 @@
-use crate::script::{are_writes, gives, takes};
+use crate::io_script::{are_writes, gives, takes};
 use db_base::blob::Blob;
 use db_io::fault::IoFault;
 use db_io::memory_sink::MemorySink;

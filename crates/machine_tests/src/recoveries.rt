@@ -1,9 +1,12 @@
-//! What is done in a cloud, step by step. It is told of any cloud, so that it is proved without the types of one.
+//! Openings, recoveries and settlings, step by step. It is told of any cloud, so that it is proved without the types of one.
 
 use crate::machine::{Calls, run};
-use crate::store::{Store, atomic, client, head, pending, put, send, take};
+use crate::store::{put, queue, send, take};
 use crate::story::Story;
+use cloud_trait::cloud::Bench;
 use cloud_trait::lease::Lease;
+use db_base::ids::ClientId;
+use db_base::names::{Lock, ObjName, QueueName};
 use memory_cloud::memory::MemoryCloud;
 use recover_run::home::Home;
 use recover_run::recover::RecoverRun;
@@ -11,6 +14,37 @@ use recover_run::stage::Aim;
 use settle_run::SettleRun;
 use std::alloc::Global;
 use std::test::Fail;
+
+/// A cloud that tells all versions of an object.
+trait Store: Bench {
+    /// Whether the version of this number is these bytes.
+    fn has_version(&self, name: ObjName, number: u64, wanted: &[u8]) -> bool;
+}
+
+impl Store for MemoryCloud {
+    fn has_version(&self, name: ObjName, number: u64, wanted: &[u8]) -> bool {
+        self.version(name, number) == Some(wanted)
+    }
+}
+
+fn client() -> Result<ClientId, Fail> {
+    Ok(ClientId::new(1)?)
+}
+
+/// The client's lock.
+fn lock() -> Result<Lock, Fail> {
+    Ok(Lock::Client(client()?))
+}
+
+/// The client's head.
+fn head() -> Result<ObjName, Fail> {
+    Ok(ObjName::Head(client()?))
+}
+
+/// The client's queue.
+fn atomic() -> Result<QueueName, Fail> {
+    Ok(QueueName::Atomic(client()?))
+}
 
 /// A record by its epoch, transaction, index and page.
 pub(crate) type Record = (u8, u8, u8, u8);
@@ -120,9 +154,9 @@ fn play_step<S: Store>(
     }
 }
 
-fn leave<S: Store>(cloud: &mut S, head: &[u8], records: &[Record]) -> Result<(), Fail> {
-    if !head.is_empty() {
-        put(cloud, head)?;
+fn leave<S: Store>(cloud: &mut S, bytes: &[u8], records: &[Record]) -> Result<(), Fail> {
+    if !bytes.is_empty() {
+        put(cloud, lock()?, head()?, bytes)?;
     }
     for left in records {
         send(cloud, atomic()?, &record(*left))?;
@@ -132,13 +166,13 @@ fn leave<S: Store>(cloud: &mut S, head: &[u8], records: &[Record]) -> Result<(),
 
 fn insert_all<S: Store>(cloud: &mut S, count: u16) -> Result<(), Fail> {
     for number in 1..=count {
-        send(cloud, pending()?, &insert(number))?;
+        send(cloud, queue(0)?, &insert(number))?;
     }
     Ok(())
 }
 
 fn hold<S: Store>(cloud: &mut S, ticks: u64) -> Result<(), Fail> {
-    let _lease = take(cloud, ticks)?;
+    let _lease = take(cloud, lock()?, ticks)?;
     Ok(())
 }
 

@@ -1,10 +1,10 @@
 //! What machines did, as a text: a line for each call, and one for each answer.
 
-use reply_text::call_text;
 use cloud_trait::call::{Call, CallKind};
 use cloud_trait::turn::{CkptAnswer, Turn};
 use db_base::trouble::{CommitAnswer, Trouble};
 use recover_run::stage::RecoverAnswer;
+use reply_text::call_text;
 use reply_text::write::trouble_text;
 use settle_run::Settled;
 use std::alloc::Global;

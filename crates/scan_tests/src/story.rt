@@ -1,12 +1,12 @@
 //! What machines did, as a text: a line for each call, for each answer, and for each pair of a leaf.
 
-use reply_text::call_text;
 use cloud_trait::call::Call;
 use cloud_trait::turn::Turn;
 use db_base::ids::PageId;
 use db_base::trouble::Trouble;
 use db_base::value::Value;
 use range_scan::Items;
+use reply_text::call_text;
 use reply_text::write::trouble_text;
 use std::alloc::Global;
 use std::test::Fail;

@@ -141,7 +141,7 @@ shown_stops s c a spot t (inr (inr (inr h))) =
     let passed : Scan = record k { passed = s.passed ++ spot.page ∷ [] } in (
       (passed, h.cache),
       rw (h.answered, h.accepted, h.kept, h.same)
-      (ended_loops passed h.leaf spot.page h.next h.cache t h.linked h.wanted (came_still k spot.page h.next.page h.came) h.is),
+          (ended_loops passed h.leaf spot.page h.next h.cache t h.linked h.wanted (came_still k spot.page h.next.page h.came) h.is),
     )
 
 right_stops : (m : Scan × Cache) (a : Answer) (spot : Spot) (t : Trouble) → m.0.spot ≡ Some spot → Shown m a spot t → StopsWith (scan_next m a) t

@@ -6,8 +6,8 @@ ghost use Rattle.run_text.specs.Written.{reply_line, bad_line, name_line, plain_
 
 use db_base::blob::Blob;
 use db_base::refusal::Refused;
-use db_io::sink::Sink;
 use db_io::output::{OutputFault, write_text};
+use db_io::sink::Sink;
 use reply_text::reply::Reply;
 use std::alloc::Global;
 

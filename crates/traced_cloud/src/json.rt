@@ -7,10 +7,10 @@ ghost use Rattle.traced_cloud.specs.Json.{number_member, object_begin, session_m
 
 use crate::line::{add_answer, add_number, add_target};
 use crate::note::Note;
-use reply_text::made_word;
 use cloud_trait::who::Who;
 use db_base::blob::Blob;
 use db_base::refusal::Refused;
+use reply_text::made_word;
 use std::alloc::Global;
 
 /// Adds a member that is a number, behind a byte that leads to it.

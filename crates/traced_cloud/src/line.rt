@@ -7,11 +7,11 @@ ghost use Rattle.traced_cloud.specs.Line.{limit_text, ids_text, more_text, outco
 
 use crate::note::{Note, Outcome};
 use crate::stamp::Stamp;
-use reply_text::{made_word, target_word};
 use cloud_trait::call::Target;
 use db_base::blob::Blob;
 use db_base::ids::MsgId;
 use db_base::refusal::Refused;
+use reply_text::{made_word, target_word};
 use std::alloc::Global;
 
 /// Adds a number, decimal.

@@ -134,7 +134,7 @@ impl<'a> Items<'a> {
     }
 
     /// All pairs that are in sight. Fails for memory alone.
-    pub(crate) fn of(alloc: Global, sight: &Sight<'a>) -> Result<Items<'a>, AllocError>
+    pub fn of(alloc: Global, sight: &Sight<'a>) -> Result<Items<'a>, AllocError>
         ensures list { IfOk result (λ items. items ≡ items_of sight.now) }
         ensures are { IfOk result (λ items. AreItems sight.now items) }
     {

@@ -14,14 +14,21 @@ use std::marker::Model;
 use txn_buffer::buffer::TxnBuffer;
 
 /// What is looked at: a leaf, the keys that are asked for, and a client's own changes.
-pub(crate) struct Sight<'a> {
-    pub(crate) leaf: LeafView<'a>,
-    pub(crate) tree: TreeId,
-    pub(crate) from: &'a [u8],
-    pub(crate) to: Option<&'a [u8]>,
-    pub(crate) client: ClientId,
-    pub(crate) head: &'a Head,
-    pub(crate) buffer: &'a TxnBuffer,
+pub struct Sight<'a> {
+    /// The leaf.
+    pub leaf: LeafView<'a>,
+    /// Its tree.
+    pub tree: TreeId,
+    /// The key from which on pairs are asked for.
+    pub from: &'a [u8],
+    /// The key below which they are, where there is one.
+    pub to: Option<&'a [u8]>,
+    /// The client that looks.
+    pub client: ClientId,
+    /// Its head, with the changes that it committed.
+    pub head: &'a Head,
+    /// Its buffer, with those that it did not commit yet.
+    pub buffer: &'a TxnBuffer,
 }
 
 impl<'a> Drop for Sight<'a> {

@@ -33,7 +33,7 @@ pub entry_is : (key : List ℕ) (es : List Entry) (e : Entry) → child_of key e
 entry_is key es e h = ap (λ (o : Option Entry). unwrap_or o ([], 1)) h
 
 -- no key is below the empty one
-below_empty : (key : List ℕ) → bytes_below key [] ≡ false
+pub below_empty : (key : List ℕ) → bytes_below key [] ≡ false
 below_empty [] = refl
 below_empty (b ∷ bs) = refl
 

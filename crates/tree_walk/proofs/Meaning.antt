@@ -1,21 +1,21 @@
 -- What led a walk to the page in hand, read off its calls.
 use Rattle.std.proofs.Common.{◌≡◌, ℕ, Bool, true, false, true≢false, List, [], ◌∷◌, Option, Some, None, Result, Ok, Err, unwrap_or, refl, ap, sym, subst, ◌∙◌, inl, inr, ◌⊎◌}
 use Rattle.db_base.specs.declared.names.ObjName.{ObjName}
-use Rattle.db_base.specs.declared.trouble.Trouble.{Trouble}
 use Rattle.cloud_trait.specs.declared.answer.Answer.{Answer}
 use Rattle.cloud_trait.specs.declared.answer.Answer.TheVariants as answer
 use Rattle.cloud_trait.specs.Ask.{Get}
-use Rattle.cloud_trait.specs.Machine.{Next, Goes, Ends, Stops, Deed}
-use Rattle.cloud_trait.specs.Views.{got_of}
+use Rattle.cloud_trait.specs.Machine.{Goes, Deed}
 use Rattle.page_cache.specs.Cache.{Cache, accepts, kept_at}
 use Rattle.page_cache.specs.Names.{same_name}
 use Rattle.page_cache.proofs.CacheLemmas.{accept_kept, accept_others}
 use Rattle.page_cache.proofs.NameLemmas.{same_name-is, same_name-refl}
-use Rattle.tree_walk.specs.Walk.{Spot, Walk, new_walk, sought, object_of, is_leaf, asks, beside, rested, goes_on, got_read, accepted_by, got_by, walk_ready, walk_next}
+use Rattle.tree_walk.specs.Walk.{Spot, Walk, new_walk, sought, object_of, is_leaf, asks, rested, walk_ready, walk_next}
 use Rattle.tree_walk.specs.Within.{IsBegun}
-use Rattle.tree_walk.specs.Causing.{Brings, IsLinked, WasLed}
+use Rattle.tree_walk.specs.Causing.{IsLinked, WasLed}
 use Rattle.tree_walk.specs.Led.{WasGot, HasRead, LinksTo, WasLinked, Walked, began_with, LedBy}
-use Rattle.tree_walk.proofs.Causing.{Fine, through_fine, got_there, got_fine}
+use Rattle.tree_walk.proofs.Outcomes as step
+use Rattle.tree_walk.proofs.Outcomes.{came_by, way_behind, Readies, readies}
+use Rattle.tree_walk.proofs.Causes.{way_led}
 use Rattle.tree_walk.proofs.Walking.{IsTo, WalksBeside, ready_walks, next_walks}
 
 -- ---- what was read
@@ -68,37 +68,6 @@ same_links began h v w tree key s to_v to_w (c, read, link) =
     same_aim : (t u : ℕ) (k l : List ℕ) → t ≡ u → k ≡ l → ◌≡◌ {A = ℕ × List ℕ} (t, k) (u, l)
     same_aim t u k l e f = cc (e, f)
 
--- ---- a step
-
--- where a walk goes on behind a call, the cache is the one that the call brought, and its links or those before led to the page in hand
-FineBeside : Walk × Cache → Answer → Next (Walk × Cache) ℕ → Type 0
-FineBeside m a (Goes n) = Brings m a n.1 × ((s : Spot) → n.0.spot ≡ Some s → WasLed n.1 m.0 n.0 s)
-FineBeside m a (Ends n page) = Unit {0}
-FineBeside m a (Stops n t) = Unit {0}
-
-beside_fine : (m : Walk × Cache) (a : Answer) (x : Next Walk ℕ) (c : Cache) → Brings m a c → Fine c m.0 x → FineBeside m a (beside (x, c))
-unfolding FineBeside
-beside_fine m a (Goes v) c brings fine = (brings, fine)
-beside_fine m a (Ends v page) c brings fine = tt
-beside_fine m a (Stops v t) c brings fine = tt
-
-next_fine : (w : Walk) (c : Cache) (a : Answer) → FineBeside (w, c) a (walk_next (w, c) a)
-unfolding FineBeside
-next_fine w c (answer.Got got) = on (accepts c (object_of w) (is_leaf w) got) refl where
-  on : (r : Result (ℕ × Cache) Trouble) → accepts c (object_of w) (is_leaf w) got ≡ r → FineBeside (w, c) (answer.Got got) (beside (accepted_by (rested w) c r))
-  on (Err t) e = tt
-  on (Ok served) e =
-      beside_fine (w, c) (answer.Got got) (got_read (rested w) served.1) served.1 (got, served.0, refl, e) (got_fine w served.1 (got_there (rested w) c got served.0 served.1 e))
-next_fine w c answer.Failed = tt
-next_fine w c answer.Memory = tt
-next_fine w c (answer.Sent id) = tt
-next_fine w c (answer.Received ms) = tt
-next_fine w c answer.Done = tt
-next_fine w c (answer.Given l) = tt
-next_fine w c (answer.Held until) = tt
-next_fine w c (answer.Renewed end) = tt
-next_fine w c (answer.Late end now) = tt
-
 -- ---- a whole run
 
 record Reading (began : Cache) (h : List Deed) (tree : ℕ) (key : Option (List ℕ)) (m : Walk × Cache) : Type 0 where
@@ -106,39 +75,26 @@ record Reading (began : Cache) (h : List Deed) (tree : ℕ) (key : Option (List 
   to : IsTo tree key m.0
   led : (s : Spot) → m.0.spot ≡ Some s → WasLinked began h m.0 s
 
-ReadyReads : ℕ → Option (List ℕ) → Cache → Next (Walk × Cache) ℕ → Type 0
-ReadyReads tree key c (Goes n) = Reading c [] tree key n
-ReadyReads tree key c (Ends n page) = Unit {0}
-ReadyReads tree key c (Stops n t) = Unit {0}
-
 begun_reads : (start : Walk × Cache) (b : IsBegun start) → Reading b.3 [] b.0 b.1 start
-unfolding ReadyReads
-begun_reads start (tree, key, fresh, c, e) =
-    subst (ReadyReads tree key c) e (on (goes_on c w) (through_fine c (new_walk tree key fresh) 64 w (λ s none. inl none)) (ready_walks tree key fresh c))
+begun_reads start (tree, key, fresh, c, leads) =
+    let w = new_walk tree key fresh in
+    let (same, ran, way) = subst (Readies (w, c)) leads (readies (w, c)) in
+    let to : IsTo tree key start.0 = (subst (WalksBeside tree key) leads (ready_walks tree key fresh c)).1 in
+    let kept : HasRead c [] c = λ name got is. inl is in
+    record { read = subst (HasRead c []) (sym same) kept; to = to; led = λ s at. (c, kept, by s (way_led c w (rested w) start.0 way (λ u none. inl none) s at)) }
   where
-    w : Walk
-    w = rested (new_walk tree key fresh)
-
-    not_new : (s : Spot) → (let o : Option Spot = None in o ≡ Some s) → ⊥
-    not_new s never = cc
-
-    on : (x : Next Walk ℕ) → Fine c (new_walk tree key fresh) x → WalksBeside tree key (beside (x, c)) → ReadyReads tree key c (beside (x, c))
-    on (Goes v) fine walks = record { read = λ name got kept. inl kept; to = walks.1; led = λ s at. (c, (λ name got kept. inl kept), by s (fine s at)) } where
-      by : (s : Spot) → WasLed c (new_walk tree key fresh) v s → LinksTo c v.tree (sought v) s
-      by s (inl never) = absurd (not_new s never)
-      by s (inr link) = links c v s link
-    on (Ends v page) fine walks = tt
-    on (Stops v t) fine walks = tt
+    by : (s : Spot) → WasLed c (new_walk tree key fresh) start.0 s → LinksTo c start.0.tree (sought start.0) s
+    by s (inl never) = absurd (cc (never))
+    by s (inr link) = links c start.0 s link
 
 goes_reads : (began : Cache) (h : List Deed) (tree : ℕ) (key : Option (List ℕ)) (m n : Walk × Cache) (d : Deed) → Reading began h tree key m → d.ask ≡ asks m → walk_next m d.answer ≡ Goes n
     → Reading began (d ∷ h) tree key n
-unfolding FineBeside
-goes_reads began h tree key m n d r asked e =
-    let fine = subst (FineBeside m d.answer) e (next_fine m.0 m.1 d.answer) in
-    let brings : Brings m d.answer n.1 = fine.0 in
-    let read : HasRead began (d ∷ h) n.1 = accept_read began h d m.0 m.1 n.1 brings.0 brings.1 asked brings.2 brings.3 r.read in
-    let to : IsTo tree key n.0 = (subst (WalksBeside tree key) e (next_walks tree key m d.answer r.to)).1 in
-    record { read = read; to = to; led = λ s at. by read to s (fine.1 s at) }
+goes_reads began h tree key m n d r asked leads =
+    let o = came_by m d.answer (Goes n) leads in
+    let read : HasRead began (d ∷ h) n.1 = accept_read began h d m.0 m.1 n.1 o.brought.got o.brought.version asked o.brought.answered o.brought.accepted r.read in
+    let to : IsTo tree key n.0 = (subst (WalksBeside tree key) leads (next_walks tree key m d.answer r.to)).1 in
+    let way = step.on (rested m.0) o.next n.0 o.link (way_behind m d.answer n o) in
+    record { read = read; to = to; led = λ s at. by read to s (way_led n.1 m.0 (rested m.0) n.0 way (λ u was. inl was) s at) }
   where
     by : HasRead began (d ∷ h) n.1 → IsTo tree key n.0 → (s : Spot) → WasLed n.1 m.0 n.0 s → WasLinked began (d ∷ h) n.0 s
     by read to s (inl was) =

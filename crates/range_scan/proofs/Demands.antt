@@ -1,4 +1,4 @@
--- A scan stops where its answer, or what that brings, shows a trouble.
+-- Where the answer shows a trouble, or what it brings shows one, a scan stops with that.
 use Rattle.std.proofs.Common.{◌≡◌, ◌≢◌, ◌⊎◌, ℕ, Bool, true, false, List, [], ◌∷◌, ◌++◌, Option, Some, None, Result, Ok, Err, inl, inr, unwrap_or, refl, ap, sym, subst, ◌∙◌}
 use Rattle.std.specs.Prelude.{◌&&◌, ◌||◌, ◌==◌, if◌then◌else◌}
 use Rattle.std.specs.Option.{option_map}
@@ -21,29 +21,16 @@ use Rattle.page_cache.specs.Refused.{IsDamaged}
 use Rattle.page_cache.proofs.CacheLemmas.{accept_kept}
 use Rattle.tree_walk.specs.Moves.{Moves}
 use Rattle.tree_walk.specs.Walk.{Spot, Walk, IsWalk, sought, spot_of, is_leaf, object_at, object_of, is_page, is_among, came_to, use_of, right_of, bad_fence, leaf_left, leaf_read, node_read, read_at, read_from, follow, goes_on, accepted_by, left_by, beside, rested, walk_ready, walk_next}
-use Rattle.tree_walk.specs.Causing.{IsOld, IsStopped, Meets}
-use Rattle.tree_walk.proofs.Causing.{spot_is, ready_shows}
-use Rattle.tree_walk.proofs.Leaves.{Unended, through_unended}
+use Rattle.tree_walk.specs.Causing.{FailsSo, IsOld, IsStopped, Meets}
+use Rattle.tree_walk.proofs.Causes.{ready_shows}
+use Rattle.tree_walk.proofs.Demands.{answer_stops, moved_stopped, brought_meets, ready_meets}
 use Rattle.tree_walk.proofs.Refusing.{old_refused, damaged_refused}
-use Rattle.tree_walk.proofs.Meeting.{brought_meets, ready_meets}
-use Rattle.tree_walk.proofs.Serving.{memory_or, answer_stops}
+use Rattle.tree_walk.proofs.Served.{IsServedBy, end_served}
 use Rattle.range_scan.specs.Scan.{Scan, scan_object, right_in, scan_came_to, right_behind, ended_at, leaf_ended, first_in, scan_beside, walked_by, right_read_in, right_accepted, right_got, scan_ready, next_at, scan_next, KeepsServed}
 use Rattle.range_scan.specs.Listing.{Range, Move, Scanned, scan_of}
-use Rattle.range_scan.specs.Causing.{BreaksFence, CausesReady, FirstLeadsBack, LeadsBack, IsExactWalk, IsExactRight, Exact}
-use Rattle.range_scan.proofs.Served.{IsServed, end_served}
-use Rattle.range_scan.proofs.Listing.{InHand, scanned_stands}
-
--- where the pure step stops, so does the code, if not for want of memory
-moved_stopped : (next : Next (Scan × Cache) ℕ) (k n : Scan × Cache) (t : Trouble) (turn : Turn ℕ) → next ≡ Stops k t → Moves next n turn → IsStopped turn t
-moved_stopped next k n t More e moved = absurd (cc (e, moved))
-moved_stopped next k n t (Ended page) e moved = absurd (cc (e, moved))
-moved_stopped next k n t (Stopped u) e moved = on (memory_or u) where
-  on : (u ≡ trouble.Memory) ⊎ (u ≢ trouble.Memory) → IsStopped (Stopped u) t
-  on (inl memory) = inr (ap Stopped memory)
-  on (inr other) =
-      let both : ◌≡◌ {A = Next (Scan × Cache) ℕ} (Stops n u) (Stops k t) = sym (moved other) ∙ e in
-      let same : u ≡ t = cc (both) in
-      inl (ap Stopped same)
+use Rattle.range_scan.specs.Causing.{RefusesSo, BreaksFence, CausesReady, FirstLeadsBack, LeadsBack, IsExactWalk, IsExactRight, Exact}
+use Rattle.range_scan.proofs.Meaning.{walk_of, scanned_stands}
+use Rattle.range_scan.proofs.Outcomes.{Readies, scan_readies}
 
 took_moves : (m : Scan × Cache) (a : Answer) (n : Scan × Cache) (turn : Turn ℕ) → Took (LeadsBy scan_next) KeepsServed m a n turn → Moves (scan_next m a) n turn
 took_moves m a n More h = h
@@ -76,23 +63,19 @@ walk_stops m a k t none e = ((record m.0 { walk = k.0 }, k.1), ap (λ (o : Optio
 
 -- what is read of the leaf in hand ends there
 leaf_ends : (w : Walk) (d : Cache) (s : Spot) (l : Leaf) → w.spot ≡ Some s → (s.level == 0) ≡ true → leaf_at d (object.Page w.tree s.page) ≡ Some l → bytes_same l.low s.low ≡ true
-    → right_of (sought w) l.high (page_at l.right) ≡ None → read_from w d ≡ Some (Ends (use_of w) (spot_of w).page)
+    → right_of (sought w) l.high (page_at l.right) ≡ None → read_from w d ≡ Some (Ends (use_of w) s.page)
 leaf_ends w d s l at bottom kept same ends =
-    ap (read_at w d) at
-    ∙ ap (λ (b : Bool). if b then option_map (leaf_read w) (leaf_at d (object.Page w.tree s.page)) else option_map (node_read w) (inner_at d (object.Page w.tree s.page))) bottom
-    ∙ ap (option_map (leaf_read w)) kept
-    ∙ ap (λ (b : Bool). Some (if b then leaf_left (use_of w) (right_of (sought w) l.high (page_at l.right)) else Stops w (bad_fence w l.low))) (subst (λ (x : Spot). bytes_same l.low x.low ≡ true) (spot_is w s at) same)
-    ∙ ap (λ (o : Option (ℕ × List ℕ)). Some (leaf_left (use_of w) o)) ends
+    subst (λ (o : Option Spot). (let v : Walk = record w { spot = o } in read_from v d ≡ Some (Ends (use_of v) s.page))) (sym at) (rw (bottom, kept, same, ends))
 
-walk_ends : (w : Walk) (c : Cache) (a : Answer) (d : Cache) (got : Option (List ℕ)) (version : ℕ) → a ≡ answer.Got got → accepts c (object_of w) (is_leaf w) got ≡ Ok (version, d)
-    → read_from (rested w) d ≡ Some (Ends (use_of (rested w)) (spot_of w).page) → walk_next (w, c) a ≡ Ends (use_of (rested w), left_by (use_of (rested w)) d) (spot_of w).page
-walk_ends w c a d got version answered accepted read =
+walk_ends : (w : Walk) (c : Cache) (a : Answer) (d : Cache) (got : Option (List ℕ)) (version page : ℕ) → a ≡ answer.Got got → accepts c (object_of w) (is_leaf w) got ≡ Ok (version, d)
+    → read_from (rested w) d ≡ Some (Ends (use_of (rested w)) page) → walk_next (w, c) a ≡ Ends (use_of (rested w), left_by (use_of (rested w)) d) page
+walk_ends w c a d got version page answered accepted read =
     ap (walk_next (w, c)) answered ∙ ap (λ (r : Result (ℕ × Cache) Trouble). beside (accepted_by (rested w) c r)) accepted
     ∙ ap (λ (o : Option (Next Walk ℕ)). beside (follow (goes_on d) (unwrap_or o (Stops (rested w) trouble.Failed)), d)) read
 
 -- the leaf at which it ends is the one that was brought
 same_leaf : (w : Walk) (a : Answer) (n : Walk × Cache) (page : ℕ) (c d : Cache) (got : Option (List ℕ)) (version : ℕ) (s : Spot) (l : Leaf) → a ≡ answer.Got got → accepts c (object_of w) (is_leaf w) got ≡ Ok (version, d)
-    → w.spot ≡ Some s → leaf_at d (object.Page w.tree s.page) ≡ Some l → IsServed w a n page → leaf_at n.1 (object_of n.0) ≡ Some l
+    → w.spot ≡ Some s → leaf_at d (object.Page w.tree s.page) ≡ Some l → IsServedBy w a n page → leaf_at n.1 (object_of n.0) ≡ Some l
 same_leaf w a n page c d got version s l answered accepted at kept served =
     let bytes : got ≡ served.bytes = cc (answered, served.answered) in
     let held : kept_at d (object_of w) ≡ Some got = accept_kept c (object_of w) (is_leaf w) got version d accepted in
@@ -105,13 +88,13 @@ first_back m a t ok none h =
     let w = m.0.walk in
     let k : Walk × Cache = (use_of (rested w), left_by (use_of (rested w)) h.cache) in
     let read = leaf_ends (rested w) h.cache h.spot h.leaf h.in_hand h.bottom h.kept h.same h.ends in
-    let ended : walk_next (w, m.1) a ≡ Ends k (spot_of w).page = walk_ends w m.1 a h.cache h.brings.0 h.brings.1 h.brings.2 h.brings.3 read in
-    let served : IsServed w a k (spot_of w).page = end_served (w, m.1) k a (spot_of w).page ok ended in
-    let kept : leaf_at k.1 (object_of k.0) ≡ Some h.leaf = same_leaf w a k (spot_of w).page m.1 h.cache h.brings.0 h.brings.1 h.spot h.leaf h.brings.2 h.brings.3 h.in_hand h.kept served in (
+    let ended : walk_next (w, m.1) a ≡ Ends k h.spot.page = walk_ends w m.1 a h.cache h.brings.0 h.brings.1 h.spot.page h.brings.2 h.brings.3 read in
+    let served : IsServedBy w a k h.spot.page = end_served (w, m.1) k a h.spot.page ok ended in
+    let kept : leaf_at k.1 (object_of k.0) ≡ Some h.leaf = same_leaf w a k h.spot.page m.1 h.cache h.brings.0 h.brings.1 h.spot h.leaf h.brings.2 h.brings.3 h.in_hand h.kept served in (
       (record m.0 { walk = k.0 }, k.1),
       ap (λ (o : Option Spot). next_at o m a) none ∙ ap (walked_by m.0) ended
-          ∙ ap (λ (o : Option Leaf). scan_beside (first_in (record m.0 { walk = k.0 }) (spot_of w).page o, k.1)) kept
-          ∙ ended_loops (record m.0 { walk = k.0 }) h.leaf (spot_of w).page h.next k.1 t h.linked h.wanted h.came h.is,
+          ∙ ap (λ (o : Option Leaf). scan_beside (first_in (record m.0 { walk = k.0 }) h.spot.page o, k.1)) kept
+          ∙ ended_loops (record m.0 { walk = k.0 }) h.leaf h.spot.page h.next k.1 t h.linked h.wanted h.came h.is,
     )
 
 walk_exact : (m n : Scan × Cache) (a : Answer) (turn : Turn ℕ) → IsWalk m.0.walk → m.0.spot ≡ None → Took (LeadsBy scan_next) KeepsServed m a n turn → IsExactWalk m a turn
@@ -123,41 +106,9 @@ walk_exact m n a turn ok none took = record {
 
 -- ---- a right page
 
-right_next : (m : Scan × Cache) (a : Answer) (spot : Spot) → m.0.spot ≡ Some spot → scan_next m a ≡ scan_beside (right_got m.0 m.1 (got_of a))
-right_next m a spot some = ap (λ (o : Option Spot). next_at o m a) some
-
-right_stops : (m : Scan × Cache) (a : Answer) (spot : Spot) (x : Result (Option (List ℕ)) Trouble) (k : Scan × Cache) (t : Trouble) → m.0.spot ≡ Some spot → got_of a ≡ x
-    → scan_beside (right_got m.0 m.1 x) ≡ Stops k t → StopsWith (scan_next m a) t
-unfolding StopsWith
-right_stops m a spot x k t some is e = (k, right_next m a spot some ∙ (ap (λ (r : Result (Option (List ℕ)) Trouble). scan_beside (right_got m.0 m.1 r)) is ∙ e))
-
 refused : (c : Cache) (name : ObjName) (got : Option (List ℕ)) (t : Trouble) → IsOld c name true got t ⊎ IsDamaged name true got t → accepts c name true got ≡ Err t
 refused c name got t (inl old) = old_refused c name true got t old
 refused c name got t (inr damaged) = damaged_refused c name true got t damaged
-
-the_spot : (m : Scan × Cache) (spot : Spot) → m.0.spot ≡ Some spot → spot ≡ right_in m.0
-the_spot m spot some = sym (ap (λ (o : Option Spot). unwrap_or o (record { page = 1; level = 0; low = [] })) some)
-
--- a leaf that was brought and is kept is read
-right_reads : (m : Scan × Cache) (got : Option (List ℕ)) (version : ℕ) (c : Cache) (l : Leaf) → accepts m.1 (scan_object m.0) true got ≡ Ok (version, c) → leaf_at c (scan_object m.0) ≡ Some l
-    → scan_beside (right_got m.0 m.1 (Ok got)) ≡ scan_beside (right_read_in m.0 (Some l), c)
-right_reads m got version c l accepted kept =
-    ap (λ (r : Result (ℕ × Cache) Trouble). scan_beside (right_accepted m.0 m.1 r)) accepted ∙ ap (λ (o : Option Leaf). scan_beside (right_read_in m.0 o, c)) kept
-
--- .. with another low key, or with the promised one
-by_fence : (m : Scan × Cache) (l : Leaf) (c : Cache) (b : Bool) → bytes_same l.low (right_in m.0).low ≡ b
-    → scan_beside (right_read_in m.0 (Some l), c)
-    ≡ scan_beside (if b then leaf_ended (record m.0 { passed = m.0.passed ++ (right_in m.0).page ∷ [] }) l (right_in m.0).page else Stops m.0 (trouble.BadFence (right_in m.0).page (right_in m.0).low l.low), c)
-by_fence m l c b e =
-    ap (λ (x : Bool). scan_beside (if x then leaf_ended (record m.0 { passed = m.0.passed ++ (right_in m.0).page ∷ [] }) l (right_in m.0).page else Stops m.0 (trouble.BadFence (right_in m.0).page (right_in m.0).low l.low), c)) e
-
-right_broken : (m : Scan × Cache) (a : Answer) (spot : Spot) (t : Trouble) → m.0.spot ≡ Some spot → BreaksFence m a spot t → StopsWith (scan_next m a) t
-right_broken m a spot t some h =
-    let is = the_spot m spot some in
-    let differs = subst (λ (x : Spot). bytes_same h.leaf.low x.low ≡ false) is h.differs in
-    let so = subst (λ (x : Spot). t ≡ trouble.BadFence x.page x.low h.leaf.low) is h.is in
-    right_stops m a spot (Ok h.got) (m.0, h.cache) t some (ap got_of h.answered)
-    (right_reads m h.got h.version h.cache h.leaf h.accepted h.kept ∙ by_fence m h.leaf h.cache false differs ∙ ap (λ (u : Trouble). Stops (m.0, h.cache) u) (sym so))
 
 -- a page that is among others is so with one more
 among_still : (ps : List ℕ) (p q : ℕ) → is_among ps q ≡ true → is_among (ps ++ p ∷ []) q ≡ true
@@ -174,28 +125,35 @@ came_still s p q e = on (is_page q s.spot) (came_to s.walk q) e where
   on false true h = refl
   on false false h = among_still s.passed p q h
 
-right_back : (m : Scan × Cache) (a : Answer) (spot : Spot) (t : Trouble) → m.0.spot ≡ Some spot → LeadsBack m a spot t → StopsWith (scan_next m a) t
-right_back m a spot t some h =
-    let same = subst (λ (x : Spot). bytes_same h.leaf.low x.low ≡ true) (the_spot m spot some) h.same in
-    let s : Scan = record m.0 { passed = m.0.passed ++ (right_in m.0).page ∷ [] } in
-    right_stops m a spot (Ok h.got) (s, h.cache) t some (ap got_of h.answered)
-    (right_reads m h.got h.version h.cache h.leaf h.accepted h.kept ∙ by_fence m h.leaf h.cache true same
-    ∙ ended_loops s h.leaf (right_in m.0).page h.next h.cache t h.linked h.wanted (came_still m.0 (right_in m.0).page h.next.page h.came) h.is)
+-- what is shown there
+abbrev Shown : Scan × Cache → Answer → Spot → Trouble → Type 0
+Shown m a spot t = FailsSo a t ⊎ (RefusesSo m a t ⊎ (BreaksFence m a spot t ⊎ LeadsBack m a spot t))
+
+shown_stops : (s : Scan) (c : Cache) (a : Answer) (spot : Spot) (t : Trouble) → (let k : Scan × Cache = (record s { spot = Some spot }, c) in Shown k a spot t → StopsWith (scan_next k a) t)
+unfolding StopsWith
+shown_stops s c a spot t (inl (is, failed)) = ((record s { spot = Some spot }, c), rw (failed, is))
+shown_stops s c a spot t (inr (inl (got, answered, refuses))) =
+    let no : accepts c (object.Page s.walk.tree spot.page) true got ≡ Err t = refused c (object.Page s.walk.tree spot.page) got t refuses in
+    ((record s { spot = Some spot }, c), rw (answered, no))
+shown_stops s c a spot t (inr (inr (inl h))) = ((record s { spot = Some spot }, h.cache), rw (h.answered, h.accepted, h.kept, h.differs, h.is))
+shown_stops s c a spot t (inr (inr (inr h))) =
+    let k : Scan = record s { spot = Some spot } in
+    let passed : Scan = record k { passed = s.passed ++ spot.page ∷ [] } in (
+      (passed, h.cache),
+      rw (h.answered, h.accepted, h.kept, h.same)
+      (ended_loops passed h.leaf spot.page h.next h.cache t h.linked h.wanted (came_still k spot.page h.next.page h.came) h.is),
+    )
+
+right_stops : (m : Scan × Cache) (a : Answer) (spot : Spot) (t : Trouble) → m.0.spot ≡ Some spot → Shown m a spot t → StopsWith (scan_next m a) t
+right_stops m a spot t some =
+    subst (λ (o : Option Spot). (let k : Scan × Cache = (record m.0 { spot = o }, m.1) in Shown k a spot t → StopsWith (scan_next k a) t)) (sym some) (shown_stops m.0 m.1 a spot t)
 
 right_exact : (m n : Scan × Cache) (a : Answer) (spot : Spot) (turn : Turn ℕ) → m.0.spot ≡ Some spot → Took (LeadsBy scan_next) KeepsServed m a n turn → IsExactRight m a spot turn
-right_exact m n a spot turn some took = record {
-  failed = λ t h. stopped m n a t turn (right_stops m a spot (Err trouble.Failed) (m.0, m.1) t some (ap got_of h.1) (ap (λ (u : Trouble). Stops (m.0, m.1) u) (sym h.0))) took;
-  refused = λ t h.
-      stopped m n a t turn (right_stops m a spot (Ok h.0) (m.0, m.1) t some (ap got_of h.1) (ap (λ (r : Result (ℕ × Cache) Trouble). scan_beside (right_accepted m.0 m.1 r)) (refused m.1 (scan_object m.0) h.0 t h.2))) took;
-  broken = λ t h. stopped m n a t turn (right_broken m a spot t some h) took;
-  led_back = λ t h. stopped m n a t turn (right_back m a spot t some h) took;
-}
+right_exact m n a spot turn some took =
+    let by = λ (t : Trouble) (shown : Shown m a spot t). stopped m n a t turn (right_stops m a spot t some shown) took in
+    record { failed = λ t h. by t (inl h); refused = λ t h. by t (inr (inl h)); broken = λ t h. by t (inr (inr (inl h))); led_back = λ t h. by t (inr (inr (inr h))) }
 
 -- ---- a step
-
-walk_of : (r : Range) (ls : List Leaf) (w : Walk) (o : Option Spot) → o ≡ None → InHand r ls w o → IsWalk w
-walk_of r ls w None e h = h.0
-walk_of r ls w (Some spot) e h = absurd (cc (e))
 
 pub next_exact : (r : Range) (h : List Move) (m n : Scan × Cache) (a : Answer) (turn : Turn ℕ) → Scanned r h m → Took (LeadsBy scan_next) KeepsServed m a n turn → Exact m a turn
 next_exact r h m n a turn came took = record {
@@ -205,37 +163,11 @@ next_exact r h m n a turn came took = record {
 
 -- ---- before the first call
 
--- where it stops, the walk did
-abbrev ReadyStops : Scan × Cache → Next (Scan × Cache) ℕ → Type 0
-ReadyStops m (Goes n) = Unit {0}
-ReadyStops m (Ends n page) = Unit {0}
-ReadyStops m (Stops n t) = walk_ready (m.0.walk, m.1) ≡ Stops (n.0.walk, n.1) t
-
-ready_stops : (m : Scan × Cache) → ReadyStops m (scan_ready m)
-ready_stops m = by (goes_on m.1 (rested m.0.walk)) refl (through_unended m.1 64 (rested m.0.walk)) where
-  by : (x : Next Walk ℕ) → goes_on m.1 (rested m.0.walk) ≡ x → Unended x → ReadyStops m (walked_by m.0 (beside (x, m.1)))
-  by (Goes w) e h = tt
-  by (Ends w page) e h = absurd h
-  by (Stops w t) e h = ap (λ (x : Next Walk ℕ). beside (x, m.1)) e
-
 pub scan_ready_shows : (s : Scan) (c : Cache) (n : Scan × Cache) (turn : Turn ℕ) → Moves (scan_ready (s, c)) n turn → CausesReady (s, c) n turn
 scan_ready_shows s c n turn moved t is other =
     let At : Turn ℕ → Type 0 = Moves (scan_ready (s, c)) n in
-    let walk : walk_ready (s.walk, c) ≡ Stops (n.0.walk, n.1) t = subst (ReadyStops (s, c)) (subst At is moved other) (ready_stops (s, c)) in
+    let walk : walk_ready (s.walk, c) ≡ Stops (n.0.walk, n.1) t = subst (Readies (s, c)) (subst At is moved other) (scan_readies (s, c)) in
     ready_shows s.walk c (n.0.walk, n.1) (Stopped t) (λ same. walk) t refl other
-
--- it never ends before the first call, since a leaf is always got
-abbrev pub NeverEnds : Next (Scan × Cache) ℕ → Type 0
-NeverEnds (Goes n) = Unit {0}
-NeverEnds (Ends n page) = ⊥
-NeverEnds (Stops n t) = Unit {0}
-
-pub ready_unended : (m : Scan × Cache) → NeverEnds (scan_ready m)
-ready_unended m = by (goes_on m.1 (rested m.0.walk)) (through_unended m.1 64 (rested m.0.walk)) where
-  by : (x : Next Walk ℕ) → Unended x → NeverEnds (walked_by m.0 (beside (x, m.1)))
-  by (Goes w) h = tt
-  by (Ends w page) h = absurd h
-  by (Stops w t) h = tt
 
 -- where the objects that the cache keeps show a trouble on the way of its walk, it stops with that
 pub scan_ready_exact : (r : Range) (c : Cache) (n : Scan × Cache) (turn : Turn ℕ) (t : Trouble) → IsCache c → Moves (scan_ready (scan_of r, c)) n turn → Meets c (scan_of r).walk t

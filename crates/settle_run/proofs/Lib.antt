@@ -1,3 +1,4 @@
+pub mod Outcomes
 pub mod Causing
 pub mod Ending
 pub mod Holding

@@ -1,6 +1,10 @@
 -- A settling ends: each step leaves fewer calls than were left before it.
-use Rattle.std.proofs.Common.{◌≡◌, ◌<◌, ◌≤◌, ◌+◌, ◌-◌, ◌*◌, ◌^◌, ℕ, List, [], ◌∷◌, ◌++◌, length, refl, sym, subst, ap, ◌∙◌, arith, length-append}
+use Rattle.std.proofs.Common.{◌≡◌, ◌<◌, ◌≤◌, ◌+◌, ◌-◌, ◌*◌, ◌^◌, ℕ, List, [], ◌∷◌, ◌++◌, length, Option, Some, None, refl, sym, subst, ap, ◌∙◌, Bool, true, false, cond, arith, length-append}
+use Rattle.std.specs.Prelude.{◌==◌, nat_lt}
 use Rattle.std.proofs.lemmas.Nat.{mul-add-lt}
+use Rattle.std.proofs.lemmas.Bool.Decides.{nat_tests}
+use Rattle.leaf_view.specs.Lookup.{page_at}
+use Rattle.db_base.specs.declared.trouble.Trouble.TheVariants as trouble
 use Rattle.cloud_trait.specs.declared.answer.Answer.{Answer}
 use Rattle.cloud_trait.specs.declared.answer.Answer.TheVariants.{Failed}
 use Rattle.cloud_trait.specs.declared.turn.Turn.{Turn}
@@ -8,6 +12,7 @@ use Rattle.cloud_trait.specs.declared.turn.Turn.TheVariants.{More, Ended, Stoppe
 use Rattle.cloud_trait.specs.declared.turn.CkptAnswer.{CkptAnswer}
 use Rattle.cloud_trait.specs.Machine.{Next, Goes, Ends, Stops, Took}
 use Rattle.recover_run.specs.declared.stage.RecoverAnswer.{RecoverAnswer}
+use Rattle.recover_run.specs.Ids.{new_ids}
 use Rattle.recover_run.specs.Recovery.{Recovery}
 use Rattle.page_ckpt.specs.Paging.{Paging}
 use Rattle.tree_ckpt.specs.Making.{Making}
@@ -17,10 +22,8 @@ use Rattle.tree_ckpt.specs.Ending.{calls_in}
 use Rattle.settle_run.specs.declared.part.Part.{Part}
 use Rattle.settle_run.specs.declared.part.Part.TheVariants.{Client, Tree, Page}
 use Rattle.settle_run.specs.declared.settled.Settled.{Settled}
-use Rattle.settle_run.specs.Parts.{recovered_turn, left_turn, KeepsPart, part_of_client, part_of_tree, part_of_page, part_again, recovers, makes, pages, PartLeads}
-use Rattle.settle_run.specs.Settling.{Settling, Step, to_page, counted, with_part, after_turn, moved, SamePart}
-use Rattle.settle_run.proofs.Outcomes.{Onward, Passes, Comes, passes_to, comes}
-use Rattle.settle_run.proofs.Outcomes as step
+use Rattle.settle_run.specs.Parts.{recovered_turn, left_turn, KeepsPart, part_of_client, part_of_tree, part_of_page, part_again, part_received, recovers, makes, pages, PartLeads}
+use Rattle.settle_run.specs.Settling.{Settling, Step, begins, behind_client, to_page, behind_tree, is_visited, goes_right, goes_on, passed_with, passed, ended_by, counted, with_part, after_turn, moved, SamePart}
 use Rattle.settle_run.specs.Ending.{part_left, places_left, parts_left, calls_left}
 
 -- ---- numbers
@@ -34,6 +37,9 @@ digit w a b x y less small =
 -- the same number before a smaller digit
 last_digit : (w a b x y : ℕ) → a ≡ b → x < y → a * w + x < b * w + y
 last_digit w a b x y e less = subst (λ (k : ℕ). k * w + x < b * w + y) (sym e) (omega (arith, less))
+
+below_true : (a b : ℕ) → nat_lt a b ≡ true → a < b
+below_true a b e = grind (arith, nat_tests)
 
 -- ---- places
 
@@ -89,6 +95,15 @@ below_place s n place small =
     (2 ^ 64 - length n.known) (2 ^ 64 - length s.known) place (omega arith) in
     digit (2 ^ 130) (parts_left n) (parts_left s) (part_left n.part) (part_left s.part) parts small
 
+below_client : (s mid : Settling) (client : ℕ) → places_left s.part (length s.visited) ≡ (64 - client) + 16 * (2 ^ 64 + 2)
+    → Below s (begins mid (behind_client client))
+below_client s mid client e = on (nat_lt client 64) refl where
+  on : (b : Bool) → nat_lt client 64 ≡ b → Below s (begins mid (cond b (part_of_client (client + 1)) (part_of_tree 1)))
+  on true less = λ known visited.
+      let under : client < 64 = below_true client 64 less in
+      below_place s (record mid { part = part_of_client (client + 1); known = [] }) (omega (arith, e, under)) (omega arith)
+  on false more = λ known visited. below_place s (record mid { part = part_of_tree 1; known = [] }) (omega (arith, e)) (omega arith)
+
 below_page : (s mid : Settling) (tree page : ℕ)
     → (length mid.visited + 1 ≤ 2 ^ 64 → (16 - tree) * (2 ^ 64 + 2) + (2 ^ 64 - (length mid.visited + 1)) < places_left s.part (length s.visited))
     → Below s (to_page mid tree page)
@@ -100,22 +115,29 @@ below_page s mid tree page less = λ known visited.
     longer : length (mid.visited ++ page ∷ []) ≡ length mid.visited + 1
     longer = rw (length-append mid.visited (page ∷ [])) refl
 
+below_tree : (s mid : Settling) (tree : ℕ) (v : ℕ) → places_left s.part (length s.visited) ≡ (16 - tree) * (2 ^ 64 + 2) + (2 ^ 64 - v) → Below s (behind_tree mid tree)
+below_tree s mid tree v e = on (nat_lt tree 16) refl where
+  on : (b : Bool) → nat_lt tree 16 ≡ b
+      → Below s (cond b (begins (record mid { visited = [] }) (part_of_tree (tree + 1))) (Ends mid (record { calls = mid.calls })))
+  on true less = λ known visited.
+      let under : tree < 16 = below_true tree 16 less in
+      below_place s (record mid { part = part_of_tree (tree + 1); known = []; visited = [] }) (omega (arith, e, under)) (omega arith)
+  on false more = tt
+
+below_right : (s mid : Settling) (tree : ℕ) (right : Option ℕ) → mid.visited ≡ s.visited
+    → places_left s.part (length s.visited) ≡ (16 - tree) * (2 ^ 64 + 2) + (2 ^ 64 - length s.visited) → Below s (goes_right mid tree right)
+below_right s mid tree None same e = below_tree s mid tree (length s.visited) e
+below_right s mid tree (Some page) same e = on (is_visited mid page) where
+  on : (b : Bool) → Below s (cond b (Stops mid (trouble.Loop page)) (to_page mid tree page))
+  on true = tt
+  on false = below_page s mid tree page (λ few. let long : length mid.visited ≡ length s.visited = ap length same in omega (arith, e, few, long))
+
 -- behind a part that ended at the same place
-below_onward : (s mid : Settling) {p : Part} {next : Step} → mid.visited ≡ s.visited → ((visited : ℕ) → places_left s.part visited ≡ places_left p visited) → Onward mid p next
-    → Below s next
-below_onward s mid same place (step.next_client client m less) = λ known visited.
-    let e = place (length s.visited) in below_place s (record mid { part = part_of_client (client + 1); known = [] }) (omega (arith, e, less)) (omega arith)
-below_onward s mid same place (step.first_tree client m more) = λ known visited.
-    let e = place (length s.visited) in below_place s (record mid { part = part_of_tree 1; known = [] }) (omega (arith, e)) (omega arith)
-below_onward s mid same place (step.first_page tree m) =
+below_on : (s mid : Settling) (p : Part) → mid.visited ≡ s.visited → ((visited : ℕ) → places_left s.part visited ≡ places_left p visited) → Below s (goes_on mid p)
+below_on s mid (Client client m) same place = below_client s mid client (place (length s.visited))
+below_on s mid (Tree tree m) same place =
     below_page s (record mid { visited = [] }) tree 1 (λ few. let e = place (length s.visited) in omega (arith, e))
-below_onward s mid same place (step.next_page tree page m next e no) =
-    below_page s mid tree next
-    (λ few. let at = place (length s.visited) in let long : length mid.visited ≡ length s.visited = ap length same in omega (arith, at, few, long))
-below_onward s mid same place (step.round tree page m next e yes) = tt
-below_onward s mid same place (step.next_tree tree page m e less) = λ known visited.
-    let at = place (length s.visited) in below_place s (record mid { part = part_of_tree (tree + 1); known = []; visited = [] }) (omega (arith, at, less)) (omega arith)
-below_onward s mid same place (step.all_trees tree page m e more) = tt
+below_on s mid (Page tree page m) same place = below_right s mid tree (page_at m.home.right) same (place (length s.visited))
 
 -- the same again knows more
 below_again : (s : Settling) (p : Part) (id : ℕ) (ids : List ℕ) (calls : ℕ) → part_again p ≡ part_again s.part
@@ -130,12 +152,18 @@ below_again s p id ids calls same = λ known visited.
     digit (2 ^ 130) (places_left (part_again p) (length s.visited) * (2 ^ 64 + 1) + (2 ^ 64 - length (s.known ++ id ∷ ids))) (parts_left s)
     (part_left (part_again p)) (part_left s.part) parts (again_small p)
 
-below_ended : (s : Settling) {p : Part} {left : ℕ} {next : Step} → part_again p ≡ part_again s.part → Comes s (Ends p left) next → Below s next
-below_ended s same (step.fails p left some) = tt
-below_ended s same (step.ended p next e) = on (passes_to (counted (with_part s p)) next e) where
-  on : {next : Step} → Passes (counted (with_part s p)) next → Below s next
-  on (step.once_more id ids some) = below_again s p id ids (s.calls + 1) same
-  on (step.onward next none further) = below_onward s (counted (with_part s p)) refl (λ visited. sym (same_places s.part p visited same)) further
+below_passed : (s : Settling) (p : Part) (ids : List ℕ) → part_again p ≡ part_again s.part → Below s (passed_with (counted (with_part s p)) ids)
+below_passed s p [] same = below_on s (counted (with_part s p)) p refl (λ visited. sym (same_places s.part p visited same))
+below_passed s p (id ∷ ids) same = below_again s p id ids (s.calls + 1) same
+
+below_ended : (s : Settling) (p : Part) (left : ℕ) → part_again p ≡ part_again s.part → Below s (ended_by (counted (with_part s p)) left)
+below_ended s p left same = on (left == 0) where
+  mid : Settling
+  mid = counted (with_part s p)
+
+  on : (b : Bool) → Below s (cond b (passed mid) (Stops mid trouble.Failed))
+  on true = below_passed s p (new_ids s.known (part_received p)) same
+  on false = tt
 
 -- the same part goes on with fewer calls left
 below_goes : (s : Settling) (p : Part) → part_again p ≡ part_again s.part → part_left p < part_left s.part → Below s (moved s (Goes p))
@@ -148,7 +176,7 @@ below_goes s p same less = λ known visited.
 below_after : (s : Settling) (p : Part) (a : Answer) (turn : Turn ℕ) → Took PartLeads KeepsPart s.part a p turn
     → (turn ≡ More → part_left p < part_left s.part) → Below s (after_turn (with_part s p) turn)
 below_after s p a More took less = below_goes s p (part_stays s.part a (Goes p) took) (less refl)
-below_after s p a (Ended left) took less = below_ended s (part_stays s.part a (Ends p left) took) (comes s (Ends p left))
+below_after s p a (Ended left) took less = below_ended s p left (part_stays s.part a (Ends p left) took)
 below_after s p a (Stopped t) took less = tt
 
 -- a step that goes on leaves fewer calls, if that of a part does

@@ -1,5 +1,7 @@
 -- What the part at work holds, and that it gives it back.
-use Rattle.std.proofs.Common.{◌≡◌, ◌≢◌, ◌+◌, ℕ, List, [], ◌∷◌, ◌++◌, None, refl, sym, subst, ap, ◌∙◌}
+use Rattle.std.proofs.Common.{◌≡◌, ◌≢◌, ◌+◌, ℕ, List, [], ◌∷◌, ◌++◌, Option, Some, None, refl, sym, subst, ap, ◌∙◌, Bool, true, false, cond}
+use Rattle.std.specs.Prelude.{◌==◌, nat_lt}
+use Rattle.leaf_view.specs.Lookup.{page_at}
 use Rattle.db_base.specs.declared.trouble.Trouble.TheVariants as trouble
 use Rattle.cloud_trait.specs.declared.answer.Answer.{Answer}
 use Rattle.cloud_trait.specs.declared.answer.Answer.TheVariants.{Failed, Given}
@@ -13,6 +15,7 @@ use Rattle.cloud_trait.specs.Weather.{Fits}
 use Rattle.recover_run.specs.declared.stage.Aim.TheVariants as aim
 use Rattle.recover_run.specs.declared.stage.RecoverAnswer.{RecoverAnswer}
 use Rattle.recover_run.specs.declared.stage.RecoverAnswer.TheVariants.{Opened, Nothing}
+use Rattle.recover_run.specs.Ids.{new_ids}
 use Rattle.recover_run.specs.Recovery.{Recovery, recovery_next}
 use Rattle.recover_run.specs.Standing.{outstanding as recovery_outstanding, outstanding_after as recovery_after}
 use Rattle.ckpt_parts.specs.Leasing.{outstanding, outstanding_after}
@@ -26,12 +29,10 @@ use Rattle.tree_ckpt.proofs.Leases.{came_stands as tree_stands, stands_names as 
 use Rattle.settle_run.specs.declared.part.Part.{Part}
 use Rattle.settle_run.specs.declared.part.Part.TheVariants.{Client, Tree, Page}
 use Rattle.settle_run.specs.declared.settled.Settled.{Settled}
-use Rattle.settle_run.specs.Parts.{part_ask, recovers, makes, pages, PartLeads, KeepsPart, PartWent}
-use Rattle.settle_run.specs.Settling.{Settling, Step, ended_by, counted, with_part, after_turn, settle_ask, moved, SettleLeads, KeepsSettling, SamePart}
+use Rattle.settle_run.specs.Parts.{part_of_tree, part_ask, part_received, recovers, makes, pages, PartLeads, KeepsPart, PartWent}
+use Rattle.settle_run.specs.Settling.{Settling, Step, begins, to_page, behind_tree, is_visited, goes_right, goes_on, passed_with, passed, ended_by, counted, with_part, after_turn, settle_ask, moved, SettleLeads, KeepsSettling, SamePart}
 use Rattle.settle_run.specs.Standing.{PartHolds, Holds, IsFree, GivesBack, AreReturned}
 use Rattle.settle_run.specs.Meaning.{Went, Run, Ran, deeds_of}
-use Rattle.settle_run.proofs.Outcomes.{Onward, Passes, Comes, passes_to, comes}
-use Rattle.settle_run.proofs.Outcomes as step
 use Rattle.settle_run.proofs.Ranging.{Stands, went_stands}
 
 part_holds : (p : Part) (h : List Deed) → PartWent h p → PartHolds p h
@@ -81,17 +82,32 @@ Keeps p (Goes n) = Unit {0}
 Keeps p (Ends n x) = n.part ≡ p
 Keeps p (Stops n t) = n.part ≡ p
 
-keeps_onward : {mid : Settling} {p : Part} {next : Step} → Onward mid p next → Keeps mid.part next
-keeps_onward (step.round tree page m next e yes) = refl
-keeps_onward (step.all_trees tree page m e more) = refl
-keeps_onward c = tt
+keeps_tree : (s : Settling) (tree : ℕ) → Keeps s.part (behind_tree s tree)
+keeps_tree s tree = on (nat_lt tree 16) where
+  on : (b : Bool) → Keeps s.part (cond b (begins (record s { visited = [] }) (part_of_tree (tree + 1))) (Ends s (record { calls = s.calls })))
+  on true = tt
+  on false = refl
 
-keeps : {s : Settling} {p : Part} {left : ℕ} {next : Step} → Comes s (Ends p left) next → Keeps p next
-keeps (step.fails p left some) = refl
-keeps {s = s} (step.ended p next e) = on (passes_to (counted (with_part s p)) next e) where
-  on : {next : Step} → Passes (counted (with_part s p)) next → Keeps p next
-  on (step.once_more id ids some) = tt
-  on (step.onward next none further) = keeps_onward further
+keeps_on : (s : Settling) (p : Part) → Keeps s.part (goes_on s p)
+keeps_on s (Client client m) = tt
+keeps_on s (Tree tree m) = tt
+keeps_on s (Page tree page m) = right (page_at m.home.right) where
+  right : (found : Option ℕ) → Keeps s.part (goes_right s tree found)
+  right None = keeps_tree s tree
+  right (Some next) = on (is_visited s next) where
+    on : (b : Bool) → Keeps s.part (cond b (Stops s (trouble.Loop next)) (to_page s tree next))
+    on true = refl
+    on false = tt
+
+keeps_passed : (s : Settling) (ids : List ℕ) → Keeps s.part (passed_with s ids)
+keeps_passed s [] = keeps_on s s.part
+keeps_passed s (id ∷ ids) = tt
+
+keeps_ended : (s : Settling) (left : ℕ) → Keeps s.part (ended_by s left)
+keeps_ended s left = on (left == 0) where
+  on : (b : Bool) → Keeps s.part (cond b (passed s) (Stops s trouble.Failed))
+  on true = keeps_passed s (new_ids s.known (part_received s.part))
+  on false = refl
 
 -- what is free where a step ends or stops
 abbrev Freed : Step → Type 0
@@ -108,7 +124,7 @@ freed_after : (s : Settling) (p : Part) (own : List Deed) (a : Answer) (turn : T
     → Took PartLeads KeepsPart s.part a p turn → Freed (after_turn (with_part s p) turn)
 freed_after s p own a More went fits took = tt
 freed_after s p own a (Ended left) went fits took =
-    freed_with p (ended_by (counted (with_part s p)) left) (part_frees s.part own a (Ends p left) went fits took) (keeps (comes s (Ends p left)))
+    freed_with p (ended_by (counted (with_part s p)) left) (part_frees s.part own a (Ends p left) went fits took) (keeps_ended (counted (with_part s p)) left)
 freed_after s p own a (Stopped t) went fits took = λ k. part_frees s.part own a (Stops p t) went fits (took.0 k) k
 
 pub took_gives : (s n : Settling) (p : Part) (own : List Deed) (a : Answer) (turn : Turn ℕ) (result : Turn Settled) → PartWent own s.part

@@ -1,4 +1,3 @@
-pub mod Outcomes
 pub mod Causing
 pub mod Ending
 pub mod Holding

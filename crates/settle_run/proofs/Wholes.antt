@@ -1,20 +1,21 @@
 -- The parts of a settling that came to its end recovered every client and emptied every tree.
-use Rattle.std.proofs.Common.{◌≡◌, ◌≢◌, ◌<◌, ◌+◌, ◌⊎◌, inl, inr, ℕ, zero, suc, List, [], ◌∷◌, ◌++◌, Some, None, refl, sym, ap, subst, ◌∙◌, true, arith}
+use Rattle.std.proofs.Common.{◌≡◌, ◌≢◌, ◌<◌, ◌≤◌, ◌+◌, ◌⊎◌, inl, inr, ℕ, zero, suc, List, [], ◌∷◌, ◌++◌, Option, Some, None, refl, sym, ap, subst, ◌∙◌, Bool, true, false, cond, arith}
 use Rattle.std.specs.List.{AllByRecursion}
+use Rattle.std.specs.Prelude.{nat_lt}
 use Rattle.std.proofs.lemmas.Bool.{cases_eq}
+use Rattle.std.proofs.lemmas.Bool.Decides.{nat_tests}
 use Rattle.leaf_view.specs.Lookup.{page_at}
 use Rattle.db_base.specs.Ids.{IsClient, IsTree}
+use Rattle.db_base.specs.declared.trouble.Trouble.TheVariants as trouble
 use Rattle.cloud_trait.specs.Machine.{Goes, Ends, Stops}
 use Rattle.page_ckpt.specs.Paging.{Paging}
 use Rattle.recover_run.proofs.Keeping.{all_new}
 use Rattle.recover_run.proofs.Sweeping.{all_has, none_new, each_has}
 use Rattle.recover_run.specs.Ids.{has_id, new_ids}
 use Rattle.recover_run.specs.Recovery.{Recovery}
-use Rattle.settle_run.proofs.Outcomes.{Onward, Passes, passes_to}
-use Rattle.settle_run.proofs.Outcomes as step
 use Rattle.settle_run.specs.Meaning.{Run, behind, Ran, RanTo, Received, Empties, EmptiesPages, EmptiesTree, IsWhole}
-use Rattle.settle_run.specs.Parts.{part_of_tree, part_of_page, part_again, part_received}
-use Rattle.settle_run.specs.Settling.{Settling, Step, passed}
+use Rattle.settle_run.specs.Parts.{part_of_client, part_of_tree, part_of_page, part_again, part_received}
+use Rattle.settle_run.specs.Settling.{Settling, Step, begins, behind_client, to_page, behind_tree, is_visited, goes_right, goes_on, passed_with, passed}
 use Rattle.settle_run.specs.declared.part.Part.{Part}
 use Rattle.settle_run.specs.declared.part.Part.TheVariants.{Client, Tree, Page}
 use Rattle.settle_run.specs.declared.settled.Settled.{Settled}
@@ -134,81 +135,102 @@ module _ (r : Run) (rs : List Run) where
         ),
       )
 
-  -- one client more was recovered, and one tree more emptied
-  one_client : (client : ℕ) (m : Recovery) → r.part ≡ Client client m → ClientsBelow rs client → ClientsBelow (r ∷ rs) (client + 1)
-  one_client client m e below k is less = by (cases_eq k client)
+  -- behind the last client comes the first tree
+  client_on : (mid : Settling) (client : ℕ) (m : Recovery) → r.part ≡ Client client m → ClientsBelow rs client → After (r ∷ rs) (begins mid (behind_client client))
+  client_on mid client m e below = on (nat_lt client 64) refl
     where
-      by : (k ≡ client) ⊎ (k ≢ client) → (x : Recovery) × RanTo (r ∷ rs) (Client k x)
-      by (inl same) = (m, inl (e ∙ ap (λ (n : ℕ). Client n m) (sym same)))
-      by (inr other) = clients_more client below k is (omega (arith, less, other))
+      enough : nat_lt client 64 ≡ false → 64 ≤ client
+      enough f = grind (arith, nat_tests, f)
 
-  one_tree : (tree : ℕ) → TreesBelow (r ∷ rs) tree → EmptiesTree (r ∷ rs) tree → TreesBelow (r ∷ rs) (tree + 1)
-  one_tree tree below own t is less = by (cases_eq t tree)
+      one_more : ClientsBelow (r ∷ rs) (client + 1)
+      one_more k is less = by (cases_eq k client)
+        where
+          by : (k ≡ client) ⊎ (k ≢ client) → (x : Recovery) × RanTo (r ∷ rs) (Client k x)
+          by (inl same) = (m, inl (e ∙ ap (λ (n : ℕ). Client n m) (sym same)))
+          by (inr other) = clients_more client below k is (omega (arith, less, other))
+
+      on : (b : Bool) → nat_lt client 64 ≡ b → After (r ∷ rs) (begins mid (cond b (part_of_client (client + 1)) (part_of_tree 1)))
+      on true f = one_more
+      on false f =
+          let far : 64 ≤ client = enough f in
+          (λ k is less. let most = is.most in one_more k is (omega (arith, most, far)), (λ t is less. let some = is.some in absurd (omega (arith, some, less)), tt))
+
+  -- behind the last tree comes nothing
+  tree_on : (mid : Settling) (tree : ℕ) → ClientsBelow (r ∷ rs) 65 → TreesBelow (r ∷ rs) tree → EmptiesTree (r ∷ rs) tree → After (r ∷ rs) (behind_tree mid tree)
+  tree_on mid tree clients below own = on (nat_lt tree 16) refl
     where
-      by : (t ≡ tree) ⊎ (t ≢ tree) → EmptiesTree (r ∷ rs) t
-      by (inl same) = subst (EmptiesTree (r ∷ rs)) (sym same) own
-      by (inr other) = below t is (omega (arith, less, other))
+      enough : nat_lt tree 16 ≡ false → 16 ≤ tree
+      enough f = grind (arith, nat_tests, f)
 
-  -- one page more was emptied
-  module _ (tree page : ℕ) (m : Paging) (known : List ℕ) (e : r.part ≡ Page tree page m) (none : new_ids known m.received ≡ []) (at : At rs (Page tree page m) known) where
-    pages : List ℕ
-    pages = at.1.1.1.0.0 ++ page ∷ []
+      one_more : TreesBelow (r ∷ rs) (tree + 1)
+      one_more t is less = by (cases_eq t tree)
+        where
+          by : (t ≡ tree) ⊎ (t ≢ tree) → EmptiesTree (r ∷ rs) t
+          by (inl same) = subst (EmptiesTree (r ∷ rs)) (sym same) own
+          by (inr other) = below t is (omega (arith, less, other))
 
-    come : EmptiesPages (r ∷ rs) tree 1 pages m.home.right
-    come =
-        page_more (r ∷ rs) tree 1 at.1.1.1.0.0 page m (pages_more r rs tree 1 at.1.1.1.0.0 page at.1.1.1.0.1)
-        (own_empties (Page tree page m) known e at.1.1.1.1 none)
+      on : (b : Bool) → nat_lt tree 16 ≡ b
+          → After (r ∷ rs) (cond b (begins (record mid { visited = [] }) (part_of_tree (tree + 1))) (Ends mid (record { calls = mid.calls })))
+      on true f = (clients, (one_more, tt))
+      on false f =
+          let far : 16 ≤ tree = enough f in
+          record {
+            clients = λ k is. let most = is.most in clients k is (omega (arith, most));
+            trees = λ t is. let most = is.most in one_more t is (omega (arith, most, far));
+          }
 
-    trees_now : page_at m.home.right ≡ None → TreesBelow (r ∷ rs) (tree + 1)
-    trees_now f =
-        one_tree tree (trees_more tree at.1.0)
-        (record {
-          making = at.1.1.0.0;
-          own = inr at.1.1.0.1;
-          pages = pages;
-          all = subst (EmptiesPages (r ∷ rs) tree 1 pages) (page_zero m.home.right f) come;
-        })
+  page_on : (mid : Settling) (tree page : ℕ) (m : Paging) (known : List ℕ) → r.part ≡ Page tree page m → new_ids known m.received ≡ [] → At rs (Page tree page m) known
+      → After (r ∷ rs) (goes_right mid tree (page_at m.home.right))
+  page_on mid tree page m known e none at = on (page_at m.home.right) refl
+    where
+      clients : ClientsBelow (r ∷ rs) 65
+      clients = clients_more 65 at.0
 
-  onward_at : {mid : Settling} {p : Part} {next : Step} (known : List ℕ) → r.part ≡ p → new_ids known (part_received p) ≡ [] → At rs p known → Onward mid p next → After (r ∷ rs) next
-  onward_at known e none below (step.next_client client m less) = one_client client m e below
-  onward_at known e none below (step.first_tree client m far) = (
-    λ k is less. let most = is.most in one_client client m e below k is (omega (arith, most, far)),
-    (λ t is less. let some = is.some in absurd (omega (arith, some, less)), tt),
-  )
-  onward_at known e none at (step.first_page tree m) =
+      below : TreesBelow (r ∷ rs) tree
+      below = trees_more tree at.1.0
+
+      pages : List ℕ
+      pages = at.1.1.1.0.0 ++ page ∷ []
+
+      come : EmptiesPages (r ∷ rs) tree 1 pages m.home.right
+      come =
+          page_more (r ∷ rs) tree 1 at.1.1.1.0.0 page m (pages_more r rs tree 1 at.1.1.1.0.0 page at.1.1.1.0.1)
+          (own_empties (Page tree page m) known e at.1.1.1.1 none)
+
+      on : (right : Option ℕ) → page_at m.home.right ≡ right → After (r ∷ rs) (goes_right mid tree right)
+      on None f =
+          tree_on mid tree clients below
+          (record {
+            making = at.1.1.0.0;
+            own = inr at.1.1.0.1;
+            pages = pages;
+            all = subst (EmptiesPages (r ∷ rs) tree 1 pages) (page_zero m.home.right f) come;
+          })
+      on (Some next) f = further (is_visited mid next)
+        where
+          further : (b : Bool) → After (r ∷ rs) (cond b (Stops mid (trouble.Loop next)) (to_page mid tree next))
+          further true = tt
+          further false = (clients, (below, ((at.1.1.0.0, inr at.1.1.0.1), ((pages, subst (EmptiesPages (r ∷ rs) tree 1 pages) (page_some m.home.right next f) come), tt))))
+
+  part_on : (mid : Settling) (p : Part) (known : List ℕ) → r.part ≡ p → new_ids known (part_received p) ≡ [] → At rs p known → After (r ∷ rs) (goes_on mid p)
+  part_on mid (Client client m) known e none below = client_on mid client m e below
+  part_on mid (Tree tree m) known e none at =
       (clients_more 65 at.0, (trees_more tree at.1.0, ((m, own_empties (Tree tree m) known e at.1.1 none), (([], refl), tt))))
-  onward_at known e none at (step.next_page tree page m next f no) = (
-    clients_more 65 at.0,
-    (
-      trees_more tree at.1.0,
-      (
-        (at.1.1.0.0, inr at.1.1.0.1),
-        (
-          (
-            pages tree page m known e none at,
-            subst (EmptiesPages (r ∷ rs) tree 1 (pages tree page m known e none at)) (page_some m.home.right next f) (come tree page m known e none at),
-          ),
-          tt,
-        ),
-      ),
-    ),
-  )
-  onward_at known e none at (step.round tree page m next f yes) = tt
-  onward_at known e none at (step.next_tree tree page m f less) = (clients_more 65 at.0, (trees_now tree page m known e none at f, tt))
-  onward_at known e none at (step.all_trees tree page m f far) = record {
-    clients = λ k is. let most = is.most in clients_more 65 at.0 k is (omega (arith, most));
-    trees = λ t is. let most = is.most in trees_now tree page m known e none at f t is (omega (arith, most, far));
-  }
+  part_on mid (Page tree page m) known e none at = page_on mid tree page m known e none at
 
-  behind_part : (from : Settling) {next : Step} → At rs r.part from.known → Passes (behind from r) next → After (r ∷ rs) next
-  behind_part from at (step.once_more id ids e) = at_again r.part from.known (id ∷ ids) refl e at
-  behind_part from at (step.onward next none further) = onward_at from.known refl none at further
+  behind_part : (from : Settling) → At rs r.part from.known → After (r ∷ rs) (passed (behind from r))
+  behind_part from at = on (new_ids from.known (part_received r.part)) refl
+    where
+      on : (ids : List ℕ) → new_ids from.known (part_received r.part) ≡ ids → After (r ∷ rs) (passed_with (behind from r) ids)
+      on [] e = part_on (behind from r) r.part from.known refl e at
+      on (id ∷ ids) e = at_again r.part from.known (id ∷ ids) refl e at
 
 -- ---- all parts
 
 pub part_behind : (r : Run) (rs : List Run) (from : Settling) (next : Step) → At rs from.part from.known → part_again r.part ≡ from.part → passed (behind from r) ≡ next → After (r ∷ rs) next
-part_behind r rs from next at place e =
-    behind_part r rs from (again_at rs r.part from.known (subst (λ (p : Part). At rs p from.known) (sym place) at)) (passes_to (behind from r) next e)
+part_behind r rs from next at place passes =
+    subst (After (r ∷ rs)) passes
+    (behind_part r rs from (again_at rs r.part from.known (subst (λ (p : Part). At rs p from.known) (sym place) at)))
 
 pub ran_at : (rs : List Run) (s : Settling) → Ran rs s → At rs s.part s.known
 ran_at [] s e = subst (λ (x : Settling). At [] x.part x.known) (sym e) (λ k is less. let some = is.some in absurd (omega (arith, some, less)))

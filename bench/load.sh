@@ -19,7 +19,7 @@ for crate in "$top"/crates/*/; do
     if [ -d "${crate}out/rlib" ]; then cp -rl "${crate}out/rlib" "$it/out/" 2>/dev/null || cp -r "${crate}out/rlib" "$it/out/"; fi
 done
 mkdir -p "$work/crates/load_times/src"
-{ cat "$top/crates.txt"; echo 'load_times: db_base db_io line_io memory_cloud schedule_run'; } > "$work/crates.txt"
+{ cat "$top/crates.txt"; echo 'load_times: db_base db_io memory_cloud schedule_run'; } > "$work/crates.txt"
 cd "$work/crates/load_times"
 cat > src/main.rt <<'RT'
 #![tactic(auto)]
@@ -28,7 +28,7 @@ use db_base::blob::Blob;
 use db_io::memory_sink::MemorySink;
 use db_io::memory_source::MemorySource;
 use db_io::std_source::StdSource;
-use line_io::input::{MAX_DUMP, read_whole};
+use db_io::input::{MAX_DUMP, read_whole};
 use memory_cloud::memory::MemoryCloud;
 use schedule_run::run::run;
 use schedule_run::status::Status;

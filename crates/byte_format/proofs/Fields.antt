@@ -106,9 +106,6 @@ text_exact w limit wide least most below = record {
 pub u8_exact : (least most : ℕ) → most < 2 ^ 8 → IsExact (number w8 least most)
 u8_exact least most below = number_exact w8 (2 ^ 8) wide8 least most below
 
-pub u16_exact : (least most : ℕ) → most < 2 ^ 16 → IsExact (number w16 least most)
-u16_exact least most below = number_exact w16 (2 ^ 16) wide16 least most below
-
 pub u64_exact : (least most : ℕ) → most < 2 ^ 64 → IsExact (number w64 least most)
 u64_exact least most below = number_exact w64 (2 ^ 64) wide64 least most below
 

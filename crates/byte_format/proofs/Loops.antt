@@ -1,7 +1,7 @@
 -- Reading a list item after item, as a loop does.
 use Rattle.std.proofs.Common.{◌≡◌, ℕ, zero, suc, ◌+◌, ◌-◌, ◌<◌, ◌≤◌, Bool, true, false, List, [], ◌∷◌, ◌++◌, length, Option, Some, None, Result, Ok, Err, refl, sym, ap, ◌∙◌, append_assoc, arith}
 use Rattle.std.specs.Prelude.{slice_get}
-use Rattle.std.proofs.lemmas.List.{length-append, append-nil}
+use Rattle.std.proofs.lemmas.List.{length-append}
 use Rattle.byte_format.specs.Format.{Reading, ◌>>=◌, Format, more_at, list_from, list_at}
 use Rattle.byte_format.specs.Whole.{IsBytes, IsExact}
 use Rattle.byte_format.specs.Gives.{behind_it, Fails}
@@ -61,21 +61,6 @@ ends item total may_end before rest behind way more =
     let o = opened item may_end before rest (false, behind) way.room way.enough more in
     sym way.same ∙ ap behind_it o.2
 
--- no room is no list
-stuck : {A : Type 0} (item : Option A → Format A) (may_end : Bool) (before : Option A) (rest : List ℕ) (left : ℕ) (room : ℕ) → length rest < room → more_at may_end rest ≡ Err left → list_from room may_end item before rest ≡ Err left
-stuck item may_end before rest left zero short h = absurd (omega arith)
-stuck item may_end before rest left (suc m) short h = rw h refl
-
-pub ends_early : {A : Type 0} (item : Option A → Format A) (total : Result (List ℕ) ℕ) (may_end : Bool) (before : Option A) (rest : List ℕ) (left : ℕ) → IsOnTheWay item total may_end before rest
-    → more_at may_end rest ≡ Err left → total ≡ Err left
-ends_early item total may_end before rest left way h = sym way.same ∙ ap behind_it (stuck item may_end before rest left way.room way.enough h)
-
-pub item_fails : {A : Type 0} (item : Option A → Format A) (total : Result (List ℕ) ℕ) (may_end : Bool) (before : Option A) (rest behind : List ℕ) (left : ℕ) → IsOnTheWay item total may_end before rest
-    → more_at may_end rest ≡ Ok (true, behind) → (item before).reading behind ≡ Err left → total ≡ Err left
-item_fails item total may_end before rest behind left way more read =
-    let o = opened item may_end before rest (true, behind) way.room way.enough more in
-    sym way.same ∙ ap behind_it o.2 ∙ rw read refl
-
 -- ---- the same with the items kept
 
 abbrev pub with_front : {A : Type 0} → List A → Reading (List A) → Reading (List A)
@@ -122,16 +107,6 @@ goes_on_kept {A = A} item each total may_end items rest behind x after way more 
       enough = omega (arith, way.enough, o.1, n.less);
       same = ap (λ (b : Option A). with_front (items ++ x ∷ []) (list_from o.0 true item b after)) (last_of-push items x) ∙ sym one ∙ way.same;
     }
-
-pub ends_kept : {A : Type 0} (item : Option A → Format A) (total : Reading (List A)) (may_end : Bool) (items : List A) (rest behind : List ℕ) → IsKept item total may_end items rest
-    → more_at may_end rest ≡ Ok (false, behind) → total ≡ Ok (items, behind)
-ends_kept {A = A} item total may_end items rest behind way more =
-    let o = opened item may_end (last_of items) rest (false, behind) way.room way.enough more in
-    sym way.same ∙ ap (with_front items) o.2 ∙ ap (λ (xs : List A). Ok (xs, behind)) (append-nil items)
-
-pub ends_early_kept : {A : Type 0} (item : Option A → Format A) (total : Reading (List A)) (may_end : Bool) (items : List A) (rest : List ℕ) (left : ℕ) → IsKept item total may_end items rest
-    → more_at may_end rest ≡ Err left → total ≡ Err left
-ends_early_kept item total may_end items rest left way h = sym way.same ∙ ap (with_front items) (stuck item may_end (last_of items) rest left way.room way.enough h)
 
 pub item_fails_kept : {A : Type 0} (item : Option A → Format A) (total : Reading (List A)) (may_end : Bool) (items : List A) (rest behind : List ℕ) (left : ℕ) → IsKept item total may_end items rest
     → more_at may_end rest ≡ Ok (true, behind) → (item (last_of items)).reading behind ≡ Err left → total ≡ Err left

@@ -4,7 +4,7 @@ use Rattle.std.specs.Ordering.{nat_cmp, ordering_then, MatchOrdering}
 use Rattle.std.specs.declared.cmp.Ordering.{Ordering}
 use Rattle.std.specs.declared.cmp.Ordering.TheVariants.{Less, Equal, Greater}
 use Rattle.std.specs.Cmp.{nat_cmp_is, ranks}
-use Rattle.std.specs.Int.{w32, w64, from_be_bytes}
+use Rattle.std.specs.Int.{w64, from_be_bytes}
 use Rattle.byte_format.specs.Order.{bytes_cmp}
 use Rattle.byte_format.specs.Whole.{IsBytes}
 use Rattle.byte_format.proofs.Steps.{IsBytes-rest}
@@ -53,13 +53,6 @@ spells (suc k) n (a ∷ us) (b ∷ vs) p q f g =
         subst (λ c. ordering_then (nat_cmp x (worth (n * 256 + c) (take k vs))) (bytes_cmp (drop k us) (drop k vs)) ≡ bytes_cmp us vs) level behind
         ∙ sym (ap (λ o. ordering_then o (bytes_cmp us vs)) is)
 
-four_are : (us : List ℕ) → 4 ≤ length us → worth 0 (take 4 us) ≡ from_be_bytes w32 (take 4 us)
-four_are [] p = absurd (omega arith)
-four_are (a ∷ []) p = absurd (omega arith)
-four_are (a ∷ b ∷ []) p = absurd (omega arith)
-four_are (a ∷ b ∷ c ∷ []) p = absurd (omega arith)
-four_are (a ∷ b ∷ c ∷ d ∷ us) p = omega arith
-
 eight_are : (us : List ℕ) → 8 ≤ length us → worth 0 (take 8 us) ≡ from_be_bytes w64 (take 8 us)
 eight_are [] p = absurd (omega arith)
 eight_are (a ∷ []) p = absurd (omega arith)
@@ -77,10 +70,6 @@ along x y x' y' o r a b h = subst (λ z. ordering_then (nat_cmp x z) o ≡ r) b 
 pub by_word : (us vs : List ℕ) (x y : ℕ) → 8 ≤ length us → 8 ≤ length vs → IsBytes us → IsBytes vs → x ≡ from_be_bytes w64 (take 8 us) → y ≡ from_be_bytes w64 (take 8 vs)
     → ordering_then (nat_cmp x y) (bytes_cmp (drop 8 us) (drop 8 vs)) ≡ bytes_cmp us vs
 by_word us vs x y p q f g a b = along x y _ _ _ _ (eight_are us p ∙ sym a) (eight_are vs q ∙ sym b) (spells 8 0 us vs p q f g)
-
-pub by_half : (us vs : List ℕ) (x y : ℕ) → 4 ≤ length us → 4 ≤ length vs → IsBytes us → IsBytes vs → x ≡ from_be_bytes w32 (take 4 us) → y ≡ from_be_bytes w32 (take 4 vs)
-    → ordering_then (nat_cmp x y) (bytes_cmp (drop 4 us) (drop 4 vs)) ≡ bytes_cmp us vs
-by_half us vs x y p q f g a b = along x y _ _ _ _ (four_are us p ∙ sym a) (four_are vs q ∙ sym b) (spells 4 0 us vs p q f g)
 
 -- two numbers that differ decide, and two that are alike do not
 pub decides : (x y : ℕ) (o : Ordering) → (x ≡ y → ⊥) → ordering_then (nat_cmp x y) o ≡ nat_cmp x y

@@ -5,8 +5,8 @@ use Rattle.cloud_trait.specs.Seen.{Seen}
 use Rattle.command_words.specs.Words.{shape_of}
 use Rattle.db_io.specs.Content.{Told}
 use Rattle.db_io.specs.Writes.{Written}
-use Rattle.line_io.specs.Output.{WasWritten}
-use Rattle.line_io.specs.declared.output.OutputFault.{OutputFault}
+use Rattle.db_io.specs.Output.{WasWritten}
+use Rattle.db_io.specs.declared.output.OutputFault.{OutputFault}
 use Rattle.schedule_run.specs.Run.{Ran, Replays}
 use Rattle.schedule_run.specs.declared.status.Status.{Status}
 use Rattle.traced_cloud.specs.declared.form.Form.{Form}

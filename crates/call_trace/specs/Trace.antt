@@ -3,8 +3,8 @@ use Rattle.std.specs.Prelude.{ℕ, ◌≡◌, false, List, [], Result, Ok, Err}
 use Rattle.cloud_trait.specs.Seen.{Seen}
 use Rattle.db_io.specs.Content.{Told}
 use Rattle.db_io.specs.Writes.{Written}
-use Rattle.line_io.specs.Output.{WasWritten}
-use Rattle.line_io.specs.declared.output.OutputFault.{OutputFault}
+use Rattle.db_io.specs.Output.{WasWritten}
+use Rattle.db_io.specs.declared.output.OutputFault.{OutputFault}
 use Rattle.schedule_run.specs.Run.{Replays}
 use Rattle.schedule_run.specs.Status.{status_of_output}
 use Rattle.schedule_run.specs.declared.status.Status.{Status}

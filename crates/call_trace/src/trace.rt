@@ -6,7 +6,7 @@ ghost use Rattle.call_trace.specs.Trace.{Traces, Writes};
 use cloud_trait::cloud::Bench;
 use db_io::sink::Sink;
 use db_io::source::Source;
-use line_io::output::{OutputFault, write_text};
+use db_io::output::{OutputFault, write_text};
 use schedule_run::run::run;
 use schedule_run::status::Status;
 use std::alloc::{AllocError, Global};

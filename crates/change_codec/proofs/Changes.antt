@@ -1,6 +1,6 @@
 -- The format of a change is exact, and what fits it.
 use Rattle.std.proofs.Common.{◌≡◌, ◌-◌, ◌^◌, ◌<◌, ℕ, Bool, true, false, eqb, List, length, Option, Some, None, refl, ap, sym, arith, lit<, cond, inl, inr}
-use Rattle.std.specs.Prelude.{nat_le, ◌&&◌, ◌||◌, ◌≤◌, ◌⊎◌, IfSome}
+use Rattle.std.specs.Prelude.{nat_le, ◌&&◌, ◌≤◌, ◌⊎◌}
 use Rattle.std.specs.Int.{w8, w16, w64}
 use Rattle.std.proofs.lemmas.Bool.{and_parts, and_from, or_parts, or_cases, leb-true, leb-false, le-leb, eqb-true, eqb-false}
 use Rattle.db_base.specs.Change.{IsChange}

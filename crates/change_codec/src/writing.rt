@@ -6,7 +6,7 @@ ghost use Rattle.db_base.specs.Change.{IsChange};
 ghost use Rattle.db_base.specs.Key.{IsKey, IsPayload};
 ghost use Rattle.change_codec.specs.Change.{change_bytes};
 
-use byte_format::{add_text8, add_text16, add_u8, try_add, try_add_text8, try_add_u64};
+use byte_format::{try_add, try_add_text8, try_add_text16, try_add_u64};
 use db_base::change::Change;
 use db_base::key::{Key, Payload};
 use std::alloc::AllocError;
@@ -21,18 +21,15 @@ fn add_key(out: &mut Vec<u8>, kind: u8, key: &Key) -> Result<(), AllocError>
     try_add(out, bytes)
 }
 
-/// Appends the kind of a change, its key and its payload, in room that is asked for once.
+/// Appends the kind of a change, its key and its payload.
 fn add_payload(out: &mut Vec<u8>, kind: u8, key: &Key, payload: &Payload) -> Result<(), AllocError>
     ensures spelling { OnOk result (out.new.items ≡ out.old.items ++ (to_be_bytes w8 kind ++ ((to_be_bytes w8 (length key.now) ++ key.now) ++ (to_be_bytes w16 (length payload.now) ++ payload.now)))) }
     ensures key { IsKey key.now }
     ensures payload { IsPayload payload.now }
 {
-    let (key, payload) = (key.as_slice(), payload.as_slice());
-    out.reserve(4 + key.len() + payload.len())?;
-    add_u8(out, kind);
-    add_text8(out, key);
-    add_text16(out, payload);
-    Ok(())
+    let payload = payload.as_slice();
+    add_key(out, kind, key)?;
+    try_add_text16(out, payload)
 }
 
 /// Appends the spelling of the change.

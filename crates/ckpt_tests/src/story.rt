@@ -1,6 +1,6 @@
 //! What a checkpoint did, as a text: a line for each call, and then its answer. Of a run of deletions the first alone is told.
 
-use call_text::call_text;
+use reply_text::call_text;
 use cloud_trait::call::{Call, CallKind};
 use cloud_trait::turn::{CkptAnswer, Turn};
 use db_base::trouble::Trouble;

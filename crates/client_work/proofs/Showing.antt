@@ -28,9 +28,9 @@ use Rattle.range_scan.specs.Listing.{Range, range_of, scan_of, Move, Scanned, Is
 use Rattle.range_scan.specs.Pairs.{AreItems, AreItemsIn, sight_of}
 use Rattle.range_scan.specs.Whole.{Listed, all_pairs, IsListed}
 use Rattle.range_scan.specs.Stepped.{Stepped as StepsScan}
-use Rattle.range_scan.proofs.Exactness.{NeverEnds, ready_unended}
+use Rattle.range_scan.proofs.Outcomes.{unended_ready}
 use Rattle.range_scan.proofs.Fences.{read_is_fenced}
-use Rattle.range_scan.proofs.Listing.{scanned_range, served_by}
+use Rattle.range_scan.proofs.Meaning.{scanned_range, served_by}
 use Rattle.range_scan.proofs.Whole.{is_whole}
 use Rattle.record_read.specs.Read.{seen_in, read_value}
 use Rattle.recover_run.specs.declared.home.Home.{Home}
@@ -376,7 +376,7 @@ begun_known home buffer tree from to c d left shown begun p = on p.moved p.moves
   range = record { tree = tree; from = from; to = to }
 
   ready : (page : ℕ) → Moves (scan_ready (scan_of range, c)) (p.scan, d) (Ended page) → ⊥
-  ready page h = subst NeverEnds h (ready_unended (scan_of range, c))
+  ready page h = unended_ready (scan_of range, c) (p.scan, d) page h
 
   on : (moved : Turn ℕ) → Moves (scan_ready (scan_of range, c)) (p.scan, d) moved → (turn : Turn Answer) → Follows home buffer (record { scan = p.scan; pairs = [] }) d moved left shown turn
       → IsKnown buffer left d

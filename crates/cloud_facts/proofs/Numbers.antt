@@ -6,5 +6,4 @@ pub mod Heads
 pub mod Runs
 pub mod Kept
 pub mod Known
-pub mod Told
 pub mod Ways

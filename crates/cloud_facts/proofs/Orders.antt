@@ -7,4 +7,3 @@ pub mod Takings
 pub mod Kept
 pub mod OneQueue
 pub mod Legality
-pub mod Told

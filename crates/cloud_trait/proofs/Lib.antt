@@ -1,3 +1,4 @@
+pub mod CalmLemmas
 pub mod EffectLemmas
 pub mod NameLemmas
 pub mod RowLemmas

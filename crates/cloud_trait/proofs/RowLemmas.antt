@@ -1,15 +1,14 @@
 -- What every row of the table says of the state.
 use Rattle.std.proofs.Common.{◌≡◌, ◌<◌, ◌≤◌, ◌⊎◌, ℕ, Option, Some, refl, sym, subst, inl, inr}
-use Rattle.db_base.specs.declared.wish.Wish.TheVariants.{Plain}
 use Rattle.cloud_trait.specs.declared.answer.Answer.{Answer}
 use Rattle.cloud_trait.specs.declared.answer.Answer.TheVariants.{Got, Sent, Received, Done, Given, Held, Renewed, Late, Failed, Memory}
 use Rattle.cloud_trait.specs.Caller.{Caller}
 use Rattle.cloud_trait.specs.State.{CloudState, Counts, called}
-use Rattle.cloud_trait.specs.Ask.{Ask, Get, GetHeld, PutHeld, Send, Receive, Delete, Take, Renew, Release, effect, Lands, Permits, MovesNoLock, PutsNothing, TouchesNoMessage, LandsNoRow}
+use Rattle.cloud_trait.specs.Ask.{Ask, Get, GetHeld, PutHeld, Send, Receive, Delete, Take, Renew, Release, effect, Lands, Permits, MovesNoLock, PutsNothing, TouchesNoMessage}
 use Rattle.cloud_trait.specs.Weather.{Weather, Leaves}
 use Rattle.cloud_trait.specs.Growth.{HasGrown, IsAtRest}
 use Rattle.cloud_trait.specs.Upto.{AgreeUpto, IsUpto}
-use Rattle.cloud_trait.proofs.EffectLemmas.{effect_rest, effect_locks, effect_versions, effect_messages, effect_trace, effect_grown, grown_itself}
+use Rattle.cloud_trait.proofs.EffectLemmas.{effect_rest, effect_locks, effect_versions, effect_messages, effect_grown, grown_itself}
 use Rattle.cloud_trait.proofs.UptoLemmas.{agree_itself, effect_agree, effect_upto}
 
 -- whatever a call answers, its state is as it was or as where it landed
@@ -49,9 +48,6 @@ row_versions who ask a c d b t row h = row_by (λ u. u.versions ≡ b.versions) 
 pub row_messages : (who : Caller) (ask : Ask) (a : Answer) (c d : Counts) (b t : CloudState) → Weather who ask a c d b t → TouchesNoMessage ask → t.messages ≡ b.messages
 row_messages who ask a c d b t row h = row_by (λ u. u.messages ≡ b.messages) who ask a c d b t row refl (λ permits. effect_messages who ask b h)
 
-pub row_trace : (who : Caller) (ask : Ask) (a : Answer) (c d : Counts) (b t : CloudState) → Weather who ask a c d b t → LandsNoRow ask → t.trace ≡ b.trace
-row_trace who ask a c d b t row h = row_by (λ u. u.trace ≡ b.trace) who ask a c d b t row refl (λ permits. effect_trace who ask b h)
-
 -- nothing that landed is lost
 pub row_grown : (who : Caller) (ask : Ask) (a : Answer) (c d : Counts) (b t : CloudState) → Weather who ask a c d b t → HasGrown b t
 row_grown who ask a c d b t row = row_by (HasGrown b) who ask a c d b t row (grown_itself b b refl refl refl refl) (λ permits. effect_grown who ask b)
@@ -83,10 +79,6 @@ leaves_agree n who ask a c d s new l h =
 pub leaves_upto : (n : ℕ) (who : Caller) (ask : Ask) (a : Answer) (c d : Counts) (s : CloudState) (new : Option CloudState) (l : Leaves who ask a c d s new) → who.event ≤ n → IsUpto n s → IsUpto n l.after
 leaves_upto n who ask a c d s new l h u =
     row_upto n who ask a c d (called who l.after.now s) l.after l.row h (record { versions = u.versions; messages = u.messages; trace = u.trace })
-
--- after a call the wish is spent, and the newest call is this one under the wish that was set
-pub leaves_wish : (who : Caller) (ask : Ask) (a : Answer) (c d : Counts) (s : CloudState) (new : Option CloudState) (l : Leaves who ask a c d s new) → l.after.wish ≡ Plain
-leaves_wish who ask a c d s new l = (row_rest who ask a c d (called who l.after.now s) l.after l.row).wish
 
 pub leaves_last : (who : Caller) (ask : Ask) (a : Answer) (c d : Counts) (s : CloudState) (new : Option CloudState) (l : Leaves who ask a c d s new) → l.after.last ≡ Some (who, s.wish)
 leaves_last who ask a c d s new l = (row_rest who ask a c d (called who l.after.now s) l.after l.row).last

@@ -1,5 +1,5 @@
 -- What a call leaves of what looks show.
-use Rattle.std.proofs.Common.{◌≡◌, ◌++◌, ℕ, List, [], ◌∷◌, Option, Some, Bool, true, false, cond, refl, ap, subst, inl, inr}
+use Rattle.std.proofs.Common.{◌≡◌, ◌++◌, ℕ, List, [], ◌∷◌, Some, Bool, true, false, cond, refl, ap, subst, inl, inr}
 use Rattle.std.specs.Ordering.{is_eq}
 use Rattle.db_base.specs.declared.names.ObjName.{ObjName}
 use Rattle.cloud_trait.specs.declared.answer.Answer.{Answer}
@@ -24,9 +24,6 @@ shows_itself (Delete queue id) p = λ object. refl
 shows_itself (Take lock ticks) p = λ object. refl
 shows_itself (Renew l ticks) p = λ object. refl
 shows_itself (Release l) p = λ object. refl
-
-pub shows_same : (ask : Ask) (shown : Option Showing) → GoesOnShowing ask shown shown
-shows_same ask shown p e = (p, e, shows_itself ask p)
 
 landed_shows : (who : Caller) (name : ObjName) (bytes : List ℕ) (s : CloudState) (object : ObjName)
     → newest (landed who name bytes s) object ≡ put_at object_cmp (newest s) name (Some bytes) object

@@ -46,7 +46,3 @@ newest_of-push vs v =
 pub landed_newest : (who : Caller) (name : ObjName) (bytes : List ℕ) (s : CloudState) → newest (landed who name bytes s) name ≡ Some bytes
 landed_newest who name bytes s =
     rw (put_at_same object_cmp object_cmp-total) (newest_of-push (s.versions name) (record { who = who; bytes = bytes }))
-
--- and the newest of every other object is as it was
-pub landed_other : (who : Caller) (name : ObjName) (bytes : List ℕ) (s : CloudState) (other : ObjName) → is_eq (object_cmp name other) ≡ false → newest (landed who name bytes s) other ≡ newest s other
-landed_other who name bytes s other e = rw e

@@ -1,7 +1,7 @@
 -- A cloud that began empty has a row for each version and each message, and cutting them by event agrees.
 use Rattle.std.proofs.Common.{◌≡◌, ◌+◌, ◌-◌, ◌++◌, ℕ, zero, suc, List, [], ◌∷◌, length, Option, refl, ap, sym, ◌∙◌, subst, arith, Bool, true, false, cond, Ordering}
 use Rattle.std.specs.Bool.{◌==◌}
-use Rattle.std.specs.Prelude.{filter, nat_le}
+use Rattle.std.specs.Prelude.{filter}
 use Rattle.std.specs.declared.cmp.Ordering.TheVariants.{Less, Equal, Greater}
 use Rattle.std.specs.Ordering.{is_eq}
 use Rattle.std.proofs.lemmas.List.{append-nil}
@@ -17,9 +17,8 @@ use Rattle.cloud_trait.specs.Caller.{Caller}
 use Rattle.cloud_trait.specs.Names.{object_cmp, queue_cmp}
 use Rattle.cloud_trait.specs.State.{CloudState, Counts, IsEmptyCloud, called, put_at, held_so, end_after, mark_at, marked}
 use Rattle.cloud_trait.specs.Ask.{Ask, Get, GetHeld, PutHeld, Send, Receive, Delete, Take, Renew, Release, effect}
-use Rattle.cloud_trait.specs.Upto.{trace_upto, versions_upto, messages_upto}
 use Rattle.cloud_trait.specs.Weather.{Leaves}
-use Rattle.cloud_trait.specs.Traced.{is_object, is_queue, object_rows, queue_rows, version_rows, post_rows, IsTraced, who_put, who_sent, who_made, CutsAlike}
+use Rattle.cloud_trait.specs.Traced.{is_object, is_queue, object_rows, queue_rows, version_rows, post_rows, IsTraced}
 use Rattle.cloud_trait.proofs.NameLemmas.{object_cmp-equal, queue_cmp-equal}
 use Rattle.cloud_trait.proofs.EffectLemmas.{moved_by, released_by}
 use Rattle.cloud_trait.proofs.RowLemmas.{leaves_by}
@@ -150,52 +149,3 @@ empty_traced s empty = record {
   versions = λ name. ap (object_rows name) empty.trace ∙ ap (version_rows name 1) (sym (empty.versions name));
   messages = λ queue. ap (queue_rows queue) empty.trace ∙ ap (post_rows queue 1) (sym (empty.messages queue));
 }
-
--- ---- cuts
-
-filter_commutes : {X : Type 0} (p q : X → Bool) (xs : List X) → filter p (filter q xs) ≡ filter q (filter p xs)
-filter_commutes p q [] = refl
-filter_commutes {X} p q (x ∷ xs) = on (p x) refl (q x) refl (filter_commutes p q xs) where
-  on : (a : Bool) → p x ≡ a → (b : Bool) → q x ≡ b → filter p (filter q xs) ≡ filter q (filter p xs)
-      → filter p (cond b (x ∷ filter q xs) (filter q xs)) ≡ filter q (cond a (x ∷ filter p xs) (filter p xs))
-  on true e true f h = rw (e, f) (ap (λ ys. x ∷ ys) h)
-  on true e false f h = rw f h
-  on false e true f h = rw e h
-  on false e false f h = h
-
-who_rows : (n k : ℕ) (name : ObjName) (vs : List Version) → who_made (trace_upto n (version_rows name k vs)) ≡ who_put (versions_upto n vs)
-who_rows n k name [] = refl
-who_rows n k name (v ∷ vs) = on (nat_le v.who.event n) (who_rows n (k + 1) name vs) where
-  row : Landing
-  row = record { who = v.who; site = Object name; position = k }
-
-  on : (b : Bool) → who_made (trace_upto n (version_rows name (k + 1) vs)) ≡ who_put (versions_upto n vs)
-      → who_made (cond b (row ∷ trace_upto n (version_rows name (k + 1) vs)) (trace_upto n (version_rows name (k + 1) vs))) ≡ who_put (cond b (v ∷ versions_upto n vs) (versions_upto n vs))
-  on true h = ap (λ ws. v.who ∷ ws) h
-  on false h = h
-
-who_posts : (n k : ℕ) (queue : QueueName) (ms : List Posted) → who_made (trace_upto n (post_rows queue k ms)) ≡ who_sent (messages_upto n ms)
-who_posts n k queue [] = refl
-who_posts n k queue (m ∷ ms) = on (nat_le m.who.event n) (who_posts n (k + 1) queue ms) where
-  row : Landing
-  row = record { who = m.who; site = Queue queue; position = k }
-
-  on : (b : Bool) → who_made (trace_upto n (post_rows queue (k + 1) ms)) ≡ who_sent (messages_upto n ms)
-      → who_made (cond b (row ∷ trace_upto n (post_rows queue (k + 1) ms)) (trace_upto n (post_rows queue (k + 1) ms))) ≡ who_sent (cond b (m ∷ messages_upto n ms) (messages_upto n ms))
-  on true h = ap (λ ws. m.who ∷ ws) h
-  on false h = h
-
--- the state up to an event has a version or message exactly where it has its row
-pub cuts_alike : (n : ℕ) (s : CloudState) → IsTraced s → CutsAlike n s
-cuts_alike n s h = record {
-  of_versions = of_versions;
-  versions = λ name. ap who_made (of_versions name) ∙ who_rows n 1 name (s.versions name);
-  of_messages = of_messages;
-  messages = λ queue. ap who_made (of_messages queue) ∙ who_posts n 1 queue (s.messages queue);
-}
-  where
-    of_versions : (name : ObjName) → object_rows name (trace_upto n s.trace) ≡ trace_upto n (version_rows name 1 (s.versions name))
-    of_versions name = filter_commutes (λ (r : Landing). is_object name r.site) (λ (r : Landing). nat_le r.who.event n) s.trace ∙ ap (trace_upto n) (h.versions name)
-
-    of_messages : (queue : QueueName) → queue_rows queue (trace_upto n s.trace) ≡ trace_upto n (post_rows queue 1 (s.messages queue))
-    of_messages queue = filter_commutes (λ (r : Landing). is_queue queue r.site) (λ (r : Landing). nat_le r.who.event n) s.trace ∙ ap (trace_upto n) (h.messages queue)

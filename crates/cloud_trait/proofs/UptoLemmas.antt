@@ -13,7 +13,7 @@ use Rattle.cloud_trait.specs.declared.state.Posted.{Posted}
 use Rattle.cloud_trait.specs.declared.state.Landing.{Landing}
 use Rattle.cloud_trait.specs.Caller.{Caller}
 use Rattle.cloud_trait.specs.Names.{object_cmp, queue_cmp}
-use Rattle.cloud_trait.specs.State.{CloudState, newest, newest_of, held_so, end_after, mark_at, marked}
+use Rattle.cloud_trait.specs.State.{CloudState, held_so, end_after, mark_at, marked}
 use Rattle.cloud_trait.specs.Ask.{Ask, Get, GetHeld, PutHeld, Send, Receive, Delete, Take, Renew, Release, effect}
 use Rattle.cloud_trait.specs.Upto.{AgreeUpto, IsUpto, upto, versions_upto, messages_upto, trace_upto, posts_of}
 use Rattle.cloud_trait.proofs.NameLemmas.{object_cmp-equal, queue_cmp-equal}
@@ -28,13 +28,6 @@ later_event n m h = elim (leb_tells m n) [ inl w ↦ absurd (omega (arith, w.1))
 filter-push_out : {X : Type 0} (p : X → Bool) (xs : List X) (x : X) → p x ≡ false → filter p (xs ++ x ∷ []) ≡ filter p xs
 filter-push_out {X} p xs x e =
     filter-append p xs (x ∷ []) ∙ (let h : filter p (x ∷ []) ≡ [] = rw e in rw h (append-nil (filter p xs)))
-
--- where each item passes, a filter keeps all
-filter_keeps : {X : Type 0} (p : X → Bool) (xs : List X) → All (λ x. p x ≡ true) xs → filter p xs ≡ xs
-filter_keeps p [] h = refl
-filter_keeps {X} p (x ∷ xs) h =
-    let here = All-head (λ (y : X). p y ≡ true) x xs h in
-    rw here (ap (λ ys. x ∷ ys) (filter_keeps p xs (All-tail (λ (y : X). p y ≡ true) x xs h)))
 
 -- a mark changes nothing of the posts up to an event
 posts_upto-mark_at : (n : ℕ) (ms : List Posted) (i : ℕ) → posts_of (messages_upto n (mark_at ms i)) ≡ posts_of (messages_upto n ms)
@@ -163,9 +156,6 @@ trace_upto-all n (r ∷ rows) h =
 -- the versions, posts and trace up to an event of a later state are those of the state at that event
 pub upto_versions : (n : ℕ) (s t : CloudState) → IsUpto n s → AgreeUpto n s t → (name : ObjName) → (upto t n).versions name ≡ s.versions name
 upto_versions n s t u a name = a.versions name ∙ versions_upto-all n (s.versions name) (u.versions name)
-
-pub upto_newest : (n : ℕ) (s t : CloudState) → IsUpto n s → AgreeUpto n s t → (name : ObjName) → newest (upto t n) name ≡ newest s name
-upto_newest n s t u a name = ap newest_of (upto_versions n s t u a name)
 
 pub upto_posts : (n : ℕ) (s t : CloudState) → IsUpto n s → AgreeUpto n s t → (queue : QueueName) → posts_of ((upto t n).messages queue) ≡ posts_of (s.messages queue)
 upto_posts n s t u a queue = a.messages queue ∙ ap posts_of (messages_upto-all n (s.messages queue) (u.messages queue))

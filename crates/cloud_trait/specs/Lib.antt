@@ -3,12 +3,14 @@ pub mod Ask
 pub mod Bench
 pub mod Call
 pub mod Caller
+pub mod Calm
 pub mod Claim
 pub mod Delivery
 pub mod Down
 pub mod Growth
 pub mod Machine
 pub mod Names
+pub mod Plenty
 pub mod Seen
 pub mod State
 pub mod Traced

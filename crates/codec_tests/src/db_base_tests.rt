@@ -89,6 +89,7 @@ fn are_refused_attributes(alloc: Global, bytes: &[u8], rows: &[(usize, Option<Re
 fn lengths_of_attributes_are_refused_exactly(rt: HostRuntime) {
     assert!(rt; are_refused_attributes(rt.alloc(), &[7; 33], &ATTRIBUTES));
     assert!(rt; Refusal::BadAttr.number() == 11);
+    assert!(rt; Refusal::LongEntry.number() == 12);
 }
 
 /// Whether so many positions are taken.

@@ -5,6 +5,7 @@ use db_base::change::Change;
 use db_base::ids::TreeId;
 use db_base::key::{Key, Payload};
 use db_base::refusal::Refused;
+use head_codec::entry::Entry;
 use head_codec::head::{Head, HeadFault, Phase};
 use head_codec::lists::{Pending, PendingList};
 use std::alloc::Global;
@@ -153,13 +154,16 @@ fn settled(alloc: Global, bytes: &[u8], tree: TreeId, change: Change) -> Option<
     if head.phase != Phase::Open(1) {
         return None;
     }
-    let Ok(()) = head.pending.push(Pending {
+    let pending = Pending {
         tree,
         page: 0,
         number: 1,
         change,
-    })
-    else {
+    };
+    let Ok(entry) = Entry::of(alloc, pending) else {
+        return None;
+    };
+    let Ok(()) = head.pending.push(entry) else {
         return None;
     };
     head.phase = Phase::Settled;
@@ -234,13 +238,17 @@ fn changed_heads_are_refused(rt: HostRuntime) {
 
 /// How many bytes spell a head of the first epoch with the pending deletion of a key, number 1 of the queue of a tree.
 fn first_length(alloc: Global, tree: TreeId, key: Key) -> Option<usize> {
-    let mut pending = PendingList::new(alloc);
-    let Ok(()) = pending.push(Pending {
+    let first = Pending {
         tree,
         page: 0,
         number: 1,
         change: Change::Delete { key },
-    }) else {
+    };
+    let Ok(entry) = Entry::of(alloc, first) else {
+        return None;
+    };
+    let mut pending = PendingList::new(alloc);
+    let Ok(()) = pending.push(entry) else {
         return None;
     };
     let mut head = Head::empty(alloc);

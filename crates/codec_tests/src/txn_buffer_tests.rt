@@ -169,3 +169,46 @@ fn refuses_the_201st(rt: HostRuntime) {
     assert!(rt; is_filled(rt.alloc(), &mut buffer, last));
     assert!(rt; is_full(rt.alloc(), &mut buffer, one, last));
 }
+
+/// What a buffer answers to an insert of a payload x, and one of the same key in the index of the tree.
+fn inserted_both(
+    alloc: Global,
+    buffer: &mut TxnBuffer,
+    tree: TreeId,
+    key: &[u8],
+) -> Result<(), Refused> {
+    let Some(index) = tree.index() else {
+        return Err(Refused::Rule(Refusal::BadNumber));
+    };
+    let change = insert(alloc, key, b"x")?;
+    let other = insert(alloc, key, b"x")?;
+    buffer.note_both(tree, change, index, other)
+}
+
+/// Whether both of two changes are noted, and where the second alone has room, neither.
+fn are_noted_or_neither(
+    alloc: Global,
+    buffer: &mut TxnBuffer,
+    full: &mut TxnBuffer,
+    tree: TreeId,
+) -> bool {
+    let many = Err(Refused::Rule(Refusal::TooManyChanges));
+    inserted_both(alloc, buffer, tree, b"b") == Ok(())
+        && has_noted(buffer, &[(8, "b"), (16, "b")])
+        && inserted_both(alloc, full, tree, &[7]) == many
+        && full.len() == 200
+        && full.find(tree, &[7]).is_none()
+}
+
+#[test]
+fn notes_two_changes_or_neither(rt: HostRuntime) {
+    let (Ok(tree), Ok(last)) = (TreeId::new(8), TreeId::new(16)) else {
+        rt.panic("no tree")
+    };
+    let (Ok(mut buffer), Ok(mut full)) = (TxnBuffer::new(rt.alloc()), TxnBuffer::new(rt.alloc()))
+    else {
+        rt.panic("no buffer")
+    };
+    assert!(rt; is_filled(rt.alloc(), &mut full, last));
+    assert!(rt; are_noted_or_neither(rt.alloc(), &mut buffer, &mut full, tree));
+}

@@ -7,7 +7,7 @@ use Rattle.cloud_trait.specs.declared.answer.Answer.TheVariants as answer
 use Rattle.cloud_trait.specs.declared.turn.Turn.TheVariants.{Ended}
 use Rattle.cloud_trait.specs.Views.{trouble_of, sent_of, done_of}
 use Rattle.cloud_trait.specs.Weather.{Fits}
-use Rattle.tree_walk.proofs.Causing.{StopsBeside, next_stops}
+use Rattle.tree_walk.proofs.Causes.{StopsBeside, next_stops}
 use Rattle.commit_run.proofs.Words.{Trouble, CommitAnswer, Noted, Answer, Turn, More, Stopped, Get, Next, Goes, Ends, Stops, LeadsBy, Took, Home, Cache, Walk, object_of, walk_next, Writing, writing_next, Writes, First, Change, Draft, planned, Run, held, new_run, wrote, walked, run_ready, run_next, Led, KeepsHome, left_by_turn}
 use Rattle.commit_run.proofs.Outcomes as step
 use Rattle.commit_run.proofs.Outcomes.{NextRun, Plans, Behind, Comes, Starts, used_kept, comes, starts}

@@ -7,7 +7,7 @@ use Rattle.db_base.specs.declared.trouble.Counter.TheVariants as counter
 use Rattle.cloud_trait.specs.declared.turn.Turn.TheVariants.{Ended}
 use Rattle.page_cache.specs.Cache.{IsCache}
 use Rattle.tree_walk.specs.Walk.{KeepsServed}
-use Rattle.tree_walk.proofs.Meeting.{ready_meets}
+use Rattle.tree_walk.proofs.Demands.{ready_meets}
 use Rattle.commit_writes.specs.Writing.{with_home, first_leaves}
 use Rattle.commit_run.specs.Demanding.{MeetsFirst, PassesFirst, DemandsReady, behind_stop, behind_turn, MeetsNext, PassesNext, DemandsNext}
 use Rattle.commit_run.specs.Run.{long_walk, walk_to}

@@ -32,9 +32,6 @@ walk_room left walks more written few room = omega (arith, few, room)
 walk_few : (w : Walk) → walk_left w ≤ 2 ^ 66
 walk_few w = omega arith
 
-more_walks : (a b k : ℕ) → a ≤ b → a * walk_calls + k ≤ b * walk_calls + k
-more_walks a b k h = omega (arith, h)
-
 -- the changes and the messages are the same
 same_written : (w v : Writing) → HasKept w v → written_calls v ≡ written_calls w
 same_written w v same = omega (arith, ap length same.changes, ap length same.ids)

@@ -13,8 +13,8 @@ use Rattle.cloud_trait.specs.Ask.{PutHeld, Send, Delete, PutsNothing}
 use Rattle.cloud_trait.specs.Caller.{Caller}
 use Rattle.cloud_trait.specs.Seen.{Seen}
 use Rattle.cloud_trait.specs.Weather.{Fits, Makes}
-use Rattle.calm_calls.specs.Calm.{GoesWell, IsCalm, AreCalm, ComesNext, AreAlone}
-use Rattle.calm_calls.proofs.CalmLemmas.{goes_well}
+use Rattle.cloud_trait.specs.Calm.{GoesWell, IsCalm, AreCalm, ComesNext, AreAlone}
+use Rattle.cloud_trait.proofs.CalmLemmas.{goes_well}
 use Rattle.commit_writes.specs.Writing.{numbered}
 use Rattle.commit_writes.specs.Exact.{IsPut, NonePut, WasOpened, deletions_in, deletions, DemandsNot, Demands, Exactly}
 use Rattle.commit_writes.specs.Meaning.{MeansTurn as WritesTurn}

@@ -5,7 +5,7 @@ use Rattle.std.specs.Option.{option_map, option_map_or}
 use Rattle.std.proofs.lemmas.Bool.{eq-eqb}
 use Rattle.byte_format.specs.Order.{bytes_below, below_bound}
 use Rattle.leaf_view.specs.Lookup.{holds}
-use Rattle.commit_plan.specs.Ended.{Ended, spans, page_at}
+use Rattle.commit_run.specs.Ended.{Ended, spans, page_at}
 use Rattle.commit_run.proofs.Words.{key_of, Pending, Leaf, Noted, ended_of, seeks, page_without, pages_of, target_of}
 
 -- a leaf spans the keys that it holds

@@ -4,7 +4,7 @@ use Rattle.std.specs.Prelude.{slice_get, Option, Bool, true}
 use Rattle.std.specs.List.{AllByRecursion}
 use Rattle.db_base.specs.declared.names.ObjName.TheVariants as object
 use Rattle.cloud_trait.specs.declared.turn.Turn.TheVariants.{Ended}
-use Rattle.commit_plan.specs.Ended.{Ended as EndedLeaf}
+use Rattle.commit_run.specs.Ended.{Ended as EndedLeaf}
 use Rattle.commit_run.specs.Draft.{IsWithin}
 use Rattle.commit_run.specs.Trips.{cache_behind, WasRead}
 use Rattle.commit_run.specs.Meaning.{IsRouted}
@@ -86,10 +86,6 @@ pub record KnowsWrites (home : Home) (changes : List Noted) (c : Cache) (h : Lis
   pub start : Writing
   pub begun_so : KnowsBegun home changes c (told first) start
   pub came : Came writing_ask (LeadsBy writing_next) start later w
-
--- the home that writes
-abbrev pub home_at : {home : Home} {changes : List Noted} {c : Cache} {h : List Deed} {w : Writing} → KnowsWrites home changes c h w → Home
-home_at {home = home} k = walked_home home (uses_of k.begun_so.routed.trips)
 
 -- ---- where a turn behind walks leads: to a walk, or to the first write
 

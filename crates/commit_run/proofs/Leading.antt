@@ -2,15 +2,12 @@
 use Rattle.std.proofs.Common.{◌≡◌, ℕ, Bool, true, false, refl, ap, sym, subst, ◌∙◌}
 use Rattle.db_base.specs.declared.trouble.Trouble.TheVariants as trouble
 use Rattle.cloud_trait.specs.declared.turn.Turn.TheVariants.{Ended}
-use Rattle.cloud_trait.specs.Caller.{Caller}
-use Rattle.cloud_trait.specs.Seen.{Seen}
-use Rattle.cloud_trait.specs.Machine.{Steps}
 use Rattle.tree_walk.specs.Moves.{Moves}
 use Rattle.tree_walk.specs.Walk.{KeepsServed}
 use Rattle.commit_writes.specs.Writing.{with_head}
 use Rattle.commit_writes.specs.Writing.{KeepsHome as KeepsWritten}
 use Rattle.commit_run.specs.Run.{Keeps}
-use Rattle.commit_run.proofs.Words.{CommitAnswer, Answer, Turn, More, Stopped, Next, LeadsBy, Took, Home, Cache, Walk, walk_next, Writing, writing_ask, writing_next, Writes, First, Change, Draft, Run, asks, run_next, held, written, wrote, by_turn, walk_turned, Led, KeepsHome, home_of}
+use Rattle.commit_run.proofs.Words.{CommitAnswer, Answer, Turn, More, Stopped, Next, LeadsBy, Took, Home, Cache, Walk, walk_next, Writing, writing_next, Writes, First, Change, Draft, Run, run_next, held, written, wrote, by_turn, walk_turned, Led, KeepsHome, home_of}
 
 -- a turn of a walk, and then the commit's own work
 pub by_turn_led : (on : Walk → Cache → Turn ℕ → Next (Run × Cache) CommitAnswer) (x : Next (Walk × Cache) ℕ) (w : Walk) (c : Cache) (turn : Turn ℕ) (n : Run × Cache) (result : Turn CommitAnswer)
@@ -32,12 +29,6 @@ took_moves m a n (Stopped t) h = h.0
 -- a home that is as it was but for its head
 pub keeps_head : (h n : Home) → n ≡ with_head h n.head → Keeps h n
 keeps_head h n e = e ∙ ap (λ a. record h { head = n.head; attempt = a }) (sym (ap (λ (x : Home). x.attempt) e))
-
--- .. and its attempt
-pub keeps_more : (h m n : Home) → Keeps h m → n ≡ with_head m n.head → Keeps h n
-keeps_more h m n kept e =
-    let attempt : n.attempt ≡ m.attempt = ap (λ (x : Home). x.attempt) e in
-    e ∙ (ap (λ (x : Home). with_head x n.head) kept ∙ ap (λ a. record h { head = n.head; attempt = a }) (sym attempt))
 
 -- ---- steps
 
@@ -64,15 +55,3 @@ pub wrote_took : (d : Draft) (c : Cache) (a : Answer) (w : Writing) (turn : Turn
 wrote_took d c a w More took = ap (wrote d c) took
 wrote_took d c a w (Ended x) took = ap (wrote d c) took
 wrote_took d c a w (Stopped t) took = (λ other. ap (wrote d c) (took.0 other), λ memory. keeps_head d.writes.home w.home (took.1 memory))
-
--- a step of the writes is one of the commit
-pub write_steps : (d : Draft) (who : Caller) (before after : Seen) (c : Cache) (w : Writing) (turn : Turn CommitAnswer)
-    → Steps writing_ask (LeadsBy writing_next) KeepsWritten who before after d.writes w turn
-    → Steps asks (LeadsBy run_next) KeepsHome who before after (record { draft = d; hand = Writes }, c) (written d w, c) turn
-write_steps d who before after c w turn steps = record { answer = steps.answer; made = steps.made; took = wrote_took d c steps.answer w turn steps.took }
-
-pub write_steps_at : (old d : Draft) → d ≡ old → (who : Caller) (before after : Seen) (c : Cache) (w : Writing) (turn : Turn CommitAnswer)
-    → Steps writing_ask (LeadsBy writing_next) KeepsWritten who before after d.writes w turn
-    → Steps asks (LeadsBy run_next) KeepsHome who before after (record { draft = old; hand = Writes }, c) (written d w, c) turn
-write_steps_at old d is who before after c w turn steps =
-    subst (λ (x : Draft). Steps asks (LeadsBy run_next) KeepsHome who before after (record { draft = x; hand = Writes }, c) (written d w, c) turn) is (write_steps d who before after c w turn steps)

@@ -2,7 +2,6 @@ pub mod Words
 pub mod Leading
 pub mod Outcomes
 pub mod Wrote
-pub mod Served
 pub mod Holding
 pub mod Knowing
 pub mod Planning
@@ -18,3 +17,4 @@ pub mod Grouping
 pub mod Plainly
 pub mod Exacting
 pub mod Demands
+pub mod Advancing

@@ -7,9 +7,8 @@ use Rattle.db_base.specs.declared.trouble.Trouble.TheVariants as trouble
 use Rattle.db_base.specs.declared.trouble.Counter.TheVariants as counter
 use Rattle.page_cache.specs.Held.{root_at}
 use Rattle.route_plan.proofs.Places.{past_none}
-use Rattle.tree_walk.specs.Walk.{goes_on, rested, beside}
-use Rattle.tree_walk.proofs.Causing.{ready_shows}
-use Rattle.tree_walk.proofs.Leaves.{Unended, through_unended}
+use Rattle.tree_walk.proofs.Causes.{ready_shows}
+use Rattle.tree_walk.proofs.Outcomes.{unended_ready}
 use Rattle.tree_walk.proofs.Walking.{IsTo, WalksBeside, next_walks, ready_walks}
 use Rattle.commit_run.specs.Draft.{pruned_by_root, pruned_by_kept, pruned_with}
 use Rattle.commit_run.specs.Run.{walking, walk_to, long_walk}
@@ -78,14 +77,6 @@ pub data Starts (home : Home) (changes : List Noted) (c : Cache) : NextRun → T
 
 -- ---- taken apart
 
--- what is read without a call ends no walk
-unended_ready : (w : Walk) (c : Cache) (m : Walk × Cache) (page : ℕ) → walk_ready (w, c) ≡ Ends m page → ⊥
-unended_ready w c m page h = on (goes_on c (rested w)) (through_unended c 64 (rested w)) h where
-  on : (x : Next Walk ℕ) → Unended x → beside (x, c) ≡ Ends m page → ⊥
-  on (Goes v) u e = absurd (cc (e))
-  on (Ends v p) u e = absurd u
-  on (Stops v t) u e = absurd (cc (e))
-
 begins : (first : Bool) (d : Draft) (k : Cache) (to : ℕ × List ℕ) → Begins first d k to (walk_to first d k to)
 begins first d k to = on (walk_ready (new_walk to.0 (Some to.1) first, k)) refl (ready_walks to.0 (Some to.1) first k) where
   stopped : (m : Walk × Cache) (t : Trouble) → walk_ready (new_walk to.0 (Some to.1) first, k) ≡ Stops m t → Begins first d k to (troubled (pruned_behind d m.0 m.1) m.1 t)
@@ -94,7 +85,7 @@ begins first d k to = on (walk_ready (new_walk to.0 (Some to.1) first, k)) refl 
 
   on : (x : Next (Walk × Cache) ℕ) → walk_ready (new_walk to.0 (Some to.1) first, k) ≡ x → WalksBeside to.0 (Some to.1) x → Begins first d k to (by_turn (begun_turn first d) x)
   on (Goes m) e is = walks m e is.0 is.1
-  on (Ends m page) e is = absurd (unended_ready (new_walk to.0 (Some to.1) first) k m page e)
+  on (Ends m page) e is = absurd (unended_ready (new_walk to.0 (Some to.1) first, k) m page e)
   on (Stops m t) e is = stopped m t e
 
 pub plans_on : (d : Draft) (k : Cache) → Plans d k (plan_on d k)

@@ -3,8 +3,8 @@ use Rattle.std.proofs.Common.{◌≡◌, ◌≤◌, ◌<◌, ◌+◌, ℕ, Bool,
 use Rattle.std.specs.Prelude.{slice_get}
 use Rattle.std.specs.Option.{option_map}
 use Rattle.leaf_view.specs.Lookup.{holds}
-use Rattle.commit_plan.specs.Ended.{page_at as ended_page}
-use Rattle.commit_plan.specs.Plan.{Plan}
+use Rattle.commit_run.specs.Ended.{page_at as ended_page}
+use Rattle.commit_run.specs.Plan.{Plan}
 use Rattle.commit_run.specs.Draft.{IsWithin, with_kept}
 use Rattle.commit_run.proofs.Words.{Leaf, Noted, Cache, leaf_at, Walk, IsAtLeaf, sought, object_of, ended_of, pages_of, Draft, pruned_behind, planned, leaf_noted, paged, target_of, next_target}
 use Rattle.commit_run.proofs.Outcomes.{HasKept, used_kept}

@@ -6,9 +6,9 @@ use Rattle.std.specs.List.{AllByRecursion}
 use Rattle.std.proofs.lemmas.Bool.{eqb-true}
 use Rattle.byte_format.specs.Order.{bytes_below, below_bound}
 use Rattle.db_base.specs.declared.names.ObjName.TheVariants as object
-use Rattle.commit_plan.specs.Ended.{Ended, spans, page_at}
+use Rattle.commit_run.specs.Ended.{Ended, spans, page_at}
 use Rattle.db_base.specs.Change.{goes_to_leaf}
-use Rattle.commit_plan.specs.Plan.{has_pending}
+use Rattle.commit_run.specs.Plan.{has_pending}
 use Rattle.commit_run.specs.Meaning.{IsHeldAt, IsLeafOf}
 use Rattle.commit_run.proofs.Words.{key_of, Pending, Noted, Got, Get, seeks, page_without, pages_of, Trip, AreLeaves}
 use Rattle.commit_run.proofs.Knowing.{IsGotAt}

@@ -18,7 +18,7 @@ use Rattle.commit_run.proofs.Planning.{get_last, all_more, ended_more, leaves_mo
 use Rattle.commit_run.proofs.Holding.{one_left, all_known, same_target}
 use Rattle.commit_run.proofs.Outcomes as step
 use Rattle.commit_run.proofs.Outcomes.{NextRun, records_of, Begins, Plans, Behind, Comes, comes}
-use Rattle.commit_run.proofs.Served.{IsServed, end_served}
+use Rattle.tree_walk.proofs.Served.{IsServedBy as IsServed, end_served}
 use Rattle.commit_run.proofs.Reading.{LeavesRead, ready_read, next_read}
 use Rattle.commit_run.proofs.Tripping.{uses_last, behind_last, begun_trip, walks_begin, gone_on, uses_on, walks_on}
 

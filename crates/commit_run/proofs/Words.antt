@@ -5,8 +5,8 @@ pub use Rattle.cloud_trait.specs.declared.answer.Answer.{Answer}
 pub use Rattle.cloud_trait.specs.declared.answer.Answer.TheVariants.{Got}
 pub use Rattle.cloud_trait.specs.declared.turn.Turn.{Turn}
 pub use Rattle.cloud_trait.specs.declared.turn.Turn.TheVariants.{More, Stopped}
-pub use Rattle.commit_plan.specs.Ended.{ended_of}
-pub use Rattle.commit_plan.specs.Plan.{page_without, pages_of, seeks}
+pub use Rattle.commit_run.specs.Ended.{ended_of}
+pub use Rattle.commit_run.specs.Plan.{page_without, pages_of, seeks}
 pub use Rattle.commit_run.specs.Draft.{Draft, leaf_noted, new_draft, paged, planned, pruned_behind}
 pub use Rattle.commit_run.specs.Meaning.{AreLeaves, MeansWalks, walked_home}
 pub use Rattle.commit_run.specs.Run.{KeepsHome, Led, Run, ask_at, asks, begin_walks, begun_turn, by_turn, held, home_of, is_stale, long_target, new_run, next_target, plan_on, refused, run_next, run_ready, seek, stale_at, target_of, troubled, walk_turned, walked, written, wrote}

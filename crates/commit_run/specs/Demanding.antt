@@ -15,7 +15,7 @@ use Rattle.recover_run.specs.declared.home.Home.{Home}
 use Rattle.page_cache.specs.Cache.{Cache}
 use Rattle.tree_walk.specs.Causing.{Meets}
 use Rattle.tree_walk.specs.Walk.{Walk, new_walk, walk_next}
-use Rattle.commit_plan.specs.Plan.{seeks}
+use Rattle.commit_run.specs.Plan.{seeks}
 use Rattle.commit_writes.specs.Writing.{with_attempt, is_spent, routed_of, passes, first_leaves}
 use Rattle.commit_run.specs.declared.hand.Hand.{Hand}
 use Rattle.commit_run.specs.declared.hand.Hand.TheVariants.{Writes, First, Change}

@@ -8,7 +8,7 @@ use Rattle.page_cache.specs.Cache.{Cache}
 use Rattle.page_cache.specs.Held.{leaf_at, root_at}
 use Rattle.tree_walk.specs.Walk.{Walk, object_of}
 use Rattle.route_plan.specs.Prune.{pruned_by_leaf, pruned_by_tree}
-use Rattle.commit_plan.specs.Plan.{Plan, empty_plan, advanced, with_leaf, with_page}
+use Rattle.commit_run.specs.Plan.{Plan, empty_plan, advanced, with_leaf, with_page}
 use Rattle.commit_writes.specs.Writing.{Writing, pruned}
 
 pub record Draft : Type 0 where

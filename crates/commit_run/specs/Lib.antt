@@ -1,11 +1,13 @@
 pub mod Causing
 pub mod Demanding
 pub mod Draft
+pub mod Ended
 pub mod Ending
 pub mod Exact
 pub mod Meaning
 pub mod Names
 pub mod Plain
+pub mod Plan
 pub mod Run
 pub mod Sound
 pub mod Stepped

@@ -5,10 +5,10 @@ ghost use Rattle.commit_run.specs.Draft.{pruned_by_root, pruned_by_kept, pruned_
 ghost use Rattle.commit_run.specs.Run.{held, is_stale};
 
 use crate::hand::Hand;
+use crate::plan::LeafPlan;
 use cloud_trait::cloud::Cloud;
 use cloud_trait::turn::Turn;
 use cloud_trait::who::Who;
-use commit_plan::plan::LeafPlan;
 use commit_writes::writes::CommitWrites;
 use db_base::ids::{PageId, TreeId};
 use db_base::key::Key;
@@ -435,7 +435,10 @@ impl Draft {
             return Ok(None);
         }
         match pending.first() {
-            Some(entry) => Ok(Some((entry.tree, entry.change.key().copied(alloc)?))),
+            Some(entry) => {
+                let entry = entry.get();
+                Ok(Some((entry.tree, entry.change.key().copied(alloc)?)))
+            }
             None => Ok(None),
         }
     }

@@ -2,7 +2,9 @@
 #![tactic(auto)]
 
 mod draft;
+pub mod ended;
 pub mod hand;
+pub mod plan;
 mod run;
 
 pub use run::CommitRun;

@@ -1,6 +1,6 @@
 //! What a commit did, as a text: a line for each call, and then its answer.
 
-use call_text::call_text;
+use reply_text::call_text;
 use cloud_trait::call::Call;
 use db_base::trouble::{CommitAnswer, Trouble};
 use recover_run::home::Home;
@@ -70,6 +70,7 @@ pub(crate) fn tell_answer(
 pub(crate) fn pending_of(alloc: Global, home: &Home) -> Result<String, Fail> {
     let mut text = String::new(alloc);
     for entry in home.head.pending.as_slice() {
+        let entry = entry.get();
         tell_pending(alloc, &mut text, entry.page, entry.number)?;
     }
     Ok(text)

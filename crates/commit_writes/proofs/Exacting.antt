@@ -19,8 +19,8 @@ use Rattle.cloud_trait.specs.Seen.{Seen}
 use Rattle.cloud_trait.specs.Machine.{Next, Goes, Ends, Stops, LeadsBy, Took, Deed}
 use Rattle.cloud_trait.specs.Views.{sent_of, done_of}
 use Rattle.cloud_trait.specs.Weather.{Fits, Makes}
-use Rattle.calm_calls.specs.Calm.{GoesWell}
-use Rattle.calm_calls.proofs.CalmLemmas.{goes_well}
+use Rattle.cloud_trait.specs.Calm.{GoesWell}
+use Rattle.cloud_trait.proofs.CalmLemmas.{goes_well}
 use Rattle.recover_run.specs.declared.home.Home.{Home}
 use Rattle.commit_writes.specs.declared.stage.Stage.{Stage}
 use Rattle.commit_writes.specs.declared.stage.Stage.TheVariants.{Waiting, Logging, Opening, Sending, Settling, Deleting, Finished}

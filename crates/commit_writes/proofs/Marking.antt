@@ -23,8 +23,8 @@ use Rattle.cloud_trait.specs.Views.{sent_of, done_of}
 use Rattle.cloud_trait.specs.Weather.{Fits, Leaves, Weather}
 use Rattle.cloud_trait.proofs.StateLemmas.{put_at_same}
 use Rattle.cloud_trait.proofs.NameLemmas.{queue_cmp-total}
-use Rattle.calm_calls.specs.Calm.{GoesWell, IsCalm, AreCalm, ComesNext, AreAlone}
-use Rattle.calm_calls.proofs.CalmLemmas.{goes_well}
+use Rattle.cloud_trait.specs.Calm.{GoesWell, IsCalm, AreCalm, ComesNext, AreAlone}
+use Rattle.cloud_trait.proofs.CalmLemmas.{goes_well}
 use Rattle.recover_run.specs.declared.home.Home.{Home}
 use Rattle.commit_writes.specs.declared.stage.Stage.{Stage}
 use Rattle.commit_writes.specs.declared.stage.Stage.TheVariants.{Waiting, Logging, Opening, Sending, Settling, Deleting, Finished}

@@ -13,7 +13,7 @@ use Rattle.cloud_trait.specs.declared.turn.Turn.TheVariants.{More, Ended, Stoppe
 use Rattle.cloud_trait.specs.Ask.{Delete}
 use Rattle.cloud_trait.specs.State.{CloudState}
 use Rattle.cloud_trait.specs.Machine.{Deed}
-use Rattle.calm_calls.specs.Calm.{IsCalm, AreCalm, AreAlone}
+use Rattle.cloud_trait.specs.Calm.{IsCalm, AreCalm, AreAlone}
 use Rattle.recover_run.specs.declared.home.Home.{Home}
 use Rattle.commit_writes.specs.Writing.{Writing}
 use Rattle.commit_writes.specs.Calls.{Calls, told, all_logged}

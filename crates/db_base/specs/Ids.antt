@@ -1,5 +1,5 @@
 -- The ranges of the identifiers.
-use Rattle.std.specs.Prelude.{ℕ, ◌≤◌}
+use Rattle.std.specs.Prelude.{ℕ, ◌≤◌, ◌+◌}
 
 -- clients are 1 to 64
 pub record IsClient (n : ℕ) : Type 0 where
@@ -10,6 +10,10 @@ pub record IsClient (n : ℕ) : Type 0 where
 pub record IsTree (n : ℕ) : Type 0 where
   pub some : 1 ≤ n
   pub most : n ≤ 16
+
+-- the tree of the index by attribute of a tree from 1 to 8
+abbrev pub index_of : ℕ → ℕ
+index_of tree = tree + 8
 
 -- pages are 1 and above
 abbrev pub IsPage : ℕ → Type 0

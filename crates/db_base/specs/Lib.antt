@@ -1,5 +1,6 @@
 pub mod Change
 pub mod Cursor
+pub mod Entry
 pub mod Ids
 pub mod Key
 pub mod Refusal

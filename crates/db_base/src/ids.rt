@@ -1,5 +1,5 @@
-ghost use Rattle.std.specs.Prelude.{◌≡◌, ℕ, ◌≤◌, ◌<◌, ◌^◌, ◌↔◌, IfOk, IfErr, IsOk};
-ghost use Rattle.db_base.specs.Ids.{IsClient, IsTree, IsPage, IsSession};
+ghost use Rattle.std.specs.Prelude.{◌≡◌, ℕ, ◌≤◌, ◌<◌, ◌^◌, ◌↔◌, IfOk, IfErr, IfSome, IsOk, IsSome};
+ghost use Rattle.db_base.specs.Ids.{IsClient, IsTree, IsPage, IsSession, index_of};
 
 use crate::refusal::Refusal;
 use std::marker::Model;
@@ -85,6 +85,21 @@ impl TreeId {
         ensures range { IsTree self }
     {
         self.number
+    }
+
+    /// The tree of the index by attribute of this tree; none for one above 8.
+    pub fn index(self) -> Option<TreeId>
+        ensures is { IfSome result (λ index. index ≡ index_of self) }
+        ensures has { IsSome result ↔ (self ≤ 8) }
+        ensures trees { IsTree self }
+    {
+        if self.number <= 8 {
+            Some(TreeId {
+                number: self.number + 8,
+            })
+        } else {
+            None
+        }
     }
 }
 

@@ -55,6 +55,14 @@ impl Key {
         }
     }
 
+    /// The key that 1 to 64 bytes are, taken over. Takes no memory.
+    pub(crate) fn of(bytes: Vec<u8>) -> Key
+        requires { IsKey bytes.items }
+        ensures { result ≡ bytes.items }
+    {
+        Key { bytes }
+    }
+
     /// The bytes, of which there are 1 to 64.
     pub fn as_slice(&self) -> &[u8]
         ensures bytes { result.now ≡ self.now }

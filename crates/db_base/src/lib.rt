@@ -5,6 +5,7 @@ pub mod attr;
 pub mod blob;
 pub mod change;
 pub mod cursor;
+pub mod entry;
 pub mod ids;
 pub mod key;
 pub mod names;

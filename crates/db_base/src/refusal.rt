@@ -28,10 +28,12 @@ pub enum Refusal {
     NotWorking,
     /// An attribute of no byte, or of more than 32.
     BadAttr,
+    /// An attribute and a key that together are too long for an index: their entry has more than 64 bytes.
+    LongEntry,
 }
 
 impl Refusal {
-    /// The number under which a reply shows the rule: 1 to 11.
+    /// The number under which a reply shows the rule: 1 to 12.
     pub fn number(self) -> u64
         ensures { result ≡ number_of_refusal self }
     {
@@ -47,6 +49,7 @@ impl Refusal {
             Refusal::AlreadyOpen => 9,
             Refusal::NotWorking => 10,
             Refusal::BadAttr => 11,
+            Refusal::LongEntry => 12,
         }
     }
 }

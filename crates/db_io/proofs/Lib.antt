@@ -1,2 +1,4 @@
 pub mod ReadLemmas
 pub mod WriteLemmas
+pub mod LineLemmas
+pub mod InputLemmas

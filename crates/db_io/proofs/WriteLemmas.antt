@@ -16,9 +16,6 @@ each_none w all e = e ∙ ap Some (sym (append-nil all))
 pub each_more : (w v u : Written) (texts more : List (List ℕ)) → AddsEach w v texts → AddsEach v u more → AddsEach w u (texts ++ more)
 each_more w v u texts more f g all e = g (all ++ texts) (f all e) ∙ ap Some (append_assoc all texts more)
 
-pub part_none : (w : Written) (text : List ℕ) → AddsPart w w text
-part_none w text all e = inl e
-
 -- ---- the whole of them
 
 -- where the writes are told, the whole is what they join to

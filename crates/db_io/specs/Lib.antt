@@ -1,3 +1,6 @@
 pub mod Content
 pub mod MemoryEnd
 pub mod Writes
+pub mod Input
+pub mod Lines
+pub mod Output

@@ -2,9 +2,12 @@
 #![tactic(auto)]
 
 pub mod fault;
+pub mod input;
 pub mod laws;
+pub mod lines;
 pub mod memory_sink;
 pub mod memory_source;
+pub mod output;
 pub mod sink;
 pub mod source;
 pub mod std_sink;

@@ -12,8 +12,8 @@ use Rattle.leaf_view.specs.Leaf.{Entry, Leaf}
 use Rattle.leaf_view.proofs.Split.{leaf_fits}
 use Rattle.node_codec.proofs.EntryLemmas.{above, below_chain}
 use Rattle.report_types.specs.declared.stored.Stored.{Stored}
-use Rattle.tree_meaning.specs.Chain.{IsReadAs, IsNewestLeaf, Leads, Walked, records_of, stored_of}
-use Rattle.tree_meaning.proofs.ChainLemmas.{one_leaf, leads_on, no_page, read_ascends, read_high}
+use Rattle.replay_meaning.specs.Chain.{IsReadAs, IsNewestLeaf, Leads, Walked, records_of, stored_of}
+use Rattle.replay_meaning.proofs.ChainLemmas.{one_leaf, leads_on, no_page, read_ascends, read_high}
 use Rattle.world_audit.specs.Stop.{Meet, ChainIsWhole}
 
 -- ---- one leaf

@@ -15,7 +15,7 @@ use Rattle.dump_text.specs.Maps.{trees_from, dump_of}
 use Rattle.dump_text.specs.declared.dump.DumpedTree.{DumpedTree}
 use Rattle.leaf_view.specs.Fits.{Ascend}
 use Rattle.report_types.specs.declared.stored.Stored.{Stored}
-use Rattle.tree_meaning.specs.Chain.{Walked}
+use Rattle.replay_meaning.specs.Chain.{Walked}
 use Rattle.world_audit.specs.Finding.{Shown, LeavesFound}
 use Rattle.world_audit.specs.Stop.{SlipOr, ChainStops, ChainIsWhole}
 use Rattle.dump_take.specs.Sight.{Sees, pages_to, no_queue}
@@ -70,9 +70,6 @@ each_tree tree ((s ∷ rest) ∷ contents) some most all = (
 )
 
 -- ---- one tree further
-
-abbrev ChainsWhole : CloudState → ℕ → Type 0
-ChainsWhole s n = (tree : ℕ) → IsTree tree → tree < n → ChainIsWhole s tree
 
 -- the contents of the trees up to a number, and that their chains are whole
 pub record Holds (s : CloudState) (n : ℕ) (contents : List (List Stored)) : Type 0 where

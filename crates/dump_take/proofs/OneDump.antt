@@ -7,7 +7,7 @@ use Rattle.dump_text.specs.Dump.{IsDumpable}
 use Rattle.dump_text.specs.Maps.{dump_of, contents_of}
 use Rattle.dump_text.specs.declared.dump.DumpedTree.{DumpedTree}
 use Rattle.report_types.specs.declared.stored.Stored.{Stored}
-use Rattle.tree_meaning.specs.Chain.{Walked, records_of}
+use Rattle.replay_meaning.specs.Chain.{Walked, records_of}
 use Rattle.dump_take.specs.Taken.{AreContents, AreDumped}
 use Rattle.dump_take.proofs.Ascending.{same_chain}
 

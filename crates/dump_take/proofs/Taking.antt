@@ -1,5 +1,5 @@
 -- A taking by its parts.
-use Rattle.std.proofs.Common.{◌≡◌, Some, Ok, Err, Result, sym, subst, inl, inr, arith}
+use Rattle.std.proofs.Common.{◌≡◌, Ok, Err, Result, sym, subst, inl, inr, arith}
 use Rattle.db_base.specs.declared.trouble.Trouble.{Trouble}
 use Rattle.cloud_trait.specs.Seen.{Seen}
 use Rattle.cloud_trait.specs.State.{CloudState}
@@ -69,7 +69,3 @@ module _ (before : Seen) (result : Result Dump DumpStop) where
       takes_all dump is leaves =
           let f = found before all_objects (queues_to 16) (λ s. (AllHeadsRest s × TreesRest s 17) × ContentsFound (Ok dump.trees) s) (all (ContentsFound (Ok dump.trees)) leaves) in
           record { looks = f.state; told = f.told; shown = f.shown; taken = subst (IsTaken f.state) (sym is) (quiet f.state f.holds.0.0 f.holds.0.1, f.holds.1) }
-
--- what is taken over a cloud that tells its state, by that state
-pub taken_told : (before : Seen) (result : Result Dump DumpStop) (s : CloudState) → Takes before result → before.state ≡ Some s → IsTaken s result
-taken_told before result s t e = subst (λ (x : CloudState). IsTaken x result) (t.told s e) t.taken

@@ -8,10 +8,6 @@ pub all_both : {A : Type 0} (P : A → Type 0) (xs ys : List A) → AllByRecursi
 all_both P [] ys a b = b
 all_both P (x ∷ xs) ys a b = (a.0, all_both P xs ys a.1 b)
 
-pub all_front : {A : Type 0} (P : A → Type 0) (xs ys : List A) → AllByRecursion P (xs ++ ys) → AllByRecursion P xs
-all_front P [] ys a = tt
-all_front P (x ∷ xs) ys a = (a.0, all_front P xs ys a.1)
-
 pub all_back : {A : Type 0} (P : A → Type 0) (xs ys : List A) → AllByRecursion P (xs ++ ys) → AllByRecursion P ys
 all_back P [] ys a = a
 all_back P (x ∷ xs) ys a = all_back P xs ys a.1
@@ -19,10 +15,6 @@ all_back P (x ∷ xs) ys a = all_back P xs ys a.1
 pub ascend_both : {A : Type 0} (below : A → A → Bool) (before : Option A) (xs ys : List A) → Ascend below before xs → Ascend below (last_behind before xs) ys → Ascend below before (xs ++ ys)
 ascend_both below before [] ys a b = b
 ascend_both below before (x ∷ xs) ys a b = (a.0, ascend_both below (Some x) xs ys a.1 b)
-
-pub ascend_front : {A : Type 0} (below : A → A → Bool) (before : Option A) (xs ys : List A) → Ascend below before (xs ++ ys) → Ascend below before xs
-ascend_front below before [] ys a = tt
-ascend_front below before (x ∷ xs) ys a = (a.0, ascend_front below (Some x) xs ys a.1)
 
 pub ascend_back : {A : Type 0} (below : A → A → Bool) (before : Option A) (xs ys : List A) → Ascend below before (xs ++ ys) → Ascend below (last_behind before xs) ys
 ascend_back below before [] ys a = a

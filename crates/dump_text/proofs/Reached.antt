@@ -1,5 +1,5 @@
 -- A text that was read up to some line.
-use Rattle.std.proofs.Common.{◌≡◌, ℕ, ◌+◌, ◌*◌, ◌≤◌, Bool, true, false, eqb, List, [], ◌∷◌, ◌++◌, length, Option, Some, None, Result, Ok, Err, IfOk, refl, sym, ap, ◌∙◌, subst, inl, inr, arith, append_assoc, append-nil, length-append}
+use Rattle.std.proofs.Common.{◌≡◌, ℕ, ◌+◌, ◌*◌, ◌≤◌, Bool, true, false, eqb, List, [], ◌∷◌, ◌++◌, length, Option, Some, None, Result, Ok, Err, IfOk, refl, sym, ap, ◌∙◌, subst, inr, arith, append_assoc, append-nil, length-append}
 use Rattle.std.specs.Prelude.{IsSome, IfErr}
 use Rattle.std.proofs.lemmas.Bool.{eqb-true}
 use Rattle.std.proofs.lemmas.List.{nil_from_length}
@@ -31,27 +31,6 @@ pub record Reached (text left : List ℕ) (reading : Reading) (n : ℕ) : Type 0
   pub sound : IsSound reading.trees reading.partial
   pub read : before ≡ read_text reading.trees reading.partial
   pub only : (rest : List ℕ) (all : List DumpedTree) → IsDump (before ++ rest) all → Continues reading.trees reading.partial rest all
-
-abbrev pub nothing_read : Reading
-nothing_read = record { trees = []; partial = None }
-
-pub all_sound : IsSound [] None
-all_sound = record { in_range = tt; dumpable = record { each = tt; ascending = tt }; partial = tt }
-
-pub all_goes_on : (text : List ℕ) (all : List DumpedTree) → IsDump text all → Continues [] None text all
-all_goes_on text all d = record { others = all; all_are = refl; rest_is = d.is }
-
-pub at_first : (text : List ℕ) → Reached text text nothing_read 0
-at_first text = record {
-  before = [];
-  is = refl;
-  ended = inl refl;
-  count = refl;
-  twice = omega arith;
-  sound = all_sound;
-  read = refl;
-  only = all_goes_on;
-}
 
 -- what stands behind a line of a text
 behind_line : (before line rest : List ℕ) → (before ++ line ++ 10 ∷ []) ++ rest ≡ before ++ (line ++ 10 ∷ rest)

@@ -1,5 +1,5 @@
 -- How many keys stand above a key: fewer above a greater one, and one fewer above the next one.
-use Rattle.std.proofs.Common.{◌≡◌, ℕ, zero, suc, ◌+◌, ◌-◌, ◌*◌, ◌^◌, ◌<◌, ◌≤◌, Bool, true, false, cond, eqb, ltb, List, [], ◌∷◌, length, slice_index, refl, ap, ◌∙◌, ◌⊎◌, inl, inr, arith, lit<, lit≤, min, nat_le, take, drop}
+use Rattle.std.proofs.Common.{◌≡◌, ℕ, zero, suc, ◌+◌, ◌-◌, ◌*◌, ◌^◌, ◌<◌, ◌≤◌, Bool, true, false, cond, eqb, ltb, List, [], ◌∷◌, length, slice_index, refl, ap, ◌∙◌, ◌⊎◌, inl, inr, arith, lit<, lit≤, min, take, drop}
 use Rattle.std.specs.Ordering.{nat_cmp, is_lt, ordering_then}
 use Rattle.std.specs.declared.cmp.Ordering.{Ordering}
 use Rattle.std.specs.declared.cmp.Ordering.TheVariants.{Less, Equal, Greater}
@@ -210,10 +210,6 @@ stops p k a m =
         let x : suc p * m ≡ p * m + m = grind arith in
         let y : suc p * (k + 1) ≡ p * (k + 1) + (k + 1) = grind arith in
         omega arith
-
--- a number that is at most the greatest is below what stops there where it is below the whole
-pub at_most_so : (n k m : ℕ) → n ≤ m → nat_le n (min k m) ≡ nat_le n k
-at_most_so n k m h = grind arith
 
 -- ---- as they are counted
 

@@ -4,6 +4,7 @@ use db_base::ids::{ClientId, PageId, TreeId};
 use db_base::key::{Key, Payload};
 use db_base::names::QueueName;
 use db_base::value::Value;
+use head_codec::entry::Entry;
 use head_codec::head::{Head, Phase};
 use head_codec::lists::{CounterList, Pending, QueueCount};
 use leaf_view::LeafView;
@@ -67,23 +68,25 @@ fn update_under(alloc: Global, key: Key) -> Option<Change> {
 
 /// Adds a pending change.
 fn add_pending(
+    alloc: Global,
     head: &mut Head,
     tree: TreeId,
     page: u64,
     number: u64,
     change: Option<Change>,
 ) -> bool {
-    match change {
-        Some(change) => head
-            .pending
-            .push(Pending {
-                tree,
-                page,
-                number,
-                change,
-            })
-            .is_ok(),
-        None => false,
+    let Some(change) = change else {
+        return false;
+    };
+    let pending = Pending {
+        tree,
+        page,
+        number,
+        change,
+    };
+    match Entry::of(alloc, pending) {
+        Ok(entry) => head.pending.push(entry).is_ok(),
+        Err(_) => false,
     }
 }
 
@@ -104,7 +107,7 @@ fn use_head(alloc: Global, head: &mut Head, tree: TreeId) -> bool {
     head.epoch = 2;
     head.txn = 4;
     head.counters = CounterList::of(counts);
-    head.phase == Phase::Settled && add_pending(head, tree, 7, 2, update(alloc, "a"))
+    head.phase == Phase::Settled && add_pending(alloc, head, tree, 7, 2, update(alloc, "a"))
 }
 
 /// Notes an insert of the pending key, an update of another, and two more inserts.
@@ -212,10 +215,10 @@ fn queues_have_names(rt: HostRuntime) {
 
 /// Adds pending inserts of four keys, two of page 7's queue and two of the tree's.
 fn add_four(alloc: Global, head: &mut Head, tree: TreeId) -> bool {
-    add_pending(head, tree, 7, 3, insert(alloc, "a"))
-        && add_pending(head, tree, 7, 4, insert(alloc, "b"))
-        && add_pending(head, tree, 0, 6, insert(alloc, "c"))
-        && add_pending(head, tree, 0, 7, insert(alloc, "d"))
+    add_pending(alloc, head, tree, 7, 3, insert(alloc, "a"))
+        && add_pending(alloc, head, tree, 7, 4, insert(alloc, "b"))
+        && add_pending(alloc, head, tree, 0, 6, insert(alloc, "c"))
+        && add_pending(alloc, head, tree, 0, 7, insert(alloc, "d"))
 }
 
 /// A key, and the payload and attribute that a read finds by what is applied, pending and noted.
@@ -273,9 +276,9 @@ fn what_is_lacked_is_seen(rt: HostRuntime) {
 }
 
 /// Whether pending changes have these numbers, in their order.
-fn are_left(left: &[Pending], numbers: &[u64]) -> bool {
+fn are_left(left: &[Entry], numbers: &[u64]) -> bool {
     for (entry, number) in left.iter().zip(numbers) {
-        if entry.number != *number {
+        if entry.get().number != *number {
             return false;
         }
     }

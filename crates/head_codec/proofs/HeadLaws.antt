@@ -19,8 +19,8 @@ use Rattle.head_codec.specs.declared.head.Phase.TheVariants.{Settled, Open}
 use Rattle.head_codec.specs.declared.lists.QueueCount.{QueueCount}
 use Rattle.head_codec.specs.declared.lists.Pending.{Pending}
 use Rattle.head_codec.specs.Counters.{least_tree, page_rises, counter_fields, counter_of_fields, fields_of_counter, counter, IsBehind, AreCounters}
-use Rattle.head_codec.specs.Pending.{pending_fields, pending_of_fields, fields_of_pending, pending_entry}
-use Rattle.head_codec.specs.Spelling.{phase_of_fields, fields_of_phase, phase_fields, phase, head_fields, head_of_fields, fields_of_head, head_fits, head_bytes, head_at, head, head_of, IsPhase, HasSpelling, FitsCounter, FitsPending, FitsTypes}
+use Rattle.head_codec.specs.Pending.{pending_fields, pending_of_fields, fields_of_pending, pending_entry, FitsPending}
+use Rattle.head_codec.specs.Spelling.{phase_of_fields, fields_of_phase, phase_fields, phase, head_fields, head_of_fields, fields_of_head, head_fits, head_bytes, head_at, head, head_of, IsPhase, HasSpelling, FitsCounter, FitsTypes}
 
 pub counter_exact : (before : Option QueueCount) → IsExact (counter before)
 counter_exact before = seen_as_exact counter_of_fields fields_of_counter (counter_fields before) (

@@ -1,13 +1,11 @@
 -- What keeps a head's spelling.
-use Rattle.std.proofs.Common.{ℕ, ◌-◌, ◌^◌, ◌<◌, ◌≤◌, Bool, true, false, cond, List, [], ◌∷◌, ◌++◌, None, filter, arith}
+use Rattle.std.proofs.Common.{◌-◌, ◌≤◌, Bool, true, false, cond, List, [], ◌∷◌, ◌++◌, None, filter, arith}
 use Rattle.std.specs.List.{AllByRecursion}
 use Rattle.head_codec.specs.declared.head.Head.{Head}
-use Rattle.head_codec.specs.declared.head.Phase.{Phase}
-use Rattle.head_codec.specs.declared.lists.QueueCount.{QueueCount}
 use Rattle.head_codec.specs.declared.lists.Pending.{Pending}
 use Rattle.head_codec.specs.Head.{empty_head, next_head}
 use Rattle.head_codec.specs.Counters.{AreCounters}
-use Rattle.head_codec.specs.Spelling.{IsPhase, HasSpelling, FitsPending, FitsTypes}
+use Rattle.head_codec.specs.Spelling.{HasSpelling}
 
 pub AllByRecursion-append : {A : Type 0} (P : A → Type 0) (xs ys : List A) → AllByRecursion P xs → AllByRecursion P ys → AllByRecursion P (xs ++ ys)
 AllByRecursion-append P [] ys front back = back
@@ -32,14 +30,6 @@ HasSpelling-next_head h is = next_head-spelling h is.counters is.pending
 pub HasSpelling-first : HasSpelling (next_head empty_head)
 HasSpelling-first = next_head-spelling empty_head tt tt
 
--- a commit begins or ends
-pub HasSpelling-phase : (h : Head) (txn : ℕ) (phase : Phase) → HasSpelling h → IsPhase phase → HasSpelling (record h { txn = txn; phase = phase })
-HasSpelling-phase h txn phase is counts = record { epoch = is.epoch; phase = counts; counters = is.counters; pending = is.pending }
-
--- other counters
-pub HasSpelling-counters : (h : Head) (counters : List QueueCount) → HasSpelling h → AreCounters None counters → HasSpelling (record h { counters = counters })
-HasSpelling-counters h counters is are = record { epoch = is.epoch; phase = is.phase; counters = are; pending = is.pending }
-
 -- pending entries are added at the end
 pub HasSpelling-append : (h : Head) (more : List Pending) → HasSpelling h → AllByRecursion (λ (p : Pending). 1 ≤ p.number) more → HasSpelling (record h { pending = h.pending ++ more })
 HasSpelling-append h more is are = record {
@@ -57,15 +47,3 @@ HasSpelling-filter h keep is = record {
   counters = is.counters;
   pending = AllByRecursion-filter (λ (p : Pending). 1 ≤ p.number) keep h.pending is.pending;
 }
-
-pub FitsTypes-next_head : (h : Head) → h.epoch < 2 ^ 64 - 1 → FitsTypes h → FitsTypes (next_head h)
-FitsTypes-next_head h below is = record { epoch = omega arith; txn = omega arith; counters = is.counters; pending = is.pending }
-
-pub FitsTypes-phase : (h : Head) (txn : ℕ) (phase : Phase) → txn < 2 ^ 64 → FitsTypes h → FitsTypes (record h { txn = txn; phase = phase })
-FitsTypes-phase h txn phase small is = record { epoch = is.epoch; txn = small; counters = is.counters; pending = is.pending }
-
-pub FitsTypes-append : (h : Head) (more : List Pending) → FitsTypes h → AllByRecursion FitsPending more → FitsTypes (record h { pending = h.pending ++ more })
-FitsTypes-append h more is are = record { epoch = is.epoch; txn = is.txn; counters = is.counters; pending = AllByRecursion-append FitsPending h.pending more is.pending are }
-
-pub FitsTypes-filter : (h : Head) (keep : Pending → Bool) → FitsTypes h → FitsTypes (record h { pending = filter keep h.pending })
-FitsTypes-filter h keep is = record { epoch = is.epoch; txn = is.txn; counters = is.counters; pending = AllByRecursion-filter FitsPending keep h.pending is.pending }

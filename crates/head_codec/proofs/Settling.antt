@@ -10,8 +10,8 @@ use Rattle.head_codec.specs.declared.head.Phase.{Phase}
 use Rattle.head_codec.specs.declared.head.Phase.TheVariants.{Settled, Open}
 use Rattle.head_codec.specs.declared.lists.Pending.{Pending}
 use Rattle.head_codec.specs.Counters.{counter}
-use Rattle.head_codec.specs.Pending.{pending_entry}
-use Rattle.head_codec.specs.Spelling.{phase, head_bytes, FitsPending, FitsTypes, head_of, under_way, WasOpen}
+use Rattle.head_codec.specs.Pending.{pending_entry, FitsPending}
+use Rattle.head_codec.specs.Spelling.{phase, head_bytes, FitsTypes, head_of, under_way, WasOpen}
 use Rattle.head_codec.proofs.HeadLaws.{head_of-some}
 use Rattle.head_codec.proofs.Keeping.{AllByRecursion-append}
 use Rattle.head_codec.proofs.ListSpelling.{entries-any}

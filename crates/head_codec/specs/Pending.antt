@@ -1,6 +1,8 @@
 -- The format of a head's pending entries.
-use Rattle.std.specs.Prelude.{ℕ, true, List, Option, None}
+use Rattle.std.specs.Prelude.{ℕ, ◌<◌, ◌^◌, true, List, Option, None}
 use Rattle.std.specs.Int.{w8}
+use Rattle.db_base.specs.Change.{IsChange}
+use Rattle.db_base.specs.Ids.{IsTree}
 use Rattle.db_base.specs.declared.change.Change.{Change}
 use Rattle.byte_format.specs.Format.{Format, number, ◌then◌, seen_as, list_of}
 use Rattle.change_codec.specs.Change.{change}
@@ -24,3 +26,10 @@ pending_entry before = seen_as pending_of_fields fields_of_pending pending_field
 -- the pending entries of a head
 abbrev pub pending_list : Format (List Pending)
 pending_list = list_of true pending_entry None
+
+-- what the types of a pending entry say
+pub record FitsPending (p : Pending) : Type 0 where
+  pub tree : IsTree p.tree
+  pub page : p.page < 2 ^ 64
+  pub number : p.number < 2 ^ 64
+  pub change : IsChange p.change

@@ -5,7 +5,6 @@ use Rattle.std.specs.Int.{w8}
 use Rattle.db_base.specs.Ids.{IsTree}
 use Rattle.byte_format.specs.Format.{Format, Reading, number, ◌then◌, behind, only_where, seen_as}
 use Rattle.byte_format.specs.Whole.{offset}
-use Rattle.db_base.specs.Change.{IsChange}
 use Rattle.change_codec.specs.Number.{u64_from}
 use Rattle.change_codec.specs.Decoded.{decoded}
 use Rattle.head_codec.specs.declared.head.Head.{Head}
@@ -14,7 +13,7 @@ use Rattle.head_codec.specs.declared.head.Phase.TheVariants.{Settled, Open}
 use Rattle.head_codec.specs.declared.lists.QueueCount.{QueueCount}
 use Rattle.head_codec.specs.declared.lists.Pending.{Pending}
 use Rattle.head_codec.specs.Counters.{counters, AreCounters}
-use Rattle.head_codec.specs.Pending.{pending_list}
+use Rattle.head_codec.specs.Pending.{pending_list, FitsPending}
 
 abbrev pub phase_of_fields : ℕ × Option ℕ → Phase
 phase_of_fields (kind, Some count) = Open count
@@ -83,13 +82,6 @@ pub record FitsCounter (c : QueueCount) : Type 0 where
   pub tree : IsTree c.tree
   pub page : c.page < 2 ^ 64
   pub number : c.number < 2 ^ 64
-
--- what the types of a pending entry say
-pub record FitsPending (p : Pending) : Type 0 where
-  pub tree : IsTree p.tree
-  pub page : p.page < 2 ^ 64
-  pub number : p.number < 2 ^ 64
-  pub change : IsChange p.change
 
 -- what the types of a head say
 pub record FitsTypes (h : Head) : Type 0 where

@@ -3,6 +3,7 @@
 
 pub mod codec;
 mod counters;
+pub mod entry;
 pub mod head;
 pub mod laws;
 pub mod lists;

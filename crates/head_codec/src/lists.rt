@@ -1,3 +1,4 @@
+use crate::entry::Entry;
 use db_base::change::Change;
 use db_base::ids::TreeId;
 use db_base::sequence::Sequence;
@@ -41,4 +42,4 @@ impl Drop for Pending {
 pub type CounterList = Sequence<QueueCount>;
 
 /// The pending entries of a head, in the order of commit.
-pub type PendingList = Sequence<Pending>;
+pub type PendingList = Sequence<Entry>;

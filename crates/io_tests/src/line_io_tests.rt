@@ -3,9 +3,9 @@ use db_io::memory_sink::MemorySink;
 use db_io::memory_source::MemorySource;
 use db_io::sink::Sink;
 use db_io::source::Source;
-use line_io::input::{InputFault, MAX_DUMP, MAX_LINES, read_whole};
-use line_io::lines::next_line;
-use line_io::output::{OutputFault, write_text};
+use db_io::input::{InputFault, MAX_DUMP, MAX_LINES, read_whole};
+use db_io::lines::next_line;
+use db_io::output::{OutputFault, write_text};
 use std::alloc::Global;
 
 /// How many bytes there are, how many there may be, which read fails, and the length or the fault of the whole input.

@@ -54,10 +54,6 @@ pub Ascend-first : (e : Entry) (es : List Entry) → Ascend entry_below (Some e)
 Ascend-first e [] h = tt
 Ascend-first e (f ∷ es) h = h.0
 
-pub KeyBehind-entry : (before : Option Entry) (e : Entry) → Behind entry_below before e → KeyBehind before e.key
-KeyBehind-entry None e h = tt
-KeyBehind-entry (Some b) e h = h
-
 pub entry-KeyBehind : (before : Option Entry) (e : Entry) → KeyBehind before e.key → Behind entry_below before e
 entry-KeyBehind None e h = tt
 entry-KeyBehind (Some b) e h = h

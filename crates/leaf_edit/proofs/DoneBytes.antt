@@ -1,5 +1,5 @@
 -- How the bytes of the table grow.
-use Rattle.std.proofs.Common.{◌≡◌, ℕ, zero, suc, ◌+◌, ◌-◌, Bool, true, false, cond, List, [], ◌∷◌, ◌++◌, refl, sym, ap, ◌∙◌, arith, append_assoc}
+use Rattle.std.proofs.Common.{◌≡◌, ℕ, zero, suc, ◌+◌, ◌-◌, true, false, List, [], ◌∷◌, ◌++◌, refl, sym, ap, ◌∙◌, arith, append_assoc}
 use Rattle.std.specs.Prelude.{filter}
 use Rattle.std.proofs.lemmas.List.{append-nil}
 use Rattle.leaf_view.specs.declared.done.Done.{Done}
@@ -15,16 +15,6 @@ dones_before-rest (d ∷ ds) rest = ap (λ l. done_bytes d ++ l) (dones_before-r
 pub dones_before-append : (xs ys : List Done) → dones_before (xs ++ ys) [] ≡ dones_before xs [] ++ dones_before ys []
 dones_before-append [] ys = refl
 dones_before-append (x ∷ xs) ys = ap (λ l. done_bytes x ++ l) (dones_before-append xs ys) ∙ sym (append_assoc (done_bytes x) (dones_before xs []) (dones_before ys []))
-
--- one more entry is appended
-pub others-step : (out new start : List ℕ) (p : Done → Bool) (d : Done) (ds : List Done)
-    → out ++ dones_before (filter p (d ∷ ds)) [] ≡ start → new ≡ out ++ dones_before (filter p (d ∷ [])) []
-    → new ++ dones_before (filter p ds) [] ≡ start
-others-step out new start p d ds before appended = ap (λ l. l ++ dones_before (filter p ds) []) appended ∙ (append_assoc out _ _ ∙ (ap (λ l. out ++ l) (on (p d)) ∙ before))
-  where
-    on : (b : Bool) → dones_before (cond b (d ∷ []) []) [] ++ dones_before (filter p ds) [] ≡ dones_before (cond b (d ∷ filter p ds) (filter p ds)) []
-    on true = ap (λ l. l ++ dones_before (filter p ds) []) (append-nil (done_bytes d))
-    on false = refl
 
 own-more : (queue client n : ℕ) (ds : List Done) → dones_before (with_done queue client n []) [] ++ dones_before ds [] ≡ dones_before (with_done queue client n ds) []
 own-more queue client zero ds = refl
@@ -49,15 +39,6 @@ pub own-end : (queue : ℕ) (number : ℕ → ℕ) (left : ℕ) (out start : Lis
 unfolding own_entries
 own-end queue number zero out start e h = sym (append-nil out) ∙ h
 own-end queue number (suc left) out start e h = absurd (omega arith)
-
--- an entry where something is done
-pub with_done-none : (queue client n : ℕ) → n ≡ 0 → with_done queue client n [] ≡ []
-with_done-none queue client zero e = refl
-with_done-none queue client (suc n) e = absurd (omega arith)
-
-pub with_done-some : (queue client n : ℕ) → (n ≡ 0 → ⊥) → dones_before (with_done queue client n []) [] ≡ done_bytes (record { queue = queue; client = client; number = n })
-with_done-some queue client zero e = absurd (e refl)
-with_done-some queue client (suc n) e = append-nil (done_bytes (record { queue = queue; client = client; number = suc n }))
 
 -- the three parts
 pub raised-bytes : (ds : List Done) (queue : ℕ) (run : List PuItem) (out : List ℕ)

@@ -1,5 +1,5 @@
 -- The sizes of the parts of a leaf are the lengths of their spellings.
-use Rattle.std.proofs.Common.{◌≡◌, ℕ, zero, suc, ◌+◌, ◌-◌, ◌≤◌, ◌^◌, Bool, true, false, cond, List, [], ◌∷◌, ◌++◌, length, Option, Some, None, refl, sym, ap, subst, ◌∙◌, arith, append_assoc}
+use Rattle.std.proofs.Common.{◌≡◌, ℕ, zero, suc, ◌+◌, ◌-◌, ◌≤◌, ◌^◌, true, false, List, [], ◌∷◌, ◌++◌, length, Option, Some, None, refl, sym, ap, subst, ◌∙◌, arith, append_assoc}
 use Rattle.std.specs.Prelude.{filter, vec_len}
 use Rattle.std.specs.Global.{Vec}
 use Rattle.std.specs.Option.{option_to_list}
@@ -40,9 +40,6 @@ same-size r m n h e = subst (IsSize r) e h
 
 -- ---- the parts
 
-pub done-size : (d : Done) → length (done_bytes d) ≡ 18
-done-size d = refl
-
 pub dones-size : (ds : List Done) → length (dones_before ds []) ≡ dones_size ds
 dones-size [] = refl
 dones-size (d ∷ ds) = length-append (done_bytes d) (dones_before ds []) ∙ ap (λ n. 18 + n) (dones-size ds)
@@ -76,13 +73,6 @@ pub fields-size : (version : ℕ) (low : List ℕ) (right : ℕ) (high : Option 
 fields-size version low right high = omega (arith, length-append low (to_be_bytes w64 right ++ high_bytes high), high-size high)
 
 -- ---- the table
-
-pub others-size : (p : Done → Bool) (d : Done) (ds : List Done) → dones_size (filter p (d ∷ ds)) ≡ dones_size (filter p (d ∷ [])) + dones_size (filter p ds)
-others-size p d ds = on (p d)
-  where
-    on : (b : Bool) → dones_size (cond b (d ∷ filter p ds) (filter p ds)) ≡ dones_size (cond b (d ∷ []) []) + dones_size (filter p ds)
-    on true = omega arith
-    on false = omega arith
 
 with_done-size : (queue client n : ℕ) (ds : List Done) → dones_size (with_done queue client n ds) ≡ dones_size (with_done queue client n []) + dones_size ds
 with_done-size queue client zero ds = omega arith

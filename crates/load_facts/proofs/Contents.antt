@@ -22,7 +22,7 @@ use Rattle.session_facts.proofs.LeftLemmas.{nothing_left}
 use Rattle.session_facts.proofs.Sessions.Laws.{reports, chains, decodes, numbers}
 use Rattle.session_facts.specs.Facts.{Stands}
 use Rattle.session_facts.specs.Sessions.Sessions.{Sessions, SessionsStand}
-use Rattle.tree_meaning.specs.Chain.{Walked, records_of}
+use Rattle.replay_meaning.specs.Chain.{Walked, records_of}
 use Rattle.world_audit.specs.Counts.{heads_upto, AreWaiting}
 use Rattle.load_facts.specs.Inserts.{InsertAll}
 use Rattle.load_facts.proofs.Folds.{inserts_fold}

@@ -16,7 +16,7 @@ use Rattle.head_codec.specs.declared.head.Phase.TheVariants.{Open}
 use Rattle.load_plan.specs.Events.{Placed}
 use Rattle.log_codec.specs.Atomic.{atomic_of}
 use Rattle.log_codec.specs.declared.record.AtomicRec.{AtomicRec}
-use Rattle.tree_meaning.specs.Chain.{Walked}
+use Rattle.replay_meaning.specs.Chain.{Walked}
 use Rattle.load_facts.specs.Inserts.{insert_of}
 
 -- each tree has the records of the dump, and no others

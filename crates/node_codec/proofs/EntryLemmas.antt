@@ -48,9 +48,6 @@ spelled-cons e es = ap (λ s. entry_bytes e.0 e.1 ++ s) (spelling_loosened (λ _
 pub record IsAddedTo (low : List ℕ) (page : ℕ) (all : List Entry) (out : List ℕ) (left : List Entry) : Type 0 where
   pub same : out ++ spelled (with_entry low page left) ≡ spelled (with_entry low page all)
 
-pub added_begins : (low : List ℕ) (page : ℕ) (all : List Entry) → IsAddedTo low page all [] all
-added_begins low page all = record { same = refl }
-
 pub added_goes_on : (low : List ℕ) (page : ℕ) (all : List Entry) (out next : List ℕ) (left : List Entry) (e : Entry) (es : List Entry) → IsAddedTo low page all out left → left ≡ e ∷ es → bytes_below low e.0 ≡ false → bytes_same low e.0 ≡ false
     → next ≡ out ++ entry_bytes e.0 e.1 → IsAddedTo low page all next es
 added_goes_on low page all out next left e es a is below same written =
@@ -86,9 +83,6 @@ here_last low page left is = ap (with_entry low page) is ∙ ap (λ (xs : List E
 pub record IsCutAt (n : ℕ) (all : List Entry) (out : List ℕ) (k : ℕ) (left : List Entry) : Type 0 where
   pub front : out ++ spelled (take k left) ≡ spelled (take n all)
   pub back : drop k left ≡ drop n all
-
-pub cut_begins : (n : ℕ) (all : List Entry) → IsCutAt n all [] n all
-cut_begins n all = record { front = refl; back = refl }
 
 pub cut_goes_on : (n : ℕ) (all : List Entry) (out next : List ℕ) (k less : ℕ) (left : List Entry) (e : Entry) (es : List Entry) → IsCutAt n all out k left → left ≡ e ∷ es → k ≡ suc less → next ≡ out ++ entry_bytes e.0 e.1 → IsCutAt n all next less es
 cut_goes_on n all out next k less left e es c is count written =

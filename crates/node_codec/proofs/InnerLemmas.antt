@@ -89,15 +89,6 @@ inner_has_child version level low right high entries key p le =
 
 -- ---- buffers
 
--- the parts at the next version
-pub inner_next_version : (version level : ℕ) (low : List ℕ) (right : ℕ) (high : Option (List ℕ)) (entries : List ℕ) → AreInnerParts version level low right high entries → version + 1 ≤ greatest → AreInnerParts (version + 1) level low right high entries
-inner_next_version version level low right high entries p most =
-    let f = inner_fits (inner_in version level low right high entries) p.fits in
-    record {
-      entry_list = p.entry_list;
-      fits = fit_inner (inner_in (version + 1) level low right high entries) (record { version = in_range_from 1 greatest (version + 1) (omega arith) most; level = f.level; low = f.low; right = f.right; high = f.high; entries = f.entries });
-    }
-
 -- the entries of a root as a node
 pub node_parts : (version next level : ℕ) (cursor entries : List ℕ) → AreWrittenParts version next level cursor entries → AreInnerParts 1 level [] 0 None entries
 node_parts version next level cursor entries w =
@@ -130,13 +121,6 @@ inner_one_more_fits version level low right high entries key page p short inside
     let f = inner_fits (inner_in version level low right high entries) p.fits in
     with_entry_fits low high greatest key page (items_of plain_entry entries)
     (record { short = in_range_from 0 64 (length key) (omega arith) short; bound = bound; page = and_from _ _ (in_range_from 1 greatest page some most) (le-leb page greatest most) }) inside f.entries
-
-pub high_short : (low : List ℕ) (right : ℕ) (high : List ℕ) → (high_key low right).fits (Some high) ≡ true → length high ≤ 64
-high_short low right high h = on (not (right == 0)) h
-  where
-    on : (there : Bool) → option_fits there (key_above low) (Some high) ≡ true → length high ≤ 64
-    on true h = (in_range_parts 1 64 (length high) (and_parts (in_range 1 64 (length high)) (bytes_below low high) h).0).1
-    on false h = absurd cc
 
 -- the bytes of the fields one after another are the spelling
 pub inner_written : (version level : ℕ) (low : List ℕ) (right : ℕ) (high : Option (List ℕ)) (entries out : List ℕ) → IsBytes entries → AreInnerParts version level low right high entries

@@ -82,20 +82,6 @@ tree_has_child next level cursor entries key p =
 
 -- ---- buffers
 
--- the parts with other numbers by client
-pub parts_with_numbers : (version next level : ℕ) (cursor entries numbers : List ℕ) → AreWrittenParts version next level cursor entries → IsWholeList plain_number numbers → list_fits true client_number None (items_of plain_number numbers) ≡ true → AreWrittenParts version next level numbers entries
-parts_with_numbers version next level cursor entries numbers w listed fits =
-    let f = tree_fits (tree_in 1 next level cursor entries) w.parts.fits in
-    record {
-      some = w.some;
-      most = w.most;
-      parts = record {
-        cursor_list = listed;
-        entry_list = w.parts.entry_list;
-        fits = fit_tree (tree_in 1 next level numbers entries) (record { version = f.version; next = f.next; level = f.level; cursor = fits; entries = f.entries });
-      };
-    }
-
 -- a byte is spelled as itself
 pub byte_is : (n : ℕ) → n ≤ 255 → to_be_bytes w8 n ≡ n ∷ []
 byte_is n le = ap (λ (k : ℕ). k ∷ []) (omega arith)
@@ -145,9 +131,6 @@ one_more_fits version next level cursor entries low page w short some below =
 -- what spells entries that fit has them
 pub items_spelled : (low : List ℕ) (high : Option (List ℕ)) (last : ℕ) (xs : List Entry) (bytes : List ℕ) → list_fits false (entry low high last) None xs ≡ true → bytes ≡ spelled xs → items_of plain_entry bytes ≡ xs
 items_spelled low high last xs bytes fits is = items_of-read plain_entry bytes xs [] (spelled_read low high last xs bytes fits is)
-
-pub next_some : (version next level : ℕ) (cursor entries : List ℕ) → AreWrittenParts version next level cursor entries → 1 ≤ next
-next_some version next level cursor entries w = omega (arith, in_range_parts 2 greatest next (tree_fits (tree_in 1 next level cursor entries) w.parts.fits).next)
 
 -- the parts with a greater number of the next page
 pub parts_reserved : (version next level more : ℕ) (cursor entries : List ℕ) → AreWrittenParts version next level cursor entries → next ≤ more → more ≤ greatest → AreWrittenParts version more level cursor entries

@@ -4,9 +4,9 @@ use Rattle.db_base.specs.declared.names.QueueName.{QueueName}
 use Rattle.db_base.specs.declared.trouble.Trouble.TheVariants as trouble
 use Rattle.cloud_trait.specs.declared.answer.Answer.TheVariants as call
 use Rattle.cloud_trait.specs.Ask.{Ask, Delete}
-use Rattle.calm_calls.specs.Calm.{GoesWell, AreCalm}
-use Rattle.calm_calls.specs.Plenty.{HadMemory}
-use Rattle.calm_calls.proofs.CalmLemmas.{goes_well}
+use Rattle.cloud_trait.specs.Calm.{GoesWell, AreCalm}
+use Rattle.cloud_trait.specs.Plenty.{HadMemory}
+use Rattle.cloud_trait.proofs.CalmLemmas.{goes_well}
 use Rattle.page_ckpt.specs.declared.stage.Stage.TheVariants.{Releasing}
 use Rattle.page_ckpt.specs.Paging.{Paging, Step, new_paging, paging_ask, went, PagingLeads, KeepsLeases}
 use Rattle.page_ckpt.specs.Standing.{Went}

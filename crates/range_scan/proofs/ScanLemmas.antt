@@ -1,5 +1,5 @@
 -- Where the turns of a scan lead, by those of its walk.
-use Rattle.std.proofs.Common.{◌≡◌, ℕ, true, false, List, Option, Some, None, Result, refl, ap, sym, subst, ◌∙◌}
+use Rattle.std.proofs.Common.{◌≡◌, ℕ, false, Option, Some, None, refl, ap, sym, subst, ◌∙◌}
 use Rattle.std.specs.Prelude.{is_some}
 use Rattle.db_base.specs.declared.trouble.Trouble.{Trouble}
 use Rattle.cloud_trait.specs.declared.answer.Answer.{Answer}
@@ -9,13 +9,12 @@ use Rattle.cloud_trait.specs.Ask.{Get}
 use Rattle.cloud_trait.specs.Caller.{Caller}
 use Rattle.cloud_trait.specs.Seen.{Seen}
 use Rattle.cloud_trait.specs.Machine.{Next, Goes, Ends, Stops, LeadsBy, Took, Steps}
-use Rattle.cloud_trait.specs.Views.{got_of}
 use Rattle.cloud_trait.specs.Weather.{Makes}
 use Rattle.page_cache.specs.Cache.{Cache}
-use Rattle.tree_walk.specs.Moves.{Moves, MovesBeside}
+use Rattle.tree_walk.specs.Moves.{Moves}
 use Rattle.tree_walk.specs.Walk.{Spot, Walk, asks, walk_next, ServesOn}
 use Rattle.tree_walk.specs.Walk.{KeepsServed as KeepsWalked}
-use Rattle.range_scan.specs.Scan.{Scan, scan_asks, scan_object_at, scan_beside, walked_on, walked_by, right_got, next_at, scan_next, KeepsServed}
+use Rattle.range_scan.specs.Scan.{Scan, scan_asks, scan_object_at, scan_beside, walked_on, walked_by, next_at, scan_next, KeepsServed}
 
 -- what was done beside the cache
 beside_moves : (n : Next Scan ℕ) (c : Cache) (new : Scan) (turn : Turn ℕ) → Moves n new turn → Moves (scan_beside (n, c)) (new, c) turn
@@ -72,22 +71,3 @@ walk_steps who before after s c w d turn result new e h on moved =
     let walked : Moves (walked_by s (walk_next (s.walk, c) h.answer)) (new, d) result =
     walked_moves s (walk_next (s.walk, c) h.answer) w d turn result new (took_moves (s.walk, c) h.answer (w, d) turn h.took) moved in
     record { answer = h.answer; made = subst Q (sym e) h.made; took = moves_took (s, c) h.answer (new, d) result on (subst P (sym e) walked) }
-
--- ---- a right page
-
-right_next : (o : Option Spot) (s : Scan) (c : Cache) (a : Answer) → is_some o ≡ true → next_at o (s, c) a ≡ scan_beside (right_got s c (got_of a))
-right_next None s c a h = absurd (cc (h))
-right_next (Some spot) s c a h = refl
-
-beside_took : (x : Next Scan ℕ × Cache) (new : Scan) (d : Cache) (turn : Turn ℕ) → MovesBeside x new d turn → Moves (scan_beside x) (new, d) turn
-beside_took x new d More h = ap scan_beside (ap (λ (n : Next Scan ℕ). (n, x.1)) h.0 ∙ ap (λ (c : Cache). (Goes new, c)) h.1)
-beside_took x new d (Ended page) h = ap scan_beside (ap (λ (n : Next Scan ℕ). (n, x.1)) h.0 ∙ ap (λ (c : Cache). (Ends new page, c)) h.1)
-beside_took x new d (Stopped t) h =
-    λ other. ap scan_beside (ap (λ (n : Next Scan ℕ). (n, x.1)) (h other).0 ∙ ap (λ (c : Cache). (Stops new t, c)) (h other).1)
-
-pub right_took : (s : Scan) (c : Cache) (a : Answer) (g : Result (Option (List ℕ)) Trouble) (new : Scan) (d : Cache) (turn : Turn ℕ) → is_some s.spot ≡ true → g ≡ got_of a
-    → ServesOn c d → MovesBeside (right_got s c g) new d turn → Took (LeadsBy scan_next) KeepsServed (s, c) a (new, d) turn
-right_took s c a g new d turn some is on h =
-    let P : Next (Scan × Cache) ℕ → Type 0 = λ y. Moves y (new, d) turn in
-    let Q : Result (Option (List ℕ)) Trouble → Type 0 = λ r. MovesBeside (right_got s c r) new d turn in
-    moves_took (s, c) a (new, d) turn on (subst P (sym (right_next s.spot s c a some)) (beside_took (right_got s c (got_of a)) new d turn (subst Q is h)))

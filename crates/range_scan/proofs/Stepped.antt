@@ -8,14 +8,14 @@ use Rattle.cloud_trait.specs.Seen.{Seen}
 use Rattle.page_cache.specs.Cache.{Cache}
 use Rattle.tree_walk.specs.Walk.{ServesOn}
 use Rattle.tree_walk.specs.Walk.{Spot}
-use Rattle.tree_walk.proofs.Leading.{walked_led}
+use Rattle.tree_walk.proofs.Meaning.{walked_led}
 use Rattle.range_scan.specs.Scan.{Scan, scan_asks, scan_object_at, scan_next, KeepsServed}
 use Rattle.range_scan.specs.Causing.{deed_of}
 use Rattle.range_scan.specs.Listing.{IsWalked, deeds_of}
 use Rattle.range_scan.specs.Stepped.{Stepped}
-use Rattle.range_scan.proofs.Causing.{next_causes, next_calm}
-use Rattle.range_scan.proofs.Exactness.{next_exact}
-use Rattle.range_scan.proofs.Listing.{next_means, scanned_led}
+use Rattle.range_scan.proofs.Causes.{next_causes, next_calm}
+use Rattle.range_scan.proofs.Demands.{next_exact}
+use Rattle.range_scan.proofs.Meaning.{next_means, scanned_led}
 use Rattle.range_scan.proofs.Walked.{scanned_walked}
 use Rattle.range_scan.proofs.Within.{scanned_within}
 

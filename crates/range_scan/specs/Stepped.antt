@@ -8,7 +8,7 @@ use Rattle.cloud_trait.specs.Caller.{Caller}
 use Rattle.cloud_trait.specs.Machine.{LeadsBy, Took, Steps}
 use Rattle.cloud_trait.specs.Seen.{Seen}
 use Rattle.cloud_trait.specs.Weather.{Makes}
-use Rattle.calm_calls.specs.Calm.{IsCalm}
+use Rattle.cloud_trait.specs.Calm.{IsCalm}
 use Rattle.page_cache.specs.Cache.{Cache}
 use Rattle.tree_walk.specs.Walk.{ServesOn}
 use Rattle.range_scan.specs.Scan.{Scan, scan_asks, scan_next, KeepsServed}

@@ -9,7 +9,7 @@ use crate::sight::Sight;
 use db_base::change::{Change, act};
 use db_base::ids::TreeId;
 use db_base::value::Value;
-use head_codec::lists::Pending;
+use head_codec::entry::Entry;
 use leaf_view::Records;
 use std::alloc::{AllocError, Global};
 use std::collections::BTreeMap;
@@ -75,11 +75,11 @@ impl<'a> Items<'a> {
         Ok(())
     }
 
-    fn add_entry(&mut self, sight: &Sight<'a>, entry: &'a Pending) -> Result<(), AllocError>
+    fn add_entry(&mut self, sight: &Sight<'a>, entry: &'a Entry) -> Result<(), AllocError>
         ensures { OnOk result (self.new ≡ with_pending sight.now self.old entry.now) }
     {
         if sight.lists_pending(entry) {
-            self.change(&entry.change)?;
+            self.change(&entry.get().change)?;
         }
         Ok(())
     }
@@ -109,7 +109,7 @@ impl<'a> Items<'a> {
         Ok(())
     }
 
-    fn add_pending(&mut self, sight: &Sight<'a>, pending: &'a [Pending]) -> Result<(), AllocError>
+    fn add_pending(&mut self, sight: &Sight<'a>, pending: &'a [Entry]) -> Result<(), AllocError>
         ensures { OnOk result (self.new ≡ fold (with_pending sight.now) self.old pending.now) }
     {
         let mut left = pending;
@@ -134,7 +134,7 @@ impl<'a> Items<'a> {
     }
 
     /// All pairs that are in sight. Fails for memory alone.
-    pub(crate) fn of(alloc: Global, sight: &Sight<'a>) -> Result<Items<'a>, AllocError>
+    pub fn of(alloc: Global, sight: &Sight<'a>) -> Result<Items<'a>, AllocError>
         ensures list { IfOk result (λ items. items ≡ items_of sight.now) }
         ensures are { IfOk result (λ items. AreItems sight.now items) }
     {

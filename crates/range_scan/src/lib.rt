@@ -9,3 +9,4 @@ mod sight;
 pub use items::Items;
 pub use laws::{listing_laws, ready_laws};
 pub use scan::RangeScan;
+pub use sight::Sight;

@@ -7,21 +7,28 @@ ghost use Rattle.range_scan.specs.Pairs.{is_listed, is_listed_pending};
 use byte_format::{is_below, is_below_bound};
 use db_base::change::Change;
 use db_base::ids::{ClientId, TreeId};
+use head_codec::entry::Entry;
 use head_codec::head::Head;
-use head_codec::lists::Pending;
 use leaf_view::LeafView;
 use std::marker::Model;
 use txn_buffer::buffer::TxnBuffer;
 
 /// What is looked at: a leaf, the keys that are asked for, and a client's own changes.
-pub(crate) struct Sight<'a> {
-    pub(crate) leaf: LeafView<'a>,
-    pub(crate) tree: TreeId,
-    pub(crate) from: &'a [u8],
-    pub(crate) to: Option<&'a [u8]>,
-    pub(crate) client: ClientId,
-    pub(crate) head: &'a Head,
-    pub(crate) buffer: &'a TxnBuffer,
+pub struct Sight<'a> {
+    /// The leaf.
+    pub leaf: LeafView<'a>,
+    /// Its tree.
+    pub tree: TreeId,
+    /// The key from which on pairs are asked for.
+    pub from: &'a [u8],
+    /// The key below which they are, where there is one.
+    pub to: Option<&'a [u8]>,
+    /// The client that looks.
+    pub client: ClientId,
+    /// Its head, with the changes that it committed.
+    pub head: &'a Head,
+    /// Its buffer, with those that it did not commit yet.
+    pub buffer: &'a TxnBuffer,
 }
 
 impl<'a> Drop for Sight<'a> {
@@ -56,9 +63,10 @@ impl<'a> Sight<'a> {
     }
 
     /// Whether a pending entry is of a key that is asked for, and the leaf lacks it.
-    pub(crate) fn lists_pending(&self, entry: &Pending) -> bool
+    pub(crate) fn lists_pending(&self, entry: &Entry) -> bool
         ensures { result ≡ is_listed_pending self.now entry.now }
     {
+        let entry = entry.get();
         entry.tree.get() == self.tree.get()
             && self.is_listed(entry.change.key().as_slice())
             && self.leaf.done(entry.page, self.client) < entry.number

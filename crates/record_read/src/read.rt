@@ -59,6 +59,13 @@ impl RecordRead {
         self.walk.in_hand()
     }
 
+    /// Its walk.
+    pub fn walk(&self) -> &Walk
+        ensures { result.now ≡ self.now }
+    {
+        &self.walk
+    }
+
     /// Does the local work before the first call; it is called once.
     pub fn ready(&mut self, alloc: Global, cache: &mut PageCache) -> Turn<PageId>
         ensures moves { Moves (walk_ready (self.old, cache.old)) (self.new, cache.new) result }

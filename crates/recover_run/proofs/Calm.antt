@@ -5,8 +5,8 @@ use Rattle.db_base.specs.declared.trouble.Counter.{Counter}
 use Rattle.cloud_trait.specs.Caller.{Caller}
 use Rattle.cloud_trait.specs.Seen.{Seen}
 use Rattle.cloud_trait.specs.Weather.{Makes}
-use Rattle.calm_calls.specs.Calm.{GoesWell, AreCalm}
-use Rattle.calm_calls.proofs.CalmLemmas.{goes_well}
+use Rattle.cloud_trait.specs.Calm.{GoesWell, AreCalm}
+use Rattle.cloud_trait.proofs.CalmLemmas.{goes_well}
 use Rattle.recover_run.specs.Causing.{Shows, IsShown}
 use Rattle.recover_run.specs.Emptying.{deed_of}
 use Rattle.recover_run.specs.Recovery.{new_recovery}

@@ -21,7 +21,7 @@ use Rattle.cloud_trait.proofs.EffectLemmas.{effect_messages}
 use Rattle.cloud_trait.proofs.NameLemmas.{queue_cmp-equal}
 use Rattle.cloud_trait.proofs.RowLemmas.{row_by}
 use Rattle.cloud_trait.proofs.StateLemmas.{put_at_other, put_at_by}
-use Rattle.calm_calls.specs.Calm.{IsCalm, AreCalm, AreAlone}
+use Rattle.cloud_trait.specs.Calm.{IsCalm, AreCalm, AreAlone}
 use Rattle.recover_run.specs.declared.items.AtomicItem.{AtomicItem}
 use Rattle.recover_run.specs.declared.stage.Aim.{Aim}
 use Rattle.recover_run.specs.declared.stage.Stage.{Stage}

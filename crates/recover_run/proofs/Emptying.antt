@@ -20,8 +20,8 @@ use Rattle.cloud_trait.specs.Weather.{Weather, Makes}
 use Rattle.cloud_trait.proofs.NameLemmas.{queue_cmp-total}
 use Rattle.cloud_trait.proofs.RowLemmas.{row_messages}
 use Rattle.cloud_trait.proofs.StateLemmas.{put_at_same}
-use Rattle.calm_calls.specs.Calm.{GoesWell, IsCalm, AreCalm, AreAlone}
-use Rattle.calm_calls.proofs.CalmLemmas.{goes_well, delivers}
+use Rattle.cloud_trait.specs.Calm.{GoesWell, IsCalm, AreCalm, AreAlone}
+use Rattle.cloud_trait.proofs.CalmLemmas.{goes_well, delivers}
 use Rattle.recover_run.specs.declared.stage.Aim.{Aim}
 use Rattle.recover_run.specs.declared.stage.Stage.{Stage}
 use Rattle.recover_run.specs.declared.stage.Stage.TheVariants.{Clearing, Sweeping, Releasing}

@@ -22,7 +22,7 @@ use Rattle.recover_run.proofs.Keeping.{with_item_rising}
 use Rattle.recover_run.proofs.Knowing.{IsRising, KnowsAt}
 use Rattle.recover_run.proofs.Meaning.{came_known}
 use Rattle.recover_run.proofs.Words.{Head, Answer, Message, Ask, GetHeld, PutHeld, Send, Receive, Delete, Take, Release, Claim, Goes, Ends, Stops, Deed, calls_of, Fits, AtomicItem, Aim, Stage, ReleasingOld, Taking, Getting, Receiving, Deleting, Sending, Putting, Clearing, Sweeping, Releasing, Finished, Wanted, Calls, Recovery, Step, recovery_ask, Went}
-use Rattle.recover_run.proofs.Outcomes.{at, Reads, Loses, Readies, Clears, Fails, Comes, comes_to}
+use Rattle.recover_run.proofs.Outcomes.{at, Reads, Loses, Comes, comes_to}
 use Rattle.recover_run.proofs.Outcomes as step
 
 -- ---- what a call received
@@ -68,10 +68,6 @@ under_receives : (r : Recovery) (o : Option Claim) (ask : Claim → Ask) → ((l
 under_receives r (Some l) ask plain = plain l
 under_receives r None ask plain = tt
 
-delete_receives : (r : Recovery) (ids : List ℕ) → IsNoReceive (delete_next r ids)
-delete_receives r [] = tt
-delete_receives r (id ∷ ids) = tt
-
 indices_still : (w : Wanted) (c : Ask × Answer) (cs : Calls) → indices_in w c.1 ≡ [] → known_indices w (c ∷ cs) ≡ known_indices w cs
 indices_still w c cs none = ap (λ (l : List ℕ). known_indices w cs ++ new_ids (known_indices w cs) l) none ∙ append-nil (known_indices w cs)
 
@@ -113,9 +109,6 @@ pub record Match (kept : List AtomicItem) (set : List ℕ) : Type 0 where
 
 below_true : (a b : ℕ) → nat_lt a b ≡ true → a < b
 below_true a b e = grind (arith, nat_tests)
-
-below_false : (a b : ℕ) → nat_lt a b ≡ false → b ≤ a
-below_false a b e = grind (arith, nat_tests)
 
 same_true : (a b : ℕ) → (a == b) ≡ true → a ≡ b
 same_true a b e = grind (arith, nat_tests)

@@ -3,7 +3,6 @@ pub mod Outcomes
 pub mod Causes
 pub mod End
 pub mod Demands
-pub mod Apart
 pub mod Calmly
 pub mod Emptying
 pub mod Finding

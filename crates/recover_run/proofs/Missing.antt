@@ -27,7 +27,7 @@ use Rattle.cloud_trait.specs.State.{CloudState, Counts, newest, newest_of, calle
 use Rattle.cloud_trait.specs.Views.{given_of, got_of, sent_of, received_of, done_of, trouble_of}
 use Rattle.cloud_trait.specs.Weather.{Weather, Makes}
 use Rattle.cloud_trait.proofs.RowLemmas.{row_messages, row_versions}
-use Rattle.calm_calls.specs.Calm.{IsCalm, AreCalm, AreAlone}
+use Rattle.cloud_trait.specs.Calm.{IsCalm, AreCalm, AreAlone}
 use Rattle.recover_run.specs.declared.items.AtomicItem.{AtomicItem}
 use Rattle.recover_run.specs.declared.stage.Aim.{Aim}
 use Rattle.recover_run.specs.declared.stage.Aim.TheVariants.{Opening, Settling}

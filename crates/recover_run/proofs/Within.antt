@@ -64,10 +64,6 @@ or_right : (a b : Bool) → b ≡ true → (a || b) ≡ true
 or_right true b e = refl
 or_right false b e = e
 
-or_not : (a b : Bool) → a ≡ false → b ≡ false → (a || b) ≡ false
-or_not true b e f = absurd (cc (e))
-or_not false b e f = f
-
 or_false_left : (a b : Bool) → (a || b) ≡ false → a ≡ false
 or_false_left true b e = absurd (cc (e))
 or_false_left false b e = refl

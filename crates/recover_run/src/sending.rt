@@ -6,6 +6,7 @@ ghost use Rattle.route_plan.specs.Record.{pu_record_of, pending_of};
 ghost use Rattle.recover_run.specs.Sending.{pending_with};
 
 use db_base::blob::Blob;
+use head_codec::entry::Entry;
 use head_codec::head::Head;
 use head_codec::lists::Pending;
 use log_codec::record::AtomicRec;
@@ -34,13 +35,13 @@ pub(crate) fn add_pending(alloc: Global, head: &mut Head, rec: &AtomicRec) -> Re
     ensures err { OnErr result (head.new ≡ head.old) }
     ensures spelled { HasSpelling head.new }
 {
-    let entry = Pending {
+    let pending = Pending {
         tree: rec.tree,
         page: rec.page,
         number: rec.number,
         change: rec.change.copied(alloc)?,
     };
-    head.pending.push(entry)
+    head.pending.push(Entry::of(alloc, pending)?)
 }
 
 /// The bytes of a head.

@@ -15,11 +15,11 @@ use Rattle.report_types.specs.declared.report.Report.{Report}
 use Rattle.report_types.specs.declared.stored.Stored.{Stored}
 use Rattle.reply_text.specs.declared.reply.Reply.{Reply}
 use Rattle.reply_text.specs.declared.reply.Reply.TheVariants as reply
-use Rattle.tree_meaning.specs.Chain.{AreLeaves, records_of}
+use Rattle.replay_meaning.specs.Chain.{AreLeaves, records_of}
 use Rattle.replay_meaning.specs.Standing.{Line}
 use Rattle.replay_meaning.specs.Committed.{committed}
 use Rattle.replay_meaning.specs.Kinds.{KeepsKinds}
-use Rattle.tree_meaning.specs.Index.{Finds}
+use Rattle.replay_meaning.specs.Index.{Finds}
 
 -- the value of a record that a report shows
 abbrev pub value_stored : Stored → Value

@@ -60,10 +60,6 @@ abbrev pub ahead : {A : Type 0} → List A → Option (List A × List (List ℕ)
 ahead front None = None
 ahead front (Some x) = Some (front ++ x.0, x.1)
 
-pub counted-start : {A : Type 0} (o : Option (List A × List (List ℕ))) → ahead [] o ≡ o
-counted-start None = refl
-counted-start (Some x) = refl
-
 pub counted-more : {A : Type 0} (item : List ℕ → Option A) (front : List A) (text : List ℕ) (texts : List (List ℕ)) (n : ℕ) (x : A) → 0 < n → item text ≡ Some x → ahead (front ++ x ∷ []) (counted item (n - 1) texts) ≡ ahead front (counted item n (text ∷ texts))
 unfolding counted
 counted-more item front text texts zero x some e = absurd (omega arith)

@@ -7,7 +7,7 @@ use Rattle.std.proofs.lemmas.Bool.{and_parts, eqb-true}
 use Rattle.std.proofs.lemmas.Option.{same_Some, cond_some}
 use Rattle.db_base.specs.Refusal.{number_of_refusal}
 use Rattle.db_base.specs.declared.refusal.Refusal.{Refusal}
-use Rattle.db_base.specs.declared.refusal.Refusal.TheVariants.{EmptyKey, LongKey, LongPayload, TooManyChanges, BadNumber, NotOpen, AtWork, Broken, AlreadyOpen, NotWorking, BadAttr}
+use Rattle.db_base.specs.declared.refusal.Refusal.TheVariants.{EmptyKey, LongKey, LongPayload, TooManyChanges, BadNumber, NotOpen, AtWork, Broken, AlreadyOpen, NotWorking, BadAttr, LongEntry}
 use Rattle.db_base.specs.declared.trouble.CommitAnswer.{CommitAnswer}
 use Rattle.db_base.specs.declared.trouble.CommitAnswer.TheVariants.{Committed, NotCommitted, InDoubt, CommittedOpen}
 use Rattle.db_base.specs.declared.trouble.Trouble.{Trouble}
@@ -61,6 +61,7 @@ small_number Broken = lit< tt
 small_number AlreadyOpen = lit< tt
 small_number NotWorking = lit< tt
 small_number BadAttr = lit< tt
+small_number LongEntry = lit< tt
 
 refusal_of-again : (r : Refusal) → refusal_of (refusal_word r) ≡ Some r
 refusal_of-again EmptyKey = refl
@@ -74,6 +75,7 @@ refusal_of-again Broken = refl
 refusal_of-again AlreadyOpen = refl
 refusal_of-again NotWorking = refl
 refusal_of-again BadAttr = refl
+refusal_of-again LongEntry = refl
 
 refused_of-again : (r : Refusal) → refused_of (decimal (number_of_refusal r) ∷ refusal_word r ∷ []) ≡ Some r
 unfolding refused_of word_at
@@ -260,6 +262,7 @@ visible_refusal Broken = refl
 visible_refusal AlreadyOpen = refl
 visible_refusal NotWorking = refl
 visible_refusal BadAttr = refl
+visible_refusal LongEntry = refl
 
 -- a reply of a word alone
 word_again : (word : List ℕ) (x : Reply) → reply_of_words (word ∷ []) [] ≡ alone x [] → all_visible (word ∷ []) ≡ true → reply_of_lines (text_of 32 (word ∷ []) ∷ []) ≡ Some x
@@ -351,7 +354,3 @@ text_again text r spelled =
 -- what is spelled so is read
 pub read_only : (text : List ℕ) (result : Result Reply TextFault) → Reads result (reply_of_lines (parts_of 10 text)) → (r : Reply) → IsReply text r → IsReadTo result r
 read_only text result h r spelled = read_to result (reply_of_lines (parts_of 10 text)) r h (text_again text r spelled)
-
--- a text spells one reply
-pub one_value : (text : List ℕ) (a b : Reply) → IsReply text a → IsReply text b → a ≡ b
-one_value text a b one two = same_Some a b (sym (text_again text a one) ∙ text_again text b two)

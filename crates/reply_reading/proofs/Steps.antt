@@ -68,10 +68,6 @@ passed_on (Ok x) e o is none = absurd is
 passed_on (Err NotInGrammar) e o is none = none (sym is)
 passed_on (Err Memory) e o is none = tt
 
-pub word_at-again : (word : List ℕ) (words : List (List ℕ)) → word_at (word ∷ words) ≡ Some (word, words)
-unfolding word_at
-word_at-again word words = refl
-
 pub alone-takes : {A : Type 0} (x y : A) (words : List (List ℕ)) → alone x words ≡ Some y → (x ≡ y) × (words ≡ [])
 unfolding alone
 alone-takes x y words e =

@@ -3,7 +3,7 @@ use Rattle.std.specs.Prelude.{ℕ, List, [], ◌∷◌, Option, codes}
 use Rattle.std.specs.List.{find}
 use Rattle.std.specs.Str.{bytes_eq}
 use Rattle.db_base.specs.declared.refusal.Refusal.{Refusal}
-use Rattle.db_base.specs.declared.refusal.Refusal.TheVariants.{EmptyKey, LongKey, LongPayload, TooManyChanges, BadNumber, NotOpen, AtWork, Broken, AlreadyOpen, NotWorking, BadAttr}
+use Rattle.db_base.specs.declared.refusal.Refusal.TheVariants.{EmptyKey, LongKey, LongPayload, TooManyChanges, BadNumber, NotOpen, AtWork, Broken, AlreadyOpen, NotWorking, BadAttr, LongEntry}
 use Rattle.db_base.specs.declared.trouble.Counter.{Counter}
 use Rattle.db_base.specs.declared.trouble.Counter.TheVariants.{Epoch, Txn, Number, Version, Pages}
 use Rattle.reply_reading.specs.declared.reply_kind.ReplyKind.{ReplyKind}
@@ -68,7 +68,7 @@ trouble_kind_of word = find (λ k. bytes_eq (trouble_kind_text k) word) trouble_
 
 -- all rules
 abbrev pub refusals : List Refusal
-refusals = EmptyKey ∷ LongKey ∷ LongPayload ∷ TooManyChanges ∷ BadNumber ∷ NotOpen ∷ AtWork ∷ Broken ∷ AlreadyOpen ∷ NotWorking ∷ BadAttr ∷ []
+refusals = EmptyKey ∷ LongKey ∷ LongPayload ∷ TooManyChanges ∷ BadNumber ∷ NotOpen ∷ AtWork ∷ Broken ∷ AlreadyOpen ∷ NotWorking ∷ BadAttr ∷ LongEntry ∷ []
 
 -- the rule that a word names
 abbrev pub refusal_of : List ℕ → Option Refusal

@@ -18,7 +18,7 @@ use words::fault::TextFault;
 use words::parts::Parts;
 
 /// All rules.
-const REFUSALS: [Refusal; 11] = [
+const REFUSALS: [Refusal; 12] = [
     Refusal::EmptyKey,
     Refusal::LongKey,
     Refusal::LongPayload,
@@ -30,6 +30,7 @@ const REFUSALS: [Refusal; 11] = [
     Refusal::AlreadyOpen,
     Refusal::NotWorking,
     Refusal::BadAttr,
+    Refusal::LongEntry,
 ];
 
 /// The rule that a word names, where it names one. Takes no memory.

@@ -42,10 +42,6 @@ pub text_of_behind : (separator : ℕ) (text : List ℕ) (texts : List (List ℕ
 text_of_behind separator text [] = sym (append-nil text)
 text_of_behind separator text (next ∷ texts) = ap (λ (t : List ℕ). text ++ (separator ∷ t)) (text_of_behind separator next texts)
 
-pub behind_each_append : (separator : ℕ) (a b : List (List ℕ)) → behind_each separator (a ++ b) ≡ behind_each separator a ++ behind_each separator b
-behind_each_append separator [] b = refl
-behind_each_append separator (text ∷ a) b = ap (λ (t : List ℕ). separator ∷ t) (ap (λ (t : List ℕ). text ++ t) (behind_each_append separator a b) ∙ sym (append_assoc text (behind_each separator a) (behind_each separator b)))
-
 -- a scan's text
 pub text_of_scan : (name count : List ℕ) (words : List (List ℕ)) → text_of 32 (name ∷ count ∷ words) ≡ (name ++ (32 ∷ count)) ++ behind_each 32 words
 text_of_scan name count words = ap (λ (t : List ℕ). name ++ (32 ∷ t)) (text_of_behind 32 count words) ∙ sym (append_assoc name (32 ∷ count) (behind_each 32 words))

@@ -1,3 +1,4 @@
 pub mod Name
 pub mod Reply
 pub mod Grammar
+pub mod Call

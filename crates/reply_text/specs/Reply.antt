@@ -5,7 +5,7 @@ use Rattle.words.specs.Word.{hexadecimal}
 use Rattle.words.specs.Line.{text_of, last_words}
 use Rattle.db_base.specs.Refusal.{number_of_refusal}
 use Rattle.db_base.specs.declared.refusal.Refusal.{Refusal}
-use Rattle.db_base.specs.declared.refusal.Refusal.TheVariants.{EmptyKey, LongKey, LongPayload, TooManyChanges, BadNumber, NotOpen, AtWork, Broken, AlreadyOpen, NotWorking, BadAttr}
+use Rattle.db_base.specs.declared.refusal.Refusal.TheVariants.{EmptyKey, LongKey, LongPayload, TooManyChanges, BadNumber, NotOpen, AtWork, Broken, AlreadyOpen, NotWorking, BadAttr, LongEntry}
 use Rattle.db_base.specs.declared.change.Change.{Change}
 use Rattle.db_base.specs.declared.change.Change.TheVariants.{Insert, Update, Delete, Add}
 use Rattle.db_base.specs.declared.pair.Pair.{Pair}
@@ -35,6 +35,7 @@ refusal_word Broken = codes "broken"
 refusal_word AlreadyOpen = codes "already-open"
 refusal_word NotWorking = codes "not-working"
 refusal_word BadAttr = codes "bad-attr"
+refusal_word LongEntry = codes "long-entry"
 
 -- the word of a counter
 abbrev pub counter_word : Counter → List ℕ

@@ -153,6 +153,7 @@ pub fn refusal_word(refusal: Refusal) -> &'static str
         Refusal::AlreadyOpen => "already-open",
         Refusal::NotWorking => "not-working",
         Refusal::BadAttr => "bad-attr",
+        Refusal::LongEntry => "long-entry",
     }
 }
 

@@ -1,8 +1,8 @@
 -- Laws of the records of a commit.
-use Rattle.std.proofs.Common.{◌≡◌, ℕ, ◌+◌, ◌-◌, ◌^◌, ◌<◌, ◌≤◌, List, [], ◌∷◌, ◌++◌, length, drop, Some, None, refl, ap, sym, ◌∙◌, subst, arith, append_assoc, length-append, slice_index_or}
+use Rattle.std.proofs.Common.{◌≡◌, ℕ, ◌+◌, ◌-◌, ◌^◌, ◌<◌, ◌≤◌, List, [], ◌∷◌, ◌++◌, length, drop, Some, None, ap, sym, ◌∙◌, subst, arith, append_assoc, length-append, slice_index_or}
 use Rattle.std.specs.Prelude.{slice_get}
 use Rattle.std.proofs.lemmas.List.{append-nil}
-use Rattle.std.proofs.lemmas.List.Elements.{All-push, All-nil}
+use Rattle.std.proofs.lemmas.List.Elements.{All-push}
 use Rattle.std.proofs.lemmas.Option.{slice_get_within}
 use Rattle.std.proofs.Math.ListN.{drop_of_length-le}
 use Rattle.head_codec.specs.declared.head.Head.{Head}
@@ -18,10 +18,6 @@ pub record IsRoutedSoFar (client epoch txn count : ℕ) (head : Head) (changes :
       ≡ routed_behind client epoch txn count head [] changes leaves
   pub short : length records ≤ length changes
   pub fits : AllFit records
-
-pub routed-start : (client epoch txn count : ℕ) (head : Head) (changes : List Noted) (leaves : List ℕ)
-    → IsRoutedSoFar client epoch txn count head changes leaves []
-routed-start client epoch txn count head changes leaves = record { whole = refl; short = omega arith; fits = All-nil (λ r. r.number < 2 ^ 64) }
 
 -- what is left at a place: the record of its change, and those behind it
 routed-here : (client epoch txn count : ℕ) (head : Head) (changes : List Noted) (leaves : List ℕ) (records : List AtomicRec) (noted : Noted) (leaf : ℕ)

@@ -8,7 +8,7 @@ use crate::queue::{first_queue, last_pending};
 use crate::slots::SlotTable;
 use db_base::change::Change;
 use db_base::ids::{PageId, TreeId};
-use head_codec::lists::Pending;
+use head_codec::entry::Entry;
 use std::alloc::{AllocError, Global};
 use std::marker::Model;
 
@@ -18,16 +18,16 @@ const FEW_SEARCHES: usize = 8;
 /// Pending entries, to be searched by key: by a table, where there are searches enough to pay for it.
 #[derive(Drop)]
 pub(crate) struct PendingIndex<'a> {
-    pending: &'a [Pending],
+    pending: &'a [Entry],
     table: Option<SlotTable>,
 }
 
 impl<'a> Model for PendingIndex<'a> {
     ghost use Rattle.std.specs.Prelude.{List, IfSome};
-    ghost use Rattle.head_codec.specs.declared.lists.Pending.{Pending as Entry};
+    ghost use Rattle.head_codec.specs.declared.lists.Pending.{Pending};
     ghost use Rattle.route_plan.specs.Index.{IsTable};
 
-    ghost Value = { List Entry };
+    ghost Value = { List Pending };
 
     ghost view = { λ x. x.pending.now };
 
@@ -37,7 +37,7 @@ impl<'a> Model for PendingIndex<'a> {
 /// The table of entries, for more than a few searches. Fails for memory alone.
 fn table_of(
     alloc: Global,
-    pending: &[Pending],
+    pending: &[Entry],
     searches: usize,
 ) -> Result<Option<SlotTable>, AllocError>
     ensures { IfOk result (λ table. IfSome table (λ t. IsTable pending.now t.newest.items t.before.items)) }
@@ -56,7 +56,7 @@ impl<'a> PendingIndex<'a> {
     /// The index of entries for so many searches. Fails for memory alone.
     pub(crate) fn of(
         alloc: Global,
-        pending: &'a [Pending],
+        pending: &'a [Entry],
         searches: usize,
     ) -> Result<PendingIndex<'a>, AllocError>
         ensures { IfOk result (λ x. x ≡ pending.now) }
@@ -66,7 +66,7 @@ impl<'a> PendingIndex<'a> {
     }
 
     /// The last entry of a tree and key.
-    pub(crate) fn last(&self, tree: TreeId, key: &[u8]) -> Option<&'a Pending>
+    pub(crate) fn last(&self, tree: TreeId, key: &[u8]) -> Option<&'a Entry>
         ensures { option_copied result ≡ last_pending self.now tree key.now }
     {
         match &self.table {
@@ -81,7 +81,7 @@ pub(crate) fn page_of(index: &PendingIndex<'_>, tree: TreeId, change: &Change, l
     ensures { result ≡ queue_of index.now tree change.now leaf }
 {
     match index.last(tree, change.key().as_slice()) {
-        Some(entry) => entry.page,
+        Some(entry) => entry.get().page,
         None => first_queue(change, leaf),
     }
 }

@@ -2,24 +2,26 @@ ghost use Rattle.std.specs.Prelude.{◌≡◌};
 ghost use Rattle.route_plan.specs.Prune.{is_applied_in, is_covered_by, pruned_by_leaf, pruned_by_tree};
 
 use db_base::ids::{ClientId, TreeId};
+use head_codec::entry::Entry;
 use head_codec::head::Head;
-use head_codec::lists::Pending;
 use leaf_view::LeafView;
 use node_codec::TreeView;
 
 /// Whether a leaf shows the client's entry to be applied.
-fn is_applied_in(view: &LeafView<'_>, client: ClientId, tree: TreeId, entry: &Pending) -> bool
+fn is_applied_in(view: &LeafView<'_>, client: ClientId, tree: TreeId, entry: &Entry) -> bool
     ensures { result ≡ is_applied_in view.now client tree entry.now }
 {
+    let entry = entry.get();
     entry.tree.get() == tree.get()
         && view.holds(entry.change.key().as_slice())
         && entry.number <= view.done(entry.page, client)
 }
 
 /// Whether a root shows the client's entry to be applied.
-fn is_covered_by(view: &TreeView<'_>, client: ClientId, tree: TreeId, entry: &Pending) -> bool
+fn is_covered_by(view: &TreeView<'_>, client: ClientId, tree: TreeId, entry: &Entry) -> bool
     ensures { result ≡ is_covered_by view.now client tree entry.now }
 {
+    let entry = entry.get();
     entry.tree.get() == tree.get() && entry.page == 0 && entry.number <= view.cursor(client)
 }
 

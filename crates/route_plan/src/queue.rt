@@ -5,7 +5,8 @@ ghost use Rattle.route_plan.specs.Queue.{first_queue, is_counter_of, last_pendin
 use db_base::change::Change;
 use db_base::ids::{PageId, TreeId};
 use db_base::names::QueueName;
-use head_codec::lists::{Pending, QueueCount};
+use head_codec::entry::Entry;
+use head_codec::lists::QueueCount;
 
 /// The counter of a queue. The page is 0 for the tree queue.
 fn find_counter(counters: &[QueueCount], tree: TreeId, page: u64) -> Option<&QueueCount>
@@ -25,15 +26,13 @@ pub fn number_of_queue(counters: &[QueueCount], tree: TreeId, page: u64) -> u64
 }
 
 /// The last pending entry of a tree and key.
-pub(crate) fn last_pending<'a>(
-    pending: &'a [Pending],
-    tree: TreeId,
-    key: &[u8],
-) -> Option<&'a Pending>
+pub(crate) fn last_pending<'a>(pending: &'a [Entry], tree: TreeId, key: &[u8]) -> Option<&'a Entry>
     ensures { option_copied result ≡ last_pending pending.now tree key.now }
 {
-    pending.iter().rev().find(|entry| entry.tree.get() == tree.get()
-        && entry.change.key().as_slice() == key)
+    pending.iter().rev().find(|entry| {
+        let entry = entry.get();
+        entry.tree.get() == tree.get() && entry.change.key().as_slice() == key
+    })
 }
 
 /// The page of the queue of a change whose key has no pending entry.

@@ -6,8 +6,8 @@ ghost use Rattle.route_plan.specs.Seen.{after_buffered, after_pending, is_lacked
 use db_base::change::{Change, act};
 use db_base::ids::{ClientId, TreeId};
 use db_base::value::Value;
+use head_codec::entry::Entry;
 use head_codec::head::Head;
-use head_codec::lists::Pending;
 use leaf_view::LeafView;
 use txn_buffer::buffer::TxnBuffer;
 
@@ -17,10 +17,11 @@ fn is_lacked_by(
     client: ClientId,
     tree: TreeId,
     key: &[u8],
-    entry: &Pending,
+    entry: &Entry,
 ) -> bool
     ensures { result ≡ is_lacked_by view.now client tree key.now entry.now }
 {
+    let entry = entry.get();
     entry.tree.get() == tree.get()
         && entry.change.key().as_slice() == key
         && view.done(entry.page, client) < entry.number
@@ -33,12 +34,12 @@ fn after_entry<'a>(
     client: ClientId,
     tree: TreeId,
     key: &[u8],
-    entry: &'a Pending,
+    entry: &'a Entry,
 ) -> Option<Value<'a>>
     ensures { result ≡ (if is_lacked_by view.now client tree key.now entry.now then act value.entry entry.now.change else value.entry) }
 {
     if is_lacked_by(view, client, tree, key, entry) {
-        act(value, &entry.change)
+        act(value, &entry.get().change)
     } else {
         value
     }
@@ -51,7 +52,7 @@ fn after_pending<'a>(
     tree: TreeId,
     key: &[u8],
     client: ClientId,
-    pending: &'a [Pending],
+    pending: &'a [Entry],
 ) -> Option<Value<'a>>
     ensures { result ≡ after_pending value.entry (filter (is_lacked_by view.now client tree key.now) pending.now) }
 {

@@ -6,7 +6,7 @@ ghost use Rattle.route_plan.specs.Index.{entry_upto, slot_of, IsTable};
 ghost use Rattle.route_plan.specs.Queue.{is_pending_of, last_pending};
 
 use db_base::ids::TreeId;
-use head_codec::lists::Pending;
+use head_codec::entry::Entry;
 use std::alloc::{AllocError, Global};
 
 const SLOTS: usize = 4096;
@@ -44,21 +44,22 @@ fn slot_of(key: &[u8]) -> usize
 }
 
 /// Whether an entry is of a tree and key.
-fn is_of(entry: &Pending, tree: TreeId, key: &[u8]) -> bool
+fn is_of(entry: &Entry, tree: TreeId, key: &[u8]) -> bool
     ensures { result ≡ is_pending_of tree key.now entry.now }
 {
+    let entry = entry.get();
     entry.tree.get() == tree.get() && entry.change.key().as_slice() == key
 }
 
 /// The entry at an index.
-fn entry_at<'a>(pending: &'a [Pending], index: usize) -> Option<&'a Pending>
+fn entry_at<'a>(pending: &'a [Entry], index: usize) -> Option<&'a Entry>
     ensures { option_copied result ≡ slice_get pending.now index }
 {
     pending.get(index)
 }
 
 /// The last of the first so many entries.
-fn entry_upto<'a>(pending: &'a [Pending], upto: usize) -> Option<&'a Pending>
+fn entry_upto<'a>(pending: &'a [Entry], upto: usize) -> Option<&'a Entry>
     ensures entry { option_copied result ≡ entry_upto pending.now upto }
     ensures some { IfSome result (λ _. 1 ≤ upto) }
 {
@@ -94,13 +95,13 @@ impl SlotTable {
     ghost use Rattle.route_plan.specs.Queue.{last_pending};
 
     /// The table of entries. Fails for memory alone.
-    pub(crate) fn of(alloc: Global, pending: &[Pending]) -> Result<SlotTable, AllocError>
+    pub(crate) fn of(alloc: Global, pending: &[Entry]) -> Result<SlotTable, AllocError>
         ensures { IfOk result (λ t. IsTable pending.now t.newest.items t.before.items) }
     {
         let mut newest: Vec<usize> = Vec::from_elem(alloc, 0, SLOTS)?;
         let mut before: Vec<usize> = Vec::new(alloc);
         while let Some(entry) = entry_at(pending, before.len()) {
-            let slot = slot_of(entry.change.key().as_slice());
+            let slot = slot_of(entry.get().change.key().as_slice());
             let older = newest[slot];
             push(&mut before, older)?;
             let upto = before.len();
@@ -112,10 +113,10 @@ impl SlotTable {
     /// The last entry of a tree and key among the entries that the table is of.
     pub(crate) fn last<'a>(
         &self,
-        pending: &'a [Pending],
+        pending: &'a [Entry],
         tree: TreeId,
         key: &[u8],
-    ) -> Option<&'a Pending>
+    ) -> Option<&'a Entry>
         requires { IsTable pending.now self.now.newest.items self.now.before.items }
         ensures { option_copied result ≡ last_pending pending.now tree key.now }
     {
@@ -131,12 +132,12 @@ impl SlotTable {
 
 /// The last entry of a tree and key, by the two tables.
 fn last_in<'a>(
-    pending: &'a [Pending],
+    pending: &'a [Entry],
     newest: &[usize],
     before: &[usize],
     tree: TreeId,
     key: &[u8],
-) -> Option<&'a Pending>
+) -> Option<&'a Entry>
     requires { IsTable pending.now newest.now before.now }
     ensures { option_copied result ≡ last_pending pending.now tree key.now }
 {

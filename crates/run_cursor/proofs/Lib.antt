@@ -1,4 +1,3 @@
 pub mod Choice
 pub mod Tops
 pub mod NewOnes
-pub mod RunFacts

@@ -7,8 +7,8 @@ use Rattle.cloud_trait.specs.State.{CloudState, IsEmptyCloud}
 use Rattle.command_words.specs.Words.{shape_of}
 use Rattle.db_io.specs.Content.{Told}
 use Rattle.db_io.specs.Writes.{Written}
-use Rattle.line_io.specs.declared.input.InputFault.{InputFault}
-use Rattle.line_io.specs.declared.input.InputFault.TheVariants as input
+use Rattle.db_io.specs.declared.input.InputFault.{InputFault}
+use Rattle.db_io.specs.declared.input.InputFault.TheVariants as input
 use Rattle.run_text.specs.Written.{replies}
 use Rattle.schedule_run.specs.Replayed.{AreSpelled, WentThrough}
 use Rattle.schedule_run.specs.Run.{Ran, Replays, replay_unread, replay_went}

@@ -1,13 +1,13 @@
 //! The lines that are written of replies.
 
 ghost use Rattle.std.specs.Prelude.{◌≡◌, IfOk};
-ghost use Rattle.line_io.specs.Output.{WasWritten};
+ghost use Rattle.db_io.specs.Output.{WasWritten};
 ghost use Rattle.run_text.specs.Written.{reply_line, bad_line, name_line, plain_line};
 
 use db_base::blob::Blob;
 use db_base::refusal::Refused;
 use db_io::sink::Sink;
-use line_io::output::{OutputFault, write_text};
+use db_io::output::{OutputFault, write_text};
 use reply_text::reply::Reply;
 use std::alloc::Global;
 

@@ -1,6 +1,6 @@
 //! What a scan did, as a text: a line for each call, for each leaf, and for each pair of a leaf.
 
-use call_text::call_text;
+use reply_text::call_text;
 use cloud_trait::call::Call;
 use db_base::ids::PageId;
 use db_base::trouble::Trouble;

@@ -8,9 +8,9 @@ use Rattle.db_io.specs.Content.{Told, Takes}
 use Rattle.db_io.specs.Writes.{Written}
 use Rattle.event_text.specs.declared.event.Event.{Event}
 use Rattle.event_text.specs.Event.{IsEvent, IsShellLine}
-use Rattle.line_io.specs.declared.input.InputFault.{InputFault}
-use Rattle.line_io.specs.declared.input.InputFault.TheVariants as input
-use Rattle.line_io.specs.Lines.{lines_of}
+use Rattle.db_io.specs.declared.input.InputFault.{InputFault}
+use Rattle.db_io.specs.declared.input.InputFault.TheVariants as input
+use Rattle.db_io.specs.Lines.{lines_of}
 use Rattle.replay_meaning.specs.Standing.{Line}
 use Rattle.schedule_run.specs.declared.replay.LineFault.{LineFault}
 use Rattle.schedule_run.specs.declared.replay.LineFault.TheVariants as line

@@ -10,9 +10,9 @@ use Rattle.dump_take.specs.Parts.{StopsDark}
 use Rattle.dump_take.specs.Taken.{Takes}
 use Rattle.dump_text.specs.declared.dump.Dump.{Dump}
 use Rattle.dump_text.specs.Text.{dump_text}
-use Rattle.line_io.specs.declared.output.OutputFault.{OutputFault}
-use Rattle.line_io.specs.declared.output.OutputFault.TheVariants as output
-use Rattle.line_io.specs.Output.{WasWritten}
+use Rattle.db_io.specs.declared.output.OutputFault.{OutputFault}
+use Rattle.db_io.specs.declared.output.OutputFault.TheVariants as output
+use Rattle.db_io.specs.Output.{WasWritten}
 use Rattle.reply_text.specs.declared.reply.Reply.TheVariants as reply
 use Rattle.run_text.specs.Written.{name_line, plain_line}
 use Rattle.schedule_run.specs.declared.dumping.DumpingFault.{DumpingFault}

@@ -5,9 +5,9 @@ use Rattle.db_io.specs.Content.{Told}
 use Rattle.db_io.specs.Writes.{Written, AddsOne}
 use Rattle.dump_text.specs.declared.dump.DumpedTree.{DumpedTree}
 use Rattle.dump_text.specs.Text.{IsDump}
-use Rattle.line_io.specs.declared.input.InputFault.{InputFault}
-use Rattle.line_io.specs.declared.input.InputFault.TheVariants as input
-use Rattle.line_io.specs.declared.input.TheConstants.{MAX_DUMP}
+use Rattle.db_io.specs.declared.input.InputFault.{InputFault}
+use Rattle.db_io.specs.declared.input.InputFault.TheVariants as input
+use Rattle.db_io.specs.declared.input.TheConstants.{MAX_DUMP}
 use Rattle.schedule_run.specs.declared.load.Loaded.{Loaded}
 use Rattle.schedule_run.specs.declared.load.LoadStop.{LoadStop}
 use Rattle.schedule_run.specs.declared.loading.LoadingFault.{LoadingFault}

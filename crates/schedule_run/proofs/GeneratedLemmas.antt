@@ -7,9 +7,9 @@ use Rattle.cloud_trait.specs.Seen.{Seen}
 use Rattle.db_io.specs.Writes.{Written}
 use Rattle.event_text.specs.declared.event.Event.{Event}
 use Rattle.event_text.specs.declared.event.Event.TheVariants.{Open, Close, Insert, Update, Delete, Commit, Page, Tree, Run, Report, Settle}
-use Rattle.line_io.specs.Output.{WasWritten}
-use Rattle.line_io.specs.declared.output.OutputFault.{OutputFault}
-use Rattle.line_io.specs.declared.output.OutputFault.TheVariants.{WriteFault, Memory}
+use Rattle.db_io.specs.Output.{WasWritten}
+use Rattle.db_io.specs.declared.output.OutputFault.{OutputFault}
+use Rattle.db_io.specs.declared.output.OutputFault.TheVariants.{WriteFault, Memory}
 use Rattle.reply_text.specs.declared.reply.Reply.{Reply}
 use Rattle.replay_meaning.specs.Standing.{Line}
 use Rattle.schedule_run.specs.InPlay.{Play}

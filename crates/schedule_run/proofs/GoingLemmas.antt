@@ -16,7 +16,7 @@ use Rattle.db_io.specs.Writes.{Written, AddsEach, AddsOne, AddsPart}
 use Rattle.db_io.proofs.WriteLemmas.{each_none, each_more}
 use Rattle.event_text.specs.declared.event.Event.{Event}
 use Rattle.event_text.specs.Event.{IsEvent}
-use Rattle.line_io.specs.Lines.{lines_of}
+use Rattle.db_io.specs.Lines.{lines_of}
 use Rattle.reply_text.specs.declared.reply.Reply.{Reply}
 use Rattle.reply_text.specs.declared.reply.Reply.TheVariants as reply
 use Rattle.replay_meaning.specs.Standing.{Line}

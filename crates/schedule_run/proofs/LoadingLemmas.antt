@@ -5,9 +5,9 @@ use Rattle.std.specs.Prelude.{IfOk}
 use Rattle.cloud_trait.specs.Seen.{Seen}
 use Rattle.db_io.specs.Writes.{Written, AddsOne, AddsPart}
 use Rattle.dump_text.specs.declared.dump.DumpedTree.{DumpedTree}
-use Rattle.line_io.specs.declared.output.OutputFault.{OutputFault}
-use Rattle.line_io.specs.declared.output.OutputFault.TheVariants as output
-use Rattle.line_io.specs.Output.{WasWritten}
+use Rattle.db_io.specs.declared.output.OutputFault.{OutputFault}
+use Rattle.db_io.specs.declared.output.OutputFault.TheVariants as output
+use Rattle.db_io.specs.Output.{WasWritten}
 use Rattle.schedule_run.specs.declared.load.Loaded.{Loaded}
 use Rattle.schedule_run.specs.declared.load.LoadStop.{LoadStop}
 use Rattle.schedule_run.specs.declared.load.LoadStop.TheVariants as load

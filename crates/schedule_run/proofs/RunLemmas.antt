@@ -6,11 +6,11 @@ use Rattle.std.proofs.lemmas.Bool.{leb-true}
 use Rattle.cloud_trait.specs.Seen.{Seen}
 use Rattle.db_io.specs.Content.{Told, Takes}
 use Rattle.db_io.specs.Writes.{Written}
-use Rattle.line_io.specs.Input.{WasRead, AreAll}
-use Rattle.line_io.specs.declared.input.InputFault.{InputFault}
-use Rattle.line_io.specs.declared.input.InputFault.TheVariants as input
-use Rattle.line_io.specs.declared.input.TheConstants.{MAX_LINES, MAX_DUMP}
-use Rattle.line_io.specs.declared.output.OutputFault.TheVariants as output
+use Rattle.db_io.specs.Input.{WasRead, AreAll}
+use Rattle.db_io.specs.declared.input.InputFault.{InputFault}
+use Rattle.db_io.specs.declared.input.InputFault.TheVariants as input
+use Rattle.db_io.specs.declared.input.TheConstants.{MAX_LINES, MAX_DUMP}
+use Rattle.db_io.specs.declared.output.OutputFault.TheVariants as output
 use Rattle.schedule_run.specs.declared.replay.LineFault.{LineFault}
 use Rattle.schedule_run.specs.declared.settling.SettleFault.TheVariants as settle
 use Rattle.schedule_run.specs.declared.shell.ShellFault.{ShellFault}

@@ -10,9 +10,9 @@ use Rattle.db_io.specs.Writes.{Written}
 use Rattle.event_text.specs.declared.event.Event.TheVariants.{Settle}
 use Rattle.head_codec.specs.declared.head.Head.{Head}
 use Rattle.head_codec.specs.Spelling.{head_of}
-use Rattle.line_io.specs.declared.output.OutputFault.{OutputFault}
-use Rattle.line_io.specs.declared.output.OutputFault.TheVariants as output
-use Rattle.line_io.specs.Output.{WasWritten}
+use Rattle.db_io.specs.declared.output.OutputFault.{OutputFault}
+use Rattle.db_io.specs.declared.output.OutputFault.TheVariants as output
+use Rattle.db_io.specs.Output.{WasWritten}
 use Rattle.replay_meaning.specs.Kinds.{CommitsCount, MayPutPhase, MayPutHead, MayPutBytes, IsOfKindAt, IsOfKind, LandsOpen}
 use Rattle.replay_meaning.specs.Standing.{Line, Closed, Working, Committing, standing, standing_of_row}
 use Rattle.session_facts.specs.Added.{AddsKinds, AddsTo}

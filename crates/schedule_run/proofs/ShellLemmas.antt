@@ -6,10 +6,10 @@ use Rattle.db_io.proofs.WriteLemmas.{each_more}
 use Rattle.event_text.specs.declared.event.Event.{Event}
 use Rattle.event_text.specs.declared.event.Event.TheVariants.{Open, Close, Run}
 use Rattle.event_text.specs.Event.{IsShellLine}
-use Rattle.line_io.specs.Lines.{lines_of}
-use Rattle.line_io.specs.declared.output.OutputFault.{OutputFault}
-use Rattle.line_io.specs.declared.output.OutputFault.TheVariants as output
-use Rattle.line_io.specs.Output.{WasWritten}
+use Rattle.db_io.specs.Lines.{lines_of}
+use Rattle.db_io.specs.declared.output.OutputFault.{OutputFault}
+use Rattle.db_io.specs.declared.output.OutputFault.TheVariants as output
+use Rattle.db_io.specs.Output.{WasWritten}
 use Rattle.reply_text.specs.declared.reply.Reply.{Reply}
 use Rattle.reply_text.specs.declared.reply.Reply.TheVariants.{Begun}
 use Rattle.replay_meaning.specs.Standing.{Line}

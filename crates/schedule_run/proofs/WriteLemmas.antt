@@ -1,9 +1,9 @@
 -- The count of writes that failed.
 use Rattle.std.proofs.Common.{◌≡◌, ◌<◌, ◌⊎◌, if◌then◌else◌, ℕ, Bool, true, false, List, Result, Ok, Err, refl, inl, inr}
 use Rattle.db_io.specs.Writes.{Written}
-use Rattle.line_io.specs.declared.output.OutputFault.{OutputFault}
-use Rattle.line_io.specs.declared.output.OutputFault.TheVariants as output
-use Rattle.line_io.specs.Output.{WasWritten}
+use Rattle.db_io.specs.declared.output.OutputFault.{OutputFault}
+use Rattle.db_io.specs.declared.output.OutputFault.TheVariants as output
+use Rattle.db_io.specs.Output.{WasWritten}
 use Rattle.reply_text.specs.declared.reply.Reply.{Reply}
 use Rattle.schedule_run.specs.declared.settling.SettleFault.TheVariants.{NotSettled, WriteFault}
 use Rattle.schedule_run.specs.Settling.{is_settled, settle_end_of}

@@ -4,8 +4,8 @@ use Rattle.cloud_trait.specs.Seen.{Seen}
 use Rattle.db_io.specs.Writes.{Written, AddsOne, AddsPart}
 use Rattle.event_text.specs.declared.event.Event.{Event}
 use Rattle.event_text.specs.declared.event.Event.TheVariants.{Report}
-use Rattle.line_io.specs.declared.output.OutputFault.{OutputFault}
-use Rattle.line_io.specs.declared.output.OutputFault.TheVariants.{WriteFault, Memory}
+use Rattle.db_io.specs.declared.output.OutputFault.{OutputFault}
+use Rattle.db_io.specs.declared.output.OutputFault.TheVariants.{WriteFault, Memory}
 use Rattle.reply_text.specs.declared.reply.Reply.{Reply}
 use Rattle.replay_meaning.specs.Standing.{Line}
 use Rattle.world_core.specs.declared.world.WorldFault.{WorldFault}

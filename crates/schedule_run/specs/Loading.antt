@@ -6,8 +6,8 @@ use Rattle.db_io.specs.Writes.{Written, AddsOne, AddsPart}
 use Rattle.dump_text.specs.BadLine.{IsBadLine}
 use Rattle.dump_text.specs.declared.dump.DumpedTree.{DumpedTree}
 use Rattle.dump_text.specs.Text.{IsDump}
-use Rattle.line_io.specs.declared.output.OutputFault.{OutputFault}
-use Rattle.line_io.specs.declared.output.OutputFault.TheVariants as output
+use Rattle.db_io.specs.declared.output.OutputFault.{OutputFault}
+use Rattle.db_io.specs.declared.output.OutputFault.TheVariants as output
 use Rattle.reply_text.specs.declared.reply.Reply.TheVariants as reply
 use Rattle.run_text.specs.Written.{NothingRan, bad_line, count_line, name_line, plain_line}
 use Rattle.schedule_run.specs.Load.{LoadEnded}

@@ -6,7 +6,7 @@ use Rattle.cloud_trait.specs.Traced.{IsTraced}
 use Rattle.db_io.specs.Writes.{Written, AddsEach, AddsOne, AddsPart}
 use Rattle.event_text.specs.declared.event.Event.{Event}
 use Rattle.event_text.specs.Event.{IsEvent}
-use Rattle.line_io.specs.Lines.{lines_of}
+use Rattle.db_io.specs.Lines.{lines_of}
 use Rattle.reply_text.specs.declared.reply.Reply.{Reply}
 use Rattle.replay_meaning.specs.Standing.{Line}
 use Rattle.world_core.specs.World.{World}

@@ -5,10 +5,10 @@ use Rattle.command_words.specs.declared.shape.Shape.{Shape}
 use Rattle.command_words.specs.declared.shape.Shape.TheVariants.{Replay, Gen, Shell, Settle, Dump, Load}
 use Rattle.db_io.specs.Content.{Told, Takes}
 use Rattle.db_io.specs.Writes.{Written}
-use Rattle.line_io.specs.Input.{AreAll}
-use Rattle.line_io.specs.declared.input.InputFault.{InputFault}
-use Rattle.line_io.specs.declared.input.TheConstants.{MAX_LINES, MAX_DUMP}
-use Rattle.line_io.specs.declared.output.OutputFault.{OutputFault}
+use Rattle.db_io.specs.Input.{AreAll}
+use Rattle.db_io.specs.declared.input.InputFault.{InputFault}
+use Rattle.db_io.specs.declared.input.TheConstants.{MAX_LINES, MAX_DUMP}
+use Rattle.db_io.specs.declared.output.OutputFault.{OutputFault}
 use Rattle.sched_gen.specs.Schedule.{schedule}
 use Rattle.schedule_run.specs.declared.dumping.DumpingFault.{DumpingFault}
 use Rattle.schedule_run.specs.declared.loading.LoadingFault.{LoadingFault}

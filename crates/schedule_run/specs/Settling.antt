@@ -6,8 +6,8 @@ use Rattle.cloud_trait.specs.declared.state.Landing.{Landing}
 use Rattle.db_io.specs.Writes.{Written, AddsOne, AddsPart}
 use Rattle.event_text.specs.declared.event.Event.TheVariants.{Settle}
 use Rattle.head_codec.specs.declared.head.Head.{Head}
-use Rattle.line_io.specs.declared.output.OutputFault.{OutputFault}
-use Rattle.line_io.specs.declared.output.OutputFault.TheVariants as output
+use Rattle.db_io.specs.declared.output.OutputFault.{OutputFault}
+use Rattle.db_io.specs.declared.output.OutputFault.TheVariants as output
 use Rattle.replay_meaning.specs.Kinds.{LandsOpen}
 use Rattle.reply_text.specs.declared.reply.Reply.{Reply}
 use Rattle.reply_text.specs.declared.reply.Reply.TheVariants.{Settled}

@@ -5,9 +5,9 @@ use Rattle.db_io.specs.Writes.{Written, AddsEach, AddsOne, AddsPart}
 use Rattle.event_text.specs.declared.event.Event.{Event}
 use Rattle.event_text.specs.declared.event.Event.TheVariants.{Open, Close, Run}
 use Rattle.event_text.specs.Event.{IsShellLine}
-use Rattle.line_io.specs.Lines.{lines_of}
-use Rattle.line_io.specs.declared.output.OutputFault.{OutputFault}
-use Rattle.line_io.specs.declared.output.OutputFault.TheVariants as output
+use Rattle.db_io.specs.Lines.{lines_of}
+use Rattle.db_io.specs.declared.output.OutputFault.{OutputFault}
+use Rattle.db_io.specs.declared.output.OutputFault.TheVariants as output
 use Rattle.reply_text.specs.declared.reply.Reply.{Reply}
 use Rattle.reply_text.specs.declared.reply.Reply.TheVariants.{Begun, Opened}
 use Rattle.replay_meaning.specs.Standing.{Line}

@@ -2,10 +2,10 @@
 use Rattle.std.specs.Prelude.{ℕ, Result, Ok, Err}
 use Rattle.command_words.specs.declared.shape.WordsFault.{WordsFault}
 use Rattle.command_words.specs.declared.shape.WordsFault.TheVariants as words
-use Rattle.line_io.specs.declared.input.InputFault.{InputFault}
-use Rattle.line_io.specs.declared.input.InputFault.TheVariants as input
-use Rattle.line_io.specs.declared.output.OutputFault.{OutputFault}
-use Rattle.line_io.specs.declared.output.OutputFault.TheVariants as output
+use Rattle.db_io.specs.declared.input.InputFault.{InputFault}
+use Rattle.db_io.specs.declared.input.InputFault.TheVariants as input
+use Rattle.db_io.specs.declared.output.OutputFault.{OutputFault}
+use Rattle.db_io.specs.declared.output.OutputFault.TheVariants as output
 use Rattle.schedule_run.specs.declared.dumping.DumpingFault.{DumpingFault}
 use Rattle.schedule_run.specs.declared.dumping.DumpingFault.TheVariants as dump
 use Rattle.schedule_run.specs.declared.loading.LoadingFault.{LoadingFault}

@@ -9,7 +9,7 @@ use db_io::sink::Sink;
 use dump_take::stop::DumpStop;
 use dump_take::take::take_dump;
 use dump_text::dump::Dump;
-use line_io::output::{OutputFault, write_text};
+use db_io::output::{OutputFault, write_text};
 use reply_text::reply::Reply;
 use run_text::writing::{let_go, write_name, write_plain};
 use std::alloc::Global;

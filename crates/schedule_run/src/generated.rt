@@ -1,5 +1,5 @@
 ghost use Rattle.std.specs.Prelude.{◌≡◌, ◌≤◌, ◌<◌, ◌+◌, ◌⊎◌, false, [], ◌∷◌, ◌++◌, Err};
-ghost use Rattle.line_io.specs.Output.{WasWritten};
+ghost use Rattle.db_io.specs.Output.{WasWritten};
 ghost use Rattle.schedule_run.specs.Play.{IsFresh};
 ghost use Rattle.run_text.specs.Summary.{summary};
 ghost use Rattle.sched_gen.specs.Schedule.{schedule};
@@ -11,7 +11,7 @@ use client_work::calls::SessionCalls;
 use cloud_trait::cloud::Bench;
 use db_io::sink::Sink;
 use event_text::event::Event;
-use line_io::output::{OutputFault, write_text};
+use db_io::output::{OutputFault, write_text};
 use reply_text::reply::Reply;
 use run_text::summary::summary;
 use run_text::writing::let_go;

@@ -1,6 +1,6 @@
 ghost use Rattle.std.specs.Prelude.{◌≡◌, ◌<◌, ◌≤◌, ◌⊎◌, Some, None, map, string_bytes};
 ghost use Rattle.command_words.specs.Words.{shape_of};
-ghost use Rattle.line_io.specs.declared.input.TheConstants.{MAX_DUMP, MAX_LINES};
+ghost use Rattle.db_io.specs.declared.input.TheConstants.{MAX_DUMP, MAX_LINES};
 ghost use Rattle.schedule_run.specs.Loading.{SpellsNoDump};
 ghost use Rattle.schedule_run.specs.Replayed.{HasBadLine};
 ghost use Rattle.schedule_run.specs.Shell.{HasBadShellLine};
@@ -20,8 +20,8 @@ use command_words::shape::{Shape, WordsFault};
 use db_base::ids::ClientId;
 use db_io::sink::Sink;
 use db_io::source::Source;
-use line_io::input::{InputFault, MAX_DUMP, MAX_LINES, read_whole};
-use line_io::output::OutputFault;
+use db_io::input::{InputFault, MAX_DUMP, MAX_LINES, read_whole};
+use db_io::output::OutputFault;
 use std::alloc::Global;
 
 /// Runs the command that the words ask for over the cloud: a replay of the lines of the source, a generated schedule, a shell

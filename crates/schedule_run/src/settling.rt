@@ -8,7 +8,7 @@ use client_work::calls::SessionCalls;
 use cloud_trait::cloud::Bench;
 use db_io::sink::Sink;
 use event_text::event::Event;
-use line_io::output::OutputFault;
+use db_io::output::OutputFault;
 use reply_text::reply::Reply;
 use run_text::writing::{let_go, write_reply};
 use std::alloc::Global;

@@ -16,8 +16,8 @@ use Rattle.session_facts.proofs.RowKinds.Sent.{order_sent}
 use Rattle.cloud_facts.specs.Landings.Reporting.{IsReportable}
 use Rattle.cloud_facts.specs.Meanings.Contents.{IsRead}
 use Rattle.cloud_facts.proofs.Meanings.Reports.{leaves_in, store_reads, all_leaves, finds_contents}
-use Rattle.tree_meaning.specs.Chain.{AreLeaves, Walked}
-use Rattle.tree_meaning.specs.Index.{Finds}
+use Rattle.replay_meaning.specs.Chain.{AreLeaves, Walked}
+use Rattle.replay_meaning.specs.Index.{Finds}
 use Rattle.cloud_facts.specs.Book.Book.{Book}
 use Rattle.cloud_facts.specs.Book.Records.{entries_of}
 use Rattle.cloud_facts.specs.Book.Tally.{Store}

@@ -13,7 +13,7 @@ use Rattle.log_codec.specs.Pu.{pu_of}
 use Rattle.cloud_facts.proofs.Numbers.Lists.{map_at, map_there}
 use Rattle.report_types.specs.declared.entry.Entry.{Entry}
 use Rattle.report_types.specs.declared.report.Report.{Report}
-use Rattle.tree_meaning.proofs.SameLemmas.{AreNewest, leads_same, finds_same}
+use Rattle.replay_meaning.proofs.SameLemmas.{AreNewest, leads_same, finds_same}
 use Rattle.replay_meaning.specs.Standing.{Line}
 use Rattle.replay_meaning.specs.Kinds.{IsOfKind, OpensOnce, WasSentFor, KeepsKinds}
 use Rattle.replay_meaning.specs.Right.{IsRight, value_at}

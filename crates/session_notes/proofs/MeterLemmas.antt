@@ -143,24 +143,6 @@ sent_more queue notes place is = ap (λ c. c.sent) (counts-named (Sent queue) pl
 pub kept_none : (queue : QueueName) (notes : List Note) (place : Place) → place_of queue ≡ Some place → sent_since (notes ++ Kept queue ∷ []) place ≡ 0
 kept_none queue notes place is = ap (λ c. c.sent) (counts-named (Kept queue) place (stands_here queue place is) notes)
 
--- a call adds one send at most
-pub adds_one : (ask : Ask) (notes : List Note) (place : Place) → sent_since (with_note notes (note_of_ask ask)) place ≤ suc (sent_since notes place)
-adds_one (Get (object.Head client)) notes place = omega arith
-adds_one (Get (object.Tree tree)) notes place = omega arith
-adds_one (Get (object.Page tree page)) notes place = let same = got_same (PagePu tree page) notes place in omega (arith, same)
-adds_one (GetHeld name l) notes place = omega arith
-adds_one (PutHeld name bytes one two) notes place = omega arith
-adds_one (Send (Atomic client) bytes) notes place = omega arith
-adds_one (Send (TreePu tree) bytes) notes place =
-    by_note (λ m. m ≤ suc (sent_since notes place)) (Sent (TreePu tree)) notes place (omega arith) (omega arith)
-adds_one (Send (PagePu tree page) bytes) notes place =
-    by_note (λ m. m ≤ suc (sent_since notes place)) (Sent (PagePu tree page)) notes place (omega arith) (omega arith)
-adds_one (Receive queue most) notes place = omega arith
-adds_one (Delete queue id) notes place = omega arith
-adds_one (Take lock ticks) notes place = omega arith
-adds_one (Renew l ticks) notes place = omega arith
-adds_one (Release l) notes place = omega arith
-
 -- one that sends nothing adds none
 pub adds_none : (ask : Ask) (notes : List Note) → ((queue : QueueName) (bytes : List ℕ) → ask ≢ Send queue bytes) → SendNoMore notes (with_note notes (note_of_ask ask))
 adds_none (Get (object.Head client)) notes other place = omega arith

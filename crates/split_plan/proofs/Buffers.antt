@@ -1,13 +1,13 @@
 -- The parts of cut buffers, and their spellings.
-use Rattle.std.proofs.Common.{◌≡◌, ℕ, zero, suc, ◌<◌, List, [], ◌∷◌, length, Option, Some, refl, ap, subst, ◌∙◌, arith, drop, take}
-use Rattle.std.specs.Prelude.{IsTrue, unwrap_or}
+use Rattle.std.proofs.Common.{◌≡◌, ℕ, zero, suc, ◌<◌, List, [], ◌∷◌, length, Option, Some, refl, ap, arith, drop, take}
+use Rattle.std.specs.Prelude.{unwrap_or}
 use Rattle.leaf_edit.specs.Cut.{first_key, left_part, right_part}
-use Rattle.leaf_view.specs.Leaf.{Entry as Rec, Leaf, IsLeaf, leaf}
+use Rattle.leaf_view.specs.Leaf.{Entry as Rec, Leaf}
 use Rattle.node_codec.specs.Inner.{Inner, IsInner, inner_bytes, first_low_of, left_node, right_node}
 use Rattle.node_codec.specs.Node.{Entry}
 use Rattle.split_plan.specs.Cut.{first_key_of, front_part, back_part}
-use Rattle.split_plan.specs.Part.{LeafPart, NodePart, leaf_of_part, part_of_leaf, part_of_node, record_key, entry_key}
-use Rattle.split_plan.specs.Plan.{leaf_bytes, node_bytes, IsLeafPart, IsNodePart}
+use Rattle.split_plan.specs.Part.{LeafPart, NodePart, part_of_leaf, part_of_node, record_key, entry_key}
+use Rattle.split_plan.specs.Plan.{node_bytes}
 
 -- ---- leaves
 
@@ -20,16 +20,6 @@ left-leaf n page l = ap (λ (k : List ℕ). let p : LeafPart = record { version 
 
 pub right-leaf : (n : ℕ) (l : Leaf) → part_of_leaf (right_part n l) ≡ back_part record_key n (part_of_leaf l)
 right-leaf n l = ap (λ (k : List ℕ). let p : LeafPart = record { version = 1; low = k; right = l.right; high = l.high; common = l.done; items = drop n l.records } in p) (first-record (drop n l.records))
-
--- a leaf of the format in which leaves are written is that of its part
-same-leaf : (l : Leaf) → l.format ≡ 2 → l ≡ leaf_of_part (part_of_leaf l)
-same-leaf l format = ap (λ (format : ℕ). let k : Leaf = record l { format = format } in k) format
-
-pub leaf-written : (bytes : List ℕ) (l : Leaf) → IsLeaf bytes l → l.format ≡ 2 → bytes ≡ leaf_bytes (part_of_leaf l)
-leaf-written bytes l h format = h.is ∙ ap leaf.spelling (same-leaf l format)
-
-pub leaf-fits : (bytes : List ℕ) (l : Leaf) → IsLeaf bytes l → l.format ≡ 2 → IsLeafPart (part_of_leaf l)
-leaf-fits bytes l h format = record { fits = subst (λ (l : Leaf). IsTrue (leaf.fits l)) (same-leaf l format) h.fits }
 
 -- ---- inner nodes
 
@@ -52,6 +42,3 @@ right-inner n node = ap (λ (k : List ℕ). let p : NodePart = record { version 
 pub inner-written : (bytes : List ℕ) (n : Inner) → IsInner bytes n → bytes ≡ node_bytes (part_of_node n)
 unfolding inner_bytes
 inner-written bytes n h = h.is
-
-pub inner-fits : (bytes : List ℕ) (n : Inner) → IsInner bytes n → IsNodePart (part_of_node n)
-inner-fits bytes n h = record { fits = h.fits }

@@ -1,5 +1,5 @@
 -- How many pieces there are, and how long they are.
-use Rattle.std.proofs.Common.{◌≡◌, ℕ, zero, suc, ◌+◌, ◌-◌, ◌*◌, ◌/◌, ◌%◌, ◌<◌, ◌≤◌, [], ◌∷◌, ◌++◌, length, refl, sym, ap, ◌∙◌, arith, append_assoc}
+use Rattle.std.proofs.Common.{◌≡◌, ℕ, zero, suc, ◌+◌, ◌-◌, ◌*◌, ◌/◌, ◌%◌, ◌≤◌, [], ◌∷◌, ◌++◌, length, refl, sym, ap, ◌∙◌, arith, append_assoc}
 use Rattle.std.specs.Prelude.{replicate}
 use Rattle.std.proofs.lemmas.List.{replicate_more, length-replicate}
 use Rattle.std.proofs.Common.{length-append}
@@ -70,23 +70,3 @@ length-cuts len =
     let b = length-replicate (q - 1 - len % q) (len / q) in
     let f = d.few in
     omega arith
-
--- where some piece is longer than another, no piece has all items
-pub first-size-small : (len : ℕ) → 0 < len % count_of len → len / count_of len < len
-first-size-small len some = let all = (divided len).all in omega arith
-
--- ---- the sizes one after another
-
-replicate-first : (n x : ℕ) → 0 < n → replicate n x ≡ x ∷ replicate (n - 1) x
-replicate-first zero x some = absurd (omega arith)
-replicate-first (suc n) x some = let e : n ≡ suc n - 1 = omega arith in ap (λ m. x ∷ replicate m x) e
-
-pub next-longer : (r t b : ℕ) → 0 < r → replicate r (b + 1) ++ replicate t b ≡ (b + 1) ∷ (replicate (r - 1) (b + 1) ++ replicate t b)
-next-longer r t b some = ap (λ xs. xs ++ replicate t b) (replicate-first r (b + 1) some)
-
-pub next-other : (r t b : ℕ) → r ≡ 0 → 0 < t → replicate r (b + 1) ++ replicate t b ≡ b ∷ (replicate r (b + 1) ++ replicate (t - 1) b)
-next-other r t b none some =
-    ap (λ n. replicate n (b + 1) ++ replicate t b) none ∙ replicate-first t b some ∙ ap (λ n. b ∷ (replicate n (b + 1) ++ replicate (t - 1) b)) (sym none)
-
-pub next-none : (r t b : ℕ) → r ≡ 0 → t ≡ 0 → replicate r (b + 1) ++ replicate t b ≡ []
-next-none r t b none no_other = ap (λ n. replicate n (b + 1) ++ replicate t b) none ∙ ap (λ n. replicate n b) no_other

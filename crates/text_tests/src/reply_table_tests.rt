@@ -4,7 +4,7 @@ use std::alloc::Global;
 use words::fault::TextFault;
 
 /// Every reply of one line that is no trouble.
-const ANSWERS: [&str; 33] = [
+const ANSWERS: [&str; 34] = [
     "begun",
     "called",
     "noted",
@@ -22,6 +22,7 @@ const ANSWERS: [&str; 33] = [
     "refused 9 already-open",
     "refused 10 not-working",
     "refused 11 bad-attr",
+    "refused 12 long-entry",
     "opened 1",
     "closed",
     "renewed 18446744073709551615",
@@ -74,7 +75,7 @@ const REPORTS: [&str; 3] = [
 ];
 
 /// Lines that are nearly in the grammar.
-const NEAR_ANSWERS: [&str; 39] = [
+const NEAR_ANSWERS: [&str; 40] = [
     "",
     "\n",
     "begun ",
@@ -96,6 +97,7 @@ const NEAR_ANSWERS: [&str; 39] = [
     "refused 1",
     "refused 10 bad-attr",
     "refused 12 bad-attr",
+    "refused 11 long-entry",
     "scan 1 6b=76=61",
     "value",
     "value 7",

@@ -60,6 +60,7 @@ fn refusals_are_written(rt: HostRuntime) {
     assert!(rt; is_refusal_written(rt.alloc(), Refusal::LongPayload, "refused 3 long-payload"));
     assert!(rt; is_refusal_written(rt.alloc(), Refusal::NotWorking, "refused 10 not-working"));
     assert!(rt; is_refusal_written(rt.alloc(), Refusal::BadAttr, "refused 11 bad-attr"));
+    assert!(rt; is_refusal_written(rt.alloc(), Refusal::LongEntry, "refused 12 long-entry"));
 }
 
 fn are_numbers_written(alloc: Global) -> bool {

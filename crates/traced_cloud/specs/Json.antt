@@ -1,7 +1,7 @@
 -- Calls and replies as JSON objects, one a line.
 use Rattle.std.specs.Prelude.{ℕ, List, [], ◌∷◌, ◌++◌, Option, Some, None, codes, ◌==◌, ◌||◌, if◌then◌else◌}
 use Rattle.std.specs.Fmt.{decimal}
-use Rattle.call_text.specs.Call.{made_word, target_word}
+use Rattle.reply_text.specs.Call.{made_word, target_word}
 use Rattle.traced_cloud.specs.Line.{answer_text}
 use Rattle.traced_cloud.specs.declared.note.Note.{Note}
 

@@ -1,7 +1,7 @@
 -- A call as a line of words.
 use Rattle.std.specs.Prelude.{ℕ, Bool, true, false, List, [], ◌∷◌, ◌++◌, Option, Some, None, codes}
 use Rattle.std.specs.Fmt.{decimal}
-use Rattle.call_text.specs.Call.{made_word, target_word}
+use Rattle.reply_text.specs.Call.{made_word, target_word}
 use Rattle.traced_cloud.specs.declared.stamp.Stamp.{Stamp}
 use Rattle.traced_cloud.specs.declared.stamp.Stamp.TheVariants.{Version, Head}
 use Rattle.traced_cloud.specs.declared.note.Note.{Note}

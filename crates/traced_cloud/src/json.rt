@@ -2,12 +2,12 @@
 
 ghost use Rattle.std.specs.Prelude.{◌≡◌, ◌∷◌, ◌++◌, [], codes, OnOk};
 ghost use Rattle.std.specs.Fmt.{decimal};
-ghost use Rattle.call_text.specs.Call.{made_word, target_word};
+ghost use Rattle.reply_text.specs.Call.{made_word, target_word};
 ghost use Rattle.traced_cloud.specs.Json.{number_member, object_begin, session_member, asked_members, answered_members, word_member, limit_member, call_words, call_object, escaped, escaped_all, reply_object};
 
 use crate::line::{add_answer, add_number, add_target};
 use crate::note::Note;
-use call_text::made_word;
+use reply_text::made_word;
 use cloud_trait::who::Who;
 use db_base::blob::Blob;
 use db_base::refusal::Refused;

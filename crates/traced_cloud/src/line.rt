@@ -2,12 +2,12 @@
 
 ghost use Rattle.std.specs.Prelude.{◌≡◌, ◌∷◌, ◌++◌, [], codes, OnOk};
 ghost use Rattle.std.specs.Fmt.{decimal};
-ghost use Rattle.call_text.specs.Call.{target_word};
+ghost use Rattle.reply_text.specs.Call.{target_word};
 ghost use Rattle.traced_cloud.specs.Line.{limit_text, ids_text, more_text, outcome_text, stamp_text, lead_text, shown_text, phase_text, answer_text, named_text, call_line};
 
 use crate::note::{Note, Outcome};
 use crate::stamp::Stamp;
-use call_text::{made_word, target_word};
+use reply_text::{made_word, target_word};
 use cloud_trait::call::Target;
 use db_base::blob::Blob;
 use db_base::ids::MsgId;

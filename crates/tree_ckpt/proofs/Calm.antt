@@ -5,9 +5,9 @@ use Rattle.db_base.specs.declared.trouble.Trouble.TheVariants as trouble
 use Rattle.db_base.specs.declared.trouble.Counter.TheVariants as counter
 use Rattle.cloud_trait.specs.declared.answer.Answer.TheVariants as call
 use Rattle.cloud_trait.specs.Ask.{Delete}
-use Rattle.calm_calls.specs.Calm.{GoesWell, AreCalm}
-use Rattle.calm_calls.specs.Plenty.{HadMemory}
-use Rattle.calm_calls.proofs.CalmLemmas.{goes_well}
+use Rattle.cloud_trait.specs.Calm.{GoesWell, AreCalm}
+use Rattle.cloud_trait.specs.Plenty.{HadMemory}
+use Rattle.cloud_trait.proofs.CalmLemmas.{goes_well}
 use Rattle.tree_moves.specs.Moves.{went}
 use Rattle.tree_ckpt.specs.Making.{Making, new_making, making_ask, MakingLeads}
 use Rattle.tree_ckpt.specs.Standing.{Went}

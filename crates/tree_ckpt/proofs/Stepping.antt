@@ -5,7 +5,7 @@ use Rattle.cloud_trait.specs.declared.answer.Answer.TheVariants as call
 use Rattle.cloud_trait.specs.Caller.{Caller}
 use Rattle.cloud_trait.specs.Seen.{Seen}
 use Rattle.cloud_trait.specs.Weather.{Makes}
-use Rattle.calm_calls.proofs.CalmLemmas.{goes_well}
+use Rattle.cloud_trait.proofs.CalmLemmas.{goes_well}
 use Rattle.tree_ckpt.specs.Making.{Making, making_ask, MakingLeads, KeepsLeases}
 use Rattle.tree_ckpt.specs.Standing.{Stands}
 use Rattle.tree_ckpt.specs.Meaning.{MeansDone}

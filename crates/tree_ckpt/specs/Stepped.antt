@@ -10,8 +10,8 @@ use Rattle.cloud_trait.specs.declared.turn.Turn.TheVariants.{More, Ended, Stoppe
 use Rattle.cloud_trait.specs.Caller.{Caller}
 use Rattle.cloud_trait.specs.Machine.{Deed, Steps, calls_of}
 use Rattle.cloud_trait.specs.Seen.{Seen}
-use Rattle.calm_calls.specs.Calm.{AreCalm}
-use Rattle.calm_calls.specs.Plenty.{HadMemory}
+use Rattle.cloud_trait.specs.Calm.{AreCalm}
+use Rattle.cloud_trait.specs.Plenty.{HadMemory}
 use Rattle.ckpt_parts.specs.Leasing.{outstanding}
 use Rattle.tree_ckpt.specs.Making.{Making, making_ask, MakingLeads, KeepsLeases}
 use Rattle.tree_ckpt.specs.Standing.{Went, AreReturned}

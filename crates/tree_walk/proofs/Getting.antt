@@ -1,34 +1,31 @@
 -- A walk gets what the cache does not keep, leaves, and the tree object where it is fresh: it passes no kept object twice, and 64 are kept at most.
-use Rattle.std.proofs.Common.{◌≡◌, ℕ, zero, suc, ◌<◌, ◌≤◌, Bool, true, false, cond, not, List, [], ◌∷◌, ◌++◌, length, take, Option, Some, None, Result, Ok, Err, unwrap_or, refl, ap, sym, subst, ◌∙◌, inl, inr, ◌⊎◌, arith}
+use Rattle.std.proofs.Common.{◌≡◌, ℕ, zero, suc, ◌<◌, ◌≤◌, Bool, true, false, cond, not, List, [], ◌∷◌, ◌++◌, length, take, Option, Some, None, Result, Ok, refl, ap, sym, subst, ◌∙◌, inl, inr, ◌⊎◌, arith}
 use Rattle.std.specs.Prelude.{if◌then◌else◌, IfSome, ◌==◌, ◌||◌}
 use Rattle.std.specs.Option.{option_map}
 use Rattle.std.specs.Map.{lookup, remove_entry}
-use Rattle.byte_format.specs.Order.{bytes_same}
 use Rattle.db_base.specs.declared.names.ObjName.{ObjName}
 use Rattle.db_base.specs.declared.names.ObjName.TheVariants as object
 use Rattle.db_base.specs.declared.trouble.Trouble.{Trouble}
-use Rattle.db_base.specs.declared.trouble.Trouble.TheVariants as trouble
-use Rattle.leaf_view.specs.Leaf.{Leaf}
-use Rattle.leaf_view.specs.Lookup.{page_at}
-use Rattle.node_codec.specs.Node.{page_at as node_at}
 use Rattle.node_codec.specs.Inner.{Inner}
 use Rattle.node_codec.specs.Tree.{Tree}
+use Rattle.leaf_view.specs.Leaf.{Leaf}
 use Rattle.cloud_trait.specs.declared.answer.Answer.{Answer}
 use Rattle.cloud_trait.specs.declared.turn.Turn.{Turn}
 use Rattle.cloud_trait.specs.declared.turn.Turn.TheVariants.{More}
 use Rattle.cloud_trait.specs.Machine.{Next, Goes, Ends, Stops}
-use Rattle.cloud_trait.specs.Views.{got_of}
 use Rattle.page_cache.specs.Cache.{Cache, IsCache, accepts, kept_at}
 use Rattle.page_cache.specs.Held.{leaf_at, inner_at, root_at, as_inner, as_root}
 use Rattle.page_cache.specs.Names.{same_name}
 use Rattle.page_cache.proofs.CacheLemmas.{accept_first}
 use Rattle.page_cache.proofs.NameLemmas.{same_name-is}
 use Rattle.tree_walk.specs.Moves.{Moves}
-use Rattle.tree_walk.specs.Walk.{Spot, Walk, new_walk, sought, spot_of, is_leaf, is_got_at, is_among, is_page, object_of, came_to, use_of, entry_for, right_of, linked, bad_fence, bad_level, node_left, node_passed, leaf_left, leaf_passed, root_read, node_read, leaf_read, read_at, read_from, read_kept, follow, onward, goes_through, goes_on, got_read, accepted_by, got_by, beside, rested, walk_ready, walk_next}
-use Rattle.tree_walk.specs.Causing.{below, aside}
+use Rattle.tree_walk.specs.Walk.{Spot, Walk, new_walk, is_leaf, is_got, is_got_at, is_among, object_of, use_of, root_read, node_read, leaf_read, read_at, read_kept, follow, onward, goes_through, goes_on, rested, walk_ready, walk_next}
+use Rattle.tree_walk.specs.Causing.{HasLow, BreaksLevel, BreaksFence}
 use Rattle.tree_walk.specs.Serving.{IsMissing, MustGet}
-use Rattle.tree_walk.proofs.Causing.{among_last, spot_is}
-use Rattle.tree_walk.proofs.Onceness.{among_push}
+use Rattle.tree_walk.proofs.Causes.{among_last}
+use Rattle.tree_walk.proofs.Onceness.{among_push, link_free}
+use Rattle.tree_walk.proofs.Outcomes as step
+use Rattle.tree_walk.proofs.Outcomes.{Passes, Links, KeptReads, kept_reads, GoesOn, came_by, Readies, readies}
 
 -- ---- how many objects pass a test
 
@@ -108,37 +105,14 @@ left_in c w = count (unpassed w.spot w.nodes) c.objects
 abbrev pub IsFree : Walk → Type 0
 IsFree w = (s : Spot) → w.spot ≡ Some s → is_among w.nodes s.page ≡ false
 
-abbrev pub FreeIn : Next Walk ℕ → Type 0
-FreeIn (Goes v) = IsFree v
-FreeIn (Ends v page) = Unit {0}
-FreeIn (Stops v t) = Unit {0}
-
 or_false : (a b : Bool) → (a || b) ≡ false → (a ≡ false) × (b ≡ false)
 or_false true b h = absurd (cc (h))
 or_false false b h = (refl, h)
 
--- where the walk goes on, it has less than so many left
-LessIn : Cache → ℕ → Next Walk ℕ → Type 0
-LessIn c bound (Goes v) = IsFree v × (left_in c v < bound)
-LessIn c bound (Ends v page) = Unit {0}
-LessIn c bound (Stops v t) = Unit {0}
+linked_free : (c : Cache) (w v : Walk) → Links c w v → IsFree v
+linked_free c w v link s at = (or_false (is_among v.nodes s.page) (is_among v.leaves s.page) (link_free c w v link s at)).0
 
-linked_free : (w : Walk) (s : Spot) → FreeIn (linked w s)
-linked_free w s = on (came_to w s.page) refl where
-  on : (b : Bool) → came_to w s.page ≡ b → FreeIn (if b then Stops w (trouble.Loop s.page) else Goes (record w { spot = Some s }))
-  on true came = tt
-  on false came = λ u e.
-      let same : s ≡ u = cc (e) in
-      let passed = (or_false (is_page s.page w.spot) (is_among w.nodes s.page || is_among w.leaves s.page) came).1 in
-      subst (λ (x : Spot). is_among w.nodes x.page ≡ false) same (or_false (is_among w.nodes s.page) (is_among w.leaves s.page) passed).0
-
-linked_less : (c : Cache) (bound : ℕ) (w : Walk) (s : Spot) → count (unpassed (Some s) w.nodes) c.objects < bound → LessIn c bound (linked w s)
-unfolding LessIn left_in
-linked_less c bound w s less = on (came_to w s.page) (linked_free w s) where
-  on : (b : Bool) → FreeIn (if b then Stops w (trouble.Loop s.page) else Goes (record w { spot = Some s }))
-      → LessIn c bound (if b then Stops w (trouble.Loop s.page) else Goes (record w { spot = Some s }))
-  on true free = tt
-  on false free = (free, less)
+-- ---- an object that is read without a call
 
 -- what is handed out is kept
 root_kept : (o : Option (Option (List ℕ))) (t : Tree) → as_root o ≡ Some t → (v : Option (List ℕ)) × (o ≡ Some v)
@@ -159,7 +133,6 @@ some_left c w name v waits kept =
     count_less nothing (unpassed w.spot w.nodes) (λ x e. absurd (cc (e))) name waits refl c.objects v kept in
     omega (arith, less)
 
--- down from the tree object
 root_sub : (o : Option Spot) (s : Spot) (nodes : List ℕ) (x : ObjName) → unpassed (Some s) nodes x ≡ true → unpassed o nodes x ≡ true
 unfolding unpassed no_spot
 root_sub o s nodes (object.Head client) h = h
@@ -174,18 +147,6 @@ root_gone : (s : Spot) (nodes : List ℕ) (tree : ℕ) → unpassed (Some s) nod
 unfolding unpassed no_spot
 root_gone s nodes tree = refl
 
-root_less : (c : Cache) (w : Walk) (t : Tree) → w.spot ≡ None → root_at c (object.Tree w.tree) ≡ Some t → (0 < left_in c w) × LessIn c (left_in c w) (root_read w t)
-unfolding left_in
-root_less c w t none h =
-    let kept = root_kept (kept_at c (object.Tree w.tree)) t h in
-    let s = below t.level (entry_for (sought w) t.entries) in
-    (some_left c w (object.Tree w.tree) kept.0 (root_waits w none) kept.1, linked_less c (left_in c w) (use_of w) s (less s kept.0 kept.1))
-  where
-    less : (s : Spot) (v : Option (List ℕ)) → kept_at c (object.Tree w.tree) ≡ Some v → count (unpassed (Some s) w.nodes) c.objects < left_in c w
-    less s v is =
-        count_less (unpassed (Some s) w.nodes) (unpassed w.spot w.nodes) (root_sub w.spot s w.nodes) (object.Tree w.tree) (root_waits w none) (root_gone s w.nodes w.tree) c.objects v is
-
--- on from an inner node
 not_either : (a b : Bool) → not (a || (b || false)) ≡ true → not a ≡ true
 not_either true b h = h
 not_either false b h = refl
@@ -204,61 +165,52 @@ node_gone : (s : Spot) (nodes : List ℕ) (tree p : ℕ) → unpassed (Some s) (
 unfolding unpassed
 node_gone s nodes tree p = ap not (among_last nodes p)
 
-node_less : (c : Cache) (w : Walk) (n : Inner) → is_among w.nodes (spot_of w).page ≡ false → inner_at c (object.Page w.tree (spot_of w).page) ≡ Some n
-    → (0 < left_in c w) × LessIn c (left_in c w) (node_read w n)
-unfolding left_in LessIn
-node_less c w n free h =
-    let p = (spot_of w).page in
-    let kept = inner_kept (kept_at c (object.Page w.tree p)) n h in (
-      some_left c w (object.Page w.tree p) kept.0 (node_waits w.spot w.nodes w.tree p free) kept.1,
-      on kept.0 kept.1 (n.level == (spot_of w).level) (bytes_same n.low (spot_of w).low) (right_of (sought w) n.high (node_at n.right)),
-    )
-  where
-    less : (v : Option (List ℕ)) → kept_at c (object.Page w.tree (spot_of w).page) ≡ Some v → (s : Spot) → count (unpassed (Some s) (w.nodes ++ (spot_of w).page ∷ [])) c.objects < left_in c w
-    less v is s =
-        let p = (spot_of w).page in
-        count_less (unpassed (Some s) (w.nodes ++ p ∷ [])) (unpassed w.spot w.nodes) (node_sub w.spot s w.nodes p) (object.Page w.tree p) (node_waits w.spot w.nodes w.tree p free)
-        (node_gone s w.nodes w.tree p) c.objects v is
+-- one object less is left behind it
+LessIn : Cache → Walk → Walk → Type 0
+LessIn c w v = (0 < left_in c w) × (left_in c v < left_in c w)
 
-    on : (v : Option (List ℕ)) → kept_at c (object.Page w.tree (spot_of w).page) ≡ Some v → (a b : Bool) (o : Option (ℕ × List ℕ))
-        → LessIn c (left_in c w) (if a then (if b then node_left (node_passed w) n o else Stops w (bad_fence w n.low)) else Stops w (bad_level w))
-    on v is false b o = tt
-    on v is true false o = tt
-    on v is true true (Some next) =
-        linked_less c (left_in c w) (record (node_passed w) { turned = true }) (aside (spot_of w).level next) (less v is (aside (spot_of w).level next))
-    on v is true true None =
-        let s = below (spot_of w).level (entry_for (sought w) n.entries) in
-        linked_less c (left_in c w) (node_passed w) s (less v is s)
+fewer : (c : Cache) (w v : Walk) (name : ObjName) (got : Option (List ℕ)) → kept_at c name ≡ Some got
+    → ((x : ObjName) → unpassed v.spot v.nodes x ≡ true → unpassed w.spot w.nodes x ≡ true) → unpassed w.spot w.nodes name ≡ true → unpassed v.spot v.nodes name ≡ false → LessIn c w v
+unfolding left_in LessIn
+fewer c w v name got kept sub waits gone =
+    (some_left c w name got waits kept, count_less (unpassed v.spot v.nodes) (unpassed w.spot w.nodes) sub name waits gone c.objects got kept)
+
+never_leaf : (w : Walk) (s : Spot) → w.spot ≡ Some s → (s.level == 0) ≡ true → is_got w ≡ false → ⊥
+never_leaf w s at bottom free = absurd (cc (at, bottom, free))
+
+passed_less : (c : Cache) (w v : Walk) (s : Spot) → is_got w ≡ false → IsFree w → Passes c w v s → LessIn c w (record v { spot = Some s })
+passed_less c w _ s kept free (step.by_root t none root) =
+    let (got, is) = root_kept (kept_at c (object.Tree w.tree)) t root in
+    fewer c w (record (use_of w) { spot = Some s }) (object.Tree w.tree) got is (root_sub w.spot s w.nodes) (root_waits w none) (root_gone s w.nodes w.tree)
+passed_less c w _ s kept free (step.by_node h n turned at) =
+    let (got, is) = inner_kept (kept_at c (object.Page w.tree h.page)) n at.kept in
+    fewer c w (record w { nodes = w.nodes ++ h.page ∷ []; turned = turned; spot = Some s }) (object.Page w.tree h.page) got is (node_sub w.spot s w.nodes h.page)
+    (node_waits w.spot w.nodes w.tree h.page (free h at.in_hand)) (node_gone s w.nodes w.tree h.page)
+passed_less c w _ _ kept free (step.by_leaf h l next at right) = absurd (never_leaf w h at.in_hand at.bottom kept)
+
+link_less : (c : Cache) (w v : Walk) → is_got w ≡ false → IsFree w → Links c w v → LessIn c w v
+link_less c w _ kept free (step.links v s passes new) = passed_less c w v s kept free passes
+
+-- what is read so is kept and was not passed
+node_some : (c : Cache) (w : Walk) (s : Spot) (n : Inner) → IsFree w → w.spot ≡ Some s → inner_at c (object.Page w.tree s.page) ≡ Some n → 0 < left_in c w
+node_some c w s n free at kept =
+    let (got, is) = inner_kept (kept_at c (object.Page w.tree s.page)) n kept in some_left c w (object.Page w.tree s.page) got (node_waits w.spot w.nodes w.tree s.page (free s at)) is
+
+broken_some : (c : Cache) (w : Walk) (s : Spot) (t : Trouble) → is_got w ≡ false → IsFree w → w.spot ≡ Some s → BreaksLevel c w.tree s t ⊎ BreaksFence c w.tree s t → 0 < left_in c w
+broken_some c w s t kept free at (inl level) = node_some c w s level.node free at level.kept
+broken_some c w s t kept free at (inr fence) = on fence.found fence.has where
+  on : (low : List ℕ) → HasLow c w.tree s low → 0 < left_in c w
+  on low (inl (l, bottom, leaf, is)) = absurd (never_leaf w s at bottom kept)
+  on low (inr (n, above, node, level, is)) = node_some c w s n free at node
+
+some_read : (c : Cache) (w : Walk) (x : Next Walk ℕ) → KeptReads c w x → IsFree w → 0 < left_in c w
+unfolding LessIn
+some_read c w (Goes v) (kept, link) free = (link_less c w v kept free link).0
+some_read c w (Ends _ _) (kept, step.arrives s l at right) free = absurd (never_leaf w s at.in_hand at.bottom kept)
+some_read c w (Stops _ _) (kept, step.loops v s passes came) free = (passed_less c w v s kept free passes).0
+some_read c w (Stops _ _) (kept, step.breaks s t at shown) free = broken_some c w s t kept free at shown
 
 -- ---- through kept objects
-
-if_map : {X : Type 0} (P : Next Walk ℕ → Type 0) (f : X → Next Walk ℕ) (o : Option X) → ((x : X) → o ≡ Some x → P (f x)) → IfSome (option_map f o) P
-if_map P f None h = tt
-if_map P f (Some x) h = h x refl
-
-Lessens : Cache → Walk → Next Walk ℕ → Type 0
-Lessens c w m = (0 < left_in c w) × LessIn c (left_in c w) m
-
-kept_less : (c : Cache) (w : Walk) → IsFree w → IfSome (read_kept w c) (Lessens c w)
-unfolding Lessens
-kept_less c w free = on w.spot refl where
-  root : w.spot ≡ None → (b : Bool) → IfSome (if b then None else option_map (root_read w) (root_at c (object.Tree w.tree))) (Lessens c w)
-  root none true = tt
-  root none false = if_map (Lessens c w) (root_read w) (root_at c (object.Tree w.tree)) (λ t h. root_less c w t none h)
-
-  at : (s : Spot) → w.spot ≡ Some s → (n : Inner) → inner_at c (object.Page w.tree s.page) ≡ Some n → Lessens c w (node_read w n)
-  at s e n h =
-      let is = spot_is w s e in
-      node_less c w n (subst (λ (x : Spot). is_among w.nodes x.page ≡ false) is (free s e)) (subst (λ (x : Spot). inner_at c (object.Page w.tree x.page) ≡ Some n) is h)
-
-  page : (s : Spot) → w.spot ≡ Some s → (b : Bool)
-      → IfSome (if b then None else (if b then option_map (leaf_read w) (leaf_at c (object.Page w.tree s.page)) else option_map (node_read w) (inner_at c (object.Page w.tree s.page)))) (Lessens c w)
-  page s e true = tt
-  page s e false = if_map (Lessens c w) (node_read w) (inner_at c (object.Page w.tree s.page)) (λ n h. at s e n h)
-
-  on : (o : Option Spot) → w.spot ≡ o → IfSome (if is_got_at w.fresh o then None else read_at w c o) (Lessens c w)
-  on None e = root e w.fresh
-  on (Some s) e = page s e (s.level == 0)
 
 map_none : {X : Type 0} (f : X → Next Walk ℕ) (o : Option X) → option_map f o ≡ None → o ≡ None
 map_none f None h = refl
@@ -281,27 +233,29 @@ must_none c w h = on w.spot h where
   on None h = root w.fresh h
   on (Some s) h = page s (s.level == 0) h
 
+-- where it goes on, what is in hand has to be got
 abbrev pub MustIn : Cache → Next Walk ℕ → Type 0
 MustIn c (Goes v) = MustGet v c
 MustIn c (Ends v page) = Unit {0}
 MustIn c (Stops v t) = Unit {0}
 
 through_must : (c : Cache) (k : ℕ) (w : Walk) → left_in c w ≤ k → IsFree w → MustIn c (goes_through c k w)
-unfolding goes_through Lessens LessIn
-through_must c zero w few free = on (read_kept w c) refl (kept_less c w free) where
-  on : (o : Option (Next Walk ℕ)) → read_kept w c ≡ o → IfSome o (Lessens c w) → MustGet w c
+unfolding goes_through LessIn
+through_must c zero w few free = on (read_kept w c) refl (kept_reads c w) where
+  on : (o : Option (Next Walk ℕ)) → read_kept w c ≡ o → IfSome o (KeptReads c w) → MustGet w c
   on None e h = must_none c w e
-  on (Some m) e h = let some : 0 < left_in c w = h.0 in absurd (omega (arith, few, some))
-through_must c (suc k) w few free = on (through_must c k) (read_kept w c) refl (kept_less c w free) where
-  follows : ((v : Walk) → left_in c v ≤ k → IsFree v → MustIn c (goes_through c k v)) → (m : Next Walk ℕ) → Lessens c w m → MustIn c (follow (goes_through c k) m)
-  follows more (Goes v) h = let less : left_in c v < left_in c w = h.1.1 in more v (omega (arith, few, less)) h.1.0
+  on (Some x) e h = let some : 0 < left_in c w = some_read c w x h free in absurd (omega (arith, few, some))
+through_must c (suc k) w few free = onwards (through_must c k) (read_kept w c) refl (kept_reads c w) where
+  follows : ((v : Walk) → left_in c v ≤ k → IsFree v → MustIn c (goes_through c k v)) → (x : Next Walk ℕ) → KeptReads c w x → MustIn c (follow (goes_through c k) x)
+  follows more (Goes v) (kept, link) =
+      let less : left_in c v < left_in c w = (link_less c w v kept free link).1 in more v (omega (arith, few, less)) (linked_free c w v link)
   follows more (Ends v page) h = tt
   follows more (Stops v t) h = tt
 
-  on : ((v : Walk) → left_in c v ≤ k → IsFree v → MustIn c (goes_through c k v)) → (o : Option (Next Walk ℕ)) → read_kept w c ≡ o → IfSome o (Lessens c w)
+  onwards : ((v : Walk) → left_in c v ≤ k → IsFree v → MustIn c (goes_through c k v)) → (o : Option (Next Walk ℕ)) → read_kept w c ≡ o → IfSome o (KeptReads c w)
       → MustIn c (onward (goes_through c k) w o)
-  on more None e h = must_none c w e
-  on more (Some m) e h = follows more m h
+  onwards more None e h = must_none c w e
+  onwards more (Some x) e h = follows more x h
 
 pub on_must : (c : Cache) (w : Walk) → length c.objects ≤ 64 → IsFree w → MustIn c (goes_on c w)
 unfolding left_in
@@ -309,82 +263,30 @@ on_must c w few free = through_must c 64 w (most few) free where
   most : length c.objects ≤ 64 → left_in c w ≤ 64
   most few = let h : count (unpassed w.spot w.nodes) c.objects ≤ length c.objects = count_few (unpassed w.spot w.nodes) c.objects in omega (arith, few, h)
 
--- ---- from what was got
-
-root_free : (w : Walk) (t : Tree) → FreeIn (root_read w t)
-root_free w t = linked_free (use_of w) (below t.level (entry_for (sought w) t.entries))
-
-node_free : (w : Walk) (n : Inner) → FreeIn (node_read w n)
-node_free w n = on (n.level == (spot_of w).level) (bytes_same n.low (spot_of w).low) (right_of (sought w) n.high (node_at n.right)) where
-  on : (a b : Bool) (o : Option (ℕ × List ℕ)) → FreeIn (if a then (if b then node_left (node_passed w) n o else Stops w (bad_fence w n.low)) else Stops w (bad_level w))
-  on false b o = tt
-  on true false o = tt
-  on true true (Some next) = linked_free (record (node_passed w) { turned = true }) (aside (spot_of w).level next)
-  on true true None = linked_free (node_passed w) (below (spot_of w).level (entry_for (sought w) n.entries))
-
-leaf_free : (w : Walk) (l : Leaf) → FreeIn (leaf_read w l)
-leaf_free w l = on (bytes_same l.low (spot_of w).low) (right_of (sought w) l.high (page_at l.right)) where
-  on : (b : Bool) (o : Option (ℕ × List ℕ)) → FreeIn (if b then leaf_left (use_of w) o else Stops w (bad_fence w l.low))
-  on false o = tt
-  on true None = tt
-  on true (Some next) = linked_free (record (leaf_passed (use_of w)) { turned = true }) (aside (spot_of w).level next)
-
-read_free : (w : Walk) (c : Cache) → IfSome (read_from w c) FreeIn
-read_free w c = on w.spot where
-  page : (s : Spot) (b : Bool) → IfSome (if b then option_map (leaf_read w) (leaf_at c (object.Page w.tree s.page)) else option_map (node_read w) (inner_at c (object.Page w.tree s.page))) FreeIn
-  page s true = if_map FreeIn (leaf_read w) (leaf_at c (object.Page w.tree s.page)) (λ l h. leaf_free w l)
-  page s false = if_map FreeIn (node_read w) (inner_at c (object.Page w.tree s.page)) (λ n h. node_free w n)
-
-  on : (o : Option Spot) → IfSome (read_at w c o) FreeIn
-  on None = if_map FreeIn (root_read w) (root_at c (object.Tree w.tree)) (λ t h. root_free w t)
-  on (Some s) = page s (s.level == 0)
-
-pub got_must : (w : Walk) (c : Cache) → length c.objects ≤ 64 → MustIn c (got_read w c)
-got_must w c few = on (read_from w c) (read_free w c) where
-  follows : (m : Next Walk ℕ) → FreeIn m → MustIn c (follow (goes_on c) m)
-  follows (Goes v) h = on_must c v few h
-  follows (Ends v page) h = tt
-  follows (Stops v t) h = tt
-
-  on : (o : Option (Next Walk ℕ)) → IfSome o FreeIn → MustIn c (follow (goes_on c) (unwrap_or o (Stops w trouble.Failed)))
-  on None h = tt
-  on (Some m) h = follows m h
+-- ---- what is got next
 
 -- an accept keeps 64 objects at most
-pub accepted_few : (c : Cache) (name : ObjName) (as_leaf : Bool) (got : Option (List ℕ)) (version : ℕ) (d : Cache) → accepts c name as_leaf got ≡ Ok (version, d) → length d.objects ≤ 64
+accepted_few : (c : Cache) (name : ObjName) (as_leaf : Bool) (got : Option (List ℕ)) (version : ℕ) (d : Cache) → accepts c name as_leaf got ≡ Ok (version, d) → length d.objects ≤ 64
 accepted_few c name as_leaf got version d e =
     subst (λ (os : List (ObjName × Option (List ℕ))). length os ≤ 64) (sym (accept_first c name as_leaf got version d e))
     (take_few 64 ((name, got) ∷ remove_entry (same_name name) c.objects))
 
-by_must : (w : Walk) (c : Cache) (g : Result (Option (List ℕ)) Trouble) → MustIn (got_by w c g).1 (got_by w c g).0
-by_must w c (Err t) = tt
-by_must w c (Ok got) = on (accepts c (object_of w) (is_leaf w) got) refl where
-  on : (r : Result (ℕ × Cache) Trouble) → accepts c (object_of w) (is_leaf w) got ≡ r → MustIn (accepted_by w c r).1 (accepted_by w c r).0
-  on (Err t) e = tt
-  on (Ok served) e =
-      got_must w served.1 (accepted_few c (object_of w) (is_leaf w) got served.0 served.1 e)
-
-abbrev pub MustBeside : Next (Walk × Cache) ℕ → Type 0
-MustBeside (Goes n) = MustGet n.0 n.1
-MustBeside (Ends n page) = Unit {0}
-MustBeside (Stops n t) = Unit {0}
-
-beside_must : (x : Next Walk ℕ) (c : Cache) → MustIn c x → MustBeside (beside (x, c))
-beside_must (Goes v) c h = h
-beside_must (Ends v page) c h = tt
-beside_must (Stops v t) c h = tt
+pub goes_must : (m : Walk × Cache) (a : Answer) (n : Walk × Cache) → GoesOn m a n → MustGet n.0 n.1
+goes_must m a n o =
+    let b = o.brought in
+    subst (MustIn n.1) o.ran (on_must n.1 o.next (accepted_few m.1 (object_of m.0) (is_leaf m.0) b.got b.version n.1 b.accepted) (linked_free n.1 (rested m.0) o.next o.link))
 
 pub moved_gets : (m n : Walk × Cache) (a : Answer) (turn : Turn ℕ) → Moves (walk_next m a) n turn → turn ≡ More → MustGet n.0 n.1
-moved_gets m n a turn moved more =
-    let At : Turn ℕ → Type 0 = Moves (walk_next m a) n in
-    subst MustBeside (subst At more moved) (on (got_by (rested m.0) m.1 (got_of a)) (by_must (rested m.0) m.1 (got_of a)))
-  where
-    on : (x : Next Walk ℕ × Cache) → MustIn x.1 x.0 → MustBeside (beside x)
-    on x h = beside_must x.0 x.1 h
+moved_gets m n a turn moved more = let At : Turn ℕ → Type 0 = Moves (walk_next m a) n in goes_must m a n (came_by m a (Goes n) (subst At more moved))
+
+pub ready_must : (tree : ℕ) (key : Option (List ℕ)) (fresh : Bool) (c : Cache) (n : Walk × Cache) → IsCache c → walk_ready (new_walk tree key fresh, c) ≡ Goes n → MustGet n.0 n.1
+ready_must tree key fresh c n ok leads =
+    let w = new_walk tree key fresh in
+    let (same, ran, way) = subst (Readies (w, c)) leads (readies (w, c)) in
+    subst (MustGet n.0) (sym same) (subst (MustIn c) ran (on_must c (rested w) ok.few (λ s e. refl)))
 
 pub ready_gets : (tree : ℕ) (key : Option (List ℕ)) (fresh : Bool) (c : Cache) (n : Walk × Cache) (turn : Turn ℕ) → IsCache c
     → Moves (walk_ready (new_walk tree key fresh, c)) n turn → turn ≡ More → MustGet n.0 n.1
 ready_gets tree key fresh c n turn ok moved more =
     let At : Turn ℕ → Type 0 = Moves (walk_ready (new_walk tree key fresh, c)) n in
-    let w = rested (new_walk tree key fresh) in
-    subst MustBeside (subst At more moved) (beside_must (goes_on c w) c (on_must c w ok.few (λ s e. refl)))
+    ready_must tree key fresh c n ok (subst At more moved)

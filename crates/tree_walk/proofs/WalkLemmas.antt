@@ -33,7 +33,7 @@ pub entry_is : (key : List ℕ) (es : List Entry) (e : Entry) → child_of key e
 entry_is key es e h = ap (λ (o : Option Entry). unwrap_or o ([], 1)) h
 
 -- no key is below the empty one
-below_empty : (key : List ℕ) → bytes_below key [] ≡ false
+pub below_empty : (key : List ℕ) → bytes_below key [] ≡ false
 below_empty [] = refl
 below_empty (b ∷ bs) = refl
 
@@ -75,10 +75,6 @@ through_one c k w n h = on (read_kept w c) h where
 pub through_more : (c : Cache) (left k : ℕ) (w new : Walk) → left ≡ suc k → IsSomeAnd (read_kept w c) (λ m. m ≡ Goes new)
     → goes_through c k new ≡ goes_through c left w
 through_more c left k w new e h = sym (ap (λ n. goes_through c n w) e ∙ through_one c k w (Goes new) h)
-
-pub through_ended : (c : Cache) (left k : ℕ) (w new : Walk) (page : ℕ) → left ≡ suc k → IsSomeAnd (read_kept w c) (λ m. m ≡ Ends new page)
-    → goes_through c left w ≡ Ends new page
-through_ended c left k w new page e h = ap (λ n. goes_through c n w) e ∙ through_one c k w (Ends new page) h
 
 if_some : {X : Type 0} (P : Type 0) (Q : X → Type 0) (o : Option X) → P → IsSomeAnd o (λ m. P → Q m) → IsSomeAnd o Q
 if_some P Q None p h = absurd h

@@ -10,7 +10,7 @@ use Rattle.cloud_trait.specs.Caller.{Caller}
 use Rattle.cloud_trait.specs.Machine.{Deed}
 use Rattle.cloud_trait.specs.Seen.{Seen}
 use Rattle.cloud_trait.specs.State.{CloudState, newest, version_at}
-use Rattle.calm_calls.specs.Calm.{IsCalm}
+use Rattle.cloud_trait.specs.Calm.{IsCalm}
 use Rattle.page_cache.specs.Cache.{Cache, kept_at}
 use Rattle.page_cache.specs.Held.{inner_at, root_at}
 use Rattle.tree_walk.specs.Walk.{Spot, Walk, object_of, is_leaf, is_got, asks}

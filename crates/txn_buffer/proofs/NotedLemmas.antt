@@ -8,7 +8,7 @@ use Rattle.std.specs.Map.{keys_of, lookup}
 use Rattle.std.proofs.lemmas.List.{length-map}
 use Rattle.std.proofs.lemmas.Bool.Decides.{Decides-and, Decides-eqb}
 use Rattle.std.proofs.lemmas.Slice.Eq.{bytes_eq-Decides}
-use Rattle.indexmap.specs.IndexMap.{IndexMap, index_of_by, insert_entry, values, with_entries, with_value_at}
+use Rattle.indexmap.specs.IndexMap.{IndexMap, index_of_by, insert_entry, spare, values, with_entries, with_value_at}
 use Rattle.db_base.specs.Change.{key_of, net}
 use Rattle.db_base.specs.declared.change.Change.{Change}
 use Rattle.db_base.specs.declared.change.Change.TheVariants.{Insert, Update, Delete, Add}
@@ -45,42 +45,40 @@ key_of-found (entry ∷ rest) tree key change h = on (is_of tree key entry) refl
         ap key_of (sym is) ∙ sym ((is_of-Decides tree key entry).0 here).1
     on false here same later = later same
 
--- what is not found is not at the front, and not behind it
-not_found : (entry : Noted) (rest : List Noted) (tree : ℕ) (key : List ℕ) → found_in (entry ∷ rest) tree key ≡ None
-    → (is_of tree key entry ≡ false) × (found_in rest tree key ≡ None)
-not_found entry rest tree key h = on (is_of tree key entry) refl h
+-- an entry that is not of this tree and key is none of them
+not_of : (entry : Noted) (tree : ℕ) (key : List ℕ) → ((tree ≡ entry.tree) × (key ≡ key_of entry.change) → ⊥) → is_of tree key entry ≡ false
+not_of entry tree key other = on (is_of tree key entry) refl
   where
-    on : (b : Bool) → is_of tree key entry ≡ b → cond b (Some entry.change) (found_in rest tree key) ≡ None
-        → (is_of tree key entry ≡ false) × (found_in rest tree key ≡ None)
-    on true here none = cc
-    on false here none = (here, none)
+    on : (b : Bool) → is_of tree key entry ≡ b → is_of tree key entry ≡ false
+    on true here = absurd (other ((is_of-Decides tree key entry).0 here))
+    on false here = here
 
 -- an entry that is not of this tree and key is passed over
 passes : (entry : Noted) (rest : List Noted) (tree : ℕ) (key : List ℕ) → ((tree ≡ entry.tree) × (key ≡ key_of entry.change) → ⊥)
-    → found_in rest tree key ≡ None → found_in (entry ∷ rest) tree key ≡ None
-passes entry rest tree key other later = on (is_of tree key entry) refl
+    → found_in (entry ∷ rest) tree key ≡ found_in rest tree key
+passes entry rest tree key other = ap (λ (b : Bool). cond b (Some entry.change) (found_in rest tree key)) (not_of entry tree key other)
+
+-- noting one tree and key leaves what is found of another
+found_still : (list : List Noted) (tree : ℕ) (change : Change) (other : ℕ) (key : List ℕ) → ((other ≡ tree) × (key ≡ key_of change) → ⊥)
+    → found_in (noted_in list tree change) other key ≡ found_in list other key
+found_still [] tree change other key apart = passes (record { tree = tree; change = change }) [] other key apart
+found_still (entry ∷ rest) tree change other key apart =
+    on (is_of tree (key_of change) entry) refl (found_still rest tree change other key apart)
   where
-    on : (b : Bool) → is_of tree key entry ≡ b → cond b (Some entry.change) (found_in rest tree key) ≡ None
-    on true here = absurd (other ((is_of-Decides tree key entry).0 here))
-    on false here = later
+    on : (b : Bool) → is_of tree (key_of change) entry ≡ b → found_in (noted_in rest tree change) other key ≡ found_in rest other key
+        → found_in (cond b (record { tree = entry.tree; change = net entry.change change } ∷ rest) (entry ∷ noted_in rest tree change)) other key
+        ≡ found_in (entry ∷ rest) other key
+    on true here deep =
+        let same = (is_of-Decides tree (key_of change) entry).0 here in
+        passes (record { tree = entry.tree; change = net entry.change change }) rest other key
+        (λ h. apart (h.0 ∙ sym same.0, h.1 ∙ key_of-net entry.change change (sym same.1)))
+        ∙ sym (passes entry rest other key (λ h. apart (h.0 ∙ sym same.0, h.1 ∙ sym same.1)))
+    on false here deep = ap (λ (o : Option Change). cond (is_of other key entry) (Some entry.change) o) deep
 
 -- noting one tree and key brings no other
 stays_new : (list : List Noted) (tree : ℕ) (change : Change) (other : ℕ) (key : List ℕ) → ((other ≡ tree) × (key ≡ key_of change) → ⊥)
     → found_in list other key ≡ None → found_in (noted_in list tree change) other key ≡ None
-stays_new [] tree change other key apart none = passes (record { tree = tree; change = change }) [] other key apart refl
-stays_new (entry ∷ rest) tree change other key apart none =
-    let parts = not_found entry rest other key none in
-    on (is_of tree (key_of change) entry) refl parts (stays_new rest tree change other key apart parts.1)
-  where
-    on : (b : Bool) → is_of tree (key_of change) entry ≡ b
-        → (is_of other key entry ≡ false) × (found_in rest other key ≡ None)
-        → found_in (noted_in rest tree change) other key ≡ None
-        → found_in (cond b (record { tree = entry.tree; change = net entry.change change } ∷ rest) (entry ∷ noted_in rest tree change)) other key ≡ None
-    on true here parts later =
-        let same = (is_of-Decides tree (key_of change) entry).0 here in
-        passes (record { tree = entry.tree; change = net entry.change change }) rest other key
-        (λ h. apart (h.0 ∙ sym same.0, h.1 ∙ key_of-net entry.change change (sym same.1))) parts.1
-    on false here parts later = ap (λ (b : Bool). cond b (Some entry.change) (found_in (noted_in rest tree change) other key)) parts.0 ∙ later
+stays_new list tree change other key apart none = found_still list tree change other key apart ∙ none
 
 -- noting keeps trees and keys apart
 pub AreDistinct-noted : (list : List Noted) (tree : ℕ) (change : Change) → AreDistinct list → AreDistinct (noted_in list tree change)
@@ -110,6 +108,24 @@ length-noted (entry ∷ rest) tree change = on (is_of tree (key_of change) entry
     on true o later = refl
     on false None later = omega arith
     on false (Some first) later = omega arith
+
+-- how many entries noting two changes of different trees adds: one for each whose tree and key are new
+pub length-both : (list : List Noted) (tree : ℕ) (change : Change) (other_tree : ℕ) (other : Change) → (tree ≡ other_tree → ⊥)
+    → length (noted_in (noted_in list tree change) other_tree other)
+    ≡ length list + (cond (is_some (found_in list tree (key_of change))) 0 1 + cond (is_some (found_in list other_tree (key_of other))) 0 1)
+length-both list tree change other_tree other apart =
+    on (found_in list tree (key_of change)) (found_in list other_tree (key_of other)) (found_in (noted_in list tree change) other_tree (key_of other))
+    (found_still list tree change other_tree (key_of other) (λ h. apart (sym h.0))) (length-noted list tree change) (length-noted (noted_in list tree change) other_tree other)
+  where
+    on : (one two more : Option Change) → more ≡ two → length (noted_in list tree change) ≡ cond (is_some one) (length list) (length list + 1)
+        → length (noted_in (noted_in list tree change) other_tree other) ≡ cond (is_some more) (length (noted_in list tree change)) (length (noted_in list tree change) + 1)
+        → length (noted_in (noted_in list tree change) other_tree other) ≡ length list + (cond (is_some one) 0 1 + cond (is_some two) 0 1)
+    on None None None same first second = omega arith
+    on None (Some y) (Some z) same first second = omega arith
+    on (Some x) None None same first second = omega arith
+    on (Some x) (Some y) (Some z) same first second = omega arith
+    on one None (Some z) same first second = absurd cc
+    on one (Some y) None same first second = absurd cc
 
 -- noting where there is room, or where the tree and key are there, keeps a buffer's list
 pub AreNoted-noted : (list : List Noted) (tree : ℕ) (change : Change) → AreNoted list
@@ -145,7 +161,7 @@ too_long tree key [] keys long = refl
 too_long tree key (e ∷ es) keys long =
     passes (noted_of e) (map noted_of es) tree key
     (λ h. let same : length key ≡ length e.0.key.items = ap length (h.1 ∙ sym keys.0.0) in let short : length e.0.key.items ≤ 64 = keys.0.1 in absurd (omega arith))
-    (too_long tree key es keys.1 long)
+    ∙ too_long tree key es keys.1 long
 
 -- storing the joined change in the map is noting it in the list
 pub inserted : (k : NotedKey) (es : List (NotedKey × Change)) (change : Change) → KeysMatch es → k.key.items ≡ key_of change
@@ -262,3 +278,37 @@ alone k es change keys key none = on (found_in (map noted_of es) k.tree (key_of 
         → insert_entry same_key es k change ≡ insert_entry same_key es k (joined_to (found_in (map noted_of es) k.tree (key_of change)) change)
     on None e = ap (λ (o : Option Change). insert_entry same_key es k (joined_to o change)) (sym e)
     on (Some first) e = absurd (let bad : true ≡ false = sym (ap is_some (is ∙ e)) ∙ none in cc)
+
+-- joining a change in its place leaves the room of the map
+pub joined_spare : {S : Type 0} (m n : IndexMap NotedKey Change S) (k : NotedKey) (i : ℕ) (change : Change)
+    → is_some (lookup (same_key k) m.entries) ≡ true → slice_get (values m) i ≡ lookup (same_key k) m.entries
+    → ((first : Change) → slice_get (values m) i ≡ Some first → n ≡ with_value_at m i (net first change)) → spare m ≤ spare n + 1
+joined_spare m n k i change there value join = on (lookup (same_key k) m.entries) refl
+  where
+    on : (o : Option Change) → lookup (same_key k) m.entries ≡ o → spare m ≤ spare n + 1
+    on None e = absurd (let bad : false ≡ true = sym (ap is_some e) ∙ there in cc)
+    on (Some first) e = let same : spare n ≡ spare m = ap spare (join first (value ∙ e)) in omega (arith, same)
+
+-- how many changes there are behind two notes of different trees, by what is counted before them
+pub both_count : (list : List Noted) (es : List (NotedKey × Change)) (one two : NotedKey) (tree : ℕ) (change : Change) (other_tree : ℕ) (other : Change) (first second : ℕ)
+    → map noted_of es ≡ list → (tree ≡ other_tree → ⊥) → one.tree ≡ tree → one.key.items ≡ key_of change → two.tree ≡ other_tree → two.key.items ≡ key_of other
+    → first ≡ cond (is_some (found_in (map noted_of es) one.tree one.key.items)) 0 1 → second ≡ cond (is_some (found_in (map noted_of es) two.tree two.key.items)) 0 1
+    → length (noted_in (noted_in list tree change) other_tree other) ≡ length es + (first + second)
+both_count list es one two tree change other_tree other first second seen apart t k t2 k2 f g =
+    let a : first ≡ cond (is_some (found_in list tree (key_of change))) 0 1 = f ∙ ap (λ (o : Option Change). cond (is_some o) 0 1) (cc) in
+    let b : second ≡ cond (is_some (found_in list other_tree (key_of other))) 0 1 = g ∙ ap (λ (o : Option Change). cond (is_some o) 0 1) (cc) in
+    let n : length list ≡ length es = ap length (sym seen) ∙ length-map es noted_of in
+    let both = length-both list tree change other_tree other apart in
+    rw (both, ← a, ← b, n) refl
+
+-- where the second of two keys is new, there is room for it behind the first
+pub both_room : (list : List Noted) (after : List (NotedKey × Change)) (tree : ℕ) (change : Change) (other_tree : ℕ) (other : Change) → (tree ≡ other_tree → ⊥)
+    → map noted_of after ≡ noted_in list tree change → length (noted_in (noted_in list tree change) other_tree other) ≤ 200
+    → found_in (map noted_of after) other_tree (key_of other) ≡ None → length after < 200
+both_room list after tree change other_tree other apart is few none =
+    let new : found_in (noted_in list tree change) other_tree (key_of other) ≡ None = ap (λ (l : List Noted). found_in l other_tree (key_of other)) (sym is) ∙ none in
+    let n : length after ≡ length (noted_in list tree change) = sym (length-map after noted_of) ∙ ap length is in
+    let long : length (noted_in (noted_in list tree change) other_tree other) ≡ length (noted_in list tree change) + 1 =
+    length-noted (noted_in list tree change) other_tree other
+    ∙ ap (λ (o : Option Change). cond (is_some o) (length (noted_in list tree change)) (length (noted_in list tree change) + 1)) new in
+    omega (arith, n, long, few)

@@ -2,7 +2,10 @@
 use Rattle.std.specs.Prelude.{◌≡◌, ℕ, ◌≤◌, Bool, ◌&&◌, nat_eq, if◌then◌else◌, List, [], ◌∷◌, length, Option, Some, None, ⊤}
 use Rattle.std.specs.Str.{bytes_eq}
 use Rattle.db_base.specs.Change.{key_of, net}
+use Rattle.db_base.specs.Entry.{index_insert}
+use Rattle.db_base.specs.Ids.{index_of}
 use Rattle.db_base.specs.declared.change.Change.{Change}
+use Rattle.db_base.specs.declared.change.Change.TheVariants.{Insert}
 
 -- a change of a tree
 pub record Noted : Type 0 where
@@ -23,6 +26,10 @@ abbrev pub noted_in : List Noted → ℕ → Change → List Noted
 noted_in [] tree change = record { tree = tree; change = change } ∷ []
 noted_in (entry ∷ rest) tree change =
     if is_of tree (key_of change) entry then record { tree = entry.tree; change = net entry.change change } ∷ rest else entry ∷ noted_in rest tree change
+
+-- the entries after one more record with an attribute: its insert, and the one that brings it into the index of its tree
+abbrev pub put_in : List Noted → ℕ → List ℕ → List ℕ → List ℕ → List Noted
+put_in list tree key payload attr = noted_in (noted_in list tree (Insert key payload (Some attr))) (index_of tree) (index_insert attr key)
 
 -- no two entries are of one tree and key
 abbrev pub AreDistinct : List Noted → Type 0

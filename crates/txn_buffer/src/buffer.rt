@@ -1,9 +1,9 @@
-ghost use Rattle.std.specs.Prelude.{◌≡◌, ℕ, ◌≤◌, ◌<◌, ◌↔◌, List, [], length, slice_get, IfOk, OnOk, OnErr, IfErr, IsTrue, None, Some, ◌⊎◌, map};
+ghost use Rattle.std.specs.Prelude.{◌≡◌, ◌≢◌, ℕ, ◌+◌, ◌≤◌, ◌<◌, ◌↔◌, List, [], length, slice_get, IfOk, OnOk, OnErr, IfErr, IsTrue, None, Some, is_some, IsOk, if◌then◌else◌, ◌⊎◌, map};
 ghost use Rattle.std.specs.Option.{option_copied, option_map};
 ghost use Rattle.db_base.specs.Change.{key_of, net};
 ghost use Rattle.txn_buffer.specs.Noted.{Noted, found_in, noted_in, AreNoted};
 ghost use Rattle.db_base.specs.declared.change.Change.{Change as Noting};
-ghost use Rattle.indexmap.specs.IndexMap.{index_map_len, values, with_value_at};
+ghost use Rattle.indexmap.specs.IndexMap.{index_map_len, values, spare, with_value_at};
 ghost use Rattle.txn_buffer.specs.Kept.{noted_of, KeysMatch, IsKept};
 
 use crate::noted_key::NotedKey;
@@ -54,6 +54,17 @@ fn lookup<'a>(changes: &'a IndexMap<NotedKey, Change>, key: &NotedKey) -> Option
     changes.get(key)
 }
 
+/// How many changes a tree and key add: none where they are there.
+fn added(changes: &IndexMap<NotedKey, Change>, key: &NotedKey) -> usize
+    requires { KeysMatch changes.now.entries }
+    ensures { result ≡ (if is_some (found_in (map noted_of changes.now.entries) key.now.tree key.now.key.items) then 0 else 1) }
+{
+    match lookup(changes, key) {
+        Some(_) => 0,
+        None => 1,
+    }
+}
+
 /// Joins a later change to the one at an index.
 fn join_at(changes: &mut IndexMap<NotedKey, Change>, index: usize, later: Change)
     requires within { index < index_map_len changes.old }
@@ -77,6 +88,8 @@ fn store(
     ensures err { OnErr result (changes.new.entries ≡ changes.old.entries) }
     ensures memory { IfErr result (λ e. e ≡ Refused.Memory) }
     ensures kept { IsKept changes.new.entries }
+    ensures succeeds { 0 < spare changes.old → IsOk result }
+    ensures uses_one { spare changes.old ≤ spare changes.new + 1 }
 {
     match changes.get_index_of(&key) {
         Some(index) => {
@@ -116,6 +129,37 @@ impl TxnBuffer {
             return Err(Refused::Rule(Refusal::TooManyChanges));
         }
         store(&mut self.changes, key, change)
+    }
+
+    /// Notes two changes, of different trees, or neither. TooManyChanges exactly where there would be more than 200 changes.
+    /// A refusal changes nothing.
+    pub fn note_both(
+        &mut self,
+        tree: TreeId,
+        change: Change,
+        other_tree: TreeId,
+        other: Change,
+    ) -> Result<(), Refused>
+        requires { tree ≢ other_tree }
+        ensures ok { OnOk result (self.new ≡ noted_in (noted_in self.old tree change) other_tree other) }
+        ensures err { OnErr result (self.new ≡ self.old) }
+        ensures many { (result ≡ Err (Refused.Rule Refusal.TooManyChanges)) ↔ (200 < length (noted_in (noted_in self.old tree change) other_tree other)) }
+        ensures only { IfErr result (λ e. (e ≡ Refused.Rule Refusal.TooManyChanges) ⊎ (e ≡ Refused.Memory)) }
+    {
+        let key = NotedKey::of_change(tree, &change);
+        let other_key = NotedKey::of_change(other_tree, &other);
+        let new = added(&self.changes, &key) + added(&self.changes, &other_key);
+        if self.changes.len() + new > MAX_CHANGES {
+            return Err(Refused::Rule(Refusal::TooManyChanges));
+        }
+        // With room for both neither store is refused.
+        if self.changes.reserve(2).is_err() {
+            return Err(Refused::Memory);
+        }
+        match store(&mut self.changes, key, change) {
+            Ok(()) => store(&mut self.changes, other_key, other),
+            Err(e) => Err(e),
+        }
     }
 
     /// How many changes, at most 200, each of a tree and key of its own.

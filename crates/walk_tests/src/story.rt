@@ -1,6 +1,6 @@
 //! What machines did, as a text: a line for each call, and one for each answer.
 
-use call_text::call_text;
+use reply_text::call_text;
 use cloud_trait::call::Call;
 use cloud_trait::turn::Turn;
 use db_base::ids::PageId;

@@ -13,11 +13,6 @@ pub bind_some : {A B : Type 0} (o : Option A) (f : A → Option B) (y : B) → (
 bind_some (Some x) f y e = (x, refl, e)
 bind_some None f y e = absurd cc
 
--- a step that does not fail goes on
-pub bind_at : {A B : Type 0} (o : Option A) (f : A → Option B) (x : A) → o ≡ Some x → (o >>= f) ≡ f x
-bind_at (Some y) f x e = ap f (same_Some y x e)
-bind_at None f x e = absurd cc
-
 -- ---- a number, bytes, the end
 
 left_takes : {A : Type 0} (o : Option A) (left : List (List ℕ)) (x : A × List (List ℕ)) → with_left left o ≡ Some x → (o ≡ Some x.0) × (left ≡ x.1)
@@ -79,10 +74,6 @@ numbers_of-more front word words n e = rw e (on (numbers_of words))
 pub numbers_of-end : (front : List ℕ) → with_front front (numbers_of []) ≡ Some front
 unfolding numbers_of
 numbers_of-end front = simp append-nil
-
-pub numbers_of-start : (o : Option (List ℕ)) → with_front [] o ≡ o
-numbers_of-start None = refl
-numbers_of-start (Some ns) = refl
 
 -- ---- shapes of lines
 

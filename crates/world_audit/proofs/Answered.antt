@@ -15,7 +15,7 @@ use Rattle.cloud_trait.specs.declared.state.Version.{Version}
 use Rattle.report_types.specs.declared.entry.Entry.{Entry}
 use Rattle.report_types.specs.declared.report.Report.{Report}
 use Rattle.report_types.specs.declared.stored.Stored.{Stored}
-use Rattle.tree_meaning.specs.Chain.{Walked}
+use Rattle.replay_meaning.specs.Chain.{Walked}
 use Rattle.world_audit.specs.Counts.{heads_upto, open_count, head_in, IsNextPage}
 use Rattle.world_audit.specs.Look.{Looked}
 use Rattle.world_audit.specs.Walk.{Adds}

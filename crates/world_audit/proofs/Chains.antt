@@ -5,8 +5,8 @@ use Rattle.db_base.specs.Ids.{IsPage}
 use Rattle.db_base.specs.declared.names.ObjName.TheVariants.{Page}
 use Rattle.report_types.specs.declared.stored.Stored.{Stored}
 use Rattle.cloud_trait.specs.State.{CloudState, newest}
-use Rattle.tree_meaning.specs.Chain.{Leads, Walked}
-use Rattle.tree_meaning.proofs.ChainLemmas.{leads_on, records_on, right_page, no_page}
+use Rattle.replay_meaning.specs.Chain.{Leads, Walked}
+use Rattle.replay_meaning.proofs.ChainLemmas.{leads_on, records_on, right_page, no_page}
 use Rattle.world_audit.specs.Walk.{Adds}
 
 pub walk_first : (s : CloudState) (tree : ℕ) → Walked s tree 1 []

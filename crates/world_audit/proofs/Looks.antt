@@ -1,12 +1,9 @@
 -- Looks one after another.
-use Rattle.std.proofs.Common.{◌≡◌, ◌<◌, ℕ, List, Option, Some, refl, sym, arith, ◌∙◌, inl, inr}
+use Rattle.std.proofs.Common.{◌≡◌, ℕ, List, Option, Some, refl, sym, arith, ◌∙◌, inl, inr}
 use Rattle.db_base.specs.declared.names.ObjName.{ObjName}
 use Rattle.cloud_trait.specs.Bench.{IsShown}
 use Rattle.cloud_trait.specs.Seen.{Seen}
 use Rattle.cloud_trait.specs.State.{CloudState, newest}
-use Rattle.cloud_trait.specs.Weather.{Rose}
-use Rattle.db_base.specs.declared.trouble.Trouble.{Trouble}
-use Rattle.db_base.specs.declared.trouble.Trouble.TheVariants.{Failed}
 use Rattle.world_audit.specs.Finding.{IsAsTold}
 use Rattle.world_audit.specs.Look.{Looked}
 
@@ -40,7 +37,3 @@ told_newest s name found told shown x (inr h) = shown h.0 h.1 ∙ sym (h.2 name)
 pub told_behind : (s t : Seen) (name : ObjName) (found : Option (List ℕ)) → Looked s t → ((x : CloudState) → t.state ≡ Some x → found ≡ newest x name) → IsShown t name found
     → (x : CloudState) → IsAsTold s x → found ≡ newest x name
 told_behind s t name found looked told shown x h = told_newest t name found told shown x (told_stays s t x looked h)
-
--- a look that failed, behind other looks
-pub fails_on : (x : Trouble) (s t u : Seen) → Looked s t → (x ≡ Failed → Rose t.counts.dark u.counts.dark) → x ≡ Failed → Rose s.counts.dark u.counts.dark
-fails_on x s t u a f h = let r : t.counts.dark < u.counts.dark = f h in omega (arith, r, a.dark)

@@ -10,9 +10,9 @@ use Rattle.db_base.specs.declared.trouble.Trouble.{Trouble}
 use Rattle.db_base.specs.declared.names.ObjName.TheVariants.{Page}
 use Rattle.cloud_trait.specs.State.{CloudState, newest}
 use Rattle.leaf_view.specs.Leaf.{Leaf}
-use Rattle.tree_meaning.specs.Chain.{Leads}
+use Rattle.replay_meaning.specs.Chain.{Leads}
 use Rattle.world_audit.specs.Stop.{pages_of, Meet, Comes, Passes, ChainStops, ChainIsWhole, HeadReads, HeadsRead, AllHeadsRead, HeadStops, RootStops, SlipOr, Stopped}
-use Rattle.tree_meaning.proofs.ChainLemmas.{leads_on, right_page}
+use Rattle.replay_meaning.proofs.ChainLemmas.{leads_on, right_page}
 
 meet_on : (low : List ℕ) (leaves : List Leaf) (l : Leaf) (mid high : List ℕ)
     → Meet low leaves mid → l.low ≡ mid → l.high ≡ Some high → Meet low (leaves ++ l ∷ []) high

@@ -7,7 +7,7 @@ use Rattle.cloud_trait.specs.State.{CloudState, newest}
 use Rattle.report_types.specs.declared.entry.Entry.{Entry}
 use Rattle.report_types.specs.declared.report.Report.{Report}
 use Rattle.report_types.specs.declared.stored.Stored.{Stored}
-use Rattle.tree_meaning.specs.Chain.{Walked}
+use Rattle.replay_meaning.specs.Chain.{Walked}
 use Rattle.world_audit.specs.Counts.{heads_upto}
 use Rattle.world_audit.specs.Stop.{SlipOr, ChainStops, ChainIsWhole, HeadStops, AllHeadsRead, RootStops, RootReads, Stopped}
 

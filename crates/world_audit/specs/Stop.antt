@@ -14,7 +14,7 @@ use Rattle.head_codec.specs.Spelling.{head_of, head_offset}
 use Rattle.leaf_view.specs.Leaf.{Leaf, IsLeaf, leaf}
 use Rattle.leaf_view.specs.Lookup.{page_at}
 use Rattle.node_codec.specs.Tree.{Tree, IsTree, tree_format}
-use Rattle.tree_meaning.specs.Chain.{IsReadAs, Leads}
+use Rattle.replay_meaning.specs.Chain.{IsReadAs, Leads}
 use Rattle.world_audit.specs.Counts.{IsNextPage}
 
 -- the pages of leaves that lead from a page

@@ -7,7 +7,7 @@ ghost use Rattle.db_base.specs.Ids.{IsPage};
 ghost use Rattle.db_base.specs.declared.names.ObjName.TheVariants.{Page};
 ghost use Rattle.leaf_view.specs.Fits.{IsHigh};
 ghost use Rattle.world_audit.specs.Look.{Looked, FailsDark};
-ghost use Rattle.tree_meaning.specs.Chain.{IsReadAs, stored_of};
+ghost use Rattle.replay_meaning.specs.Chain.{IsReadAs, stored_of};
 ghost use Rattle.world_audit.specs.Walk.{Adds};
 ghost use Rattle.world_audit.specs.Stop.{StopsWalk, MayStop, Passes};
 ghost use Rattle.world_audit.specs.Finding.{Shown, LeavesFound};

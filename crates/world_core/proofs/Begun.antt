@@ -11,9 +11,9 @@ use Rattle.cloud_trait.specs.declared.turn.Turn.{Turn}
 use Rattle.cloud_trait.specs.declared.turn.Turn.TheVariants.{More, Ended, Stopped}
 use Rattle.page_cache.specs.Cache.{Cache}
 use Rattle.tree_walk.specs.Walk.{Walk, new_walk}
-use Rattle.tree_walk.proofs.Causing.{ready_shows}
+use Rattle.tree_walk.proofs.Causes.{ready_shows}
 use Rattle.range_scan.specs.Scan.{Scan, new_scan}
-use Rattle.range_scan.proofs.Exactness.{scan_ready_shows}
+use Rattle.range_scan.proofs.Demands.{scan_ready_shows}
 use Rattle.recover_run.specs.declared.home.Home.{Home}
 use Rattle.commit_run.specs.Run.{new_run}
 use Rattle.commit_run.proofs.Causing.{ready_causes}

@@ -1,6 +1,6 @@
 -- A settling that came to its end left nothing, and stayed within its bound.
 use Rattle.std.proofs.Common.{◌≡◌, ℕ, [], Some, Result, Ok, refl, sym, ap, subst, ◌∙◌, inl, inr, arith}
-use Rattle.calm_calls.specs.Calm.{IsCalm, NamesLasting}
+use Rattle.cloud_trait.specs.Calm.{IsCalm, NamesLasting}
 use Rattle.client_work.specs.Session.{Acting, StepsSession, settling_session, ask_of_work}
 use Rattle.client_work.specs.declared.answer.Answer.{Answer}
 use Rattle.client_work.specs.declared.answer.Answer.TheVariants as answer

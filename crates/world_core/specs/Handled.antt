@@ -44,7 +44,7 @@ use Rattle.history.specs.Fold.{of_tree}
 use Rattle.history.specs.Audited.{Audited}
 use Rattle.world_audit.specs.Look.{Looked}
 use Rattle.world_audit.specs.Finding.{Finds}
-use Rattle.tree_meaning.specs.Chain.{Walked}
+use Rattle.replay_meaning.specs.Chain.{Walked}
 use Rattle.world_audit.specs.Counts.{heads_upto, AreWaiting}
 use Rattle.session_facts.specs.Sessions.Noting.{audited}
 use Rattle.session_facts.specs.Sessions.Sessions.{IsRightOp}

@@ -1,6 +1,6 @@
 -- What a settling leaves where nobody else acts, which is so within its line, and how many calls it makes at most: over whatever cloud runs left.
 use Rattle.std.specs.Prelude.{ℕ, ◌≡◌, ◌≢◌, ◌≤◌, List, [], Some, Result, Ok}
-use Rattle.calm_calls.specs.Calm.{NamesLasting}
+use Rattle.cloud_trait.specs.Calm.{NamesLasting}
 use Rattle.client_work.specs.Session.{Acting, StepsSession, ask_of_work}
 use Rattle.client_work.specs.declared.answer.Answer.{Answer}
 use Rattle.cloud_trait.specs.Ask.{Ask}

@@ -12,8 +12,8 @@ use Rattle.cloud_facts.specs.Book.Book.{Link}
 use Rattle.cloud_facts.specs.Book.Records.{StandsAt, IsIn}
 use Rattle.cloud_facts.specs.Chains.Links.{link_below, page_after, low_after}
 use Rattle.cloud_facts.proofs.Chains.Pieces.{none_in, in_first, in_rest, in_cases, in_back, ascend_all}
-use Rattle.tree_meaning.specs.Chain.{IsReadAs}
-use Rattle.tree_meaning.proofs.ChainLemmas.{one_leaf}
+use Rattle.replay_meaning.specs.Chain.{IsReadAs}
+use Rattle.replay_meaning.proofs.ChainLemmas.{one_leaf}
 use Rattle.world_audit.specs.Stop.{pages_of, Meet, StopsWalk}
 use Rattle.cloud_facts.specs.Meanings.Contents.{leaves_of}
 use Rattle.cloud_facts.proofs.Meanings.Pages.{IsLeafAt}

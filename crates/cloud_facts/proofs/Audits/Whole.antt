@@ -15,7 +15,7 @@ use Rattle.cloud_facts.specs.Chains.Links.{page_after, low_after, Ascends}
 use Rattle.cloud_facts.proofs.Chains.Pieces.{in_front}
 use Rattle.cloud_facts.specs.Decoding.Decodes.{Decodes}
 use Rattle.cloud_facts.proofs.Decoding.Values.{newest_head_decodes, newest_root_decodes}
-use Rattle.tree_meaning.specs.Chain.{IsReadAs}
+use Rattle.replay_meaning.specs.Chain.{IsReadAs}
 use Rattle.world_audit.specs.Stop.{pages_of, Meet, Comes, StopsWalk, ChainStops, HeadStops, RootStops, FirstDamage, Stopped}
 use Rattle.cloud_facts.specs.Meanings.Contents.{leaves_of, IsAlong}
 use Rattle.cloud_facts.proofs.Meanings.Leaves.{leads_along}

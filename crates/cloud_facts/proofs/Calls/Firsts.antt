@@ -1,9 +1,8 @@
 -- The first leaf of a tree, and the newest versions of the pages of its leaf chain.
-use Rattle.std.proofs.Common.{◌≡◌, ℕ, zero, List, refl, ap, arith}
-use Rattle.std.specs.Prelude.{slice_get}
+use Rattle.std.proofs.Common.{◌≡◌, ℕ, List, refl, arith}
 use Rattle.cloud_trait.specs.State.{CloudState}
 use Rattle.db_base.specs.Ids.{IsTree}
-use Rattle.cloud_facts.specs.Chains.Links.{first_link, newest_node, IsOfLevel}
+use Rattle.cloud_facts.specs.Chains.Links.{newest_node, IsOfLevel}
 use Rattle.cloud_facts.proofs.Chains.Newest.{newest_is}
 use Rattle.cloud_facts.specs.Calls.Pages.{IsLeafPage}
 use Rattle.cloud_facts.specs.Calls.Standing.{StandsUnder}
@@ -14,12 +13,6 @@ use Rattle.cloud_facts.specs.Book.Tally.{Node, Leafy, Branch}
 use Rattle.cloud_facts.specs.Book.Telling.{nodes_of, newest_leaf, leaf_in}
 
 module _ (book : Book) (order : List Entry) (s : CloudState) (stands : StandsUnder book order s) (tree : ℕ) (is : IsTree tree) where
-  -- the first leaf is a link of the leaf chain
-  pub first_linked : IsIn (book.chain tree 0) first_link
-  first_linked =
-      let leaves = (stands.holds.chains tree is).levels.leaves in
-      (zero, ap (λ (ls : List Link). slice_get ls 0) leaves.1)
-
   leafy : (node : Node) → IsOfLevel 0 node → node ≡ Leafy (leaf_in node)
   leafy (Leafy l) level = refl
   leafy (Branch n) level = absurd (omega (arith, level.1))

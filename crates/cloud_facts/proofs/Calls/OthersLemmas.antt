@@ -1,9 +1,8 @@
 -- What is known survives the calls of others.
-use Rattle.std.proofs.Common.{◌≡◌, ◌≤◌, ◌⊎◌, inl, inr, ℕ, zero, List, [], ◌∷◌, Option, Some, refl, sym, subst, ◌∙◌, arith}
+use Rattle.std.proofs.Common.{◌≡◌, ◌≤◌, ◌⊎◌, inl, inr, ℕ, zero, List, Option, Some, refl, sym, subst, ◌∙◌, arith}
 use Rattle.cloud_trait.specs.Claim.{Claim}
 use Rattle.cloud_facts.specs.Calls.Acting.{of_option, IsPruned, KnowsHome, Aside}
 use Rattle.cloud_facts.specs.Calls.Others.{Others}
-use Rattle.cloud_facts.proofs.Calls.Guarding.{others_itself}
 use Rattle.db_base.specs.Change.{key_of}
 use Rattle.db_base.specs.Ids.{IsClient}
 use Rattle.head_codec.specs.declared.head.Head.{Head}
@@ -75,12 +74,6 @@ home_others st su now later client lease head attempt part mine after here o k =
   epoch_is = k.epoch_is;
   begun = k.begun;
 }
-
--- a home survives time, and a machine's own call that touches neither its part nor any head
-pub home_later : (st : Store) (now later client : ℕ) (lease : Claim) (head : Head) (attempt : ℕ) (part : Part) → now ≤ later → KnowsHome st now client lease head attempt part
-    → KnowsHome st later client lease head attempt part
-home_later st now later client lease head attempt part after k =
-    home_others st st now later client lease head attempt part (lease ∷ []) after (zero, refl) (others_itself (lease ∷ []) later st) k
 
 pub home_aside : (st u : Store) (now later client : ℕ) (lease : Claim) (head : Head) (attempt : ℕ) (before part : Part) (Knows : Store → ℕ → Type 0) → now ≤ later → Grows st u
     → KnowsHome st now client lease head attempt before → Aside st before Knows u later part → KnowsHome u later client lease head attempt part

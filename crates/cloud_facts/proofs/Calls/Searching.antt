@@ -1,5 +1,5 @@
 -- What is found in a list.
-use Rattle.std.proofs.Common.{◌≡◌, ◌<◌, ◌⊎◌, inl, inr, ℕ, zero, suc, Bool, true, false, cond, List, [], ◌∷◌, ◌++◌, length, replicate, reverse, Some, None, refl, sym, ap, subst, ◌∙◌, arith}
+use Rattle.std.proofs.Common.{◌≡◌, ◌<◌, ◌⊎◌, inl, inr, ℕ, zero, suc, Bool, true, false, cond, List, [], ◌∷◌, ◌++◌, length, reverse, Some, None, refl, sym, ap, subst, ◌∙◌, arith}
 use Rattle.std.specs.Prelude.{slice_get, find}
 use Rattle.std.proofs.lemmas.List.{reverse-append}
 use Rattle.cloud_facts.specs.Book.Records.{IsIn}
@@ -14,11 +14,6 @@ module _ {X : Type 0} where
   stands_below [] place less = absurd (omega (arith, less))
   stands_below (x ∷ xs) zero less = (x, refl)
   stands_below (x ∷ xs) (suc place) less = stands_below xs place (omega (arith, less))
-
-  pub replicate_at : (n : ℕ) (x : X) (place : ℕ) → place < n → slice_get (replicate n x) place ≡ Some x
-  replicate_at zero x place less = absurd (omega (arith, less))
-  replicate_at (suc n) x zero less = refl
-  replicate_at (suc n) x (suc place) less = replicate_at n x place (omega (arith, less))
 
   -- what is found is in the list, and passes the test
   pub found : (p : X → Bool) (xs : List X) (x : X) → find p xs ≡ Some x → IsIn xs x × (p x ≡ true)

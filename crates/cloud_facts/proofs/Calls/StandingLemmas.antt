@@ -14,12 +14,11 @@ use Rattle.cloud_facts.proofs.Decoding.Values.{head_next, inner_next, root_next,
 use Rattle.cloud_facts.specs.Landings.Holding.{Holds}
 use Rattle.cloud_facts.specs.Landings.Landing.{Landing, opens, settles, logs, posts, marks_log, marks_post, puts_leaf, puts_page, puts_inner, puts_root, raises_root, stays}
 use Rattle.cloud_facts.specs.Landings.Landing.{Spells as SpellsNode}
-use Rattle.cloud_facts.proofs.Landings.LandingLemmas.{landing_keeps, landing_grows, empty_holds, opens_later, settles_later}
+use Rattle.cloud_facts.proofs.Landings.LandingLemmas.{landing_keeps, empty_holds, opens_later, settles_later}
 use Rattle.leaf_view.specs.Leaf.{IsLeaf}
 use Rattle.report_types.specs.declared.entry.Entry.{Entry}
 use Rattle.cloud_facts.specs.Book.Book.{Book, empty_book}
 use Rattle.cloud_facts.specs.Book.Effects.{Taking, after_leaf, after_page}
-use Rattle.cloud_facts.specs.Book.Growth.{Grows}
 use Rattle.cloud_facts.specs.Book.Premises.{Takes, LandsFirst}
 use Rattle.cloud_facts.specs.Landings.Landing.{own_of}
 use Rattle.cloud_facts.specs.Book.Tally.{Node, Leafy, Branch, Store}
@@ -121,14 +120,6 @@ effect_stands who book order s ask su stands l f = record {
       (landing_keeps who (store_of book order s) ask su stands.holds l);
   decodes = effect_decodes who ask s stands.decodes (landing_spells who book order s ask su stands.holds.chains stands.decodes l f);
 }
-
--- and what is told has only grown
-pub effect_grows : (who : Caller) (book : Book) (order : List Entry) (s : CloudState) (ask : Ask) (su : Store) → StandsUnder book order s
-    → (l : Landing who (store_of book order s) ask su) → Follows who (store_of book order s) ask su l
-    → Grows (store_of book order s) (store_of su.book su.order (effect who ask s))
-effect_grows who book order s ask su stands l f =
-    told_by (Grows (store_of book order s)) (effect who ask s) su (landing_tells who book order s ask su stands.holds.chains stands.decodes l f)
-    (landing_grows who (store_of book order s) ask su stands.holds l)
 
 -- what is told of a cloud is of its versions and messages alone
 pub same_store : (book : Book) (order : List Entry) (s t : CloudState) → t.versions ≡ s.versions → t.messages ≡ s.messages → store_of book order t ≡ store_of book order s

@@ -1,17 +1,13 @@
 -- The newest version of a link's page: its level and low key, and the keys that it holds.
-use Rattle.std.proofs.Common.{◌≡◌, ◌≢◌, ◌+◌, ◌-◌, ℕ, zero, suc, List, [], ◌∷◌, length, slice_get, Option, Some, None, refl, sym, ap, subst, ◌∙◌, ◌⊎◌, inl, inr, true, false, not, arith}
+use Rattle.std.proofs.Common.{◌≡◌, ◌≢◌, ◌-◌, ℕ, zero, suc, List, [], ◌∷◌, length, slice_get, refl, sym, ap, subst, arith}
 use Rattle.std.specs.Prelude.{unwrap_or}
-use Rattle.std.proofs.lemmas.Bool.{and_parts, and_cases, not-true, not-false}
-use Rattle.byte_format.specs.Order.{bytes_below, below_bound}
-use Rattle.leaf_view.specs.Leaf.{Leaf}
-use Rattle.leaf_view.specs.Lookup.{holds, empty_leaf}
-use Rattle.cloud_facts.specs.Book.Book.{Book, Link}
-use Rattle.cloud_facts.specs.Book.Premises.{Ranges}
-use Rattle.cloud_facts.specs.Book.Records.{StandsAt, IsIn}
+use Rattle.leaf_view.specs.Lookup.{empty_leaf}
+use Rattle.cloud_facts.specs.Book.Book.{Link}
+use Rattle.cloud_facts.specs.Book.Records.{IsIn}
 use Rattle.cloud_facts.specs.Book.Tally.{Node, Leafy, low_of}
 use Rattle.cloud_facts.specs.Book.Telling.{last_or}
 use Rattle.cloud_facts.specs.Chains.Chain.{AreLevels, AreVersions, AreNewest}
-use Rattle.cloud_facts.specs.Chains.Links.{first_link, newest_node, low_after, IsOfLevel, EndsBefore}
+use Rattle.cloud_facts.specs.Chains.Links.{first_link, newest_node, IsOfLevel}
 use Rattle.cloud_facts.proofs.Chains.Pieces.{in_rest}
 
 -- the last of a list that is not empty is in it
@@ -51,32 +47,3 @@ newest_is chain nodes height lv vs nw level link h = on (nodes link.page) refl
         subst (λ (ms : List Node). IsIn ms (last_or (Leafy empty_leaf) (n ∷ ns))) (sym e) (last_in (Leafy empty_leaf) (n ∷ ns) (λ z. absurd (cc))) in
         let v = vs level link (last_or (Leafy empty_leaf) (n ∷ ns)) h there in
         record { level_is = v.level_is; low = v.low }
-
--- ---- the keys that the newest leaf holds are those of the range of its link
-
-bound_from : (key : List ℕ) (high : Option (List ℕ)) (next : Option Link) → high ≡ low_after next → below_bound key high ≡ false
-    → (last : Link) × (next ≡ Some last) × (bytes_below key last.low ≡ false)
-bound_from key high None e out = let free : below_bound key high ≡ true = ap (below_bound key) e in absurd (cc)
-bound_from key high (Some last) e out = (last, refl, ap (below_bound key) (sym e) ∙ out)
-
-pub holds_range : (book : Book) (tree place : ℕ) (link : Link) (l : Leaf) → StandsAt (book.chain tree 0) place link → l.low ≡ link.low
-    → EndsBefore (Leafy l) (slice_get (book.chain tree 0) (place + 1)) → Ranges book tree link.page (holds l)
-holds_range book tree place link l there low ends = record {
-  place = place;
-  link = link;
-  linked = there;
-  page_is = refl;
-  low = λ key held.
-      let parts = and_parts (not (bytes_below key l.low)) (below_bound key l.high) held in
-      ap (bytes_below key) (sym low) ∙ not-true (bytes_below key l.low) parts.0;
-  below = λ next key k held.
-      let parts = and_parts (not (bytes_below key l.low)) (below_bound key l.high) held in
-      let high : l.high ≡ Some next.low = ends.high ∙ ap low_after k in
-      ap (below_bound key) (sym high) ∙ parts.1;
-  whole = λ key out. on key (and_cases (not (bytes_below key l.low)) (below_bound key l.high) out);
-}
-  where
-    on : (key : List ℕ) → (not (bytes_below key l.low) ≡ false) ⊎ (below_bound key l.high ≡ false)
-        → (bytes_below key link.low ≡ true) ⊎ ((next : Link) × StandsAt (book.chain tree 0) (place + 1) next × (bytes_below key next.low ≡ false))
-    on key (inl h) = inl (ap (bytes_below key) (sym low) ∙ not-false (bytes_below key l.low) h)
-    on key (inr h) = inr (bound_from key l.high (slice_get (book.chain tree 0) (place + 1)) ends.high h)

@@ -11,7 +11,7 @@ use Rattle.cloud_facts.specs.Book.Book.{Link, with_pieces}
 use Rattle.cloud_facts.specs.Book.Records.{StandsAt, IsIn}
 use Rattle.cloud_facts.specs.Book.Tally.{Node}
 use Rattle.cloud_facts.specs.Chains.Landing.{IsPiece, ArePieces, first_or}
-use Rattle.cloud_facts.specs.Chains.Links.{link_below, Ascends}
+use Rattle.cloud_facts.specs.Chains.Links.{link_below}
 
 -- ---- lists
 
@@ -68,11 +68,6 @@ ascend_all before (b ∷ links) a up h = on (ascend_all b links a up.1) (in_case
     on : (IsIn links a → bytes_below b.low a.low ≡ true) → (b ≡ a) ⊎ IsIn links a → bytes_below before.low a.low ≡ true
     on again (inl e) = ap (λ (x : Link). bytes_below before.low x.low) (sym e) ∙ up.0
     on again (inr k) = below_chain before.low b.low a.low up.0 (again k)
-
--- a list that ascends behind something ascends
-pub ascend_free : (before : Option Link) (links : List Link) → Ascend link_below before links → Ascends links
-ascend_free before [] up = tt
-ascend_free before (b ∷ links) up = (tt, up.1)
 
 -- the next one is above
 pub ascend_next : (before : Option Link) (links : List Link) (place : ℕ) (a b : Link) → Ascend link_below before links

@@ -1,5 +1,5 @@
 -- The copies of a record among messages that are added and marked.
-use Rattle.std.proofs.Common.{◌≡◌, ◌+◌, ◌<◌, ◌≤◌, ◌⊎◌, inl, inr, ℕ, zero, suc, List, [], ◌∷◌, ◌++◌, length, Option, Some, None, refl, sym, ap, ◌∙◌, arith}
+use Rattle.std.proofs.Common.{◌≡◌, ◌+◌, ◌≤◌, ◌⊎◌, inl, inr, ℕ, zero, suc, List, [], ◌∷◌, ◌++◌, length, Option, Some, None, refl, sym, ap, ◌∙◌, arith}
 use Rattle.std.proofs.lemmas.Bool.{cases_eq}
 use Rattle.std.specs.Prelude.{slice_get}
 use Rattle.cloud_trait.specs.State.{marked}
@@ -9,10 +9,6 @@ use Rattle.log_codec.specs.Pu.{pu_of}
 use Rattle.log_codec.specs.declared.record.PuRec.{PuRec}
 use Rattle.cloud_facts.specs.Book.Messages.{HasCopy}
 use Rattle.cloud_facts.proofs.Book.Places.{get_front, get_cases, get_single, get_within, marked_front, marked_bytes}
-
--- a copy stands within the queue
-pub copy_within : (posts : List Posted) (client number place : ℕ) → IsCopy posts client number place → place < length posts
-copy_within posts client number place c = get_within posts place c.message c.there
 
 pub copy_at_number : (posts : List Posted) (client a b place : ℕ) → a ≡ b → IsCopy posts client a place → IsCopy posts client b place
 copy_at_number posts client a b place e c =

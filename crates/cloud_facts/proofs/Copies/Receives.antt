@@ -135,39 +135,3 @@ received_is_run st h tree page client most is number upto above up among = found
           client_is = c.client_is;
           number_is = c.number_is;
         }
-
--- a first copy that is not deleted is among the messages that are not deleted
-pub among_left : (posts : List Posted) (n place : ℕ) (a : Posted) → slice_get posts place ≡ Some a → a.deleted ≡ false
-    → (k : ℕ) × HasBytes (unmarked_from n posts) a.bytes k
-among_left [] n place a e is = absurd (cc)
-among_left (m ∷ ms) n zero a e is = let same : m ≡ a = cc in on m.deleted same (ap (λ (p : Posted). p.deleted) same ∙ is)
-  where
-    on : (b : Bool) → m ≡ a → b ≡ false
-        → (k : ℕ) × HasBytes (cond b (unmarked_from (n + 1) ms) (record { id = n; bytes = m.bytes } ∷ unmarked_from (n + 1) ms)) a.bytes k
-    on true same e = absurd (cc)
-    on false same e =
-        let y : Message = record { id = n; bytes = m.bytes } in
-        (0, record { at = 0; message = y; there = refl; bytes_is = ap (λ (p : Posted). p.bytes) same; within = omega arith })
-among_left (m ∷ ms) n (suc place) a e is = on m.deleted (among_left ms (n + 1) place a e is)
-  where
-    on : (b : Bool) → (k : ℕ) × HasBytes (unmarked_from (n + 1) ms) a.bytes k
-        → (k : ℕ) × HasBytes (cond b (unmarked_from (n + 1) ms) (record { id = n; bytes = m.bytes } ∷ unmarked_from (n + 1) ms)) a.bytes k
-    on true h = h
-    on false h = (suc h.0, one_further (record { id = n; bytes = m.bytes }) (unmarked_from (n + 1) ms) a.bytes h.0 h.1)
-
--- each number behind the cursor up to any that was ever sent is among the messages that are not deleted
-pub left_is_run : (st : Store) → Copies st → (tree page client : ℕ) → IsClient client → (number upto place : ℕ)
-    → st.tally.cursor tree page client < number → number ≤ upto
-    → IsCopy (st.tally.posts tree page) client upto place → IsAmong (unmarked (st.tally.posts tree page)) client number
-left_is_run st h tree page client is number upto place above up c =
-    let s = run_stays st h tree page client is number upto place above up c in
-    let f = s.first.copy in
-    let b = among_left (st.tally.posts tree page) 1 s.place f.message f.there s.unmarked in
-    record {
-      message = b.1.message;
-      rec = f.rec;
-      there = (b.1.at, b.1.there);
-      reads = ap pu_of b.1.bytes_is ∙ f.reads;
-      client_is = f.client_is;
-      number_is = f.number_is;
-    }

@@ -2,7 +2,7 @@
 use Rattle.std.proofs.Common.{◌≡◌, ◌+◌, ◌-◌, ◌<◌, ◌≤◌, ℕ, zero, suc, false, List, arith}
 use Rattle.db_base.specs.Ids.{IsClient}
 use Rattle.cloud_trait.specs.declared.state.Posted.{Posted}
-use Rattle.cloud_facts.specs.Copies.Copies.{IsCopy, IsFirst, Copies, FirstCopies}
+use Rattle.cloud_facts.specs.Copies.Copies.{IsCopy, IsFirst, Copies}
 use Rattle.cloud_facts.proofs.Copies.CopyLemmas.{copy_at_number, first_of}
 use Rattle.cloud_facts.specs.Book.Tally.{Store}
 
@@ -36,16 +36,6 @@ module _ (st : Store) (h : Copies st) (tree page client : ℕ) where
   sent_below number upto place some most c =
       down number (upto - number) place some (copy_at_number (st.tally.posts tree page) client upto (number + (upto - number)) place (omega (arith, most)) c)
 
-  -- first copies stand in the order of their numbers
-  pub first_in_order : (a b i j : ℕ) → 1 ≤ a → a < b → IsFirst (st.tally.posts tree page) client a i → IsFirst (st.tally.posts tree page) client b j → i < j
-  first_in_order a b i j some less one other =
-      let next = sent_below (a + 1) b j (omega arith) (omega (arith, less)) other.copy in
-      let before = h.in_turn tree page client a next.at some next.copy in
-      let early = one.earliest before.at before.copy in
-      let x = before.before in
-      let y = next.within in
-      omega (arith, early, x, y)
-
   -- behind the cursor up to any number that was sent, each number has its first copy, which is not deleted and not behind that copy
   pub run_stays : IsClient client → (number upto place : ℕ) → st.tally.cursor tree page client < number → number ≤ upto
       → IsCopy (st.tally.posts tree page) client upto place → Stays (st.tally.posts tree page) client number place
@@ -58,10 +48,3 @@ module _ (st : Store) (h : Copies st) (tree page client : ℕ) where
         within = let x = f.within in let y = u.within in omega (arith, x, y);
         unmarked = h.unmarked tree page client number f.place is above f.first;
       }
-
-  pub first_copies : IsClient client → FirstCopies (st.tally.posts tree page) client (st.tally.cursor tree page client)
-  first_copies is = record {
-    no_gap = λ number upto place above most c. let s = run_stays is number upto place above most c in (s.place, s.first);
-    in_order = λ a b i j above less one other. first_in_order a b i j (omega (arith, above)) less one other;
-    unmarked = λ number place above first. h.unmarked tree page client number place is above first;
-  }

@@ -23,19 +23,6 @@ use Rattle.cloud_facts.specs.Leases.Leases.{Hands, Holds, AreOne, Stands, Leases
 abbrev no_leases : Hands
 no_leases session = []
 
-nothing_held : (session : ℕ) (l : Claim) → Holds no_leases session l → ⊥
-nothing_held session l (place, there) = never there
-  where
-    never : slice_get (no_leases session) place ≡ Some l → ⊥
-    never e = cc
-
--- nobody has a lease
-pub none_hold : (now : ℕ) (locks : Lock → Hold) → LeasesHold now locks no_leases
-none_hold now locks = record {
-  each = λ s l holds. absurd (nothing_held s l holds);
-  apart = λ s u l m ne one two e. nothing_held s l one;
-}
-
 -- ---- time goes on, and leases are dropped
 
 stands_later : (now later : ℕ) (h : Hold) (l : Claim) → now ≤ later → Stands now h l → Stands later h l

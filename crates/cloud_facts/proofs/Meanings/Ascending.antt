@@ -12,7 +12,7 @@ use Rattle.cloud_facts.specs.Book.Book.{Link}
 use Rattle.cloud_facts.specs.Chains.Links.{link_below}
 use Rattle.cloud_facts.specs.Meanings.Contents.{leaves_of}
 use Rattle.cloud_facts.proofs.Meanings.Contents.{IsRanged, AreRanged}
-use Rattle.tree_meaning.specs.Chain.{stored_of, records_of}
+use Rattle.replay_meaning.specs.Chain.{stored_of, records_of}
 
 -- what is below a low key is below what is not
 between : (a low key : List ℕ) → bytes_below a low ≡ true → not (bytes_below key low) ≡ true → bytes_below a key ≡ true

@@ -16,7 +16,7 @@ use Rattle.cloud_facts.specs.Book.Records.{StandsAt, IsIn}
 use Rattle.cloud_facts.specs.Book.Telling.{page_from}
 use Rattle.cloud_facts.specs.Chains.Links.{link_below, low_after}
 use Rattle.cloud_facts.proofs.Chains.Pieces.{in_cases, ascend_all}
-use Rattle.tree_meaning.specs.Chain.{stored_of, records_of}
+use Rattle.replay_meaning.specs.Chain.{stored_of, records_of}
 use Rattle.cloud_facts.specs.Meanings.Contents.{leaves_of}
 
 -- ---- the records of one leaf

@@ -10,7 +10,7 @@ use Rattle.cloud_facts.specs.Book.Telling.{page_from, newest_leaf, newest_root, 
 use Rattle.cloud_facts.specs.Chains.Chain.{IsChained}
 use Rattle.cloud_facts.specs.Chains.Links.{link_of, page_after, low_after}
 use Rattle.cloud_facts.specs.Decoding.Decodes.{Decodes}
-use Rattle.tree_meaning.specs.Index.{IsRightOf, IsWithin, Reaches, ends, right_leaf, right_inner, down, Finds}
+use Rattle.replay_meaning.specs.Index.{IsRightOf, IsWithin, Reaches, ends, right_leaf, right_inner, down, Finds}
 use Rattle.cloud_facts.specs.Meanings.Meets.{IsFrom}
 use Rattle.cloud_facts.proofs.Meanings.Pages.{leaf_at, inner_at, root_at}
 use Rattle.cloud_facts.proofs.Meanings.Stale.{stale_down, newest_root_meets}

@@ -1,6 +1,5 @@
 -- What a get answers at a page where a walk is: any landed version is read, and is of the level and of the low key that led there.
-use Rattle.std.proofs.Common.{◌≡◌, ◌≢◌, ℕ, suc, List, [], Some, refl, ap, arith}
-use Rattle.std.specs.Prelude.{slice_get}
+use Rattle.std.proofs.Common.{◌≡◌, ℕ, suc, List, Some, arith}
 use Rattle.cloud_trait.specs.State.{CloudState, version_at}
 use Rattle.db_base.specs.declared.names.ObjName.TheVariants as object
 use Rattle.cloud_facts.specs.Book.Book.{Link}
@@ -8,7 +7,7 @@ use Rattle.cloud_facts.specs.Book.Records.{IsIn}
 use Rattle.cloud_facts.specs.Book.Tally.{Node, Leafy, Branch, low_of}
 use Rattle.cloud_facts.specs.Book.Telling.{nodes_of, roots_of}
 use Rattle.cloud_facts.specs.Chains.Chain.{IsChained}
-use Rattle.cloud_facts.specs.Chains.Links.{first_link, IsOfLevel}
+use Rattle.cloud_facts.specs.Chains.Links.{IsOfLevel}
 use Rattle.cloud_facts.specs.Decoding.Decodes.{Decodes}
 use Rattle.cloud_facts.specs.Decoding.Kinds.{IsNode}
 use Rattle.cloud_facts.proofs.Decoding.Values.{version_decodes, read_node, read_root}
@@ -49,13 +48,3 @@ module _ (s : CloudState) (tree : ℕ) (chain : ℕ → List Link) (done : List 
       let landed = read_node s tree page n bytes node.0 got node.1 in
       let v = h.versions (suc level) (record { low = low; page = page }) node.0 at.linked landed in
       inner_by s tree level page low bytes node.0 v.level_is node.1 landed v.low
-
-  -- a page where a walk is, other than page 1, has a newest version: only a stale get answers that it is absent
-  pub got_some : (level page : ℕ) (low key : List ℕ) → IsAt chain level page low key → page ≢ 1 → nodes_of s tree page ≢ []
-  got_some level page low key at other none = other (h.newest.absent level (record { low = low; page = page }) at.linked none).1
-
-  -- page 1 is a leaf that begins with the empty low key
-  pub got_first : (level : ℕ) (low key : List ℕ) → IsAt chain level 1 low key → (level ≡ 0) × (low ≡ [])
-  got_first level low key at =
-      let first : IsIn (chain 0) first_link = (0, ap (λ (ls : List Link). slice_get ls 0) h.levels.leaves.1) in
-      h.levels.once level 0 (record { low = low; page = 1 }) first_link at.linked first refl

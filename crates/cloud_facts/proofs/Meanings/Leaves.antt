@@ -10,8 +10,8 @@ use Rattle.cloud_facts.specs.Book.Telling.{newest_leaf, nodes_of, roots_of}
 use Rattle.cloud_facts.specs.Chains.Chain.{IsChained}
 use Rattle.cloud_facts.specs.Chains.Links.{page_after}
 use Rattle.cloud_facts.specs.Decoding.Decodes.{Decodes}
-use Rattle.tree_meaning.specs.Chain.{Leads, AreLeaves}
-use Rattle.tree_meaning.proofs.ChainLemmas.{one_leaf}
+use Rattle.replay_meaning.specs.Chain.{Leads, AreLeaves}
+use Rattle.replay_meaning.proofs.ChainLemmas.{one_leaf}
 use Rattle.cloud_facts.specs.Meanings.Contents.{leaves_of, IsAlong}
 use Rattle.cloud_facts.proofs.Meanings.Pages.{IsLeafAt, leaf_at}
 use Rattle.db_base.specs.Ids.{IsPage}

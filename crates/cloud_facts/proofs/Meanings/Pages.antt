@@ -24,8 +24,8 @@ use Rattle.cloud_facts.specs.Decoding.Decodes.{Decodes}
 use Rattle.cloud_facts.specs.Decoding.Kinds.{IsNode}
 use Rattle.cloud_facts.proofs.Decoding.Newest.{IsLast, last_cases}
 use Rattle.cloud_facts.proofs.Decoding.Values.{newest_page_decodes, newest_root_decodes}
-use Rattle.tree_meaning.specs.Chain.{IsReadAs, IsNewestLeaf}
-use Rattle.tree_meaning.specs.Index.{IsNewestInner, IsRootIn}
+use Rattle.replay_meaning.specs.Chain.{IsReadAs, IsNewestLeaf}
+use Rattle.replay_meaning.specs.Index.{IsNewestInner, IsRootIn}
 
 -- ---- nodes
 

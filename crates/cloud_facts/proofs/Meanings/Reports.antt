@@ -13,8 +13,8 @@ use Rattle.cloud_facts.specs.Book.Telling.{tally_of, page_from, newest_leaf, nod
 use Rattle.cloud_facts.specs.Chains.Chain.{IsChained, ChainHolds}
 use Rattle.cloud_facts.specs.Chains.Links.{first_link, Ascends}
 use Rattle.cloud_facts.specs.Decoding.Decodes.{Decodes}
-use Rattle.tree_meaning.specs.Chain.{AreLeaves, records_of}
-use Rattle.tree_meaning.specs.Index.{Finds}
+use Rattle.replay_meaning.specs.Chain.{AreLeaves, records_of}
+use Rattle.replay_meaning.specs.Index.{Finds}
 use Rattle.cloud_facts.specs.Meanings.Contents.{leaves_of, IsRead}
 use Rattle.cloud_facts.proofs.Meanings.Ascending.{records_ascend}
 use Rattle.cloud_facts.proofs.Meanings.Contents.{AreRanged, contents_from}

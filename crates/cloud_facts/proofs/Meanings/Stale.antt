@@ -9,12 +9,12 @@ use Rattle.node_codec.specs.Tree.{Tree, empty_tree}
 use Rattle.node_codec.proofs.NodeLemmas.{not_below_empty}
 use Rattle.cloud_facts.specs.Book.Book.{Link}
 use Rattle.cloud_facts.specs.Book.Records.{IsIn}
-use Rattle.cloud_facts.specs.Book.Tally.{Node, Branch, low_of, right_of, high_of}
+use Rattle.cloud_facts.specs.Book.Tally.{Node, Branch, right_of, high_of}
 use Rattle.cloud_facts.specs.Chains.Chain.{NamesRight, IsVersionOf, IsChained}
-use Rattle.cloud_facts.specs.Chains.Links.{first_link, link_of, top_of, IsOfLevel, NamesBelow}
+use Rattle.cloud_facts.specs.Chains.Links.{first_link, link_of, top_of, NamesBelow}
 use Rattle.cloud_facts.proofs.Chains.Pieces.{in_first, in_cases, none_in, not_itself}
 use Rattle.cloud_facts.proofs.Chains.Newest.{last_in}
-use Rattle.tree_meaning.specs.Index.{IsRightOf}
+use Rattle.replay_meaning.specs.Index.{IsRightOf}
 use Rattle.cloud_facts.specs.Meanings.Meets.{IsFrom, MeetsRight, MeetsBelow}
 use Rattle.cloud_facts.proofs.Meanings.Children.{child_found}
 
@@ -66,17 +66,6 @@ meets_below chain level low entries key n from =
 
 module _ (chain : ℕ → List Link) (nodes : ℕ → List Node) (roots : List Tree) (done : List ℕ → ℕ → ℕ → ℕ) (cursor : ℕ → ℕ)
     (h : IsChained chain nodes roots done cursor) where
-  -- a version of a link's page is of the link's level and low key
-  pub stale_level : (level : ℕ) (link : Link) (node : Node) → IsIn (chain level) link → IsIn (nodes link.page) node → IsOfLevel level node
-  stale_level level link node linked landed = (h.versions level link node linked landed).level_is
-
-  pub stale_low : (level : ℕ) (link : Link) (node : Node) → IsIn (chain level) link → IsIn (nodes link.page) node → low_of node ≡ link.low
-  stale_low level link node linked landed = (h.versions level link node linked landed).low
-
-  -- a page above the leaves, and every one but page 1, has a version: where a get says that it is absent, the get is stale
-  pub stale_there : (level : ℕ) (link : Link) → IsIn (chain level) link → link.page ≢ 1 → nodes link.page ≢ []
-  stale_there level link linked other none = other (h.newest.absent level link linked none).1
-
   -- where the key is not below its high key the walk goes on further right
   pub stale_right : (level : ℕ) (link : Link) (node : Node) (key : List ℕ) → IsIn (chain level) link → IsIn (nodes link.page) node
       → IsRightOf key (high_of node) → MeetsRight (chain level) link key node

@@ -1,22 +1,17 @@
 -- The steps of a walk for a key by whatever versions it gets: it is always at a link that is not above the key, and never again at a page.
-use Rattle.std.proofs.Common.{◌≡◌, ◌<◌, ℕ, suc, true, false, not, List, Option, Some, None, refl, sym, ap, subst, ◌∙◌, ◌⊎◌, inl, inr, arith, [], ◌∷◌, ◌-◌}
-use Rattle.std.specs.Prelude.{slice_get}
-use Rattle.std.proofs.lemmas.Bool.{and_from}
-use Rattle.byte_format.specs.Order.{bytes_below, below_bound}
-use Rattle.leaf_view.specs.Leaf.{Leaf}
-use Rattle.leaf_view.specs.Lookup.{holds}
-use Rattle.node_codec.specs.Inner.{Inner, first_low_of}
+use Rattle.std.proofs.Common.{◌≡◌, ◌<◌, ℕ, suc, true, List, Some, refl, sym, ap, subst, ◌∙◌, ◌⊎◌, inl, inr, arith}
+use Rattle.byte_format.specs.Order.{bytes_below}
+use Rattle.node_codec.specs.Inner.{Inner}
 use Rattle.node_codec.specs.Node.{Entry, child_of}
 use Rattle.node_codec.specs.Tree.{Tree, empty_tree}
 use Rattle.node_codec.proofs.EntryLemmas.{below_chain}
-use Rattle.node_codec.proofs.NodeLemmas.{not_below_empty}
 use Rattle.cloud_facts.specs.Book.Book.{Link}
 use Rattle.cloud_facts.specs.Book.Records.{IsIn}
 use Rattle.cloud_facts.specs.Book.Tally.{Node, Branch, right_of, high_of}
 use Rattle.cloud_facts.specs.Chains.Chain.{IsChained}
-use Rattle.cloud_facts.specs.Chains.Links.{link_of, NamesBelow}
+use Rattle.cloud_facts.specs.Chains.Links.{link_of}
 use Rattle.cloud_facts.proofs.Chains.Monotone.{Stay}
-use Rattle.tree_meaning.specs.Index.{IsRightOf, IsWithin}
+use Rattle.replay_meaning.specs.Index.{IsRightOf}
 use Rattle.cloud_facts.specs.Meanings.Meets.{MeetsRight, MeetsBelow, IsAt, IsPassed}
 use Rattle.cloud_facts.proofs.Meanings.Stale.{stale_right, stale_down, stale_root, absent_root, never_again, other_level}
 
@@ -31,27 +26,6 @@ child_is chain level below key entries e meets is found =
       linked = subst (λ (l : ℕ). IsIn (chain l) (link_of e)) same (subst (λ (x : Entry). IsIn (chain meets.below) (link_of x)) entry meets.linked);
       from = ap (λ (x : Entry). bytes_below key x.0) (sym entry) ∙ meets.from;
     }
-
--- so is the first entry where a walk goes down along the left end
-first_is : (chain : ℕ → List Link) (level below : ℕ) (low key : List ℕ) (entries es : List Entry) (e : Entry) → NamesBelow chain level low entries
-    → bytes_below key low ≡ false → level ≡ suc below → entries ≡ e ∷ es → IsAt chain below e.1 e.0 key
-first_is chain level below low key entries es e names from is begins =
-    let same : level - 1 ≡ below = omega (arith, is) in
-    let there : IsIn entries e = (0, ap (λ (xs : List Entry). slice_get xs 0) begins) in
-    let first : Some e.0 ≡ Some low = sym (ap first_low_of begins) ∙ names.links.first in
-    let low_is : e.0 ≡ low = cc in
-    record {
-      linked = subst (λ (l : ℕ). IsIn (chain l) (link_of e)) same (names.links.names e there);
-      from = ap (bytes_below key) low_is ∙ from;
-    }
-
--- a leaf that is not left to the right holds the key
-pub holds_here : (l : Leaf) (key : List ℕ) → bytes_below key l.low ≡ false → IsWithin key l.high → holds l key ≡ true
-holds_here l key from within = and_from (not (bytes_below key l.low)) (below_bound key l.high) (ap not from) (bounded l.high within)
-  where
-    bounded : (high : Option (List ℕ)) → IsWithin key high → below_bound key high ≡ true
-    bounded None within = refl
-    bounded (Some h) within = within
 
 -- links stay
 pub at_stays : (chain more : ℕ → List Link) → Stay chain more → (level page : ℕ) (low key : List ℕ) → IsAt chain level page low key
@@ -124,19 +98,6 @@ module _ (chain : ℕ → List Link) (nodes : ℕ → List Node) (roots : List T
       let link : Link = record { low = low; page = page } in
       child_is chain (suc level) level key inner.entries e
       (stale_down chain nodes roots done cursor h (suc level) link inner key at.linked landed at.from) refl found
-
-  -- down by first entries
-  pub first_of_root : (root : Tree) (key : List ℕ) (below : ℕ) (e : Entry) (es : List Entry) → IsIn roots root → root.level ≡ suc below → root.entries ≡ e ∷ es
-      → IsAt chain below e.1 e.0 key
-  first_of_root root key below e es landed level begins =
-      first_is chain root.level below [] key root.entries es e (h.entries.of_roots root landed) (not_below_empty key) level begins
-
-  pub first_down : (level page : ℕ) (low key : List ℕ) (inner : Inner) (e : Entry) (es : List Entry) → IsAt chain (suc level) page low key
-      → IsIn (nodes page) (Branch inner) → inner.entries ≡ e ∷ es → IsAt chain level e.1 e.0 key
-  first_down level page low key inner e es at landed begins =
-      let v = h.versions (suc level) (record { low = low; page = page }) (Branch inner) at.linked landed in
-      first_is chain inner.level level inner.low key inner.entries es e (h.entries.of_nodes page (Branch inner) landed) (ap (bytes_below key) v.low ∙ at.from)
-      v.level_is.0 begins
 
   -- right from any landed version: a strictly greater low key
   pub goes_right : (level page : ℕ) (low high key : List ℕ) (node : Node) → IsAt chain level page low key → IsIn (nodes page) node → high_of node ≡ Some high

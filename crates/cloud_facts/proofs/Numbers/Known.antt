@@ -1,20 +1,17 @@
 -- What follows from the numbers, for others to cite.
-use Rattle.std.proofs.Common.{◌≡◌, ◌<◌, ◌≤◌, ◌⊎◌, ⊎_elim, inl, inr, ℕ, Bool, true, false, cond, ◌==◌, ◌&&◌, max, Some, refl, sym, ap, subst, ◌∙◌, arith, eqb-true}
+use Rattle.std.proofs.Common.{◌≡◌, ◌<◌, ◌≤◌, ◌⊎◌, ⊎_elim, inl, inr, ℕ, Bool, true, false, cond, ◌==◌, ◌&&◌, max, refl, sym, subst, arith, eqb-true}
 use Rattle.std.proofs.lemmas.Bool.{and_parts, cases_lt}
 use Rattle.db_base.specs.Ids.{IsClient}
 use Rattle.leaf_edit.specs.Raised.{greatest_of}
 use Rattle.log_codec.specs.declared.record.AtomicRec.{AtomicRec}
-use Rattle.log_codec.specs.declared.record.PuRec.{PuRec}
-use Rattle.route_plan.specs.Record.{pu_record_of}
 use Rattle.cloud_facts.specs.Book.Book.{Link}
 use Rattle.cloud_facts.specs.Book.Effects.{Taking, after_leaf}
-use Rattle.cloud_facts.specs.Book.Messages.{IsMessage}
 use Rattle.cloud_facts.specs.Book.Premises.{Takes}
 use Rattle.cloud_facts.specs.Book.Records.{IsIn, key_in, count_of, IsApplied}
 use Rattle.cloud_facts.specs.Book.Tally.{Store}
 use Rattle.cloud_facts.specs.Numbers.Numbers.{Numbers}
 use Rattle.cloud_facts.proofs.Numbers.Kept.{never_routed}
-use Rattle.cloud_facts.proofs.Numbers.Queues.{IsOfQueue, record_determined, number_within, number_some, number_taken, HasNumber}
+use Rattle.cloud_facts.proofs.Numbers.Queues.{record_determined, number_within, number_some, number_taken, HasNumber}
 use Rattle.cloud_facts.proofs.Numbers.Runs.{HasItem, run_has}
 
 module _ (st : Store) (n : Numbers st) where
@@ -22,38 +19,6 @@ module _ (st : Store) (n : Numbers st) where
   pub record_is : (r q : AtomicRec) → IsIn st.book.log r → IsIn st.book.log q → r.tree ≡ q.tree → r.page ≡ q.page → r.client ≡ q.client → r.number ≡ q.number → r ≡ q
   record_is r q in_r in_q tree page client number =
       record_determined st.book.log n.in_order r q in_r in_q (record { client_is = client; tree_is = tree; page_is = page }) number
-
-  -- what a message of a queue spells is the record of the log that has its client and number
-  pub message_is : (tree page id : ℕ) (rec : PuRec) (r : AtomicRec) → IsMessage (st.tally.posts tree page) id rec → IsIn st.book.log r
-      → IsOfQueue tree page rec.client r
-      → r.number ≡ rec.number → rec ≡ pu_record_of r
-  message_is tree page id rec r m logged is number =
-      let sent = n.sent tree page m.place m.message m.there in
-      let both : Some rec ≡ Some (pu_record_of sent.of) = sym m.reads ∙ sent.reads in
-      let same : rec ≡ pu_record_of sent.of = cc in
-      let client_is : sent.of.client ≡ rec.client = sym (ap (λ (p : PuRec). p.client) same) in
-      let number_is : sent.of.number ≡ rec.number = sym (ap (λ (p : PuRec). p.number) same) in
-      same ∙ ap pu_record_of
-      (record_is sent.of r sent.logged logged (sent.tree_is ∙ sym is.tree_is) (sent.page_is ∙ sym is.page_is) (client_is ∙ sym is.client_is) (number_is ∙ sym number))
-
-  -- the record of the log that a message is
-  pub record IsSent (tree page : ℕ) (rec : PuRec) : Type 0 where
-    pub of : AtomicRec
-    pub logged : IsIn st.book.log of
-    pub is : IsOfQueue tree page rec.client of
-    pub rec_is : rec ≡ pu_record_of of
-
-  pub message_of : (tree page id : ℕ) (rec : PuRec) → IsMessage (st.tally.posts tree page) id rec → IsSent tree page rec
-  message_of tree page id rec m =
-      let sent = n.sent tree page m.place m.message m.there in
-      let both : Some rec ≡ Some (pu_record_of sent.of) = sym m.reads ∙ sent.reads in
-      let same : rec ≡ pu_record_of sent.of = cc in
-      record {
-        of = sent.of;
-        logged = sent.logged;
-        is = record { client_is = sym (ap (λ (p : PuRec). p.client) same); tree_is = sent.tree_is; page_is = sent.page_is };
-        rec_is = same;
-      }
 
   -- numbers are from 1 to the count of their queue, and each of these is that of a record
   pub is_counted : (r : AtomicRec) → IsIn st.book.log r → (1 ≤ r.number) × (r.number ≤ count_of r.tree r.page r.client st.book.log)

@@ -11,7 +11,7 @@ use Rattle.report_types.specs.declared.entry.Entry.{Entry}
 use Rattle.cloud_facts.specs.Book.Effects.{Taking, taken_entries, after_leaf}
 use Rattle.cloud_facts.specs.Book.Records.{StandsAt, IsIn, key_in, is_of_key, of_key, entry_of, entries_of, IsApplied}
 use Rattle.cloud_facts.specs.Book.Tally.{Store}
-use Rattle.cloud_facts.proofs.Book.Places.{get_front, get_cases, get_behind}
+use Rattle.cloud_facts.proofs.Book.Places.{get_cases, get_behind}
 use Rattle.cloud_facts.proofs.Numbers.Lists.{filter_there, filter_at}
 use Rattle.cloud_facts.specs.Orders.Order.{is_entry_of, entries_of_key, IsLeft, FirstApplied}
 
@@ -42,9 +42,6 @@ pub among : (st : Store) (tree : ℕ) (key : List ℕ) (client : ℕ) (r : Atomi
 among st tree key client r is =
     let found = filter_there (is_of_key tree key client) st.book.log is.0 r is.1 in
     record { logged = (found.place, found.there); is = key_parts tree key client r found.test }
-
-pub in_front : {X : Type 0} (xs ys : List X) (x : X) → IsIn xs x → IsIn (xs ++ ys) x
-in_front xs ys x is = (is.0, get_front xs ys is.0 x is.1)
 
 in_back : {X : Type 0} (xs ys : List X) (x : X) → IsIn ys x → IsIn (xs ++ ys) x
 in_back xs ys x is = (length xs + is.0, get_behind xs ys is.0 x is.1)

@@ -2,7 +2,6 @@
 use Rattle.std.proofs.Common.{◌≡◌, ◌+◌, ◌<◌, ◌⊎◌, ⊎_elim, ℕ, zero, suc, Bool, true, false, cond, ◌&&◌, ◌==◌, List, [], ◌∷◌, ◌++◌, length, take, filter, slice_get, Some, refl, sym, ap, subst, ◌∙◌, arith, eq-eqb, eqb-true}
 use Rattle.std.specs.Str.{bytes_eq}
 use Rattle.std.proofs.lemmas.Bool.{and_from, cases_lt}
-use Rattle.std.proofs.Math.Seq.{take-append_seam}
 use Rattle.std.proofs.lemmas.List.{map-append}
 use Rattle.std.proofs.lemmas.Option.{slice_get_within}
 use Rattle.std.proofs.lemmas.Slice.Eq.{bytes_eq-Decides}
@@ -263,19 +262,6 @@ pub record HasFirst (st : Store) (tree : ℕ) (key : List ℕ) (client : ℕ) : 
   pub ordered : entries_of_key tree key client st.order ≡ entries_of (take upto (of_key tree key client st.book.log))
   pub below : (place : ℕ) (r : AtomicRec) → StandsAt (of_key tree key client st.book.log) place r → place < upto → IsApplied st.tally r
   pub applied : (place : ℕ) (r : AtomicRec) → StandsAt (of_key tree key client st.book.log) place r → IsApplied st.tally r → place < upto
-
-pub has_first : (st : Store) (tree : ℕ) (key : List ℕ) (client : ℕ) → FirstApplied st tree key client → HasFirst st tree key client
-has_first st tree key client f = record {
-  upto = length f.taken;
-  ordered = f.ordered ∙ sym (ap (λ l. entries_of l) (ap (λ l. take (length f.taken) l) f.split ∙ take-append_seam f.taken f.left));
-  below = λ place r at less. ⊎_elim (λ there. f.applied r (place, there)) (λ p. absurd (let is = p.1 in omega (arith, is, less))) (cases place r at);
-  applied = λ place r at low. ⊎_elim (λ there. slice_get_within f.taken place r there)
-      (λ p. absurd (let above = f.unapplied r (p.0, p.2) in omega (arith, above, low))) (cases place r at);
-}
-  where
-    cases : (place : ℕ) (r : AtomicRec) → StandsAt (of_key tree key client st.book.log) place r
-        → StandsAt f.taken place r ⊎ ((j : ℕ) × (place ≡ length f.taken + j) × StandsAt f.left j r)
-    cases place r at = get_cases f.taken f.left place r (subst (λ l. StandsAt l place r) f.split at)
 
 -- ---- at a report
 

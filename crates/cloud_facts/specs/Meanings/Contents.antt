@@ -7,8 +7,8 @@ use Rattle.leaf_view.specs.Leaf.{Leaf}
 use Rattle.replay_meaning.specs.Right.{stored_below, value_at}
 use Rattle.cloud_facts.specs.Book.Book.{Link}
 use Rattle.cloud_facts.specs.Chains.Links.{page_after}
-use Rattle.tree_meaning.specs.Chain.{AreLeaves, records_of}
-use Rattle.tree_meaning.specs.Index.{Finds}
+use Rattle.replay_meaning.specs.Chain.{AreLeaves, records_of}
+use Rattle.replay_meaning.specs.Index.{Finds}
 
 -- the newest leaf of each link's page
 abbrev pub leaves_of : (ℕ → Leaf) → List Link → List Leaf

@@ -9,8 +9,8 @@ use Rattle.cloud_facts.specs.Chains.Links.{first_link}
 use Rattle.cloud_facts.specs.Chains.Chain.{ChainHolds}
 use Rattle.cloud_facts.proofs.Calls.Searching.{found}
 use Rattle.session_facts.specs.Commits.Committing.{MayCommit, IsLeafFor, AreLeavesFor}
-use Rattle.commit_plan.specs.Ended.{Ended, ended_of, spans, page_at, leaf_at}
-use Rattle.commit_plan.specs.Plan.{Plan, has_pending, page_without, pages_of, advanced, with_leaf, with_page}
+use Rattle.commit_run.specs.Ended.{Ended, ended_of, spans, page_at, leaf_at}
+use Rattle.commit_run.specs.Plan.{Plan, has_pending, page_without, pages_of, advanced, with_leaf, with_page}
 use Rattle.session_facts.specs.CommitRuns.Running.{IsLinked, KnowsPlan}
 use Rattle.db_base.specs.Ids.{IsTree}
 use Rattle.db_base.specs.declared.change.Change.{Change}

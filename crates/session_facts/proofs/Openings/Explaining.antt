@@ -31,7 +31,7 @@ use Rattle.session_facts.specs.Sessions.Sessions.{KnowsWork, Sessions, SessionsS
 use Rattle.session_facts.proofs.Openings.Showing.{recovery_shows, StopsWith, recovery_answers}
 use Rattle.session_facts.proofs.Sessions.Laws.{setting_of, known_at}
 use Rattle.std.proofs.lemmas.Option.{none-some}
-use Rattle.tree_walk.proofs.Serving.{memory_or}
+use Rattle.tree_walk.proofs.Demands.{memory_or}
 
 -- no trouble waits once a client is open, or a session closed
 pub opened_none : (h : Option Home) → trouble_in (opened_work h) ≡ None

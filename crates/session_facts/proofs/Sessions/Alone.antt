@@ -1,6 +1,6 @@
 -- A step of a session that is alone finds its lock free, and leaves it alone.
 use Rattle.std.proofs.Common.{◌≡◌, ◌≢◌, ◌≤◌, inl, inr, ℕ, List, [], ◌∷◌, ◌++◌, Some, Result, Ok, Err, refl, sym, ap, subst, ◌∙◌, arith}
-use Rattle.calm_calls.specs.Calm.{TakesFree}
+use Rattle.cloud_trait.specs.Calm.{TakesFree}
 use Rattle.ckpt_parts.specs.Leasing.{outstanding_after}
 use Rattle.client_work.specs.Session.{Acting, ReadsBy, RenewsHome, ShowsAt, StepsAt, StepsClosing, StepsCommit, StepsFolding, StepsOpening, StepsPaging, StepsRenewing, StepsScanning, StepsSession, StepsSettling, ask_of_work}
 use Rattle.client_work.specs.declared.answer.Answer.{Answer}

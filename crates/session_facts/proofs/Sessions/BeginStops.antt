@@ -35,7 +35,7 @@ use Rattle.tree_walk.specs.Moves.{Moves}
 use Rattle.tree_walk.specs.Walk.{new_walk, walk_ready}
 use Rattle.session_facts.specs.Walks.Caches.{KnowsCache}
 use Rattle.session_facts.proofs.Walks.Walks.{walk_begins}
-use Rattle.tree_walk.proofs.Serving.{memory_or}
+use Rattle.tree_walk.proofs.Demands.{memory_or}
 
 -- a step that goes on does not stop
 goes_not : {M A : Type 0} (x : Next M A) (m n : M) (t : Trouble) → x ≡ Goes m → x ≡ Stops n t → ⊥

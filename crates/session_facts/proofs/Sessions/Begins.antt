@@ -59,7 +59,7 @@ use Rattle.session_facts.specs.Walks.Caches.{KnowsCache}
 use Rattle.session_facts.specs.Walks.Walks.{KnowsWalking, IsAtSeenLeaf, WalkLeads, MayStop}
 use Rattle.session_facts.proofs.Walks.Caches.{empty_knows}
 use Rattle.session_facts.proofs.Walks.Walks.{walk_begins}
-use Rattle.tree_walk.proofs.Serving.{memory_or}
+use Rattle.tree_walk.proofs.Demands.{memory_or}
 
 abbrev RunStep : Type 0
 RunStep = Next (Run × Cache) CommitAnswer

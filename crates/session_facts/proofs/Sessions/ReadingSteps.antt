@@ -34,7 +34,7 @@ use Rattle.tree_walk.specs.Walk.{Walk, object_of, walk_ask, walk_next}
 use Rattle.session_facts.specs.Walks.Caches.{KnowsCache}
 use Rattle.session_facts.specs.Walks.Walks.{KnowsWalk, KnowsWalking, IsAtSeenLeaf, WalkLeads, MayStop}
 use Rattle.session_facts.proofs.Walks.Walks.{walk_goes}
-use Rattle.tree_walk.proofs.Serving.{memory_or}
+use Rattle.tree_walk.proofs.Demands.{memory_or}
 
 module _ (who : Caller) (before after : Seen) (book : Book) (order : List Entry) (s t : CloudState) (parts : Parts) (home : Home) (w : Walk)
     (setting : s.now ≤ t.now → Setting book order s t.now parts who.session (home.lease ∷ [])) (knows : s.now ≤ t.now → IsHome (store_of book order s) t.now home (parts who.session))

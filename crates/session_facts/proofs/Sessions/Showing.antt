@@ -1,6 +1,6 @@
 -- A call that brought no value shows why: by the counts and the states before and behind it.
 use Rattle.std.proofs.Common.{◌≡◌, ◌≢◌, ◌<◌, ◌⊎◌, inl, inr, ℕ, List, Option, Some, None, Ok, Err, refl, sym, subst, ◌∙◌, arith}
-use Rattle.calm_calls.specs.Calm.{NamesLasting}
+use Rattle.cloud_trait.specs.Calm.{NamesLasting}
 use Rattle.cloud_trait.specs.declared.answer.Answer.{Answer}
 use Rattle.cloud_trait.specs.declared.answer.Answer.TheVariants.{Got, Sent, Received, Done, Given, Held, Renewed, Late, Failed, Memory}
 use Rattle.cloud_trait.specs.Ask.{Ask, GetHeld, PutHeld, Send, Receive, Delete, Take, Renew, Release}

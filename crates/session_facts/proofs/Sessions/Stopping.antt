@@ -54,7 +54,7 @@ use Rattle.tree_walk.specs.Walk.{Walk, walk_ask}
 use Rattle.txn_buffer.specs.Noted.{Noted}
 use Rattle.session_facts.specs.Walks.Walks.{MayStop as MayStopWalk}
 use Rattle.session_facts.proofs.Walks.Walks.{walk_stops}
-use Rattle.tree_walk.proofs.Serving.{memory_or}
+use Rattle.tree_walk.proofs.Demands.{memory_or}
 
 -- a trouble is want of memory, or what comes of it where memory did not run out
 pub or_memory : (May : Trouble → Type 0) (k : Trouble) → May trouble.Memory → (k ≢ trouble.Memory → May k) → May k

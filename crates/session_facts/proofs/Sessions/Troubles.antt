@@ -5,7 +5,7 @@ use Rattle.client_work.specs.declared.work.Work.TheVariants.{Idle}
 use Rattle.db_base.specs.declared.trouble.Trouble.{Trouble}
 use Rattle.db_base.specs.declared.trouble.Trouble.TheVariants as trouble
 use Rattle.recover_run.specs.declared.home.Home.{Home}
-pub use Rattle.tree_walk.proofs.Serving.{memory_or}
+pub use Rattle.tree_walk.proofs.Demands.{memory_or}
 
 -- but for want of memory an operation that stops leaves the client open
 pub stays_open : (home : Home) (k : Trouble) → k ≢ trouble.Memory → stopped_work k home ≡ Idle home

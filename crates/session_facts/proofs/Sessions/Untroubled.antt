@@ -1,6 +1,6 @@
 -- A calm step leaves a session untroubled, and brings no answer that a call brought about.
 use Rattle.std.proofs.Common.{◌≡◌, ◌≢◌, ◌≤◌, ◌<◌, ◌⊎◌, inl, inr, ℕ, List, Option, Some, None, Ok, refl, sym, ap, subst, ◌∙◌, arith}
-use Rattle.calm_calls.specs.Calm.{NamesLasting, TakesFree}
+use Rattle.cloud_trait.specs.Calm.{NamesLasting, TakesFree}
 use Rattle.client_work.specs.Session.{Acting, StepsSession, StepsAt, ShowsAt, Follows, ListsLeaf, ask_of_work, opened_work, committed_work, stopped_work}
 use Rattle.client_work.specs.declared.answer.Answer.{Answer}
 use Rattle.client_work.specs.declared.answer.Answer.TheVariants as answer

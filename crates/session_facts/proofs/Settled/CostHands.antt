@@ -3,8 +3,8 @@ use Rattle.std.proofs.Common.{◌≡◌, ◌≢◌, ◌+◌, ◌*◌, ◌<◌, �
 use Rattle.std.specs.Prelude.{nat_lt, ◌==◌, ◌||◌}
 use Rattle.std.proofs.lemmas.Bool.{cases_eq, eq-eqb}
 use Rattle.std.proofs.lemmas.Bool.Decides.{nat_tests}
-use Rattle.calm_calls.specs.Calm.{IsCalm, AreCalm}
-use Rattle.calm_calls.specs.Plenty.{HadMemory}
+use Rattle.cloud_trait.specs.Calm.{IsCalm, AreCalm}
+use Rattle.cloud_trait.specs.Plenty.{HadMemory}
 use Rattle.cloud_facts.proofs.Book.Places.{in_front}
 use Rattle.cloud_facts.specs.Book.Records.{IsIn}
 use Rattle.cloud_facts.specs.Book.Tally.{Leafy, right_of}

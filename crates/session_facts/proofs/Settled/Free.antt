@@ -1,6 +1,6 @@
 -- Where nobody else has a lease, no call of a settling finds a lock held.
 use Rattle.std.proofs.Common.{◌≡◌, ◌≢◌, ◌≤◌, ◌==◌, inl, ℕ, Bool, true, false, cond, List, [], refl, sym, subst}
-use Rattle.calm_calls.specs.Calm.{TakesFree}
+use Rattle.cloud_trait.specs.Calm.{TakesFree}
 use Rattle.ckpt_parts.specs.Leasing.{outstanding_after}
 use Rattle.cloud_facts.specs.Book.Tally.{Store}
 use Rattle.cloud_facts.specs.Homes.Homes.{Part}

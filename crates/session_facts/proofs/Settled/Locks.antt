@@ -4,7 +4,7 @@ use Rattle.std.proofs.lemmas.Bool.{and_from, and_parts, eq-eqb, lt-ltb, ltb-fals
 use Rattle.std.proofs.lemmas.Cmp.{tied_itself}
 use Rattle.std.specs.declared.cmp.Ordering.TheVariants.{Less, Equal, Greater}
 use Rattle.std.specs.Ordering.{is_eq}
-use Rattle.calm_calls.specs.Calm.{TakesFree}
+use Rattle.cloud_trait.specs.Calm.{TakesFree}
 use Rattle.ckpt_parts.specs.Leasing.{outstanding_after}
 use Rattle.cloud_facts.proofs.Book.Places.{get_single, in_behind, in_none}
 use Rattle.cloud_trait.specs.declared.answer.Answer.{Answer}

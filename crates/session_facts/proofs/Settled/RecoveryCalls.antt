@@ -8,8 +8,8 @@ use Rattle.std.proofs.lemmas.Cmp.{nat_eq_equiv}
 use Rattle.std.proofs.lemmas.List.{length-map}
 use Rattle.std.proofs.lemmas.Map.Keys.{IsDistinct-push}
 use Rattle.std.proofs.lemmas.Map.Made.{length-le_from_is_member}
-use Rattle.calm_calls.specs.Calm.{IsCalm, AreCalm, AreAlone}
-use Rattle.calm_calls.proofs.CalmLemmas.{delivers}
+use Rattle.cloud_trait.specs.Calm.{IsCalm, AreCalm, AreAlone}
+use Rattle.cloud_trait.proofs.CalmLemmas.{delivers}
 use Rattle.cloud_trait.specs.declared.answer.Answer.{Answer}
 use Rattle.cloud_trait.specs.declared.answer.Answer.TheVariants.{Got, Sent, Received, Done, Given, Held, Renewed, Late, Failed, Memory}
 use Rattle.cloud_trait.specs.declared.message.Message.{Message}

@@ -1,8 +1,8 @@
 -- What a settling's recovery leaves where nobody else acts: no message of its client, and no open head.
 use Rattle.std.proofs.Common.{◌≡◌, ◌-◌, ◌^◌, ◌==◌, ℕ, Bool, true, false, cond, List, [], ◌∷◌, ◌++◌, Option, Some, None, Result, Ok, Err, refl, sym, ap, subst, ◌∙◌}
 use Rattle.std.specs.List.{AllByRecursion}
-use Rattle.calm_calls.specs.Calm.{IsCalm, AreCalm, AreAlone}
-use Rattle.calm_calls.specs.Plenty.{HadMemory}
+use Rattle.cloud_trait.specs.Calm.{IsCalm, AreCalm, AreAlone}
+use Rattle.cloud_trait.specs.Plenty.{HadMemory}
 use Rattle.cloud_facts.proofs.Calls.Calls.{put_lasts}
 use Rattle.cloud_facts.proofs.Calls.Heads.{head_at, newest_head}
 use Rattle.cloud_facts.specs.Book.Book.{Book}

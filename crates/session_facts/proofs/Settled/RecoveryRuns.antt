@@ -1,8 +1,8 @@
 -- What the recovery of a client in a settling leaves, and how many calls it makes.
 use Rattle.std.proofs.Common.{◌≡◌, ◌+◌, ◌*◌, ◌≤◌, ℕ, List, [], ◌∷◌, length, Option, Some, None, refl, ap, subst, ◌∙◌, arith}
 use Rattle.std.specs.Prelude.{unwrap_or}
-use Rattle.calm_calls.specs.Calm.{AreCalm, AreAlone}
-use Rattle.calm_calls.specs.Plenty.{HadMemory}
+use Rattle.cloud_trait.specs.Calm.{AreCalm, AreAlone}
+use Rattle.cloud_trait.specs.Plenty.{HadMemory}
 use Rattle.cloud_facts.proofs.Calls.Heads.{head_at, newest_head}
 use Rattle.cloud_facts.proofs.Decoding.Values.{message_decodes}
 use Rattle.cloud_facts.specs.Book.Messages.{IsLogMessage}

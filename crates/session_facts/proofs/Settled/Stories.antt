@@ -1,6 +1,6 @@
 -- A part's story, as its machine tells it, and what is known before each of its calls.
 use Rattle.std.proofs.Common.{◌≡◌, ℕ, List, [], ◌∷◌, Some, refl, sym, ap, subst, ◌∙◌}
-use Rattle.calm_calls.specs.Calm.{ComesNext, AreCalm, AreAlone}
+use Rattle.cloud_trait.specs.Calm.{ComesNext, AreCalm, AreAlone}
 use Rattle.client_work.specs.declared.work.Work.{Work}
 use Rattle.cloud_facts.specs.Calls.Call.{IsCall}
 use Rattle.cloud_facts.proofs.Calls.Calls.{call_of}

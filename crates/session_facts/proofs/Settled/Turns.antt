@@ -1,6 +1,6 @@
 -- The steps of session 0, which settles: each leads along its parts, and the last one to the end.
 use Rattle.std.proofs.Common.{◌≡◌, ◌≢◌, ℕ, List, Some, Ok, refl, sym, ap, subst, ◌∙◌, arith}
-use Rattle.calm_calls.specs.Calm.{IsCalm, NamesLasting}
+use Rattle.cloud_trait.specs.Calm.{IsCalm, NamesLasting}
 use Rattle.client_work.specs.Session.{Acting, closed_session, settling_session, StepsSession, StepsAt, ShowsAt}
 use Rattle.client_work.specs.declared.answer.Answer.{Answer}
 use Rattle.client_work.specs.declared.answer.Answer.TheVariants as answer

@@ -20,7 +20,7 @@ use Rattle.tree_descent.specs.declared.fork.Fork.{Fork}
 use Rattle.tree_descent.specs.declared.fork.Fork.TheVariants.{Right, Down}
 use Rattle.tree_descent.specs.Descent.{forked, passed}
 use Rattle.tree_descent.specs.Fork.{bad_fence, down_to, down_from, fork_at, forked_on}
-use Rattle.tree_meaning.specs.Index.{IsRightOf}
+use Rattle.replay_meaning.specs.Index.{IsRightOf}
 use Rattle.tree_parts.specs.declared.link.Link.{Link as Found}
 use Rattle.tree_parts.specs.Read.{damaged}
 use Rattle.session_facts.specs.Trees.Charts.{KnowsChart, IsFound, AreFound}

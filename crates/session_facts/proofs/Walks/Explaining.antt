@@ -40,7 +40,7 @@ use Rattle.session_facts.proofs.Walks.Caches.{leaf_version_is, served_known}
 use Rattle.session_facts.proofs.Walks.Walks.{walk_goes}
 use Rattle.tree_walk.specs.Causing.{IsOld, IsVersionOf, FailsSo, Shows}
 use Rattle.tree_walk.specs.Walk.{Spot, Walk, object_at, object_of, is_leaf, is_leaf_at, walk_ask, walk_next}
-use Rattle.tree_walk.proofs.Causing.{StopsBeside, next_stops}
+use Rattle.tree_walk.proofs.Causes.{StopsBeside, next_stops}
 
 -- an object without a newest version has none
 none_landed : (vs : List Version) → newest_of vs ≡ None → vs ≡ []

@@ -26,7 +26,7 @@ use Rattle.cloud_facts.specs.Book.Premises.{IsLeafAtMost}
 use Rattle.cloud_facts.specs.Book.Records.{IsIn}
 use Rattle.cloud_facts.specs.Book.Tally.{Node, Leafy, Branch, Store, high_of}
 use Rattle.cloud_facts.specs.Book.Tally.{right_of as node_right}
-use Rattle.tree_meaning.specs.Index.{IsRightOf}
+use Rattle.replay_meaning.specs.Index.{IsRightOf}
 use Rattle.tree_walk.specs.Walk.{Spot, Walk, sought, is_among, is_page, came_to, use_of, linked, right_of, down_to, bad_fence, bad_level, root_read, node_left, node_passed, node_read, leaf_left, leaf_passed, leaf_read}
 use Rattle.tree_walk.proofs.WalkLemmas.{entry_is}
 use Rattle.session_facts.specs.Walks.Caches.{IsSeenRoot, IsSeenLeaf}

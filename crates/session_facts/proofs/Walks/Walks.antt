@@ -26,7 +26,7 @@ use Rattle.cloud_facts.specs.Book.Premises.{IsLeafAtMost}
 use Rattle.cloud_facts.specs.Book.Tally.{Store}
 use Rattle.cloud_facts.specs.Tellings.Told.{store_of}
 use Rattle.tree_walk.specs.Walk.{Spot, Walk, new_walk, sought, object_of, goes_on, got_by, beside, rested, walk_ready, walk_next}
-use Rattle.tree_walk.proofs.Leaves.{Unended, through_unended}
+use Rattle.tree_walk.proofs.Outcomes.{Runs, runs}
 use Rattle.session_facts.specs.Walks.Caches.{KnowsCache}
 use Rattle.session_facts.specs.Walks.Walks.{IsOnWay, StandsAt, WasUsed, KnowsWalk, KnowsWalking, MayStop, WalkLeads}
 use Rattle.session_facts.proofs.Walks.Caches.{MayServe}
@@ -48,9 +48,9 @@ module _ (st : Store) (h : ChainHolds st) where
   walk_begins tree key fresh c is cache =
       on (goes_on c (rested (new_walk tree key fresh)))
       (through st h c cache 64 (rested (new_walk tree key fresh)) (rests st (new_walk tree key fresh) (new_known st tree key fresh is)))
-      (through_unended c 64 (rested (new_walk tree key fresh)))
+      (runs c 64 (rested (new_walk tree key fresh)))
     where
-      on : (x : Next Walk ℕ) → StepLeads st h c x → Unended x → (m : Walk × Cache) × (beside (x, c) ≡ Goes m) × KnowsWalking st m.0 m.1
+      on : (x : Next Walk ℕ) → StepLeads st h c x → Runs c (rested (new_walk tree key fresh)) x → (m : Walk × Cache) × (beside (x, c) ≡ Goes m) × KnowsWalking st m.0 m.1
       on (Goes v) a u = ((v, c), refl, record { walk = a; cache = cache })
       on (Ends v page) a u = absurd u
       on (Stops v t) a u = absurd a

@@ -3,8 +3,8 @@ use Rattle.std.specs.Prelude.{ℕ, ◌≡◌, ◌≤◌, List, [], length}
 use Rattle.cloud_trait.specs.Claim.{Lasts}
 use Rattle.cloud_trait.specs.Machine.{Next, Goes, Ends, Stops}
 use Rattle.session_facts.specs.Commits.Committing.{MayCommit, AreLeavesFor, KnowsTaken, KnowsCommit, KnowsEnd}
-use Rattle.commit_plan.specs.Ended.{Ended}
-use Rattle.commit_plan.specs.Plan.{Plan}
+use Rattle.commit_run.specs.Ended.{Ended}
+use Rattle.commit_run.specs.Plan.{Plan}
 use Rattle.commit_run.specs.declared.hand.Hand.{Hand}
 use Rattle.commit_run.specs.declared.hand.Hand.TheVariants.{Writes, First, Change}
 use Rattle.commit_run.specs.Draft.{Draft}

@@ -1,6 +1,6 @@
 -- A session that is alone: nobody else has a lease, so that its calls find their locks free.
 use Rattle.std.specs.Prelude.{◌≡◌, ◌≢◌, Some, Ok}
-use Rattle.calm_calls.specs.Calm.{NamesLasting}
+use Rattle.cloud_trait.specs.Calm.{NamesLasting}
 use Rattle.client_work.specs.Session.{Acting, StepsSession, ask_of_work}
 use Rattle.client_work.specs.declared.answer.Answer.{Answer}
 use Rattle.client_work.specs.declared.answer.Answer.TheVariants as answer

@@ -1,6 +1,6 @@
 -- Why an operation meets a trouble: the call that brought it shows it, by what the cloud tells before and behind it.
 use Rattle.std.specs.Prelude.{ℕ, ◌≡◌, ◌≢◌, ◌≤◌, ◌⊎◌, List, Option, Some, None, Result, Ok, Err}
-use Rattle.calm_calls.specs.Calm.{NamesLasting, TakesFree}
+use Rattle.cloud_trait.specs.Calm.{NamesLasting, TakesFree}
 use Rattle.client_work.specs.declared.answer.Answer.{Answer}
 use Rattle.client_work.specs.declared.answer.Answer.TheVariants as answer
 use Rattle.client_work.specs.declared.work.Work.{Work}

@@ -1,6 +1,6 @@
 -- When a session goes on and is answered well: where its calls are calm.
 use Rattle.std.specs.Prelude.{ℕ, ◌≡◌, ◌≢◌, Some, Ok}
-use Rattle.calm_calls.specs.Calm.{IsCalm}
+use Rattle.cloud_trait.specs.Calm.{IsCalm}
 use Rattle.client_work.specs.Session.{Acting, StepsSession, ask_of_work}
 use Rattle.client_work.specs.declared.answer.Answer.{Answer}
 use Rattle.client_work.specs.declared.work.Work.{Work}

@@ -1,7 +1,7 @@
 -- What each part of a settling leaves, and how many calls it makes.
 use Rattle.std.specs.Prelude.{ℕ, ◌≡◌, ◌+◌, ◌*◌, ◌≤◌, List, [], ◌∷◌, length}
-use Rattle.calm_calls.specs.Calm.{AreCalm}
-use Rattle.calm_calls.specs.Plenty.{HadMemory}
+use Rattle.cloud_trait.specs.Calm.{AreCalm}
+use Rattle.cloud_trait.specs.Plenty.{HadMemory}
 use Rattle.ckpt_parts.specs.Intakes.{ids_of}
 use Rattle.cloud_facts.specs.Book.Records.{IsIn}
 use Rattle.cloud_facts.specs.Book.Tally.{right_of}

@@ -1,5 +1,5 @@
 use Rattle.std.proofs.Common.{Ok, Err}
-use Rattle.line_io.specs.declared.output.OutputFault.TheVariants.{WriteFault, Memory}
+use Rattle.db_io.specs.declared.output.OutputFault.TheVariants.{WriteFault, Memory}
 use Rattle.call_trace.proofs.TraceLemmas.{writes_so}
 use Rattle.call_trace.proofs.trace.write_woven.Goals as goal
 

@@ -3,8 +3,7 @@ use Rattle.std.specs.List.{AllByRecursion}
 use Rattle.byte_format.specs.Format.{list_spelling}
 use Rattle.change_codec.proofs.Appends.{append_four}
 use Rattle.head_codec.specs.declared.lists.Pending.{Pending}
-use Rattle.head_codec.specs.Pending.{pending_entry}
-use Rattle.head_codec.specs.Spelling.{FitsPending}
+use Rattle.head_codec.specs.Pending.{pending_entry, FitsPending}
 use Rattle.head_codec.proofs.Settling.{long_enough, settled_written, settled_fits}
 use Rattle.head_codec.proofs.codec.add_settled.Goals as goal
 

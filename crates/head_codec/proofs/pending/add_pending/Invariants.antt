@@ -1,8 +1,7 @@
 use Rattle.std.proofs.Common.{◌≡◌, ◌++◌, None, length}
 use Rattle.std.specs.List.{AllByRecursion}
 use Rattle.byte_format.specs.Format.{list_spelling}
-use Rattle.head_codec.specs.Pending.{pending_entry}
-use Rattle.head_codec.specs.Spelling.{FitsPending}
+use Rattle.head_codec.specs.Pending.{pending_entry, FitsPending}
 use Rattle.head_codec.proofs.pending.add_pending.Given as goal
 
 -- what is written and what is left make up the spelling; what is left decides whether all fit their types

@@ -1,5 +1,5 @@
 use Rattle.std.proofs.Common.{Ok, Err}
-use Rattle.line_io.specs.declared.output.OutputFault.TheVariants as output
+use Rattle.db_io.specs.declared.output.OutputFault.TheVariants as output
 use Rattle.schedule_run.proofs.GeneratedLemmas.{gen_ran}
 use Rattle.schedule_run.proofs.run.generated.Goals as goal
 

@@ -1,5 +1,5 @@
 use Rattle.std.proofs.Common.{Ok, Err}
-use Rattle.line_io.specs.declared.input.InputFault.TheVariants as input
+use Rattle.db_io.specs.declared.input.InputFault.TheVariants as input
 use Rattle.schedule_run.specs.declared.replay.LineFault.TheVariants as fault
 use Rattle.schedule_run.proofs.RunLemmas.{replay_ran, replay_not_read}
 use Rattle.schedule_run.proofs.run.replay.Goals as goal

@@ -1,5 +1,5 @@
 use Rattle.std.proofs.Common.{Ok, Err}
-use Rattle.line_io.specs.declared.input.InputFault.TheVariants as input
+use Rattle.db_io.specs.declared.input.InputFault.TheVariants as input
 use Rattle.schedule_run.specs.declared.shell.ShellFault.TheVariants as fault
 use Rattle.schedule_run.proofs.RunLemmas.{shell_ran, shell_not_read}
 use Rattle.schedule_run.proofs.run.shell.Goals as goal

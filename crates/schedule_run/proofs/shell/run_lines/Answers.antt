@@ -1,5 +1,5 @@
 use Rattle.std.proofs.Common.{◌++◌, ap, sym, ◌∙◌}
-use Rattle.line_io.specs.Lines.{lines_of}
+use Rattle.db_io.specs.Lines.{lines_of}
 use Rattle.std.proofs.lemmas.Bool.{eqb-true}
 use Rattle.std.proofs.lemmas.List.{nil_from_length}
 use Rattle.schedule_run.proofs.ShellLemmas.{at_open, open_fault, at_stop, at_more, at_fault, at_end}

@@ -1,6 +1,6 @@
 use Rattle.std.proofs.Common.{map, sym, subst, ap, ◌∙◌}
 use Rattle.txn_buffer.specs.Kept.{noted_of, IsKept}
-use Rattle.txn_buffer.proofs.NotedLemmas.{alone, found, inserted, joined, key_of-found, IsKept-inserted}
+use Rattle.txn_buffer.proofs.NotedLemmas.{alone, found, inserted, joined, joined_spare, key_of-found, IsKept-inserted}
 use Rattle.txn_buffer.proofs.buffer.store.Goals as goal
 
 pub join_at-requires-clause-of : goal.join_at-requires-clause-of
@@ -35,3 +35,7 @@ returns-in-Ok-clause-kept c =
     subst IsKept (sym
     (c.in-Ok.ensures.entries ∙ alone c.args.key c.args.changes.now.entries c.args.change c.requires.kept.keys c.requires.of (sym c.in-None.ensures.found)))
     (IsKept-inserted c.args.key c.args.changes.now.entries c.args.change c.requires.kept c.requires.of c.requires.short c.requires.room)
+
+pub returns-in-Some-clause-uses_one : goal.returns-in-Some-clause-uses_one
+returns-in-Some-clause-uses_one c =
+    joined_spare c.args.changes.now c.join_at.new.changes c.args.key c.in-Some.index c.args.change (sym c.in-Some.ensures.found) c.in-Some.ensures.value c.join_at.ensures

@@ -1,6 +1,6 @@
 use Rattle.std.proofs.Common.{◌≡◌, ◌++◌, length}
 use Rattle.std.specs.Prelude.{map}
-use Rattle.tree_meaning.specs.Chain.{stored_of}
+use Rattle.replay_meaning.specs.Chain.{stored_of}
 use Rattle.world_audit.proofs.leaves.add_records.Given as goal
 
 abbrev pub invariant-loop-key : goal.invariant-loop-key

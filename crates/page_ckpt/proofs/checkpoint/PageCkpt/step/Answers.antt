@@ -3,7 +3,7 @@ use Rattle.page_ckpt.proofs.Causes.{took_tells}
 use Rattle.page_ckpt.proofs.End.{took_less}
 use Rattle.page_ckpt.proofs.Demands.{took_owes}
 use Rattle.page_ckpt.proofs.Calm.{went_quiet, took_well}
-use Rattle.calm_calls.proofs.CalmLemmas.{goes_well}
+use Rattle.cloud_trait.proofs.CalmLemmas.{goes_well}
 use Rattle.page_ckpt.proofs.Leading.{took_handed}
 use Rattle.page_ckpt.proofs.Leases.{went_stands, stands_names, stands_gives, stands_returns, stands_few}
 use Rattle.page_ckpt.proofs.checkpoint.PageCkpt.step.Goals as goal

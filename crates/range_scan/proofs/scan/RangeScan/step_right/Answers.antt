@@ -1,6 +1,6 @@
 use Rattle.std.proofs.Common.{◌<◌, ◌^◌, length, subst, arith}
 use Rattle.range_scan.specs.Scan.{Scan}
-use Rattle.range_scan.proofs.Ending.{right_further}
+use Rattle.range_scan.proofs.End.{right_further}
 use Rattle.range_scan.proofs.scan.RangeScan.step_right.Goals as goal
 
 pub returns-clause-further : goal.returns-clause-further

@@ -1,6 +1,6 @@
 use Rattle.std.proofs.Common.{◌+◌, ◌<◌, ◌^◌, length, subst, arith}
 use Rattle.tree_walk.specs.Walk.{Walk, IsWalk, pages, spots}
-use Rattle.tree_walk.proofs.Ending.{moved_less, spots_most}
+use Rattle.tree_walk.proofs.End.{moved_less, spots_most}
 use Rattle.tree_walk.proofs.Getting.{moved_gets}
 use Rattle.tree_walk.proofs.Leaves.{moved_ends}
 use Rattle.tree_walk.proofs.Onceness.{moved_within}

@@ -1,11 +1,8 @@
 -- What is due needs few new pages.
-use Rattle.std.proofs.Common.{◌≡◌, ◌+◌, ◌*◌, ◌-◌, ◌/◌, ◌<◌, ◌≤◌, ◌==◌, ℕ, Bool, true, false, cond, nat_lt, List, [], ◌∷◌, ◌++◌, length, Option, Some, None, Result, Ok, refl, sym, ap, subst, ◌∙◌, inl, inr, arith}
+use Rattle.std.proofs.Common.{◌≡◌, ◌+◌, ◌*◌, ◌-◌, ◌/◌, ◌<◌, ◌≤◌, ◌==◌, ℕ, Bool, true, false, cond, nat_lt, List, [], ◌∷◌, ◌++◌, length, Option, Some, None, sym, ap, subst, ◌∙◌, inl, inr, arith}
 use Rattle.std.specs.Prelude.{◌&&◌}
 use Rattle.std.specs.List.{AllByRecursion}
 use Rattle.std.proofs.lemmas.List.{length-append}
-use Rattle.cloud_trait.specs.declared.answer.Answer.TheVariants as call
-use Rattle.cloud_trait.specs.Ask.{Receive}
-use Rattle.db_base.specs.declared.names.QueueName.TheVariants as queue
 use Rattle.leaf_view.specs.Leaf.{Leaf}
 use Rattle.node_codec.specs.Inner.{Inner}
 use Rattle.node_codec.specs.Node.{raised as raised_cursor}
@@ -13,26 +10,23 @@ use Rattle.node_codec.specs.Tree.{Tree}
 use Rattle.split_plan.specs.Sizes.{count_of}
 use Rattle.tree_parts.specs.Placing.{has_nothing, landed_placing}
 use Rattle.tree_parts.specs.Read.{tree_held}
-use Rattle.tree_rising.specs.Rising.{landed}
-use Rattle.tree_moves.specs.declared.work.Onward.TheVariants as onward
 use Rattle.tree_moves.specs.declared.work.Work.TheVariants as work
-use Rattle.tree_moves.specs.Work.{take_tree}
 use Rattle.tree_ckpt.specs.Causing.{Calls}
-use Rattle.tree_ckpt.specs.Due.{Due, LeafDue, NodeDue, RootDue, IsUp, BeginsUp, GoesUp, IsDue, IsLeafDue, NeedsFew, pages_of_root, raised}
+use Rattle.tree_ckpt.specs.Due.{Due, LeafDue, NodeDue, RootDue, IsUp, IsDue, NeedsFew, raised}
 use Rattle.tree_ckpt.specs.Making.{Making, new_making, making_ask, MakingLeads}
 use Rattle.tree_ckpt.specs.Meaning.{Opening, opening_calls}
 use Rattle.tree_ckpt.specs.Standing.{Went}
 use Rattle.tree_ckpt.specs.Stepped.{calls_with}
-use Rattle.tree_ckpt.specs.Working.{held_over, visits_over, done_over, puts_of, reserved_before, page_puts, climbs_over}
-use Rattle.tree_ckpt.proofs.Words.{PuItem, Answer, Claim, Deed, Came, calls_of, Fits, Ask, PagePut, Chart, Placing, Link, Folding, Rising, Held, Work}
+use Rattle.tree_ckpt.specs.Working.{held_over, visits_over, done_over, puts_of, reserved_before, page_puts, climbs_over, root_behind, root_above, links_behind, links_above}
+use Rattle.tree_ckpt.proofs.Words.{PuItem, Taken, Answer, Claim, Deed, Came, calls_of, Fits, Ask, PagePut, Chart, Placing, Link, Folding, Rising, Held, Work}
 use Rattle.tree_ckpt.proofs.Adding.{node_entries, root_entries}
-use Rattle.tree_ckpt.proofs.Climbs.{Climbs}
+use Rattle.tree_ckpt.proofs.Climbs.{Climbs, UpTo}
 use Rattle.tree_ckpt.proofs.Folds.{not_empty}
 use Rattle.tree_ckpt.proofs.Meaning.{Amid, DoneAt}
 use Rattle.tree_ckpt.proofs.Receiving.{items_length}
 use Rattle.tree_ckpt.proofs.RunLengths.{applied_records, run_length}
 use Rattle.tree_ckpt.proofs.Told.{AreTold, done_many, up_told}
-use Rattle.tree_ckpt.proofs.Tours.{AtLeaf, Begins, Puts, VisitsAt, page_left}
+use Rattle.tree_ckpt.proofs.Tours.{AtLeaf, VisitsAt, page_left}
 
 never : {X : Type 0} {b : Bool} → b ≡ false → b ≡ true → X
 never none some = absurd (let e : false ≡ true = sym none ∙ some in cc (e))
@@ -70,17 +64,17 @@ module _ (tree : ℕ) (cs : Calls) (fits : AllByRecursion (λ c. Fits c.0 c.1) c
       (fits_behind k.work (opening_calls tree h.lease k.opening) (subst (λ (xs : Calls). AllByRecursion (λ c. Fits c.0 c.1) xs) k.calls fits)).0 in
       let read = items_length k.opening.messages k.opening.items k.opened.read in
       let run = run_length (tree_held k.opening.got).cursor k.opening.items k.opening.run.items k.opening.run.top k.opened.run in
-      let same : length k.opening.run.items ≡ length f.chart.run.items = ap (λ (r : _). length r.items) k.same in
+      let same : length k.opening.run.items ≡ length f.chart.run.items = ap (λ (r : Taken). length r.items) k.same in
       omega (arith, received, read, run, same)
 
   -- ---- a leaf
 
   begun_many : (h : Held) (f : Folding) (o : Opening) (w : Calls) → has_nothing f.placing ≡ true → AtLeaf h.lease f o w → 1 ≤ length w
-  begun_many h f o w nothing (inl b) = let calls : length w ≡ length b.before + 1 = ap (λ (xs : Calls). length xs) b.calls in omega (arith, calls)
+  begun_many h f o w nothing (inl b) = let calls = ap (λ (xs : Calls). length xs) b.calls in omega (arith, calls)
   begun_many h f o w nothing (inr p) = absurd (let some : has_nothing f.placing ≡ false = page_left f.placing p.some in cc (some, nothing))
 
   leaf_needs : (h : Held) (f : Folding) (l : Leaf) → has_nothing f.placing ≡ true → DoneAt tree (work.Folding h f) cs
-      → (root : Tree) (c : _) → NeedsFew (LeafDue root l f.chart.run.items) (c ∷ cs)
+      → (root : Tree) (c : Ask × Answer) → NeedsFew (LeafDue root l f.chart.run.items) (c ∷ cs)
   leaf_needs h f l nothing k root c =
       let begun = begun_many h f k.opening k.work nothing k.is in
       let many = opening_many tree h.lease k.opening k.work cs k.calls in
@@ -105,15 +99,21 @@ one_left tree one p nothing = on p.reserved p.puts nothing where
   on None (x ∷ y ∷ ys) e = absurd (let some : (length (y ∷ ys) == 0) ≡ false = not_empty (y ∷ ys) (omega arith) in never some e)
 
 -- between the puts of two plans
-rising_told : (lease : Claim) (r : Rising) (o : Opening) (w : Calls) (last : Option (List ℕ)) → last ≡ None → has_nothing (landed_placing r.placing) ≡ true
-    → Climbs lease (record r { last = last }) o w → AreTold r.chart.links (length w + 1)
-rising_told lease r o w (Some bytes) between nothing k = absurd (cc (between))
-rising_told lease r o w None between nothing k =
-    let told = up_told r.chart.tree lease r.chart.run o.got k.ups.visits k.ups.climbs k.ups.are _ _ k.ups.climbed in
-    let over : length (done_over (puts_of r.chart.tree lease None r.placing) w) ≡ length (climbs_over r.chart.tree lease k.ups.climbs (visits_over r.chart.tree lease k.ups.visits [])) =
-    ap (λ (xs : Calls). length xs) k.upto.1 in
-    let many = done_many (puts_of r.chart.tree lease None r.placing) w in
-    let one = one_left r.chart.tree lease r.placing nothing in
+rising_told : (lease : Claim) (r : Rising) (o : Opening) (w : Calls) → r.last ≡ None → has_nothing (landed_placing r.placing) ≡ true → Climbs lease r o w
+    → AreTold r.chart.links (length w + 1)
+rising_told lease r o w between nothing k =
+    let tree : ℕ = r.chart.tree in
+    let below : Calls = visits_over tree lease k.ups.visits [] in
+    let told : AreTold (links_above (links_behind k.ups.visits) k.ups.climbs) (length (climbs_over tree lease k.ups.climbs below)) =
+    up_told tree lease r.chart.run o.got k.ups.visits k.ups.climbs k.ups.are below (root_behind o.got k.ups.visits) k.ups.climbed in
+    let puts =
+    subst
+    (λ (last : Option (List ℕ)).
+    UpTo r.is_spent tree lease r.chart.run.top r.placing r.chart.root (root_above (root_behind o.got k.ups.visits) k.ups.climbs) (links_above (links_behind k.ups.visits) k.ups.climbs)
+    (climbs_over tree lease k.ups.climbs below) w last) between k.upto in
+    let over : length (done_over (puts_of tree lease None r.placing) w) ≡ length (climbs_over tree lease k.ups.climbs below) = ap (λ (xs : Calls). length xs) puts.1 in
+    let many = done_many (puts_of tree lease None r.placing) w in
+    let one = one_left tree lease r.placing nothing in
     let few = told.few in
     subst (λ (ls : List Link). AreTold ls (length w + 1)) (sym k.ups.linked)
     (record { lows = told.lows; within = told.within; few = omega (arith, over, many, one, few) })
@@ -121,7 +121,8 @@ rising_told lease r o w None between nothing k =
 -- behind the last leaf
 begun_told : (lease own : Claim) (c : Chart) (o : Opening) (w : Calls) → VisitsAt lease own c o w → AreTold c.links (length w + 1)
 begun_told lease own c o w v =
-    let told = up_told c.tree lease c.run o.got (v.visit ∷ v.visits) [] (v.is, v.are) [] None tt in
+    let told : AreTold (links_behind (v.visit ∷ v.visits)) (length (visits_over c.tree lease (v.visit ∷ v.visits) [])) =
+    up_told c.tree lease c.run o.got (v.visit ∷ v.visits) [] (v.is, v.are) [] None tt in
     let calls : length w ≡ length (held_over c.tree lease v.visit (visits_over c.tree lease v.visits [])) = ap (λ (xs : Calls). length xs) v.calls in
     let few = told.few in
     subst (λ (ls : List Link). AreTold ls (length w + 1)) (sym v.linked)
@@ -148,7 +149,7 @@ module _ (tree : ℕ) (cs : Calls) (a : Answer) where
       let many = opening_many tree g.held.lease known.opening known.work cs known.calls in
       subst (λ (u : Rising). KnowsFew u.chart.links) (sym g.is) (record {
         calls = length known.work + 1;
-        told = rising_told g.held.lease g.from known.opening known.work g.from.last g.between g.nothing known.is;
+        told = rising_told g.held.lease g.from known.opening known.work g.between g.nothing known.is;
         most = omega (arith, many);
       })
 

@@ -92,7 +92,7 @@ looks_keep : (low : List ℕ) (looks rest : Calls) → IsAmong low (highs rest) 
 looks_keep low [] rest is = is
 looks_keep low (c ∷ looks) rest is = among_back low (high_in c.1) (highs (looks ++ rest)) (looks_keep low looks rest is)
 
-done_many : (asks : List Ask) (rest : Calls) → length (done_over asks rest) ≡ length asks + length rest
+pub done_many : (asks : List Ask) (rest : Calls) → length (done_over asks rest) ≡ length asks + length rest
 done_many [] rest = omega arith
 done_many (ask ∷ asks) rest = let more = done_many asks ((ask, call.Done) ∷ rest) in omega (arith, more)
 

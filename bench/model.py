@@ -119,6 +119,11 @@ class Model:
         if what in NOTES:
             must(said == "noted", f"{line}: {said}")
             self.note(session, what, *words[1:])
+        elif what == "put":
+            must(said == "noted", f"{line}: {said}")
+            tree, key, payload, attr = words[1:]
+            self.note(session, "insert", tree, key, payload, attr)
+            self.note(session, "insert", str(int(tree) + 8), f"{len(attr) // 2:02x}{attr}{key}", "-")
         elif what == "abort":
             session.buffer = {}
         elif what == "policy":

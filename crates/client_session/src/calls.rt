@@ -9,8 +9,10 @@ use cloud_trait::call::Call;
 use cloud_trait::cloud::Cloud;
 use cloud_trait::turn::Turn;
 use cloud_trait::who::Who;
+use db_base::attr::Attr;
 use db_base::change::Change;
 use db_base::ids::{ClientId, TreeId};
+use db_base::key::{Key, Payload};
 use db_base::pair::Pair;
 use db_base::refusal::{Refusal, Refused};
 use db_base::value::Value;
@@ -32,6 +34,17 @@ impl<H: Hand> SessionCalls for Session<H> {
 
     fn note(&mut self, tree: TreeId, change: Change) -> Result<(), Refused> {
         Session::note(self, tree, change)
+    }
+
+    fn put(
+        &mut self,
+        alloc: Global,
+        tree: TreeId,
+        key: Key,
+        payload: Payload,
+        attr: Attr,
+    ) -> Result<(), Refused> {
+        Session::put(self, alloc, tree, key, payload, attr)
     }
 
     fn abort(&mut self) -> Result<(), Refused> {

@@ -1,7 +1,8 @@
-ghost use Rattle.std.specs.Prelude.{◌≡◌, ◌≤◌, [], length, None, IfOk, IfErr, OnOk, OnErr};
+ghost use Rattle.std.specs.Prelude.{◌≡◌, ◌≤◌, ◌<◌, ◌↔◌, [], length, None, IfOk, IfErr, OnOk, OnErr};
 ghost use Rattle.std.specs.Option.{option_map, option_copied};
 ghost use Rattle.cloud_trait.specs.Call.{ask_of};
-ghost use Rattle.txn_buffer.specs.Noted.{noted_in};
+ghost use Rattle.db_base.specs.Entry.{entry_bytes};
+ghost use Rattle.txn_buffer.specs.Noted.{noted_in, put_in};
 
 use client_work::answer::{Answer, Begun};
 use client_work::hand::Hand;
@@ -12,8 +13,11 @@ use cloud_trait::call::Call;
 use cloud_trait::cloud::Cloud;
 use cloud_trait::turn::Turn;
 use cloud_trait::who::Who;
+use db_base::attr::Attr;
 use db_base::change::Change;
+use db_base::entry::index_insert;
 use db_base::ids::{ClientId, TreeId};
+use db_base::key::{Key, Payload};
 use db_base::pair::Pair;
 use db_base::refusal::{Refusal, Refused};
 use db_base::value::Value;
@@ -60,7 +64,7 @@ impl<H: Hand> Model for Session<H> {
 
 impl<H: Hand> Session<H> {
     ghost use Rattle.client_work.specs.BrokenOff.{broken_off};
-    ghost use Rattle.client_work.specs.Session.{Acting, closed_session, rule_of, NoteRefused, AbortRefused, Begins, StepsSession, settling_session, ask_of_work, committing_of, opens_of, applying_of, value_of, items_of, open_client};
+    ghost use Rattle.client_work.specs.Session.{Acting, closed_session, rule_of, MayIndex, NoteRefused, PutRefused, AbortRefused, Begins, StepsSession, settling_session, ask_of_work, committing_of, opens_of, applying_of, value_of, items_of, open_client};
 
     /// A closed session without changes. Refused for memory alone.
     pub fn new(alloc: Global) -> Result<Session<H>, Refused>
@@ -99,6 +103,45 @@ impl<H: Hand> Session<H> {
             return Err(Refused::Rule(rule));
         }
         let noted = self.buffer.note(tree, change);
+        // Read for the clause `few`.
+        let _ = self.buffer.len();
+        noted
+    }
+
+    /// Notes the insert of a record with an attribute, and that of its entry into the index of its tree, or neither. BadNumber exactly
+    /// for a tree above 8, which has no index; else LongEntry exactly where the entry has more than 64 bytes. A refusal changes nothing.
+    pub fn put(
+        &mut self,
+        alloc: Global,
+        tree: TreeId,
+        key: Key,
+        payload: Payload,
+        attr: Attr,
+    ) -> Result<(), Refused>
+        ensures ok { OnOk result ((self.new ≡ record self.old { buffer = put_in self.old.buffer tree key payload attr }) × (rule_of self.old.work ≡ None)) }
+        ensures indexed { OnOk result (MayIndex tree key attr) }
+        ensures err { OnErr result (self.new ≡ self.old) }
+        ensures cause { IfErr result (PutRefused self.old tree key payload attr) }
+        ensures above { (result ≡ Err (Refused.Rule Refusal.BadNumber)) ↔ (8 < tree) }
+        ensures long { (result ≡ Err (Refused.Rule Refusal.LongEntry)) ↔ ((tree ≤ 8) × (64 < length (entry_bytes attr key))) }
+        ensures few { OnOk result (length self.new.buffer ≤ 200) }
+    {
+        let Some(index) = tree.index() else {
+            return Err(Refused::Rule(Refusal::BadNumber));
+        };
+        let entry = match index_insert(alloc, &attr, &key) {
+            Ok(entry) => entry,
+            Err(why) => return Err(why),
+        };
+        if let Some(rule) = self.work.phase().rule() {
+            return Err(Refused::Rule(rule));
+        }
+        let insert = Change::Insert {
+            key,
+            payload,
+            attr: Some(attr),
+        };
+        let noted = self.buffer.note_both(tree, insert, index, entry);
         // Read for the clause `few`.
         let _ = self.buffer.len();
         noted

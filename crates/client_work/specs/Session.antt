@@ -4,10 +4,11 @@ use Rattle.db_base.specs.declared.refusal.Refusal.{Refusal}
 use Rattle.db_base.specs.declared.refusal.Refusal.TheVariants as rule
 use Rattle.head_codec.specs.declared.head.Head.{Head}
 use Rattle.db_base.specs.Change.{key_of}
+use Rattle.db_base.specs.Entry.{entry_bytes}
 use Rattle.db_base.specs.declared.pair.Pair.{Pair}
 use Rattle.db_base.specs.Value.{Value}
 use Rattle.db_base.specs.declared.change.Change.{Change}
-use Rattle.txn_buffer.specs.Noted.{Noted, found_in}
+use Rattle.txn_buffer.specs.Noted.{Noted, found_in, put_in}
 use Rattle.db_base.specs.declared.refusal.Refused.{Refused}
 use Rattle.db_base.specs.declared.refusal.Refused.TheVariants as refused
 use Rattle.db_base.specs.declared.trouble.Trouble.{Trouble}
@@ -120,6 +121,20 @@ NoteRefused s tree change (refused.Rule r) =
     (rule_of s.work ≡ Some r)
     ⊎ ((rule_of s.work ≡ None) × (r ≡ rule.TooManyChanges) × (found_in s.buffer tree (key_of change) ≡ None) × (200 ≤ length s.buffer))
 NoteRefused s tree change refused.Memory = Unit {0}
+
+-- a record may join the index of its tree: the tree has one, and the record's key there is a key
+pub record MayIndex (tree : ℕ) (key attr : List ℕ) : Type 0 where
+  pub has : tree ≤ 8
+  pub short : length (entry_bytes attr key) ≤ 64
+
+-- why a record is not put: it may not join the index, the number of its tree first; or as a change is not noted
+abbrev pub PutRefused : Acting → ℕ → List ℕ → List ℕ → List ℕ → Refused → Type 0
+PutRefused s tree key payload attr (refused.Rule r) =
+    ((r ≡ rule.BadNumber) × (8 < tree))
+    ⊎ (((r ≡ rule.LongEntry) × (tree ≤ 8) × (64 < length (entry_bytes attr key)))
+    ⊎ (MayIndex tree key attr
+    × ((rule_of s.work ≡ Some r) ⊎ ((rule_of s.work ≡ None) × (r ≡ rule.TooManyChanges) × (200 < length (put_in s.buffer tree key payload attr))))))
+PutRefused s tree key payload attr refused.Memory = MayIndex tree key attr
 
 -- why changes are not dropped: the rule of what is in hand
 abbrev pub AbortRefused : Acting → Refused → Type 0

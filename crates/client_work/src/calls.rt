@@ -3,9 +3,9 @@
 ghost use Rattle.std.specs.Prelude.{◌≡◌, ◌≤◌, [], length, None, IfOk, IfErr, OnOk, OnErr};
 ghost use Rattle.std.specs.Option.{option_map, option_copied};
 ghost use Rattle.cloud_trait.specs.Call.{ask_of};
-ghost use Rattle.txn_buffer.specs.Noted.{noted_in};
+ghost use Rattle.txn_buffer.specs.Noted.{noted_in, put_in};
 ghost use Rattle.client_work.specs.BrokenOff.{broken_off};
-ghost use Rattle.client_work.specs.Session.{Acting, closed_session, settling_session, rule_of, NoteRefused, AbortRefused, Begins, StepsSession, ask_of_work, committing_of, opens_of, applying_of, value_of, items_of, open_client};
+ghost use Rattle.client_work.specs.Session.{Acting, closed_session, settling_session, rule_of, MayIndex, NoteRefused, PutRefused, AbortRefused, Begins, StepsSession, ask_of_work, committing_of, opens_of, applying_of, value_of, items_of, open_client};
 
 use crate::answer::{Answer, Begun};
 use crate::op::Op;
@@ -13,8 +13,10 @@ use cloud_trait::call::Call;
 use cloud_trait::cloud::Cloud;
 use cloud_trait::turn::Turn;
 use cloud_trait::who::Who;
+use db_base::attr::Attr;
 use db_base::change::Change;
 use db_base::ids::{ClientId, TreeId};
+use db_base::key::{Key, Payload};
 use db_base::pair::Pair;
 use db_base::refusal::{Refusal, Refused};
 use db_base::value::Value;
@@ -43,6 +45,21 @@ pub trait SessionCalls: Drop {
         ensures ok { OnOk result ((acting self.new ≡ record (acting self.old) { buffer = noted_in (acting self.old).buffer tree change }) × (rule_of (acting self.old).work ≡ None)) }
         ensures err { OnErr result (acting self.new ≡ acting self.old) }
         ensures cause { IfErr result (NoteRefused (acting self.old) tree change) }
+        ensures few { OnOk result (length (acting self.new).buffer ≤ 200) };
+
+    /// Notes the insert of a record with an attribute, and that of its entry into the index of its tree. A refusal changes nothing.
+    fn put(
+        &mut self,
+        alloc: Global,
+        tree: TreeId,
+        key: Key,
+        payload: Payload,
+        attr: Attr,
+    ) -> Result<(), Refused>
+        ensures ok { OnOk result ((acting self.new ≡ record (acting self.old) { buffer = put_in (acting self.old).buffer tree key payload attr }) × (rule_of (acting self.old).work ≡ None)) }
+        ensures indexed { OnOk result (MayIndex tree key attr) }
+        ensures err { OnErr result (acting self.new ≡ acting self.old) }
+        ensures cause { IfErr result (PutRefused (acting self.old) tree key payload attr) }
         ensures few { OnOk result (length (acting self.new).buffer ≤ 200) };
 
     /// Drops the changes of an open client. A refusal changes nothing.

@@ -22,11 +22,11 @@ use Rattle.ckpt_policy.specs.declared.role.Role.TheVariants.{Writer, Reader, Wat
 use Rattle.event_text.specs.declared.event.Event.{Event}
 use Rattle.event_text.specs.declared.event.Event.TheVariants as event
 use Rattle.event_text.specs.declared.keyword.Keyword.{Keyword}
-use Rattle.event_text.specs.declared.keyword.Keyword.TheVariants.{Open, Close, Renew, Insert, Update, Delete, Add, Commit, Abort, Read, Scan, Page, Tree, Policy, Work, Step, Run, Crash, Wait, Report, Settle}
+use Rattle.event_text.specs.declared.keyword.Keyword.TheVariants.{Open, Close, Renew, Insert, Put, Update, Delete, Add, Commit, Abort, Read, Scan, Page, Tree, Policy, Work, Step, Run, Crash, Wait, Report, Settle}
 use Rattle.event_text.specs.Keyword.{keyword_of, keyword_text, keywords, is_shell}
 use Rattle.event_text.specs.RoleWord.{role_of, role_text, roles}
 use Rattle.event_text.specs.Event.{wish_words, crash_words, event_words, line_of, spelling, IsWish, IsInRange, IsEvent, IsShellLine}
-use Rattle.event_text.specs.Reading.{alone, positions_of, wish_by, wish_of, done_of, insert_of, policy_of, event_by, session_event, event_behind, event_of_words, shell_event_of_words}
+use Rattle.event_text.specs.Reading.{alone, positions_of, wish_by, wish_of, done_of, insert_of, put_of, policy_of, event_by, session_event, event_behind, event_of_words, shell_event_of_words}
 
 -- ---- steps
 
@@ -74,6 +74,7 @@ keyword_of-again Open = refl
 keyword_of-again Close = refl
 keyword_of-again Renew = refl
 keyword_of-again Insert = refl
+keyword_of-again Put = refl
 keyword_of-again Update = refl
 keyword_of-again Delete = refl
 keyword_of-again Add = refl
@@ -209,6 +210,26 @@ unfolding insert_of
 insert_of-again tree key payload attr t k p a =
     rw (number_at-again tree (hexadecimal key ∷ hexadecimal payload ∷ last_words attr) t, bytes_at-again key (hexadecimal payload ∷ last_words attr) k, bytes_at-again payload (last_words attr) p, last_of-again attr a) refl
 
+put_of-takes : (words : List (List ℕ)) (x : ℕ × List ℕ × List ℕ × List ℕ) → put_of words ≡ Some x → (x.0 < 2 ^ 64) × AreBytes x.1 × AreBytes x.2 × AreBytes x.3 × (words ≡ decimal x.0 ∷ hexadecimal x.1 ∷ hexadecimal x.2 ∷ hexadecimal x.3 ∷ [])
+unfolding put_of
+put_of-takes words x e =
+    let t = bind_some (number_at words) _ x e in
+    let k = bind_some (bytes_at t.0.1) _ x t.2 in
+    let p = bind_some (bytes_at k.0.1) _ x k.2 in
+    let a = bind_some (bytes_at p.0.1) _ x p.2 in
+    let z = bind_some (end_at a.0.1) _ x a.2 in
+    let tree = number_at-takes words t.0 t.1 in
+    let key = bytes_at-takes t.0.1 k.0 k.1 in
+    let payload = bytes_at-takes k.0.1 p.0 p.1 in
+    let attr = bytes_at-takes p.0.1 a.0 a.1 in
+    let same : (t.0.0, k.0.0, p.0.0, a.0.0) ≡ x = same_Some (t.0.0, k.0.0, p.0.0, a.0.0) x z.2 in
+    rw (← same) (tree.0, key.0, payload.0, attr.0, tree.1 ∙ behind _ (key.1 ∙ behind _ (payload.1 ∙ behind _ (attr.1 ∙ behind _ (end_at-takes a.0.1 z.0 z.1)))))
+
+put_of-again : (tree : ℕ) (key payload attr : List ℕ) → tree < 2 ^ 64 → AreBytes key → AreBytes payload → AreBytes attr → put_of (decimal tree ∷ hexadecimal key ∷ hexadecimal payload ∷ hexadecimal attr ∷ []) ≡ Some (tree, key, payload, attr)
+unfolding put_of
+put_of-again tree key payload attr t k p a =
+    rw (number_at-again tree (hexadecimal key ∷ hexadecimal payload ∷ hexadecimal attr ∷ []) t, bytes_at-again key (hexadecimal payload ∷ hexadecimal attr ∷ []) k, bytes_at-again payload (hexadecimal attr ∷ []) p, bytes_at-again attr [] a, end_at-again) refl
+
 -- ---- roles
 
 role_found : (word : List ℕ) (role : Role) (among : List Role) → find (λ r. bytes_eq (role_text r) word) among ≡ Some role → word ≡ role_text role
@@ -260,6 +281,10 @@ event_by-takes Renew session words e small h =
 event_by-takes Insert session words e small h =
     let m = mapped (λ (x : ℕ × List ℕ × List ℕ × Option (List ℕ)). event.Insert session x.0 x.1 x.2 x.3) (insert_of words) e h in
     let x = insert_of-takes words m.0 m.1 in
+    rw (← m.2) ((small, x.0, x.1, x.2, x.3), behind _ (behind _ x.4))
+event_by-takes Put session words e small h =
+    let m = mapped (λ (x : ℕ × List ℕ × List ℕ × List ℕ). event.Put session x.0 x.1 x.2 x.3) (put_of words) e h in
+    let x = put_of-takes words m.0 m.1 in
     rw (← m.2) ((small, x.0, x.1, x.2, x.3), behind _ (behind _ x.4))
 event_by-takes Update session words e small h =
     let m = mapped (λ (x : ℕ × List ℕ × List ℕ). event.Update session x.0 x.1 x.2) (record_of words) e h in
@@ -341,6 +366,7 @@ event_behind-takes Open words e h = session_event-takes Open words e h
 event_behind-takes Close words e h = session_event-takes Close words e h
 event_behind-takes Renew words e h = session_event-takes Renew words e h
 event_behind-takes Insert words e h = session_event-takes Insert words e h
+event_behind-takes Put words e h = session_event-takes Put words e h
 event_behind-takes Update words e h = session_event-takes Update words e h
 event_behind-takes Delete words e h = session_event-takes Delete words e h
 event_behind-takes Add words e h = session_event-takes Add words e h
@@ -372,6 +398,7 @@ event_of_words-again (event.Open session client) h = rw (number_at-again session
 event_of_words-again (event.Close session) h = rw (number_at-again session [] h, alone-again (event.Close session)) refl
 event_of_words-again (event.Renew session) h = rw (number_at-again session [] h, alone-again (event.Renew session)) refl
 event_of_words-again (event.Insert session tree key payload attr) h = rw (number_at-again session (decimal tree ∷ hexadecimal key ∷ hexadecimal payload ∷ last_words attr) h.0, insert_of-again tree key payload attr h.1 h.2 h.3 h.4) refl
+event_of_words-again (event.Put session tree key payload attr) h = rw (number_at-again session (decimal tree ∷ hexadecimal key ∷ hexadecimal payload ∷ hexadecimal attr ∷ []) h.0, put_of-again tree key payload attr h.1 h.2 h.3 h.4) refl
 event_of_words-again (event.Update session tree key payload) h = rw (number_at-again session (decimal tree ∷ hexadecimal key ∷ hexadecimal payload ∷ []) h.0, record_of-again tree key payload h.1 h.2 h.3) refl
 event_of_words-again (event.Delete session tree key) h = rw (number_at-again session (decimal tree ∷ hexadecimal key ∷ []) h.0, place_of-again tree key h.1 h.2) refl
 event_of_words-again (event.Add session tree key amount) h = rw (number_at-again session (decimal tree ∷ hexadecimal key ∷ decimal amount ∷ []) h.0, sum_of-again tree key amount h.1 h.2 h.3) refl
@@ -430,6 +457,7 @@ event_lacks (event.Open session client) h = rw (lacks_number session h.0, lacks_
 event_lacks (event.Close session) h = rw (lacks_number session h) refl
 event_lacks (event.Renew session) h = rw (lacks_number session h) refl
 event_lacks (event.Insert session tree key payload attr) h = rw (lacks_number session h.0, lacks_number tree h.1, lacks_bytes key h.2, lacks_bytes payload h.3, last_lacks attr h.4) refl
+event_lacks (event.Put session tree key payload attr) h = rw (lacks_number session h.0, lacks_number tree h.1, lacks_bytes key h.2, lacks_bytes payload h.3, lacks_bytes attr h.4) refl
 event_lacks (event.Update session tree key payload) h = rw (lacks_number session h.0, lacks_number tree h.1, lacks_bytes key h.2, lacks_bytes payload h.3) refl
 event_lacks (event.Delete session tree key) h = rw (lacks_number session h.0, lacks_number tree h.1, lacks_bytes key h.2) refl
 event_lacks (event.Add session tree key amount) h = rw (lacks_number session h.0, lacks_number tree h.1, lacks_bytes key h.2, lacks_number amount h.3) refl
@@ -510,6 +538,7 @@ shell_behind Crash h rest = absurd cc
 shell_behind Wait h rest = absurd cc
 shell_behind Report h rest = absurd cc
 shell_behind Settle h rest = absurd cc
+shell_behind Put h rest = absurd cc
 shell_behind Policy h rest = absurd cc
 shell_behind Work h rest = absurd cc
 

@@ -10,7 +10,7 @@ use Rattle.event_text.specs.declared.event.Event.{Event}
 use Rattle.event_text.specs.declared.keyword.Keyword.{Keyword}
 use Rattle.event_text.specs.RoleWord.{role_text}
 use Rattle.event_text.specs.Keyword.{keyword_text, is_shell}
-use Rattle.event_text.specs.declared.event.Event.TheVariants.{Open, Close, Renew, Insert, Update, Delete, Add, Commit, Abort, Read, Scan, Page, Tree, Policy, Work, Step, Run, Crash, Wait, Report, Settle}
+use Rattle.event_text.specs.declared.event.Event.TheVariants.{Open, Close, Renew, Insert, Put, Update, Delete, Add, Commit, Abort, Read, Scan, Page, Tree, Policy, Work, Step, Run, Crash, Wait, Report, Settle}
 
 -- the words of a wish
 abbrev pub wish_words : Wish → List (List ℕ)
@@ -32,6 +32,7 @@ event_words (Open session client) = codes "open" ∷ decimal session ∷ decimal
 event_words (Close session) = codes "close" ∷ decimal session ∷ []
 event_words (Renew session) = codes "renew" ∷ decimal session ∷ []
 event_words (Insert session tree key payload attr) = codes "insert" ∷ decimal session ∷ decimal tree ∷ hexadecimal key ∷ hexadecimal payload ∷ last_words attr
+event_words (Put session tree key payload attr) = codes "put" ∷ decimal session ∷ decimal tree ∷ hexadecimal key ∷ hexadecimal payload ∷ hexadecimal attr ∷ []
 event_words (Update session tree key payload) = codes "update" ∷ decimal session ∷ decimal tree ∷ hexadecimal key ∷ hexadecimal payload ∷ []
 event_words (Delete session tree key) = codes "delete" ∷ decimal session ∷ decimal tree ∷ hexadecimal key ∷ []
 event_words (Add session tree key amount) = codes "add" ∷ decimal session ∷ decimal tree ∷ hexadecimal key ∷ decimal amount ∷ []
@@ -73,6 +74,7 @@ IsInRange (Open session client) = (session < 2 ^ 64) × (client < 2 ^ 64)
 IsInRange (Close session) = session < 2 ^ 64
 IsInRange (Renew session) = session < 2 ^ 64
 IsInRange (Insert session tree key payload attr) = (session < 2 ^ 64) × (tree < 2 ^ 64) × AreBytes key × AreBytes payload × IfSome attr AreBytes
+IsInRange (Put session tree key payload attr) = (session < 2 ^ 64) × (tree < 2 ^ 64) × AreBytes key × AreBytes payload × AreBytes attr
 IsInRange (Update session tree key payload) = (session < 2 ^ 64) × (tree < 2 ^ 64) × AreBytes key × AreBytes payload
 IsInRange (Delete session tree key) = (session < 2 ^ 64) × (tree < 2 ^ 64) × AreBytes key
 IsInRange (Add session tree key amount) = (session < 2 ^ 64) × (tree < 2 ^ 64) × AreBytes key × (amount < 2 ^ 64)

@@ -3,7 +3,7 @@ use Rattle.std.specs.Prelude.{ℕ, Bool, true, false, List, [], ◌∷◌, Optio
 use Rattle.std.specs.List.{find}
 use Rattle.std.specs.Str.{bytes_eq}
 use Rattle.event_text.specs.declared.keyword.Keyword.{Keyword}
-use Rattle.event_text.specs.declared.keyword.Keyword.TheVariants.{Open, Close, Renew, Insert, Update, Delete, Add, Commit, Abort, Read, Scan, Page, Tree, Policy, Work, Step, Run, Crash, Wait, Report, Settle}
+use Rattle.event_text.specs.declared.keyword.Keyword.TheVariants.{Open, Close, Renew, Insert, Put, Update, Delete, Add, Commit, Abort, Read, Scan, Page, Tree, Policy, Work, Step, Run, Crash, Wait, Report, Settle}
 
 -- the spelling of a keyword
 abbrev pub keyword_text : Keyword → List ℕ
@@ -11,6 +11,7 @@ keyword_text Open = codes "open"
 keyword_text Close = codes "close"
 keyword_text Renew = codes "renew"
 keyword_text Insert = codes "insert"
+keyword_text Put = codes "put"
 keyword_text Update = codes "update"
 keyword_text Delete = codes "delete"
 keyword_text Add = codes "add"
@@ -31,7 +32,7 @@ keyword_text Settle = codes "settle"
 
 -- all keywords
 abbrev pub keywords : List Keyword
-keywords = Open ∷ Close ∷ Renew ∷ Insert ∷ Update ∷ Delete ∷ Add ∷ Commit ∷ Abort ∷ Read ∷ Scan ∷ Page ∷ Tree ∷ Policy ∷ Work ∷ Step ∷ Run ∷ Crash ∷ Wait ∷ Report ∷ Settle ∷ []
+keywords = Open ∷ Close ∷ Renew ∷ Insert ∷ Put ∷ Update ∷ Delete ∷ Add ∷ Commit ∷ Abort ∷ Read ∷ Scan ∷ Page ∷ Tree ∷ Policy ∷ Work ∷ Step ∷ Run ∷ Crash ∷ Wait ∷ Report ∷ Settle ∷ []
 
 -- the keyword that a word spells
 abbrev pub keyword_of : List ℕ → Option Keyword
@@ -58,5 +59,6 @@ is_shell Crash = false
 is_shell Wait = false
 is_shell Report = false
 is_shell Settle = false
+is_shell Put = false
 is_shell Policy = false
 is_shell Work = false

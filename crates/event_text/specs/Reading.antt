@@ -8,7 +8,7 @@ use Rattle.ckpt_policy.specs.declared.role.Role.{Role}
 use Rattle.event_text.specs.declared.event.Event.{Event}
 use Rattle.event_text.specs.declared.event.Event.TheVariants as event
 use Rattle.event_text.specs.declared.keyword.Keyword.{Keyword}
-use Rattle.event_text.specs.declared.keyword.Keyword.TheVariants.{Open, Close, Renew, Insert, Update, Delete, Add, Commit, Abort, Read, Scan, Page, Tree, Policy, Work, Step, Run, Crash, Wait, Report, Settle}
+use Rattle.event_text.specs.declared.keyword.Keyword.TheVariants.{Open, Close, Renew, Insert, Put, Update, Delete, Add, Commit, Abort, Read, Scan, Page, Tree, Policy, Work, Step, Run, Crash, Wait, Report, Settle}
 use Rattle.event_text.specs.Keyword.{keyword_of, is_shell}
 use Rattle.event_text.specs.RoleWord.{role_of}
 
@@ -55,6 +55,16 @@ insert_of words = do
   attr ← last_of payload.1
   Some (tree.0, key.0, payload.0, attr)
 
+-- a tree, a key, a payload, an attribute, and nothing else
+unfoldable pub put_of : List (List ℕ) → Option (ℕ × List ℕ × List ℕ × List ℕ)
+put_of words = do
+  tree ← number_at words
+  key ← bytes_at tree.1
+  payload ← bytes_at key.1
+  attr ← bytes_at payload.1
+  end ← end_at attr.1
+  Some (tree.0, key.0, payload.0, attr.0)
+
 -- a role, a number, and nothing else
 unfoldable pub policy_of : List (List ℕ) → Option (Role × ℕ)
 policy_of words = do
@@ -69,6 +79,7 @@ event_by Open session words = option_map (event.Open session) (one_of words)
 event_by Close session words = alone (event.Close session) words
 event_by Renew session words = alone (event.Renew session) words
 event_by Insert session words = option_map (λ x. event.Insert session x.0 x.1 x.2 x.3) (insert_of words)
+event_by Put session words = option_map (λ x. event.Put session x.0 x.1 x.2 x.3) (put_of words)
 event_by Update session words = option_map (λ x. event.Update session x.0 x.1 x.2) (record_of words)
 event_by Delete session words = option_map (λ x. event.Delete session x.0 x.1) (place_of words)
 event_by Add session words = option_map (λ x. event.Add session x.0 x.1 x.2) (sum_of words)

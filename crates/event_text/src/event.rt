@@ -25,6 +25,14 @@ pub enum Event {
         payload: Blob,
         attr: Option<Blob>,
     },
+    /// Notes an insert with an attribute, and its record in the index of the tree.
+    Put {
+        session: u64,
+        tree: u64,
+        key: Blob,
+        payload: Blob,
+        attr: Blob,
+    },
     /// Notes an update.
     Update {
         session: u64,
@@ -123,6 +131,13 @@ impl Drop for Event {
             Event::Close { session: _ } => {}
             Event::Renew { session: _ } => {}
             Event::Insert {
+                session: _,
+                tree: _,
+                key: _,
+                payload: _,
+                attr: _,
+            } => {}
+            Event::Put {
                 session: _,
                 tree: _,
                 key: _,

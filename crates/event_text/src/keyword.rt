@@ -11,6 +11,8 @@ pub enum Keyword {
     Renew,
     /// `insert`
     Insert,
+    /// `put`
+    Put,
     /// `update`
     Update,
     /// `delete`
@@ -48,11 +50,12 @@ pub enum Keyword {
 }
 
 /// All keywords.
-const KEYWORDS: [Keyword; 21] = [
+const KEYWORDS: [Keyword; 22] = [
     Keyword::Open,
     Keyword::Close,
     Keyword::Renew,
     Keyword::Insert,
+    Keyword::Put,
     Keyword::Update,
     Keyword::Delete,
     Keyword::Add,
@@ -84,6 +87,7 @@ impl Keyword {
             Keyword::Close => "close",
             Keyword::Renew => "renew",
             Keyword::Insert => "insert",
+            Keyword::Put => "put",
             Keyword::Update => "update",
             Keyword::Delete => "delete",
             Keyword::Add => "add",
@@ -124,7 +128,7 @@ impl Keyword {
             Keyword::Tree | Keyword::Renew | Keyword::Add => true,
             Keyword::Open | Keyword::Close | Keyword::Step | Keyword::Run => false,
             Keyword::Crash | Keyword::Wait | Keyword::Report | Keyword::Settle => false,
-            Keyword::Policy | Keyword::Work => false,
+            Keyword::Put | Keyword::Policy | Keyword::Work => false,
         }
     }
 }

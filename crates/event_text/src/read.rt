@@ -1,7 +1,7 @@
 ghost use Rattle.std.specs.Prelude.{◌≡◌, ◌≢◌, ℕ, List, [], ◌∷◌, ◌++◌, IfOk, IfSome, IfNone};
 ghost use Rattle.words.specs.Word.{Reads, IsReadTo};
 ghost use Rattle.words.specs.Line.{parts_of};
-ghost use Rattle.event_text.specs.Reading.{alone, positions_of, wish_by, wish_of, done_of, insert_of, policy_of, event_by, session_event, event_behind, event_of_words, shell_event_of_words};
+ghost use Rattle.event_text.specs.Reading.{alone, positions_of, wish_by, wish_of, done_of, insert_of, put_of, policy_of, event_by, session_event, event_behind, event_of_words, shell_event_of_words};
 ghost use Rattle.event_text.specs.Event.{IsEvent, IsShellLine};
 
 use crate::event::Event;
@@ -106,6 +106,19 @@ fn insert(alloc: Global, words: Parts<'_>) -> Result<(u64, Blob, Blob, Option<Bl
     Ok((tree, key, payload, attr))
 }
 
+/// A tree, a key, a payload, an attribute, and nothing else.
+#[tactic(auto, unfolding(crate::specs::Reading::put_of))]
+fn put(alloc: Global, words: Parts<'_>) -> Result<(u64, Blob, Blob, Blob), TextFault>
+    ensures { Reads result (put_of words.entry) }
+{
+    let (tree, words) = words.number()?;
+    let (key, words) = words.bytes(alloc)?;
+    let (payload, words) = words.bytes(alloc)?;
+    let (attr, words) = words.bytes(alloc)?;
+    words.end()?;
+    Ok((tree, key, payload, attr))
+}
+
 /// A role and a number, and nothing else.
 #[tactic(auto, unfolding(crate::specs::Reading::policy_of))]
 fn policy(words: Parts<'_>) -> Result<(Role, u64), TextFault>
@@ -150,6 +163,16 @@ fn event_by(
         Keyword::Insert => {
             let (tree, key, payload, attr) = insert(alloc, words)?;
             Ok(Event::Insert {
+                session,
+                tree,
+                key,
+                payload,
+                attr,
+            })
+        }
+        Keyword::Put => {
+            let (tree, key, payload, attr) = put(alloc, words)?;
+            Ok(Event::Put {
                 session,
                 tree,
                 key,

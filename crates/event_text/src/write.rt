@@ -145,6 +145,24 @@ fn insert_line(
     }
 }
 
+/// The line of a record that is put: a session, a tree, a key, a payload and an attribute.
+fn put_line(
+    alloc: Global,
+    session: u64,
+    tree: u64,
+    key: &Blob,
+    payload: &Blob,
+    attr: &Blob,
+) -> Result<String, AllocError>
+    ensures { IfOk result (λ line. string_bytes line ≡ line_of (codes "put" ∷ decimal session ∷ decimal tree ∷ hexadecimal key.now ∷ hexadecimal payload.now ∷ hexadecimal attr.now ∷ [])) }
+{
+    let key = hexadecimal(alloc, key.as_slice())?;
+    let payload = hexadecimal(alloc, payload.as_slice())?;
+    let attr = hexadecimal(alloc, attr.as_slice())?;
+    let line = format!(in alloc; "put {session} {tree} {key} {payload} {attr}\n")?;
+    Ok(line)
+}
+
 /// The line of a step under a wish that names positions.
 fn give_line(alloc: Global, session: u64, positions: &[u64]) -> Result<String, AllocError>
     ensures { IfOk result (λ line. string_bytes line ≡ line_of (codes "step" ∷ decimal session ∷ codes "give" ∷ map decimal positions.now)) }
@@ -190,6 +208,13 @@ impl Event {
                 payload,
                 attr,
             } => insert_line(alloc, *session, *tree, key, payload, attr),
+            Event::Put {
+                session,
+                tree,
+                key,
+                payload,
+                attr,
+            } => put_line(alloc, *session, *tree, key, payload, attr),
             Event::Update {
                 session,
                 tree,

@@ -5,7 +5,7 @@ use crate::output::output;
 use std::io;
 
 /// Their names, the shortest walks first.
-const NAMES: [&str; 22] = [
+const NAMES: [&str; 23] = [
     "first-path",
     "two-transactions",
     "three-trees",
@@ -17,6 +17,7 @@ const NAMES: [&str; 22] = [
     "two-writers",
     "counter",
     "attributes",
+    "index",
     "old-read",
     "writer-works",
     "reader-works",

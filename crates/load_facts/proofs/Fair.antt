@@ -70,7 +70,7 @@ module _ (n : ℕ) (before after : Seen) (old new : World) (r : Reply) where
 
   insert_fair : (session tree : ℕ) (key payload : List ℕ) (attr : Option (List ℕ)) (asked : Asked) → Asks (event.Insert session tree key payload attr) asked
       → Answers n asked before after old new (Ok r) → r ≡ reply.Begun → ⊥
-  insert_fair session tree key payload attr (Session k (Ok (Note t change))) asks (inl p) is = let c = p.1.1 in notes_not c.does.noted c.does.replies is
+  insert_fair session tree key payload attr (Session k (Ok (Note noting))) asks (inl p) is = let c = p.1.1 in notes_not c.does.noted c.does.replies is
   insert_fair session tree key payload attr (Session k (Ok (Begin o))) asks (inl p) is = asks.1
   insert_fair session tree key payload attr (Session k (Ok Abort)) asks (inl p) is = asks.1
   insert_fair session tree key payload attr (Session k (Ok (Policy role kept))) asks (inl p) is = asks.1

@@ -19,7 +19,6 @@ use Rattle.cloud_trait.specs.declared.turn.Turn.{Turn}
 use Rattle.cloud_trait.specs.declared.turn.Turn.TheVariants.{More, Ended, Stopped}
 use Rattle.commit_run.specs.Run.{home_of}
 use Rattle.db_base.specs.Value.{Value}
-use Rattle.db_base.specs.declared.change.Change.{Change}
 use Rattle.db_base.specs.declared.refusal.Refused.{Refused}
 use Rattle.db_base.specs.declared.refusal.Refused.TheVariants as refused
 use Rattle.db_base.specs.declared.trouble.CommitAnswer.{CommitAnswer}
@@ -47,6 +46,7 @@ use Rattle.world_core.specs.Sessions.{Changes, NotesIn}
 use Rattle.world_core.specs.World.{World}
 use Rattle.world_core.specs.declared.asked.Asked.{Asked}
 use Rattle.world_core.specs.declared.asked.Asked.TheVariants.{Session, Wait, Report, Settle}
+use Rattle.world_core.specs.declared.asked.Noting.{Noting}
 use Rattle.world_core.specs.declared.asked.Request.{Request}
 use Rattle.world_core.specs.declared.asked.Request.TheVariants.{Begin, Note, Abort, Policy, Work as WorksDue, Step, Run, Crash}
 use Rattle.load_facts.proofs.Fair.{declined_not}
@@ -307,19 +307,19 @@ module _ (m n : ℕ) (before after : Seen) (old new : World) (r : Reply) (h : Nu
   committing_so session Settle one is asks p = absurd asks
 
   -- a note
-  noted_so : (tree : ℕ) (change : Change) → Does m 1 (Note tree change) before after old new (Ok r) → Numbered n (own_work new)
-  noted_so tree change does =
+  noted_so : (noting : Noting) → Does m 1 (Note noting) before after old new (Ok r) → Numbered n (own_work new)
+  noted_so noting does =
       let c = does.1 in
       let w = changes_work _ old new c in
       subst (Numbered n) (sym w.1) (subst (Numbered n) (sym (by_note c.does.noted c.does.notes)) (subst (Numbered n) w.0 h))
     where
-      by_note : (noted : Result (Unit {0}) Refused) → NotesIn tree change does.1.before does.1.after noted → does.1.after.work ≡ does.1.before.work
+      by_note : (noted : Result (Unit {0}) Refused) → NotesIn noting does.1.before does.1.after noted → does.1.after.work ≡ does.1.before.work
       by_note (Ok done) k = ap (λ (z : Acting). z.work) k.0
       by_note (Err why) k = ap (λ (z : Acting). z.work) k.0
 
   insert_so : (session tree : ℕ) (key payload : List ℕ) (attr : Option (List ℕ)) (asked : Asked) → session ≡ 1 → Asks (event.Insert session tree key payload attr) asked
       → Answers m asked before after old new (Ok r) → Numbered n (own_work new)
-  insert_so session tree key payload attr (Session k (Ok (Note t change))) one asks (inl p) = noted_so t change (of_one k (Note t change) (Note t change) (asks.0 ∙ one) refl p.1)
+  insert_so session tree key payload attr (Session k (Ok (Note noting))) one asks (inl p) = noted_so noting (of_one k (Note noting) (Note noting) (asks.0 ∙ one) refl p.1)
   insert_so session tree key payload attr (Session k (Ok (Begin o))) one asks (inl p) = absurd asks.1
   insert_so session tree key payload attr (Session k (Ok Abort)) one asks (inl p) = absurd asks.1
   insert_so session tree key payload attr (Session k (Ok (Policy role kept))) one asks (inl p) = absurd asks.1

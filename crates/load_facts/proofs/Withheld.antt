@@ -132,7 +132,7 @@ module _ (n : ℕ) (before after : Seen) (old new : World) (r : Reply) where
 
   does : (k : ℕ) (request : Request) → Does n k request before after old new (Ok r) → Withholds before after
   does k (Begin op) h = withholds_same before after h.0.seen
-  does k (Note tree change) h = withholds_same before after h.0.seen
+  does k (Note noting) h = withholds_same before after h.0.seen
   does k Abort h = withholds_same before after h.0.seen
   does k (Policy role number) h = policy k role number h
   does k WorksDue h = through k h

@@ -1,9 +1,29 @@
-//! Tests of what the machines and the world stand on.
+//! Tests of the machines that write, over a cloud in memory.
 #![tactic(auto)]
 
 #[cfg(test)]
-mod dark_cloud;
+mod checkpoints;
 #[cfg(test)]
-mod dump_take_tests;
+mod commit_run_tests;
 #[cfg(test)]
-mod world_audit_tests;
+mod commits;
+#[cfg(test)]
+mod machine;
+#[cfg(test)]
+mod objects;
+#[cfg(test)]
+mod page_ckpt_tests;
+#[cfg(test)]
+mod recover_run_tests;
+#[cfg(test)]
+mod recoveries;
+#[cfg(test)]
+mod settle_run_tests;
+#[cfg(test)]
+mod store;
+#[cfg(test)]
+mod story;
+#[cfg(test)]
+mod tree_ckpt_tests;
+#[cfg(test)]
+mod trees;

@@ -96,9 +96,10 @@ right_at_end : (r : Range) (ls : List Leaf) (m : Scan × Cache) (a : Answer) (sp
     → IsAtEnd r ls m a (record m.0 { passed = m.0.passed ++ spot.page ∷ [] }) c l spot.page
 right_at_end r ls m a spot c l h read low =
     let hand : scan_object m.0 ≡ object.Page r.tree spot.page = ap (scan_object_at m.0) read.in_hand ∙ ap (λ (t : ℕ). object.Page t spot.page) h.walk.0 in
-    let kept : kept_at c (scan_object m.0) ≡ Some read.got = accept_kept m.1 (scan_object m.0) true read.got read.version c read.accepted in
+    let brought : kept_at c (object.Page r.tree spot.page) ≡ Some read.got = ap (kept_at c) (sym hand) ∙ accept_kept m.1 (scan_object m.0) true read.got read.version c read.accepted in
+    let there : leaf_at c (object.Page r.tree spot.page) ≡ Some l = ap (leaf_at c) (sym hand) ∙ read.kept in
     record {
-      got = record { page = spot.page; got = read.got; asked = ap Get hand; answered = read.answered; spelled = sym (ap as_leaf kept) ∙ read.kept };
+      got = record { page = spot.page; got = read.got; asked = ap Get hand; answered = read.answered; spelled = sym (ap as_leaf brought) ∙ there };
       in_hand = hand;
       continues = on ls (subst (InHand r ls m.0.walk) read.in_hand h.hand);
       to = h.to;

@@ -144,7 +144,7 @@ right_comes s c spot a = by_got (got_of a) refl where
       → Comes m a (scan_beside (right_accepted m.0 c r))
   by_accept got answered (Err t) e = refuses spot got t refl answered e
   by_accept got answered (Ok (version, d)) e =
-      let (l, kept) = accept_leaf c s.walk.tree spot.page got version d e in
+      let (l, kept, same) = accept_leaf c s.walk.tree spot.page got version d e in
       let read : IsRead m a spot d l = record { in_hand = refl; got = got; version = version; answered = answered; accepted = e; kept = kept } in
       subst (λ (o : Option Leaf). Comes m a (scan_beside (right_read_in m.0 o, d))) (sym kept) (fence d l read (bytes_same l.low spot.low) refl)
 

@@ -8,7 +8,7 @@ use Rattle.event_text.specs.declared.event.Event.{Event}
 use Rattle.event_text.specs.declared.event.Event.TheVariants as event
 use Rattle.reply_text.specs.declared.reply.Reply.{Reply}
 use Rattle.reply_text.specs.declared.reply.Reply.TheVariants as reply
-use Rattle.txn_buffer.specs.Noted.{Noted, noted_in}
+use Rattle.txn_buffer.specs.Noted.{Noted, noted_in, put_in}
 
 -- a line that was handled: its event and its reply
 pub record Line : Type 0 where
@@ -67,10 +67,18 @@ begins_commit reply.Begun s = record s { posture = Working (Committing s.buffer)
 begins_commit (reply.Commit (NotCommitted t)) s = record s { buffer = [] }
 begins_commit reply s = s
 
+-- what is noted joins the buffer
+abbrev pub joins : (List Noted → List Noted) → Reply → Standing → Standing
+joins Join reply.Noted s = record s { buffer = Join s.buffer }
+joins Join reply s = s
+
 -- a change joins the buffer; where its tree and key are there, the net change takes its place
 abbrev pub notes : ℕ → Change → Reply → Standing → Standing
-notes tree change reply.Noted s = record s { buffer = noted_in s.buffer tree change }
-notes tree change reply s = s
+notes tree change reply s = joins (λ buffer. noted_in buffer tree change) reply s
+
+-- a record with an attribute joins it, and its entry in the index of its tree
+abbrev pub puts : ℕ → List ℕ → List ℕ → List ℕ → Reply → Standing → Standing
+puts tree key payload attr reply s = joins (λ buffer. put_in buffer tree key payload attr) reply s
 
 abbrev pub aborts : Reply → Standing → Standing
 aborts reply.Aborted s = record s { buffer = [] }
@@ -118,6 +126,7 @@ after_own (event.Open session client) reply s = begins_opening client reply s
 after_own (event.Close session) reply s = begins Closing reply s
 after_own (event.Renew session) reply s = begins Renewing reply s
 after_own (event.Insert session tree key payload attr) reply s = notes tree (Insert key payload attr) reply s
+after_own (event.Put session tree key payload attr) reply s = puts tree key payload attr reply s
 after_own (event.Update session tree key payload) reply s = notes tree (Update key payload) reply s
 after_own (event.Delete session tree key) reply s = notes tree (Delete key) reply s
 after_own (event.Add session tree key amount) reply s = notes tree (Add key amount) reply s
@@ -142,6 +151,7 @@ session_of (event.Open session client) = session
 session_of (event.Close session) = session
 session_of (event.Renew session) = session
 session_of (event.Insert session tree key payload attr) = session
+session_of (event.Put session tree key payload attr) = session
 session_of (event.Update session tree key payload) = session
 session_of (event.Delete session tree key) = session
 session_of (event.Add session tree key amount) = session

@@ -16,6 +16,8 @@ mod dumps;
 #[cfg(test)]
 mod ends;
 #[cfg(test)]
+mod index;
+#[cfg(test)]
 mod killed_loads;
 #[cfg(test)]
 mod long_dumps;

@@ -126,3 +126,22 @@ fn keeps_the_count(rt: HostRuntime) {
     let end = b"202 noted\n203 refused 4 too-many\n204 noted\n".as_slice();
     assert!(rt; ends_behind_inserts(rt.alloc(), end));
 }
+
+/// Whether 199 inserts, a put of a new key and an insert of a new one are written so at their end.
+fn ends_behind_a_put(alloc: Global, end: &[u8]) -> bool {
+    let mut input = Vec::new(alloc);
+    add_times(&mut input, b"open 1 1\nrun 1\n", 1)
+        && add_inserts(alloc, &mut input, 1_199)
+        && add_times(
+            &mut input,
+            b"put 1 1 6b 76 61\ninsert 1 1 6b 76\nput 1 1 6b 76 61\n",
+            1,
+        )
+        && ends(alloc, input.as_slice(), Status::Done, end)
+}
+
+#[test]
+fn puts_both_or_neither(rt: HostRuntime) {
+    let end = b"202 refused 4 too-many\n203 noted\n204 refused 4 too-many\n".as_slice();
+    assert!(rt; ends_behind_a_put(rt.alloc(), end));
+}

@@ -1,4 +1,4 @@
-//! Tests of scans over a cloud in memory.
+//! Tests of a session's cache and of the machines that read trees, by walks, reads and scans.
 #![tactic(auto)]
 
 #[cfg(test)]
@@ -6,12 +6,18 @@ mod machine;
 #[cfg(test)]
 mod objects;
 #[cfg(test)]
+mod page_cache_tests;
+#[cfg(test)]
 mod range_scan_tests;
 #[cfg(test)]
-mod scanner;
+mod record_read_tests;
 #[cfg(test)]
 mod script;
+#[cfg(test)]
+mod session;
 #[cfg(test)]
 mod store;
 #[cfg(test)]
 mod story;
+#[cfg(test)]
+mod tree_walk_tests;

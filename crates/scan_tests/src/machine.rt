@@ -1,4 +1,4 @@
-//! The calls of a scan, told of any machine.
+//! The machines that read a tree, as one kind of thing, so that what is told of them is proved once and not over the types of each.
 
 use crate::store::who;
 use crate::story::Story;
@@ -10,10 +10,12 @@ use db_base::ids::PageId;
 use db_base::wish::Wish;
 use page_cache::PageCache;
 use range_scan::RangeScan;
+use record_read::RecordRead;
 use std::alloc::Global;
 use std::test::Fail;
+use tree_walk::Walk;
 
-/// A machine that scans.
+/// A machine that reads a tree.
 pub(crate) trait Machine {
     /// Does the local work before the first call.
     fn begin(&mut self, alloc: Global, cache: &mut PageCache) -> Turn<PageId>;
@@ -34,12 +36,63 @@ pub(crate) trait Machine {
     fn leave_leaf(&mut self) -> bool;
 }
 
+// The type of a lease is named beside a call in hand, for the checker of borrows wants it there.
+
+impl Machine for Walk {
+    fn begin(&mut self, alloc: Global, cache: &mut PageCache) -> Turn<PageId> {
+        self.ready(alloc, cache)
+    }
+
+    fn tell(&self, story: &mut Story) -> Result<(), Fail> {
+        let _none: Option<Lease> = None;
+        story.call(&self.in_hand())
+    }
+
+    fn make<C: Cloud>(
+        &mut self,
+        alloc: Global,
+        cloud: &mut C,
+        who: Who,
+        cache: &mut PageCache,
+    ) -> Turn<PageId> {
+        self.step(alloc, cloud, who, cache)
+    }
+
+    fn leave_leaf(&mut self) -> bool {
+        false
+    }
+}
+
+impl Machine for RecordRead {
+    fn begin(&mut self, alloc: Global, cache: &mut PageCache) -> Turn<PageId> {
+        self.ready(alloc, cache)
+    }
+
+    fn tell(&self, story: &mut Story) -> Result<(), Fail> {
+        let _none: Option<Lease> = None;
+        story.call(&self.in_hand())
+    }
+
+    fn make<C: Cloud>(
+        &mut self,
+        alloc: Global,
+        cloud: &mut C,
+        who: Who,
+        cache: &mut PageCache,
+    ) -> Turn<PageId> {
+        self.step(alloc, cloud, who, cache)
+    }
+
+    fn leave_leaf(&mut self) -> bool {
+        false
+    }
+}
+
 impl Machine for RangeScan {
     fn begin(&mut self, alloc: Global, cache: &mut PageCache) -> Turn<PageId> {
         self.ready(alloc, cache)
     }
 
-    /// The type of a lease is named, for the checker of borrows wants it beside a call.
     fn tell(&self, story: &mut Story) -> Result<(), Fail> {
         let _none: Option<Lease> = None;
         story.call(&self.in_hand())
@@ -62,11 +115,12 @@ impl Machine for RangeScan {
 
 /// What tells of the leaf at which a machine ended.
 pub(crate) trait Teller<M> {
-    /// Tells the pairs.
-    fn tell_pairs(&self, machine: &M, cache: &PageCache, story: &mut Story) -> Result<(), Fail>;
+    /// Tells what the machine has there.
+    fn tell_leaf(&self, machine: &M, cache: &PageCache, story: &mut Story) -> Result<(), Fail>;
 }
 
-/// Runs a machine to its end. The call of this number, from 1, is answered by the first version.
+/// Runs a machine to its end: its calls are told, each leaf at which it ended, or its trouble. The call of this number, from 1, is
+/// answered by the first version.
 pub(crate) fn run<M: Machine, T: Teller<M>, C: Bench>(
     machine: &mut M,
     teller: &T,
@@ -108,16 +162,12 @@ fn goes_on<M: Machine, T: Teller<M>>(
     turn: &Turn<PageId>,
     story: &mut Story,
 ) -> Result<bool, Fail> {
-    match turn {
-        Turn::More => Ok(true),
-        Turn::Ended(page) => {
-            story.leaf(*page)?;
-            teller.tell_pairs(machine, cache, story)?;
-            Ok(machine.leave_leaf())
-        }
-        Turn::Stopped(trouble) => {
-            story.trouble(trouble)?;
-            Ok(false)
-        }
+    if !story.end(turn)? {
+        return Ok(true);
     }
+    if let Turn::Stopped(_) = turn {
+        return Ok(false);
+    }
+    teller.tell_leaf(machine, cache, story)?;
+    Ok(machine.leave_leaf())
 }

@@ -1,26 +1,51 @@
-//! A tree of four leaves of both formats in a cloud, byte by byte.
+//! Two trees over the leaves of `tree_bytes`, and objects that stand beside them in a cloud, byte by byte.
+
+use tree_bytes::{LEAF_1, LEAF_2, LEAF_3, LEAF_4, NODE_7, NODE_8, ROOT};
+
+/// Objects of tree 1 by their numbers, 0 for the tree object.
+pub(crate) type Objects<'a> = &'a [(u64, &'a [u8])];
+
+/// A tree of three levels: inner nodes 7 and 8, and below them leaves 1, 2, 3 and 4 that begin with the empty key, g, m and t.
+pub(crate) const THREE_LEVELS: Objects<'static> = &[
+    (0, ROOT),
+    (7, NODE_7),
+    (8, NODE_8),
+    (1, LEAF_1),
+    (2, LEAF_2),
+    (3, LEAF_3),
+    (4, LEAF_4),
+];
+
+/// The same leaves right below the tree object.
+pub(crate) const TWO_LEVELS: Objects<'static> = &[
+    (0, ROOT_OF_LEAVES),
+    (1, LEAF_1),
+    (2, LEAF_2),
+    (3, LEAF_3),
+    (4, LEAF_4),
+];
 
 /// A tree object of level 1 with leaf 1, and leaves 2, 3 and 4 from g, m and t on.
-pub(crate) const ROOT: &[u8] =
+const ROOT_OF_LEAVES: &[u8] =
     b"T\x01\x00\x00\x00\x00\x00\x00\x00\x01\x00\x00\x00\x00\x00\x00\x00d\x01\x00\
 \x01\x00\x00\x00\x00\x00\x00\x00\x00\x01\x01\x01g\x00\x00\x00\x00\x00\x00\x00\x02\
 \x01\x01m\x00\x00\x00\x00\x00\x00\x00\x03\x01\x01t\x00\x00\x00\x00\x00\x00\x00\x04\x00";
 
-/// Leaf 1 of format 1, left of 2, with b and c.
-pub(crate) const LEAF_1: &[u8] =
-    b"L\x01\x00\x00\x00\x00\x00\x00\x00\x01\x00\x00\x00\x00\x00\x00\x00\x00\x02\x01g\x00\x01\x01b\x00\x01v\x01\x01c\x00\x01v\x00";
+/// A tree object that knows of inner node 7 alone.
+pub(crate) const ROOT_OF_7: &[u8] =
+    b"T\x01\x00\x00\x00\x00\x00\x00\x00\x01\x00\x00\x00\x00\x00\x00\x00d\x02\x00\x01\x00\x00\x00\x00\x00\x00\x00\x00\x07\x00";
 
-/// Leaf 2 of format 1 from g on, left of 3, with h and i.
-pub(crate) const LEAF_2: &[u8] =
-    b"L\x01\x00\x00\x00\x00\x00\x00\x00\x01\x01g\x00\x00\x00\x00\x00\x00\x00\x03\x01m\x00\x01\x01h\x00\x01v\x01\x01i\x00\x01v\x00";
+/// A tree object that leads to page 9, which is absent.
+pub(crate) const ROOT_OF_9: &[u8] =
+    b"T\x01\x00\x00\x00\x00\x00\x00\x00\x01\x00\x00\x00\x00\x00\x00\x00d\x02\x00\x01\x00\x00\x00\x00\x00\x00\x00\x00\x09\x00";
 
-/// Leaf 3 of format 2 from m on, left of 4, with n, and o, which has the attribute a.
-pub(crate) const LEAF_3: &[u8] =
-    b"L\x02\x00\x00\x00\x00\x00\x00\x00\x01\x01m\x00\x00\x00\x00\x00\x00\x00\x04\x01t\x00\x01\x01n\x00\x01v\x00\x01\x01o\x00\x01v\x01\x01a\x00";
+/// Inner node 8 that does not know of leaf 4.
+pub(crate) const NODE_8_OF_3: &[u8] =
+    b"I\x01\x00\x00\x00\x00\x00\x00\x00\x01\x01\x01m\x00\x00\x00\x00\x00\x00\x00\x00\x01\x01m\x00\x00\x00\x00\x00\x00\x00\x03\x00";
 
-/// Leaf 4 of format 2 from t on, with u and v.
-pub(crate) const LEAF_4: &[u8] =
-    b"L\x02\x00\x00\x00\x00\x00\x00\x00\x01\x01t\x00\x00\x00\x00\x00\x00\x00\x00\x00\x01\x01u\x00\x01v\x00\x01\x01v\x00\x01v\x00\x00";
+/// Inner node 7 of level 2.
+pub(crate) const NODE_7_HIGH: &[u8] =
+    b"I\x01\x00\x00\x00\x00\x00\x00\x00\x01\x02\x00\x00\x00\x00\x00\x00\x00\x00\x08\x01m\x01\x00\x00\x00\x00\x00\x00\x00\x00\x01\x00";
 
 /// Leaf 3 of version 2, with n alone.
 pub(crate) const LEAF_3_NEWER: &[u8] =
@@ -33,6 +58,14 @@ pub(crate) const LEAF_3_FAR: &[u8] =
 /// Leaf 3 with leaf 2 on its right.
 pub(crate) const LEAF_3_TURNING: &[u8] =
     b"L\x01\x00\x00\x00\x00\x00\x00\x00\x02\x01m\x00\x00\x00\x00\x00\x00\x00\x02\x01t\x00\x00";
+
+/// Leaf 4 with itself on its right.
+pub(crate) const LEAF_4_TURNING: &[u8] =
+    b"L\x01\x00\x00\x00\x00\x00\x00\x00\x02\x01t\x00\x00\x00\x00\x00\x00\x00\x04\x01w\x00\x00";
+
+/// A leaf of format 2 without fences, entries or records; its version is to be put at place 9.
+pub(crate) const LEAF: &[u8] =
+    b"L\x02\x00\x00\x00\x00\x00\x00\x00\x00\x00\x00\x00\x00\x00\x00\x00\x00\x00\x00\x00";
 
 /// A head with an insert of p and w pending in the tree.
 pub(crate) const HEAD: &[u8] =

@@ -1,6 +1,6 @@
-use crate::objects::{HEAD, LEAF_3_FAR, LEAF_3_NEWER, LEAF_3_TURNING};
-use crate::scanner::play;
+use crate::objects::{HEAD, LEAF_3_FAR, LEAF_3_NEWER, LEAF_3_TURNING, TWO_LEVELS};
 use crate::script::Step;
+use crate::session::play;
 use std::test::Fail;
 
 /// A scan from h on and below q, of a client that has an insert of p pending, and an insert of j and a deletion of n noted.
@@ -24,7 +24,7 @@ fn goes_from_leaf_to_leaf(rt: HostRuntime) -> Result<(), Fail> {
         Step::Deletes(b"n"),
         Step::Scans(b"h", b"q"),
     ];
-    play(rt.alloc(), &steps, FROM_LEAF_TO_LEAF)
+    play(rt.alloc(), TWO_LEVELS, &steps, FROM_LEAF_TO_LEAF)
 }
 
 /// A scan of the whole tree, and one more, over the tree object that is kept, that ends behind the leaf whose high key is its end, and
@@ -65,7 +65,7 @@ fn goes_from_the_left_end(rt: HostRuntime) -> Result<(), Fail> {
         Step::Scans(b"", b"m"),
         Step::Scans(b"h", b"c"),
     ];
-    play(rt.alloc(), &steps, FROM_THE_LEFT_END)
+    play(rt.alloc(), TWO_LEVELS, &steps, FROM_THE_LEFT_END)
 }
 
 /// A scan that gets leaf 3 at version 2, and then one that gets it at version 1.
@@ -87,7 +87,7 @@ fn stops_at_a_stale_right_page(rt: HostRuntime) -> Result<(), Fail> {
         Step::Scans(b"n", b"o"),
         Step::ScansLate(b"i", b"", 2),
     ];
-    play(rt.alloc(), &steps, STALE)
+    play(rt.alloc(), TWO_LEVELS, &steps, STALE)
 }
 
 /// A leaf 3, and what a scan over it tells.
@@ -106,7 +106,29 @@ const TROUBLES: [(&[u8], &str); 2] = [
 fn stops_behind_a_leaf(rt: HostRuntime) -> Result<(), Fail> {
     for (bytes, wanted) in TROUBLES {
         let steps = [Step::Puts(3, bytes), Step::Scans(b"i", b"")];
-        play(rt.alloc(), &steps, wanted)?;
+        play(rt.alloc(), TWO_LEVELS, &steps, wanted)?;
     }
     Ok(())
+}
+
+/// A scan from i on tells at each leaf the low key of the next one, and none at the right end; one that ends in leaf 1 tells it too.
+const RESUMED: &str = "get tree:1
+get page:1:2
+leaf 2
+6d
+get page:1:3
+leaf 3
+74
+get page:1:4
+leaf 4
+none
+get page:1:1
+leaf 1
+67
+";
+
+#[test]
+fn tells_where_a_new_scan_goes_on(rt: HostRuntime) -> Result<(), Fail> {
+    let steps = [Step::Resumes(b"i", b""), Step::Resumes(b"", b"c")];
+    play(rt.alloc(), TWO_LEVELS, &steps, RESUMED)
 }

@@ -1,10 +1,12 @@
-//! What a scan did, as a text: a line for each call, for each leaf, and for each pair of a leaf.
+//! What machines did, as a text: a line for each call, for each answer, and for each pair of a leaf.
 
-use reply_text::call_text;
 use cloud_trait::call::Call;
+use cloud_trait::turn::Turn;
 use db_base::ids::PageId;
 use db_base::trouble::Trouble;
+use db_base::value::Value;
 use range_scan::Items;
+use reply_text::call_text;
 use reply_text::write::trouble_text;
 use std::alloc::Global;
 use std::test::Fail;
@@ -40,16 +42,32 @@ impl Story {
         Ok(())
     }
 
-    /// Adds a call.
-    pub(crate) fn call(&mut self, call: &Call<'_>) -> Result<(), Fail> {
-        let text = call_text(self.alloc, call)?;
+    /// Adds a word and a number.
+    pub(crate) fn number(&mut self, word: &str, number: u64) -> Result<(), Fail> {
+        let text = format!(in self.alloc; "{word} {number}")?;
         self.line(text.as_str())
     }
 
-    /// Adds a leaf.
-    pub(crate) fn leaf(&mut self, page: PageId) -> Result<(), Fail> {
-        let number = page.get();
-        let text = format!(in self.alloc; "leaf {number}")?;
+    /// Adds bytes in hexadecimal.
+    fn bytes(&mut self, bytes: &[u8]) -> Result<(), Fail> {
+        let text = hexadecimal(self.alloc, bytes)?;
+        self.line(text.as_str())
+    }
+
+    /// Adds a payload and an attribute, where there is one, in hexadecimal.
+    fn parts(&mut self, payload: &[u8], attr: Option<&[u8]>) -> Result<(), Fail> {
+        let Some(attr) = attr else {
+            return self.bytes(payload);
+        };
+        let payload = hexadecimal(self.alloc, payload)?;
+        self.text.push_str(payload.as_str())?;
+        self.text.push_str(" ")?;
+        self.bytes(attr)
+    }
+
+    /// Adds a call.
+    pub(crate) fn call(&mut self, call: &Call<'_>) -> Result<(), Fail> {
+        let text = call_text(self.alloc, call)?;
         self.line(text.as_str())
     }
 
@@ -59,19 +77,30 @@ impl Story {
         self.line(text.as_str())
     }
 
+    /// Adds the leaf at which a machine ended, or its trouble; false where it goes on.
+    pub(crate) fn end(&mut self, turn: &Turn<PageId>) -> Result<bool, Fail> {
+        match turn {
+            Turn::More => return Ok(false),
+            Turn::Ended(page) => self.number("leaf", page.get())?,
+            Turn::Stopped(trouble) => self.trouble(trouble)?,
+        }
+        Ok(true)
+    }
+
+    /// Adds the value that was read.
+    pub(crate) fn value(&mut self, value: Option<Value<'_>>) -> Result<(), Fail> {
+        match value {
+            Some(value) => self.parts(value.payload(), value.attr()),
+            None => self.line("none"),
+        }
+    }
+
     /// Adds a key, a payload and an attribute, where there is one.
-    fn pair(&mut self, key: &[u8], payload: &[u8], attr: Option<&[u8]>) -> Result<(), Fail> {
+    fn pair(&mut self, key: &[u8], value: &Value<'_>) -> Result<(), Fail> {
         let key = hexadecimal(self.alloc, key)?;
         self.text.push_str(key.as_str())?;
         self.text.push_str("=")?;
-        let payload = hexadecimal(self.alloc, payload)?;
-        let Some(attr) = attr else {
-            return self.line(payload.as_str());
-        };
-        self.text.push_str(payload.as_str())?;
-        self.text.push_str(" ")?;
-        let attr = hexadecimal(self.alloc, attr)?;
-        self.line(attr.as_str())
+        self.parts(value.payload(), value.attr())
     }
 
     /// Adds the pairs of a leaf.
@@ -81,8 +110,16 @@ impl Story {
             let Some((key, value)) = items.take_first() else {
                 return Ok(());
             };
-            self.pair(key, value.payload(), value.attr())?;
+            self.pair(key, &value)?;
         }
         Err(Fail::from("more pairs than any tree of these tests has"))
+    }
+
+    /// Adds the key at which a new scan goes on, where there is one.
+    pub(crate) fn resume(&mut self, key: Option<&[u8]>) -> Result<(), Fail> {
+        match key {
+            Some(key) => self.bytes(key),
+            None => self.line("none"),
+        }
     }
 }

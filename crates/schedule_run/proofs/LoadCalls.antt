@@ -108,7 +108,7 @@ settles_plain n a b old new result (inr memory) = plain_none a b memory.1.seen
 
 abbrev IsPlainRequest : Request → Type 0
 IsPlainRequest (request.Begin op) = Unit {0}
-IsPlainRequest (request.Note tree change) = Unit {0}
+IsPlainRequest (request.Note noting) = Unit {0}
 IsPlainRequest request.Run = Unit {0}
 IsPlainRequest r = ⊥
 
@@ -128,7 +128,7 @@ IsPlainLine e = (q : Asked) → Asks e q → IsPlainAsked q
 
 does_plain : (n number : ℕ) (r : Request) (a b : Seen) (old new : World) (result : Result Reply WorldFault) → IsLoader number → IsPlainRequest r → Does n number r a b old new result → CallsPlainly a b
 does_plain n number (request.Begin op) a b old new result own plain does = plain_none a b does.0.seen
-does_plain n number (request.Note tree change) a b old new result own plain does = plain_none a b does.0.seen
+does_plain n number (request.Note noting) a b old new result own plain does = plain_none a b does.0.seen
 does_plain n number request.Run a b old new result own plain does = runs_plain n number a b old new result own does
 does_plain n number r a b old new result own plain does = absurd plain
 
@@ -157,7 +157,7 @@ plain_opening (asked.Wait ticks) asks = absurd asks
 plain_opening (asked.Report tree) asks = absurd asks
 
 plain_insert : (p : Placed) → IsPlainLine (insert_of p)
-plain_insert p (asked.Session number (Ok (request.Note tree change))) asks = (asks.0, tt)
+plain_insert p (asked.Session number (Ok (request.Note noting))) asks = (asks.0, tt)
 plain_insert p (asked.Session number (Ok r)) asks = absurd asks.1
 plain_insert p (asked.Session number (Err why)) asks = (asks.0, tt)
 plain_insert p asked.Settle asks = tt

@@ -173,7 +173,7 @@ module _ (n : ℕ) (before after : Seen) (old new : World) (r : Reply) where
 
   lands_does : (k : ℕ) (request : Request) → Does n k request before after old new (Ok r) → Lands n before after
   lands_does k (Begin o) h = lands_same n before after h.0.seen
-  lands_does k (Note tree change) h = lands_same n before after h.0.seen
+  lands_does k (Note noting) h = lands_same n before after h.0.seen
   lands_does k Abort h = lands_same n before after h.0.seen
   lands_does k (Policy role number) h = lands_policy k role number h
   lands_does k WorksDue h = lands_through k h

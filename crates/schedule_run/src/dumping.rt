@@ -5,11 +5,11 @@ ghost use Rattle.schedule_run.specs.Dumping.{DumpEnded, IsTold, end_of, is_memor
 
 use cloud_trait::cloud::Bench;
 use db_base::trouble::Trouble;
+use db_io::output::{OutputFault, write_text};
 use db_io::sink::Sink;
 use dump_take::stop::DumpStop;
 use dump_take::take::take_dump;
 use dump_text::dump::Dump;
-use db_io::output::{OutputFault, write_text};
 use reply_text::reply::Reply;
 use run_text::writing::{let_go, write_name, write_plain};
 use std::alloc::Global;

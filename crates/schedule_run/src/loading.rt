@@ -6,10 +6,10 @@ ghost use Rattle.schedule_run.specs.Loading.{FillEnded, FillWent, SpellsNoDump, 
 
 use crate::load::{LoadStop, Loaded, load};
 use cloud_trait::cloud::Bench;
+use db_io::output::{OutputFault, write_text};
 use db_io::sink::Sink;
 use dump_text::dump::Dump;
 use dump_text::fault::DumpFault;
-use db_io::output::{OutputFault, write_text};
 use reply_text::reply::Reply;
 use run_text::writing::{let_go, refuse, write_name, write_plain};
 use std::alloc::Global;

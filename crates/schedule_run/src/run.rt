@@ -18,10 +18,10 @@ use cloud_trait::cloud::Bench;
 use command_words::read::shape;
 use command_words::shape::{Shape, WordsFault};
 use db_base::ids::ClientId;
-use db_io::sink::Sink;
-use db_io::source::Source;
 use db_io::input::{InputFault, MAX_DUMP, MAX_LINES, read_whole};
 use db_io::output::OutputFault;
+use db_io::sink::Sink;
+use db_io::source::Source;
 use std::alloc::Global;
 
 /// Runs the command that the words ask for over the cloud: a replay of the lines of the source, a generated schedule, a shell

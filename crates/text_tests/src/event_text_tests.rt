@@ -4,7 +4,7 @@ use std::process::Abort;
 use words::fault::TextFault;
 
 /// Every line of a schedule.
-const LINES: [&str; 32] = [
+const LINES: [&str; 34] = [
     "open 1 64\n",
     "close 16\n",
     "renew 2\n",
@@ -13,6 +13,8 @@ const LINES: [&str; 32] = [
     "insert 1 1 6b 76 61\n",
     "insert 1 1 6b 76 -\n",
     "insert 1 1 6b - 616161616161616161616161616161616161616161616161616161616161616161\n",
+    "put 1 1 6b 76 61\n",
+    "put 0 18446744073709551615 - - -\n",
     "add 1 1 6b 0\n",
     "add 1 1 6b 18446744073709551615\n",
     "update 1 16 00ff 0123456789abcdef\n",
@@ -40,7 +42,7 @@ const LINES: [&str; 32] = [
 ];
 
 /// Lines that are nearly in the grammar.
-const NEAR_MISSES: [&str; 33] = [
+const NEAR_MISSES: [&str; 36] = [
     "",
     "\n",
     "open 1 64",
@@ -65,6 +67,9 @@ const NEAR_MISSES: [&str; 33] = [
     "insert 1 1 6b 76 61 61\n",
     "insert 1 1 6b 76 61 \n",
     "insert 1 1 6b 76  61\n",
+    "put 1 1 6b 76\n",
+    "put 1 1 6b 76 \n",
+    "put 1 1 6b 76 61 61\n",
     "update 1 1 6b 76 61\n",
     "delete 1 1 6b 61\n",
     "add 1 1 6b 1 61\n",
@@ -94,7 +99,7 @@ const SHELL_LINES: [(&str, &str); 13] = [
 ];
 
 /// Lines of a schedule that are no shell's lines.
-const NO_SHELL_LINES: [&str; 8] = [
+const NO_SHELL_LINES: [&str; 9] = [
     "open 1\n",
     "close\n",
     "run\n",
@@ -102,6 +107,7 @@ const NO_SHELL_LINES: [&str; 8] = [
     "settle\n",
     "commit 1\n",
     "insert 1 6b 76 61 61\n",
+    "put 1 6b 76 61\n",
     "update 1 6b 76 61\n",
 ];
 

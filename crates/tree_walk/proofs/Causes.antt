@@ -104,7 +104,8 @@ moved_shows w c n a turn fits moved t stopped other =
 pub ready_shows : (w : Walk) (c : Cache) (n : Walk × Cache) (turn : Turn ℕ) → Moves (walk_ready (w, c)) n turn → CausesReady (w, c) n.0 turn
 ready_shows w c n turn moved t stopped other =
     let At : Turn ℕ → Type 0 = Moves (walk_ready (w, c)) n in
-    let (left, u, way, halt) = subst (Readies (w, c)) (subst At stopped moved other) (readies (w, c)) in
+    let (left, shown) = subst (Readies (w, c)) (subst At stopped moved other) (readies (w, c)) in
+    let (u, way, halt) = shown in
     halt_shows c w u n.0 t halt (way_led c w (rested w) u way (λ s e. inl e))
 
 -- a call of the walk's object

@@ -110,4 +110,4 @@ ready_walks tree key fresh c = on (walk_ready m) (readies m) where
   on : (x : Next (Walk × Cache) ℕ) → Readies m x → WalksBeside tree key x
   on (Goes n) o = way_to tree key c (rested m.0) n.0 o.2 (record { promised = tt; apart = tt }, (refl, refl))
   on (Ends n page) never = absurd never
-  on (Stops n t) (left, u, way, halt) = halts_to tree key c u n.0 t halt (led_to tree key c (rested m.0) u way (refl, refl))
+  on (Stops n t) (left, shown) = let (u, way, halt) = shown in halts_to tree key c u n.0 t halt (led_to tree key c (rested m.0) u way (refl, refl))

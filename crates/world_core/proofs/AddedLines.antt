@@ -1,30 +1,30 @@
 -- What each line adds to the trace of any cloud is of its kind.
 use Rattle.std.proofs.Common.{◌≡◌, ◌+◌, ◌≤◌, ℕ, List, [], ◌∷◌, ◌++◌, length, Ok, Err, Result, None, refl, sym, subst, inl, inr}
 use Rattle.db_base.specs.Ids.{IsSession}
-use Rattle.db_base.specs.declared.change.Change.{Change}
 use Rattle.db_base.specs.declared.refusal.Refused.{Refused}
 use Rattle.db_base.specs.declared.refusal.Refused.TheVariants as refused
 use Rattle.event_text.specs.declared.event.Event.{Event}
 use Rattle.event_text.specs.declared.event.Event.TheVariants as event
 use Rattle.reply_text.specs.declared.reply.Reply.{Reply}
 use Rattle.reply_text.specs.declared.reply.Reply.TheVariants as reply
-use Rattle.txn_buffer.specs.Noted.{Noted, noted_in}
+use Rattle.txn_buffer.specs.Noted.{Noted}
 use Rattle.cloud_trait.specs.State.{CloudState}
 use Rattle.cloud_trait.specs.Seen.{Seen}
 use Rattle.client_work.specs.declared.op.Op.TheVariants as op
 use Rattle.client_work.specs.declared.work.Work.TheVariants as work
 use Rattle.client_work.specs.Session.{Acting, rule_of, paging_begun_by, folding_begun_by}
-use Rattle.replay_meaning.specs.Standing.{Line, Standing, standing, after_own, session_of, notes as notes_own}
+use Rattle.replay_meaning.specs.Standing.{Line, Standing, standing, after_own, session_of, joins}
 use Rattle.session_facts.specs.Facts.{ActsAs}
 use Rattle.session_facts.proofs.LineLemmas.{line_of, refused_own}
 use Rattle.world_core.specs.World.{World}
+use Rattle.world_core.specs.declared.asked.Noting.{Noting}
 use Rattle.world_core.specs.declared.asked.Request.{Request}
 use Rattle.world_core.specs.declared.asked.Request.TheVariants.{Begin, Note, Abort, Policy, Work as WorksDue, Step, Run, Crash}
 use Rattle.world_core.specs.declared.asked.Asked.{Asked}
 use Rattle.world_core.specs.declared.asked.Asked.TheVariants.{Session, Wait, Report, Settle}
-use Rattle.world_core.specs.Asked.{change_noted, tree_noted, bound_of, IsOpening, IsReading, IsScanning, IsPaging, IsFolding, IsMade, IsNoted, IsStep, OfSession, Asks}
+use Rattle.world_core.specs.Asked.{bound_of, IsOpening, IsReading, IsScanning, IsPaging, IsFolding, IsNoted, IsStep, OfSession, Asks, noting_of}
 use Rattle.world_core.specs.Replying.{done_reply}
-use Rattle.world_core.specs.Sessions.{NotesIn, AbortsIn}
+use Rattle.world_core.specs.Sessions.{NotesIn, AbortsIn, joined}
 use Rattle.world_core.specs.Handled.{NotesChange, DropsChanges, Does, Answers, Handled}
 use Rattle.world_core.specs.Added.{WorldAdds}
 use Rattle.world_core.proofs.WorkerRows.{adds_work}
@@ -62,17 +62,17 @@ acts_refused event r (refused.Rule rule) a b s e same acts =
     (subst (ActsAs b) (sym (refused_own event rule s)) (subst (λ z. ActsAs z s) (sym same) acts))
 acts_refused event r refused.Memory a b s e same acts = absurd (cc (e))
 
-notes_acts : (event : Event) (tree : ℕ) (change : Change) (r : Reply) (a b : Acting) (s : Standing) → ((q : Reply) (z : Standing) → after_own event q z ≡ notes_own tree change q z)
-    → NotesChange tree change (Ok r) a b → ActsAs a s → ActsAs b (after_own event r s)
-notes_acts event tree change r a b s own p acts = on p.noted p.notes p.replies
+notes_acts : (event : Event) (noting : Noting) (r : Reply) (a b : Acting) (s : Standing) → ((q : Reply) (z : Standing) → after_own event q z ≡ joins (joined noting) q z)
+    → NotesChange noting (Ok r) a b → ActsAs a s → ActsAs b (after_own event r s)
+notes_acts event noting r a b s own p acts = on p.noted p.notes p.replies
   where
-    on : (noted : Result (Unit {0}) Refused) → NotesIn tree change a b noted → IsOk r (done_reply reply.Noted noted) → ActsAs b (after_own event r s)
+    on : (noted : Result (Unit {0}) Refused) → NotesIn noting a b noted → IsOk r (done_reply reply.Noted noted) → ActsAs b (after_own event r s)
     on (Ok done) h e =
         let is : r ≡ reply.Noted = cc in
         subst (λ z. ActsAs b (after_own event z s)) (sym is)
         (subst (ActsAs b) (sym (own reply.Noted s))
-        (subst (λ buffer. ActsAs b (record s { buffer = noted_in buffer tree change })) acts.buffer
-        (acts_with a b s (noted_in a.buffer tree change) h.0 h.1 acts)))
+        (subst (λ buffer. ActsAs b (record s { buffer = joined noting buffer })) acts.buffer
+        (acts_with a b s (joined noting a.buffer) h.0 h.1 acts)))
     on (Err why) h e = acts_refused event r why a b s e h.0 acts
 
 aborts_acts : (k : ℕ) (r : Reply) (a b : Acting) (s : Standing) → DropsChanges (Ok r) a b → ActsAs a s → ActsAs b (after_own (event.Abort k) r s)
@@ -84,22 +84,20 @@ aborts_acts k r a b s p acts = on p.dropped p.drops p.replies
         subst (λ z. ActsAs b (after_own (event.Abort k) z s)) (sym is) (acts_with a b s [] h.0 h.1 acts)
     on (Err why) h e = acts_refused (event.Abort k) r why a b s e h.0 acts
 
-noted_adds : (lines : List Line) (event : Event) (n k tree : ℕ) (change : Change) (request : Request) (before after : Seen) (old new : World) (r : Reply) (first : CloudState)
-    (Is : Result Change Refused → Type 0) → session_of event ≡ k → 1 ≤ k → ((q : Reply) (s : Standing) → after_own event q s ≡ notes_own tree change q s)
-    → ((c : Change) → Is (Ok c) → c ≡ change) → WorldAdds lines first old before → IsNoted tree Is (Ok request) → Does n k request before after old new (Ok r)
-    → WorldAdds (lines ++ line_of event r ∷ []) first new after
-noted_adds lines event n k tree change (Note tree_of c) before after old new r first Is own some does is_change w noted done =
-    let Own : ℕ → Change → Type 0 = λ j d. Does n k (Note j d) before after old new (Ok r) in
-    let h : Does n k (Note tree change) before after old new (Ok r) = subst (λ d. Own tree d) (is_change c noted.2) (subst (λ j. Own j c) noted.0 done) in
+noted_adds : (lines : List Line) (event : Event) (n k : ℕ) (noting : Noting) (request : Request) (before after : Seen) (old new : World) (r : Reply) (first : CloudState)
+    → session_of event ≡ k → 1 ≤ k → ((q : Reply) (s : Standing) → after_own event q s ≡ joins (joined noting) q s)
+    → WorldAdds lines first old before → IsNoted noting (Ok request) → Does n k request before after old new (Ok r) → WorldAdds (lines ++ line_of event r ∷ []) first new after
+noted_adds lines event n k noting (Note asked) before after old new r first own some does w is done =
+    let h : Does n k (Note noting) before after old new (Ok r) = subst (λ j. Does n k (Note j) before after old new (Ok r)) is.0 done in
     adds_quietly lines event r k first before after old new _ own some h.0 h.1
-    (notes_acts event tree change r h.1.before h.1.after (standing lines k) does h.1.does) w
-noted_adds lines event n k tree change (Begin o) before after old new r first Is own some does is_change w noted done = absurd noted
-noted_adds lines event n k tree change (Policy role number) before after old new r first Is own some does is_change w noted done = absurd noted
-noted_adds lines event n k tree change WorksDue before after old new r first Is own some does is_change w noted done = absurd noted
-noted_adds lines event n k tree change Abort before after old new r first Is own some does is_change w noted done = absurd noted
-noted_adds lines event n k tree change (Step wish) before after old new r first Is own some does is_change w noted done = absurd noted
-noted_adds lines event n k tree change Run before after old new r first Is own some does is_change w noted done = absurd noted
-noted_adds lines event n k tree change (Crash d) before after old new r first Is own some does is_change w noted done = absurd noted
+    (notes_acts event noting r h.1.before h.1.after (standing lines k) does h.1.does) w
+noted_adds lines event n k noting (Begin o) before after old new r first own some does w is done = absurd is
+noted_adds lines event n k noting (Policy role number) before after old new r first own some does w is done = absurd is
+noted_adds lines event n k noting WorksDue before after old new r first own some does w is done = absurd is
+noted_adds lines event n k noting Abort before after old new r first own some does w is done = absurd is
+noted_adds lines event n k noting (Step wish) before after old new r first own some does w is done = absurd is
+noted_adds lines event n k noting Run before after old new r first own some does w is done = absurd is
+noted_adds lines event n k noting (Crash d) before after old new r first own some does w is done = absurd is
 
 -- ---- every line
 
@@ -180,9 +178,8 @@ module _ (n : ℕ) (before after : Seen) (old new : World) (r : Reply) (lines : 
       adds_report lines first tree r before after old new w (subst (λ z. Answers n z before after old new (Ok r)) asks answers)
   asked_adds event.Settle asked asks answers =
       adds_settle lines first n r before after old new at w (subst (λ z. Answers n z before after old new (Ok r)) asks answers)
-  asked_adds e asked asks answers = by_request (session_of e) e (IsNoted (tree_noted e) (IsMade (change_noted e))) asked asks answers
-      (λ request some is done. noted_adds lines e n (session_of e) (tree_noted e) (change_noted e) request before after old new r first (IsMade (change_noted e)) refl some
-      (λ q z. refl) (λ c h. h.0) w is done)
+  asked_adds e asked asks answers = by_request (session_of e) e (IsNoted (noting_of e)) asked asks answers
+      (λ request some is done. noted_adds lines e n (session_of e) (noting_of e) request before after old new r first refl some (λ q z. refl) w is done)
 
 -- a line that was handled
 pub handled_adds : (n : ℕ) (event : Event) (before after : Seen) (old new : World) (r : Reply) (lines : List Line) (first : CloudState) → length lines + 1 ≡ n

@@ -123,7 +123,7 @@ module _ (lines : List Line) (first : CloudState) (n : ℕ) (before after : Seen
   does_rows k WorksDue other h = absurd other
   does_rows k (Policy role kept) other h = policy_rows k role kept h
   does_rows k (Begin op) other h = as_seen h.0.seen
-  does_rows k (Note tree change) other h = as_seen h.0.seen
+  does_rows k (Note noting) other h = as_seen h.0.seen
   does_rows k Abort other h = as_seen h.0.seen
   does_rows k (Step wish) other h = step_rows k wish h
   does_rows k Run other h = run_rows k h
@@ -191,7 +191,7 @@ module _ (lines : List Line) (first : CloudState) (n : ℕ) (before after : Seen
   session_rows e r k WorksDue asks h =
       subst (λ (x : Event). AddsTo n (lines ++ line_of x r ∷ []) first after) (sym (asks_work e k asks)) (work_rows lines first k n r before after old new result number w h)
   session_rows e r k (Begin op) asks h = with_line e r (does_rows k (Begin op) tt h)
-  session_rows e r k (Note tree change) asks h = with_line e r (does_rows k (Note tree change) tt h)
+  session_rows e r k (Note noting) asks h = with_line e r (does_rows k (Note noting) tt h)
   session_rows e r k Abort asks h = with_line e r (does_rows k Abort tt h)
   session_rows e r k (Policy role kept) asks h = with_line e r (does_rows k (Policy role kept) tt h)
   session_rows e r k (Step wish) asks h = with_line e r (does_rows k (Step wish) tt h)

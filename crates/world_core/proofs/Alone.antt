@@ -12,7 +12,6 @@ use Rattle.cloud_trait.specs.Seen.{Seen}
 use Rattle.cloud_trait.specs.State.{CloudState}
 use Rattle.cloud_trait.specs.Weather.{Leaves}
 use Rattle.cloud_trait.specs.declared.turn.Turn.{Turn}
-use Rattle.db_base.specs.declared.change.Change.{Change}
 use Rattle.db_base.specs.declared.names.QueueName.{QueueName}
 use Rattle.db_base.specs.declared.refusal.Refused.{Refused}
 use Rattle.db_base.specs.declared.wish.Wish.{Wish}
@@ -31,7 +30,7 @@ use Rattle.session_facts.specs.Settled.Locks.{HoldsAlone}
 use Rattle.world_core.proofs.EachHeld.{each_held}
 use Rattle.world_core.proofs.StandsLemmas.{changed_at, changed_was, end_later, no_memory}
 use Rattle.world_core.specs.Alone.{IsAloneIn, KeepsAlone, LeavesAlone, StepIsUndisturbed}
-use Rattle.world_core.specs.Asked.{Asks, IsFolding, IsMade, IsNoted, IsOpening, IsPaging, IsReading, IsScanning, IsStep, OfSession, change_noted}
+use Rattle.world_core.specs.Asked.{Asks, IsFolding, IsNoted, IsOpening, IsPaging, IsReading, IsScanning, IsStep, OfSession, noting_of}
 use Rattle.world_core.specs.Calm.{StepIsCalm, work_at}
 use Rattle.world_core.specs.EachStep.{EachAsked, EachCome, EachDone, EachMade, EachRun, EachThrough, EachWent, EachWork, StepFact}
 use Rattle.world_core.specs.Handled.{Answers, BeginsCheckpoint, BeginsOp, ComesTo, Declines, Does, DropsChanges, MakesStep, NotesChange, Policies, Runs, StepsLooked, Went, Works, WorksThrough, checkpoint_more, checkpoint_of, further, no_checkpoint, start}
@@ -39,6 +38,7 @@ use Rattle.world_core.specs.Sessions.{AbortsIn, Changes, NotesIn}
 use Rattle.world_core.specs.World.{World}
 use Rattle.world_core.specs.declared.asked.Asked.{Asked}
 use Rattle.world_core.specs.declared.asked.Asked.TheVariants.{Session, Wait, Report, Settle}
+use Rattle.world_core.specs.declared.asked.Noting.{Noting}
 use Rattle.world_core.specs.declared.asked.Request.{Request}
 use Rattle.world_core.specs.declared.asked.Request.TheVariants.{Begin, Note, Abort, Policy, Work as WorksDue, Step, Run, Crash}
 use Rattle.world_core.specs.declared.world.WorldFault.{WorldFault}
@@ -187,9 +187,9 @@ module _ (n session : ℕ) (before after : Seen) (old new : World) (r : Reply) (
 
   -- ---- lines that make no call
 
-  noted_same : (tree : ℕ) (change : Change) (a b : Acting) (noted : Result (Unit {0}) Refused) → NotesIn tree change a b noted → leases_of b.work ≡ leases_of a.work
-  noted_same tree change a b (Ok done) p = ap (λ (x : Acting). leases_of x.work) p.0
-  noted_same tree change a b (Err why) p = ap (λ (x : Acting). leases_of x.work) p.0
+  noted_same : (noting : Noting) (a b : Acting) (noted : Result (Unit {0}) Refused) → NotesIn noting a b noted → leases_of b.work ≡ leases_of a.work
+  noted_same noting a b (Ok done) p = ap (λ (x : Acting). leases_of x.work) p.0
+  noted_same noting a b (Err why) p = ap (λ (x : Acting). leases_of x.work) p.0
 
   dropped_same : (a b : Acting) (dropped : Result (Unit {0}) Refused) → AbortsIn a b dropped → leases_of b.work ≡ leases_of a.work
   dropped_same a b (Ok done) p = ap (λ (x : Acting). leases_of x.work) p.0
@@ -230,8 +230,8 @@ module _ (n session : ℕ) (before after : Seen) (old new : World) (r : Reply) (
   done_alone (Policy role k) plain d goes undisturbed = (tt, policies_alone role k d)
   done_alone (Begin o) plain (quiet, c, book) goes undisturbed =
       (tt, changed_alone (BeginsOp o result) quiet.seen c (begun_leases c.before c.after o c.does.begun c.does.begins))
-  done_alone (Note tree change) plain (quiet, c, notes) goes undisturbed =
-      (tt, changed_alone (NotesChange tree change result) quiet.seen c (noted_same tree change c.before c.after c.does.noted c.does.notes))
+  done_alone (Note noting) plain (quiet, c, notes) goes undisturbed =
+      (tt, changed_alone (NotesChange noting result) quiet.seen c (noted_same noting c.before c.after c.does.noted c.does.notes))
   done_alone Abort plain (quiet, c, notes) goes undisturbed = (tt, changed_alone (DropsChanges result) quiet.seen c (dropped_same c.before c.after c.does.dropped c.does.drops))
   done_alone (Crash done) never d goes undisturbed = absurd never
 
@@ -287,15 +287,15 @@ module _ (session : ℕ) where
       → (let a : Result Request Refused = Ok request in let b : Result Request Refused = Ok own in a ≡ b) → IsNoCrash request
   asked_so own request plain e = same_request own request plain (cc (e))
 
-  noted_no : (tree : ℕ) (Is : Result Change Refused → Type 0) (request : Request) → IsNoted tree Is (Ok request) → IsNoCrash request
-  noted_no tree Is (Crash done) never = never
-  noted_no tree Is (Note j change) is = tt
-  noted_no tree Is (Begin o) is = tt
-  noted_no tree Is (Policy role k) is = tt
-  noted_no tree Is WorksDue is = tt
-  noted_no tree Is Abort is = tt
-  noted_no tree Is (Step wish) is = tt
-  noted_no tree Is Run is = tt
+  noted_no : (noting : Noting) (request : Request) → IsNoted noting (Ok request) → IsNoCrash request
+  noted_no noting (Crash done) never = never
+  noted_no noting (Note other) is = tt
+  noted_no noting (Begin o) is = tt
+  noted_no noting (Policy role k) is = tt
+  noted_no noting WorksDue is = tt
+  noted_no noting Abort is = tt
+  noted_no noting (Step wish) is = tt
+  noted_no noting Run is = tt
 
   leaves_it : (e : Event) (asked : Asked) → Asks e asked → LeavesAlone session e → AsksAlone session asked
   leaves_it (event.Open s client) asked asks own =
@@ -313,10 +313,11 @@ module _ (session : ℕ) where
   leaves_it (event.Run s) asked asks own = of_session s _ (λ request is. asked_so Run request tt is) asked asks own
   leaves_it (event.Step s wish) asked asks own = of_session s (IsStep wish) (λ request is. same_request (Step wish) request tt is) asked asks own
   leaves_it (event.Insert s tree key payload attr) asked asks own =
-      of_session s _ (noted_no tree (IsMade (change_noted (event.Insert s tree key payload attr)))) asked asks own
-  leaves_it (event.Update s tree key payload) asked asks own = of_session s _ (noted_no tree (IsMade (change_noted (event.Update s tree key payload)))) asked asks own
-  leaves_it (event.Delete s tree key) asked asks own = of_session s _ (noted_no tree (IsMade (change_noted (event.Delete s tree key)))) asked asks own
-  leaves_it (event.Add s tree key amount) asked asks own = of_session s _ (noted_no tree (IsMade (change_noted (event.Add s tree key amount)))) asked asks own
+      of_session s _ (noted_no (noting_of (event.Insert s tree key payload attr))) asked asks own
+  leaves_it (event.Put s tree key payload attr) asked asks own = of_session s _ (noted_no (noting_of (event.Put s tree key payload attr))) asked asks own
+  leaves_it (event.Update s tree key payload) asked asks own = of_session s _ (noted_no (noting_of (event.Update s tree key payload))) asked asks own
+  leaves_it (event.Delete s tree key) asked asks own = of_session s _ (noted_no (noting_of (event.Delete s tree key))) asked asks own
+  leaves_it (event.Add s tree key amount) asked asks own = of_session s _ (noted_no (noting_of (event.Add s tree key amount))) asked asks own
   leaves_it (event.Wait ticks) asked asks own = subst (AsksAlone session) (sym asks) tt
   leaves_it (event.Report tree) asked asks own = subst (AsksAlone session) (sym asks) tt
   leaves_it event.Settle asked asks never = absurd never

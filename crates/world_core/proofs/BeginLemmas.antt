@@ -3,7 +3,6 @@ use Rattle.std.proofs.Common.{◌≡◌, ◌≤◌, ℕ, List, [], ◌∷◌, �
 use Rattle.std.proofs.lemmas.Bool.{cases_eq}
 use Rattle.db_base.specs.Ids.{IsClient, IsTree, IsPage}
 use Rattle.db_base.specs.Change.{IsChange}
-use Rattle.db_base.specs.declared.change.Change.{Change}
 use Rattle.db_base.specs.declared.refusal.Refusal.{Refusal}
 use Rattle.db_base.specs.declared.refusal.Refused.{Refused}
 use Rattle.db_base.specs.declared.refusal.Refused.TheVariants as refused
@@ -14,7 +13,7 @@ use Rattle.event_text.specs.declared.event.Event.{Event}
 use Rattle.event_text.specs.declared.event.Event.TheVariants as event
 use Rattle.reply_text.specs.declared.reply.Reply.{Reply}
 use Rattle.reply_text.specs.declared.reply.Reply.TheVariants as reply
-use Rattle.txn_buffer.specs.Noted.{Noted, noted_in}
+use Rattle.txn_buffer.specs.Noted.{Noted}
 use Rattle.cloud_trait.specs.Machine.{Goes, Ends}
 use Rattle.cloud_trait.specs.State.{CloudState}
 use Rattle.cloud_trait.specs.Seen.{Seen}
@@ -41,10 +40,10 @@ use Rattle.tree_walk.specs.Moves.{Moves}
 use Rattle.tree_walk.specs.Walk.{new_walk}
 use Rattle.commit_run.specs.Run.{home_of}
 use Rattle.session_facts.specs.Commits.Committing.{MayCommit}
-use Rattle.session_facts.proofs.Commits.Noted.{may_note, may_none}
+use Rattle.session_facts.proofs.Commits.Noted.{may_none}
 use Rattle.cloud_facts.specs.Book.Tally.{at}
 use Rattle.cloud_facts.proofs.Book.Names.{at_same, at_other}
-use Rattle.replay_meaning.specs.Standing.{Line, Standing, Working as WorkingOn, Committing as Noting, Reading as ReadingKey, Scanning as ScanningRange, standing, after_own, notes as notes_own}
+use Rattle.replay_meaning.specs.Standing.{Line, Standing, Working as WorkingOn, Committing as CommittingAll, Reading as ReadingKey, Scanning as ScanningRange, standing, after_own, joins}
 use Rattle.session_facts.specs.Facts.{session_at, ActsAs, WorksAs}
 use Rattle.session_facts.proofs.Acting.{IsReplyTo}
 use Rattle.session_facts.proofs.RunSteps.{RunsFor, IsRefusal, run_begins}
@@ -52,12 +51,14 @@ use Rattle.session_facts.proofs.LineLemmas.{line_of, refused_own}
 use Rattle.session_facts.proofs.OpeningSteps.{opening_begins}
 use Rattle.session_facts.proofs.ReadingWalk.{reading_begins}
 use Rattle.session_facts.proofs.ScanningRange.{range_of, moved_range, scanning_begins, scanning_begins_ended}
+use Rattle.world_core.specs.declared.asked.Noting.{Noting}
 use Rattle.world_core.specs.World.{World}
 use Rattle.world_core.specs.declared.world.WorldFault.{WorldFault}
-use Rattle.world_core.specs.Asked.{bound_of}
-use Rattle.world_core.specs.Sessions.{Changes, NotesIn, AbortsIn}
+use Rattle.world_core.specs.Asked.{bound_of, IsPlace, change_in}
+use Rattle.world_core.specs.Sessions.{Changes, NotesIn, AbortsIn, joined}
 use Rattle.world_core.specs.Replying.{declined, done_reply, trouble_reply, RepliesBegun}
 use Rattle.world_core.specs.Handled.{BeginsOp, NotesChange, DropsChanges}
+use Rattle.world_core.proofs.Joining.{may_join}
 use Rattle.world_core.proofs.Behind.{LineLeaves}
 use Rattle.world_core.proofs.Texts.{commit_is}
 use Rattle.world_core.proofs.StandsLemmas.{IsNoReport, Ready, acts_before, changed_was, quiet_line, quiet_refused, replies_to}
@@ -129,7 +130,7 @@ commits_of k r lines buffer home c b Working same idle empty commits e =
     let P : Reply → Type 0 = λ z. LeavesSession (event.Commit k) z k lines b in
     subst P (sym is) (
       acts_by b (work.Committing commits.0) (after_own (event.Commit k) reply.Begun (standing lines k)) commits.2 empty
-          (ap (λ cs. WorkingOn (Noting cs)) (sym same ∙ sym go.0), idle.1 ∙ sym go.1, go.2),
+          (ap (λ cs. WorkingOn (CommittingAll cs)) (sym same ∙ sym go.0), idle.1 ∙ sym go.1, go.2),
       tt,
     )
 commits_of k r lines buffer home c b (Answered (answer.Commit a)) same idle empty commits e =
@@ -386,26 +387,26 @@ buffer_line lines event r k before after old new t Does buffer ready c is opened
         subst (λ a. ActsAs a (record (standing lines k) { buffer = buffer })) (sym is)
         (record { buffer = refl; work = works_with c.before.work (standing lines k) buffer opened had.work })
 
--- a line that notes a change
-pub notes : (lines : List Line) (event : Event) (k tree : ℕ) (change : Change) (r : Reply) (before after : Seen) (old new : World) (t : CloudState) → IsTree tree → IsChange change
-    → ((q : Reply) (s : Standing) → after_own event q s ≡ notes_own tree change q s)
-    → Ready lines event k before after old new t → Changes k (NotesChange tree change (Ok r)) old.sessions new.sessions → LineLeaves (lines ++ line_of event r ∷ []) new after r
-notes lines event k tree change r before after old new t is_tree is_change own ready c = on c.does.noted c.does.notes c.does.replies
+-- a line that notes something
+pub notes : (lines : List Line) (event : Event) (k : ℕ) (noting : Noting) (r : Reply) (before after : Seen) (old new : World) (t : CloudState) → IsPlace noting → IsChange (change_in noting)
+    → ((q : Reply) (s : Standing) → after_own event q s ≡ joins (joined noting) q s)
+    → Ready lines event k before after old new t → Changes k (NotesChange noting (Ok r)) old.sessions new.sessions → LineLeaves (lines ++ line_of event r ∷ []) new after r
+notes lines event k noting r before after old new t is_place is_change own ready c = on c.does.noted c.does.notes c.does.replies
   where
     s : Standing
     s = standing lines k
 
-    on : (noted : Result (Unit {0}) Refused) → NotesIn tree change c.before c.after noted → IsOk r (done_reply reply.Noted noted) → LineLeaves (lines ++ line_of event r ∷ []) new after r
+    on : (noted : Result (Unit {0}) Refused) → NotesIn noting c.before c.after noted → IsOk r (done_reply reply.Noted noted) → LineLeaves (lines ++ line_of event r ∷ []) new after r
     on (Ok done) h e =
         let is : r ≡ reply.Noted = cc in
         let P : Reply → Type 0 = λ z. LineLeaves (lines ++ line_of event z ∷ []) new after z in
         let had = acts_before lines event k before after old new t _ ready c in
-        let few : length (noted_in c.before.buffer tree change) ≤ 200 = subst (λ (a : Acting). length a.buffer ≤ 200) h.0 h.2 in
+        let few : length (joined noting c.before.buffer) ≤ 200 = subst (λ (a : Acting). length a.buffer ≤ 200) h.0 h.2 in
         let may : MayCommit c.before.buffer =
         subst (λ (a : Acting). MayCommit a.buffer) (changed_was k _ old.sessions new.sessions c) (ready.stands.holds.stand.each k).buffer in
-        subst P (sym is) (buffer_line lines event reply.Noted k before after old new t _ (noted_in c.before.buffer tree change) ready c h.0 h.1
-        (may_note c.before.buffer tree change is_tree is_change few may)
-        (own reply.Noted s ∙ ap (λ b. record s { buffer = noted_in b tree change }) (sym had.buffer)) tt)
+        subst P (sym is) (buffer_line lines event reply.Noted k before after old new t _ (joined noting c.before.buffer) ready c h.0 h.1
+        (may_join noting c.before.buffer is_place is_change h.3 few may)
+        (own reply.Noted s ∙ ap (λ b. record s { buffer = joined noting b }) (sym had.buffer)) tt)
     on (Err (refused.Rule rule)) h e =
         quiet_refused lines event r rule k before after old new t _ ready c (same_stands lines event k before after old new t _ ready c h.0) (refused_is r rule e) h.0
     on (Err refused.Memory) h e = absurd (cc (e))

@@ -115,7 +115,7 @@ module _ (n : ℕ) (before after : Seen) (old new : World) (result : Result Repl
   does_begun k (Step wish) h = tt
   does_begun k Run h = tt
   does_begun k (Crash done) h = tt
-  does_begun k (Note tree change) h = tt
+  does_begun k (Note noting) h = tt
   does_begun k Abort h = tt
   does_begun k (Policy role number) h = tt
   does_begun k WorksDue h = tt

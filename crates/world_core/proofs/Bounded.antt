@@ -134,7 +134,7 @@ module _ (lines : List Line) (n : ℕ) (before after : Seen) (old new : World) (
     does_soon WorksDue h = works_soon h
     does_soon (Policy role kept) h = tt
     does_soon (Begin op) h = tt
-    does_soon (Note tree change) h = tt
+    does_soon (Note noting) h = tt
     does_soon Abort h = tt
 
     serves_soon : (request : Result Request Refused) (h : Serves n k request before after old new result) → ServesSoon lines n k request before after old new result h

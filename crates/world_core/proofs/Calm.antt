@@ -19,7 +19,6 @@ use Rattle.cloud_trait.specs.Seen.{Seen}
 use Rattle.cloud_trait.specs.State.{CloudState}
 use Rattle.cloud_trait.specs.declared.turn.Turn.{Turn}
 use Rattle.cloud_trait.specs.declared.turn.Turn.TheVariants.{More, Ended, Stopped}
-use Rattle.db_base.specs.declared.change.Change.{Change}
 use Rattle.db_base.specs.declared.refusal.Refusal.{Refusal}
 use Rattle.db_base.specs.declared.refusal.Refused.{Refused}
 use Rattle.db_base.specs.declared.refusal.Refused.TheVariants as refused
@@ -53,11 +52,12 @@ use Rattle.world_core.proofs.UnsentSteps.{IsPagingOf, UnsentAt, answer_unsent, a
 use Rattle.world_core.proofs.Workers.{HoldsWithin, open_rests, within_works}
 use Rattle.world_core.specs.declared.asked.Asked.{Asked}
 use Rattle.world_core.specs.declared.asked.Asked.TheVariants.{Session, Wait, Report, Settle}
+use Rattle.world_core.specs.declared.asked.Noting.{Noting}
 use Rattle.world_core.specs.declared.asked.Request.{Request}
 use Rattle.world_core.specs.declared.asked.Request.TheVariants.{Begin, Note, Abort, Policy, Work as WorksDue, Step, Run, Crash}
 use Rattle.world_core.specs.World.{World}
 use Rattle.world_core.specs.declared.world.WorldFault.{WorldFault}
-use Rattle.world_core.specs.Asked.{change_noted, tree_noted, Asks, OfSession, IsOpening, IsReading, IsScanning, IsPaging, IsFolding, IsMade, IsNoted, IsStep, bound_of}
+use Rattle.world_core.specs.Asked.{Asks, OfSession, IsOpening, IsReading, IsScanning, IsPaging, IsFolding, IsNoted, IsStep, bound_of, noting_of}
 use Rattle.world_core.specs.Calm.{StepIsCalm, spent_by, work_at, DoesWell, BeginsWell, RunsWell, StepsWell, SettlesWell, RepliesWell, AnswersWell, WorksWell}
 use Rattle.world_core.specs.EachStep.{EachWent, EachMade, EachRun, EachSettlingOn, EachSettling, EachDone, EachAsked}
 use Rattle.world_core.specs.Explained.{StepExplains}
@@ -413,10 +413,10 @@ module _ (lines : List Line) (n k : ℕ) (before after : Seen) (old new : World)
       (rests_in k after new (subst IsAtRest (sym last.works) (at_rest (work.Idle rest.0) refl refl)), subst WorksWell (sym is) tt)
   through_well (inr (inr memory)) = absurd (no_memory r memory.0)
 
-  notes_well : (tree : ℕ) (change : Change) → after ≡ before → Changes k (NotesChange tree change (Ok r)) old.sessions new.sessions → Behind
-  notes_well tree change seen c = rests_after k before after _ old new c seen (λ x was. on x was c.does.noted c.does.notes) well
+  notes_well : (noting : Noting) → after ≡ before → Changes k (NotesChange noting (Ok r)) old.sessions new.sessions → Behind
+  notes_well noting seen c = rests_after k before after _ old new c seen (λ x was. on x was c.does.noted c.does.notes) well
     where
-      on : (x : CloudState) → IsUntroubled x c.before.work → (done : Result (Unit {0}) Refused) → NotesIn tree change c.before c.after done → IsUntroubled x c.after.work
+      on : (x : CloudState) → IsUntroubled x c.before.work → (done : Result (Unit {0}) Refused) → NotesIn noting c.before c.after done → IsUntroubled x c.after.work
       on x was (Ok done) notes = subst (λ (a : Acting). IsUntroubled x a.work) (sym notes.0) was
       on x was (Err why) notes = subst (λ (a : Acting). IsUntroubled x a.work) (sym notes.0) was
 
@@ -595,15 +595,15 @@ module _ (lines : List Line) (n k : ℕ) (before after : Seen) (old new : World)
   as_asked request own e does = let is : request ≡ own = cc (e) in subst (DoesCalmly k) is does
 
   -- a change is noted
-  noted_well : (tree : ℕ) (Is : Result Change Refused → Type 0) (request : Request) → IsNoted tree Is (Ok request) → DoesCalmly k request → Behind × Unit {0}
-  noted_well tree Is (Note j change) is does = (notes_well j change does.0.0.seen does.0.1, tt)
-  noted_well tree Is (Begin o) is does = absurd is
-  noted_well tree Is (Policy role number) is does = absurd is
-  noted_well tree Is WorksDue is does = absurd is
-  noted_well tree Is Abort is does = absurd is
-  noted_well tree Is (Step wish) is does = absurd is
-  noted_well tree Is Run is does = absurd is
-  noted_well tree Is (Crash done) is does = absurd is
+  noted_well : (noting : Noting) (request : Request) → IsNoted noting (Ok request) → DoesCalmly k request → Behind × Unit {0}
+  noted_well noting (Note other) is does = (notes_well other does.0.0.seen does.0.1, tt)
+  noted_well noting (Begin o) is does = absurd is
+  noted_well noting (Policy role number) is does = absurd is
+  noted_well noting WorksDue is does = absurd is
+  noted_well noting Abort is does = absurd is
+  noted_well noting (Step wish) is does = absurd is
+  noted_well noting Run is does = absurd is
+  noted_well noting (Crash done) is does = absurd is
 
 -- ---- a settling
 
@@ -749,8 +749,8 @@ module _ (lines : List Line) (n : ℕ) (before after : Seen) (old new : World) (
       settles_well lines n before after old new r t u told told_after sound d.0 d.1 d.2
   asked_well e asked asks h calm explains sound well =
       request_well lines n (session_of e) before after old new r t number told stands well u told_after (λ q. Unit {0}) (λ rule. tt)
-      (IsNoted (tree_noted e) (IsMade (change_noted e))) asked asks h calm explains
-      (λ request is does. noted_well lines n (session_of e) before after old new r t number told stands well u told_after (tree_noted e) (IsMade (change_noted e)) request is does)
+      (IsNoted (noting_of e)) asked asks h calm explains
+      (λ request is does. noted_well lines n (session_of e) before after old new r t number told stands well u told_after (noting_of e) request is does)
 
   -- the lines of a session that is at work on a page
   asked_unsent : (e : Event) (asked : Asked) → Asks e asked → (h : Answers n asked before after old new (Ok r)) → EachAsked StepIsCalm n asked before after old new (Ok r) h

@@ -35,7 +35,7 @@ use Rattle.world_core.specs.declared.asked.Asked.TheVariants.{Session, Wait, Rep
 use Rattle.world_core.specs.declared.asked.Request.{Request}
 use Rattle.world_core.specs.declared.asked.Request.TheVariants.{Begin, Note, Abort, Policy, Work as WorksDue, Step, Run, Crash}
 use Rattle.world_core.specs.declared.world.WorldFault.{WorldFault}
-use Rattle.world_core.specs.Asked.{change_noted, tree_noted, Asks, OfSession, IsOpening, IsReading, IsScanning, IsPaging, IsFolding, IsMade, IsNoted, IsStep}
+use Rattle.world_core.specs.Asked.{Asks, OfSession, IsOpening, IsReading, IsScanning, IsPaging, IsFolding, IsNoted, IsStep, noting_of}
 use Rattle.world_core.specs.Handled.{Declines, BeginsOp, StepsLooked, MakesStep, Runs, Settles, SettlesOn, Crashes, Reports, Does, Answers, Policies, WorksThrough}
 use Rattle.world_core.specs.Replying.{declined, done_reply, unsettled_reply, value_reply, RepliesTo, RepliesSettled, RepliesBegun, RepliesTurn}
 use Rattle.world_core.specs.Sessions.{Changes}
@@ -217,7 +217,7 @@ module _ (Holds : Posture → Work → CommitAnswer → Type 0) (nothing : SaysN
 
   does_keeps : (request : Request) → Does n k request before after old new (Ok r) → Kept r
   does_keeps (Begin o) h = begin_keeps o h.1
-  does_keeps (Note tree change) h = done_keeps Holds stood.posture hand r reply.Noted tt h.1.does.noted h.1.does.replies
+  does_keeps (Note noting) h = done_keeps Holds stood.posture hand r reply.Noted tt h.1.does.noted h.1.does.replies
   does_keeps Abort h = done_keeps Holds stood.posture hand r reply.Aborted tt h.1.does.dropped h.1.does.replies
   does_keeps (Policy role number) h = policy_keeps role number h
   does_keeps WorksDue h = through_keeps h
@@ -294,4 +294,4 @@ module _ (Holds : Posture → Work → CommitAnswer → Type 0) (nothing : SaysN
   asked_keeps (event.Report tree) ends asked asks answers =
       report_keeps Holds _ _ tree before after old new r (subst (λ z. Answers n z before after old new (Ok r)) asks answers)
   asked_keeps event.Settle ends asked asks answers = settle_keeps Holds _ _ n before after old new r (subst (λ z. Answers n z before after old new (Ok r)) asks answers)
-  asked_keeps e ends asked asks answers = of_session e ends (IsNoted (tree_noted e) (IsMade (change_noted e))) asked asks answers
+  asked_keeps e ends asked asks answers = of_session e ends (IsNoted (noting_of e)) asked asks answers

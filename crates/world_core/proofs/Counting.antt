@@ -23,7 +23,6 @@ use Rattle.cloud_trait.specs.State.{CloudState}
 use Rattle.cloud_trait.specs.Upto.{posts_of}
 use Rattle.cloud_trait.specs.declared.turn.Turn.TheVariants.{More, Ended, Stopped}
 use Rattle.cloud_trait.specs.declared.turn.Turn.{Turn}
-use Rattle.db_base.specs.declared.change.Change.{Change}
 use Rattle.db_base.specs.declared.refusal.Refusal.{Refusal}
 use Rattle.db_base.specs.declared.refusal.Refused.{Refused}
 use Rattle.db_base.specs.declared.refusal.Refused.TheVariants as refused
@@ -66,6 +65,7 @@ use Rattle.world_core.specs.Stands.{StandsOn}
 use Rattle.world_core.specs.World.{World}
 use Rattle.world_core.specs.declared.asked.Asked.{Asked}
 use Rattle.world_core.specs.declared.asked.Asked.TheVariants.{Session, Wait, Report, Settle}
+use Rattle.world_core.specs.declared.asked.Noting.{Noting}
 use Rattle.world_core.specs.declared.asked.Request.{Request}
 use Rattle.world_core.specs.declared.asked.Request.TheVariants.{Begin, Note, Abort, Policy, Work as WorksDue, Step, Run, Crash}
 use Rattle.world_core.specs.declared.world.WorldFault.{WorldFault}
@@ -522,10 +522,10 @@ module _ (lines : List Line) (n : ℕ) (number : length lines + 1 ≡ n) (before
         changed_counts (BeginsOp o (Ok r)) quiet c
         (λ was. begin_counts r (calls_told lines k) t c.before c.after o c.does.begun c.does.begins c.does.replies was)
 
-    noted : (tree : ℕ) (change : Change) → MakesNoCall before after old new → Changes k (NotesChange tree change (Ok r)) old.sessions new.sessions → Behind
-    noted tree change quiet c = changed_counts (NotesChange tree change (Ok r)) quiet c (λ was. on was c.does.noted c.does.notes c.does.replies)
+    noted : (noting : Noting) → MakesNoCall before after old new → Changes k (NotesChange noting (Ok r)) old.sessions new.sessions → Behind
+    noted noting quiet c = changed_counts (NotesChange noting (Ok r)) quiet c (λ was. on was c.does.noted c.does.notes c.does.replies)
       where
-        on : CountsWork (calls_told lines k) t c.before.work → (result : Result (Unit {0}) Refused) → NotesIn tree change c.before c.after result
+        on : CountsWork (calls_told lines k) t c.before.work → (result : Result (Unit {0}) Refused) → NotesIn noting c.before c.after result
             → IsOkOf r (done_reply reply.Noted result) → CountsWork (counted r (calls_told lines k)) t c.after.work
         on was (Ok done) h q =
             let is : r ≡ reply.Noted = cc (q) in
@@ -669,7 +669,7 @@ module _ (lines : List Line) (n : ℕ) (number : length lines + 1 ≡ n) (before
     does (Policy role kept) h = policy role kept h
     does WorksDue h = worked h
     does (Begin o) h = begun o h.0 h.1
-    does (Note tree change) h = noted tree change h.0 h.1
+    does (Note noting) h = noted noting h.0 h.1
     does Abort h = aborted h.0 h.1
     does (Step wish) h = makes wish h
     does Run h = runs h

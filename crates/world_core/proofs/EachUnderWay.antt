@@ -83,7 +83,7 @@ module _ (Holds : StepFact) (lines : List Line)
     does_each k WorksDue h = works n k before after old new result h
     does_each k (Policy role number) h = tt
     does_each k (Begin o) h = tt
-    does_each k (Note tree change) h = tt
+    does_each k (Note noting) h = tt
     does_each k Abort h = tt
 
     serves_each : (k : ℕ) (request : Result Request Refused) (h : Serves n k request before after old new result) → EachServed Holds n k request before after old new result h

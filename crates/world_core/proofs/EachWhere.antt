@@ -78,7 +78,7 @@ module _ (First Then : StepFact)
     does_where k WorksDue h each = through_where k h each
     does_where k (Policy role number) h each = tt
     does_where k (Begin o) h each = tt
-    does_where k (Note tree change) h each = tt
+    does_where k (Note noting) h each = tt
     does_where k Abort h each = tt
 
     serves_where : (k : ℕ) (request : Result Request Refused) (h : Serves n k request before after old new result) → EachServed First n k request before after old new result h

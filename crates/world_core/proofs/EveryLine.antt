@@ -1,8 +1,6 @@
 -- Every line keeps what stands.
 use Rattle.std.proofs.Common.{◌≡◌, ◌+◌, ℕ, List, [], ◌∷◌, ◌++◌, length, Some, Result, Ok, Err, refl, subst, inl, inr}
 use Rattle.db_base.specs.Ids.{IsSession}
-use Rattle.db_base.specs.Change.{IsChange}
-use Rattle.db_base.specs.declared.change.Change.{Change}
 use Rattle.db_base.specs.declared.refusal.Refused.{Refused}
 use Rattle.event_text.specs.declared.event.Event.{Event}
 use Rattle.event_text.specs.declared.event.Event.TheVariants as event
@@ -10,14 +8,16 @@ use Rattle.reply_text.specs.declared.reply.Reply.{Reply}
 use Rattle.cloud_trait.specs.State.{CloudState}
 use Rattle.cloud_trait.specs.Seen.{Seen}
 use Rattle.client_work.specs.declared.op.Op.TheVariants as op
-use Rattle.replay_meaning.specs.Standing.{Line, Standing, after_own, session_of, notes as notes_own}
+use Rattle.replay_meaning.specs.Standing.{Line, Standing, after_own, session_of, joins}
 use Rattle.session_facts.proofs.LineLemmas.{line_of}
 use Rattle.world_core.specs.World.{World}
+use Rattle.world_core.specs.declared.asked.Noting.{Noting}
 use Rattle.world_core.specs.declared.asked.Request.{Request}
 use Rattle.world_core.specs.declared.asked.Request.TheVariants.{Begin, Note, Abort, Policy, Work as WorksDue, Step, Run, Crash}
 use Rattle.world_core.specs.declared.asked.Asked.{Asked}
 use Rattle.world_core.specs.declared.asked.Asked.TheVariants.{Session, Wait, Report, Settle}
-use Rattle.world_core.specs.Asked.{change_noted, tree_noted, bound_of, IsOpening, IsReading, IsScanning, IsPaging, IsFolding, IsMade, IsNoted, IsStep, OfSession, Asks}
+use Rattle.world_core.specs.Asked.{noting_of, bound_of, IsOpening, IsReading, IsScanning, IsPaging, IsFolding, IsNoted, IsStep, OfSession, Asks}
+use Rattle.world_core.specs.Sessions.{joined}
 use Rattle.world_core.specs.Handled.{MakesNoCall, Does, Answers, Handled}
 use Rattle.world_core.proofs.Behind.{LinesStand, LineLeaves}
 use Rattle.world_core.proofs.StandsLemmas.{Ready, declines, runs, makes_step, crashes, policies, settles, waits, reports}
@@ -54,21 +54,19 @@ request_stands n k event Is Settle before after old new r lines t belongs answer
 
 -- ---- a change is noted
 
-noted_line : (lines : List Line) (event : Event) (n k tree : ℕ) (change : Change) (request : Request) (before after : Seen) (old new : World) (r : Reply) (t : CloudState) (Is : Result Change Refused → Type 0)
-    → session_of event ≡ k → ((q : Reply) (s : Standing) → after_own event q s ≡ notes_own tree change q s) → ((c : Change) → Is (Ok c) → (c ≡ change) × IsChange change)
-    → Served lines n k t before old → IsNoted tree Is (Ok request) → Does n k request before after old new (Ok r) → LineLeaves (lines ++ line_of event r ∷ []) new after r
-noted_line lines event n k tree change (Note tree_of c) before after old new r t Is own does is_change s noted done =
-    let is = is_change c noted.2 in
-    let Own : ℕ → Change → Type 0 = λ j d. Does n k (Note j d) before after old new (Ok r) in
-    let h : Does n k (Note tree change) before after old new (Ok r) = subst (λ d. Own tree d) is.0 (subst (λ j. Own j c) noted.0 done) in
-    notes lines event k tree change r before after old new t noted.1 is.1 does (ready_of lines event n k before after old new t own s h.0) h.1
-noted_line lines event n k tree change (Policy role number) before after old new r t Is own does is_change s noted done = absurd noted
-noted_line lines event n k tree change WorksDue before after old new r t Is own does is_change s noted done = absurd noted
-noted_line lines event n k tree change (Begin o) before after old new r t Is own does is_change s noted done = absurd noted
-noted_line lines event n k tree change Abort before after old new r t Is own does is_change s noted done = absurd noted
-noted_line lines event n k tree change (Step wish) before after old new r t Is own does is_change s noted done = absurd noted
-noted_line lines event n k tree change Run before after old new r t Is own does is_change s noted done = absurd noted
-noted_line lines event n k tree change (Crash d) before after old new r t Is own does is_change s noted done = absurd noted
+noted_line : (lines : List Line) (event : Event) (n k : ℕ) (noting : Noting) (request : Request) (before after : Seen) (old new : World) (r : Reply) (t : CloudState)
+    → session_of event ≡ k → ((q : Reply) (s : Standing) → after_own event q s ≡ joins (joined noting) q s)
+    → Served lines n k t before old → IsNoted noting (Ok request) → Does n k request before after old new (Ok r) → LineLeaves (lines ++ line_of event r ∷ []) new after r
+noted_line lines event n k noting (Note asked) before after old new r t own does s is done =
+    let h : Does n k (Note noting) before after old new (Ok r) = subst (λ j. Does n k (Note j) before after old new (Ok r)) is.0 done in
+    notes lines event k noting r before after old new t is.1 is.2 does (ready_of lines event n k before after old new t own s h.0) h.1
+noted_line lines event n k noting (Policy role number) before after old new r t own does s is done = absurd is
+noted_line lines event n k noting WorksDue before after old new r t own does s is done = absurd is
+noted_line lines event n k noting (Begin o) before after old new r t own does s is done = absurd is
+noted_line lines event n k noting Abort before after old new r t own does s is done = absurd is
+noted_line lines event n k noting (Step wish) before after old new r t own does s is done = absurd is
+noted_line lines event n k noting Run before after old new r t own does s is done = absurd is
+noted_line lines event n k noting (Crash d) before after old new r t own does s is done = absurd is
 
 -- what is done is what was asked
 pub does_own : (n k : ℕ) (request own : Request) (before after : Seen) (old new : World) (r : Reply) → request ≡ own → Does n k request before after old new (Ok r)
@@ -151,9 +149,8 @@ asked_stands n (event.Report tree) asked before after old new r lines t asks ans
 asked_stands n event.Settle asked before after old new r lines t asks answers at told stands =
     settles lines n r before after old new t at told stands (subst (λ z. Answers n z before after old new (Ok r)) asks answers)
 asked_stands n e asked before after old new r lines t asks answers at told stands =
-    request_stands n (session_of e) e (IsNoted (tree_noted e) (IsMade (change_noted e))) asked before after old new r lines t asks answers at told stands
-    (λ request s is done. noted_line lines e n (session_of e) (tree_noted e) (change_noted e) request before after old new r t (IsMade (change_noted e)) refl (λ q z. refl)
-    (λ c h. h) s is done)
+    request_stands n (session_of e) e (IsNoted (noting_of e)) asked before after old new r lines t asks answers at told stands
+    (λ request s is done. noted_line lines e n (session_of e) (noting_of e) request before after old new r t refl (λ q z. refl) s is done)
 
 pub line_leaves : (n : ℕ) (event : Event) (before after : Seen) (old new : World) (r : Reply) → Handled n event before after old new (Ok r)
     → (lines : List Line) (t : CloudState) → length lines + 1 ≡ n → before.state ≡ Some t → LinesStand lines old t → LineLeaves (lines ++ line_of event r ∷ []) new after r

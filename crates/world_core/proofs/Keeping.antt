@@ -15,8 +15,6 @@ use Rattle.cloud_trait.specs.Weather.{Leaves}
 use Rattle.cloud_trait.specs.declared.turn.Turn.{Turn}
 use Rattle.cloud_trait.specs.declared.turn.Turn.TheVariants.{More, Ended}
 use Rattle.db_base.specs.Change.{IsChange}
-use Rattle.db_base.specs.Ids.{IsTree}
-use Rattle.db_base.specs.declared.change.Change.{Change}
 use Rattle.db_base.specs.declared.refusal.Refused.{Refused}
 use Rattle.db_base.specs.declared.wish.Wish.{Wish}
 use Rattle.db_base.specs.declared.wish.Wish.TheVariants.{Plain}
@@ -24,7 +22,7 @@ use Rattle.event_text.specs.declared.event.Event.{Event}
 use Rattle.event_text.specs.declared.event.Event.TheVariants as event
 use Rattle.reply_text.specs.declared.reply.Reply.{Reply}
 use Rattle.report_types.specs.declared.entry.Entry.{Entry}
-use Rattle.session_facts.proofs.Commits.Noted.{may_note, may_none}
+use Rattle.session_facts.proofs.Commits.Noted.{may_none}
 use Rattle.session_facts.proofs.Sessions.Begins.{begins_keeps, settling_begins_session}
 use Rattle.session_facts.proofs.Sessions.Calling.{session_keeps}
 use Rattle.session_facts.proofs.Sessions.Laws.{buffer_keeps, crash_keeps, rest_keeps, same_sessions}
@@ -32,28 +30,30 @@ use Rattle.session_facts.proofs.Steps.{MadeCall, made_call}
 use Rattle.session_facts.specs.Commits.Committing.{MayCommit}
 use Rattle.session_facts.specs.Facts.{session_at, SettlerRests}
 use Rattle.session_facts.specs.Sessions.Sessions.{Sessions, SessionsStand, Goes as SessionGoes, IsRightOp}
-use Rattle.txn_buffer.specs.Noted.{Noted, noted_in}
+use Rattle.txn_buffer.specs.Noted.{Noted}
 use Rattle.replay_meaning.specs.Standing.{session_of}
 use Rattle.db_base.specs.declared.names.QueueName.{QueueName}
 use Rattle.ckpt_policy.specs.declared.role.Role.{Role}
+use Rattle.world_core.proofs.Joining.{may_join}
 use Rattle.world_core.proofs.StandsLemmas.{changed_at, changed_was, changed_rests, went_rests, has_at, no_memory}
-use Rattle.world_core.specs.Asked.{change_noted, tree_noted, bound_of, IsOpening, IsReading, IsScanning, IsPaging, IsFolding, IsMade, IsNoted, IsStep, OfSession, Asks}
+use Rattle.world_core.specs.Asked.{bound_of, IsOpening, IsReading, IsScanning, IsPaging, IsFolding, IsNoted, IsStep, OfSession, Asks, noting_of, IsPlace, change_in}
 use Rattle.world_core.specs.Handled.{Declines, Has, BeginsOp, NotesChange, DropsChanges, MakesNoCall, StepsLooked, MakesStep, Went, start, further, Runs, SettlesOn, Settles, Dies, Crashes, Does, WaitsFor, WaitsTooLong, Reports, Answers, Handled, Policies, Works, WorksThrough, checkpoint_more, checkpoint_of, no_checkpoint}
-use Rattle.world_core.specs.Sessions.{Changes, NotesIn, AbortsIn}
+use Rattle.world_core.specs.Sessions.{Changes, NotesIn, AbortsIn, joined}
 use Rattle.world_core.specs.Stands.{KeepsABook}
 use Rattle.world_core.specs.World.{World}
 use Rattle.world_core.specs.declared.asked.Asked.{Asked}
 use Rattle.world_core.specs.declared.asked.Asked.TheVariants.{Session, Wait, Report, Settle}
+use Rattle.world_core.specs.declared.asked.Noting.{Noting}
 use Rattle.world_core.specs.declared.asked.Request.{Request}
 use Rattle.world_core.specs.declared.asked.Request.TheVariants.{Begin, Note, Abort, Policy, Work as WorksDue, Step, Run, Crash}
 use Rattle.world_core.specs.declared.world.WorldFault.{WorldFault}
 
 -- ---- what a line asks is right
 
--- an operation that begins is a right one, and a change that is noted is one of a tree
+-- an operation that begins is a right one, and what is noted is a change of a tree
 abbrev IsRight : Request → Type 0
 IsRight (Begin o) = IsRightOp o
-IsRight (Note tree change) = IsTree tree × IsChange change
+IsRight (Note noting) = IsPlace noting × IsChange (change_in noting)
 IsRight request = Unit {0}
 
 abbrev IsRightIfAny : Result Request Refused → Type 0
@@ -100,16 +100,16 @@ step_right : (wish : Wish) (request : Result Request Refused) → IsStep wish re
 step_right wish (Ok request) is = subst IsRight (sym is) tt
 step_right wish (Err why) is = tt
 
-noted_right : (tree : ℕ) (Is : Result Change Refused → Type 0) → ((c : Change) → Is (Ok c) → IsChange c) → (request : Result Request Refused) → IsNoted tree Is request → IsRightIfAny request
-noted_right tree Is right (Ok (Note t change)) is = (subst IsTree (sym is.0) is.1, right change is.2)
-noted_right tree Is right (Ok (Begin o)) is = absurd is
-noted_right tree Is right (Ok (Policy role number)) is = absurd is
-noted_right tree Is right (Ok WorksDue) is = absurd is
-noted_right tree Is right (Ok Abort) is = absurd is
-noted_right tree Is right (Ok (Step wish)) is = absurd is
-noted_right tree Is right (Ok Run) is = absurd is
-noted_right tree Is right (Ok (Crash done)) is = absurd is
-noted_right tree Is right (Err why) is = tt
+noted_right : (noting : Noting) (request : Result Request Refused) → IsNoted noting request → IsRightIfAny request
+noted_right noting (Ok (Note asked)) is = subst (λ j. IsPlace j × IsChange (change_in j)) (sym is.0) (is.1, is.2)
+noted_right noting (Ok (Begin o)) is = absurd is
+noted_right noting (Ok (Policy role number)) is = absurd is
+noted_right noting (Ok WorksDue) is = absurd is
+noted_right noting (Ok Abort) is = absurd is
+noted_right noting (Ok (Step wish)) is = absurd is
+noted_right noting (Ok Run) is = absurd is
+noted_right noting (Ok (Crash done)) is = absurd is
+noted_right noting (Err why) is = tt
 
 asks_right : (e : Event) (asked : Asked) → Asks e asked → AsksRight asked
 asks_right (event.Open k client) asked asks = of_session k (IsOpening client) (opening_right client) asked asks
@@ -130,7 +130,7 @@ asks_right (event.Wait ticks) asked asks = subst AsksRight (sym asks) tt
 asks_right (event.Report tree) asked asks = subst AsksRight (sym asks) tt
 asks_right event.Settle asked asks = subst AsksRight (sym asks) tt
 asks_right e asked asks =
-    of_session (session_of e) (IsNoted (tree_noted e) (IsMade (change_noted e))) (noted_right (tree_noted e) (IsMade (change_noted e)) (λ c is. subst IsChange (sym is.0) is.1)) asked asks
+    of_session (session_of e) (IsNoted (noting_of e)) (noted_right (noting_of e)) asked asks
 
 -- ---- a world and a cloud on a book
 
@@ -191,14 +191,14 @@ begin_on k before after old new o r right on quiet c =
     (begins_keeps o on.book on.order on.state (session_at old.sessions) k c.after c.does.begun right on.stand
     (subst (λ (a : Acting). Begins o a c.after c.does.begun) (sym (changed_was k _ old.sessions new.sessions c)) c.does.begins))
 
-note_on : (k tree : ℕ) (change : Change) (before after : Seen) (old new : World) (result : Result Reply WorldFault) → IsTree tree × IsChange change → OnBook old before
-    → MakesNoCall before after old new → Changes k (NotesChange tree change result) old.sessions new.sessions → OnBook new after
-note_on k tree change before after old new result right on quiet c = by c.does.noted c.does.notes
+note_on : (k : ℕ) (noting : Noting) (before after : Seen) (old new : World) (result : Result Reply WorldFault) → IsPlace noting × IsChange (change_in noting) → OnBook old before
+    → MakesNoCall before after old new → Changes k (NotesChange noting result) old.sessions new.sessions → OnBook new after
+note_on k noting before after old new result right on quiet c = by c.does.noted c.does.notes
   where
-    by : (noted : Result (Unit {0}) Refused) → NotesIn tree change c.before c.after noted → OnBook new after
+    by : (noted : Result (Unit {0}) Refused) → NotesIn noting c.before c.after noted → OnBook new after
     by (Ok done) h =
-        buffer_on k before after old new _ on quiet c (noted_in c.before.buffer tree change) h.0
-        (may_note c.before.buffer tree change right.0 right.1 (subst (λ (a : Acting). length a.buffer ≤ 200) h.0 h.2) (may_before k before after old new _ on quiet c))
+        buffer_on k before after old new _ on quiet c (joined noting c.before.buffer) h.0
+        (may_join noting c.before.buffer right.0 right.1 h.3 (subst (λ (a : Acting). length a.buffer ≤ 200) h.0 h.2) (may_before k before after old new _ on quiet c))
     by (Err why) h = same_on k before after old new _ on quiet c h.0
 
 abort_on : (k : ℕ) (before after : Seen) (old new : World) (result : Result Reply WorldFault) → OnBook old before → MakesNoCall before after old new
@@ -324,7 +324,7 @@ module _ (n k : ℕ) (before after : Seen) (old new : World) (r : Reply) (some :
 
   does_still : (request : Request) → IsRight request → Does n k request before after old new (Ok r) → IsStill new after
   does_still (Begin o) right h = changed_still _ h.1 (begin_on k before after old new o r right still.0 h.0 h.1)
-  does_still (Note tree change) right h = changed_still _ h.1 (note_on k tree change before after old new (Ok r) right still.0 h.0 h.1)
+  does_still (Note noting) right h = changed_still _ h.1 (note_on k noting before after old new (Ok r) right still.0 h.0 h.1)
   does_still Abort right h = changed_still _ h.1 (abort_on k before after old new (Ok r) still.0 h.0 h.1)
   does_still (Policy role number) right h = policy_still role number h
   does_still WorksDue right h = through_still h

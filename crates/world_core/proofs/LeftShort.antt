@@ -3,7 +3,6 @@ use Rattle.std.proofs.Common.{◌≡◌, ℕ, List, [], Bool, true, false, Some,
 use Rattle.std.specs.Prelude.{get_or, slice_get, slice_set}
 use Rattle.std.proofs.lemmas.List.{set-get_or, set-set}
 use Rattle.std.proofs.lemmas.Option.{slice_get_within, slice_get-get_or}
-use Rattle.db_base.specs.declared.change.Change.{Change}
 use Rattle.db_base.specs.declared.refusal.Refused.{Refused}
 use Rattle.db_base.specs.declared.refusal.Refused.TheVariants as refused
 use Rattle.db_base.specs.declared.trouble.CommitAnswer.{CommitAnswer}
@@ -52,6 +51,7 @@ use Rattle.client_work.specs.declared.shown.Shown.TheVariants.{Nothing}
 use Rattle.world_core.proofs.Workers.{IsBetween, IsInside, open_rests, within_begun, within_works}
 use Rattle.world_core.specs.declared.asked.Asked.{Asked}
 use Rattle.world_core.specs.declared.asked.Asked.TheVariants.{Session, Wait, Report, Settle}
+use Rattle.world_core.specs.declared.asked.Noting.{Noting}
 use Rattle.world_core.specs.declared.asked.Request.{Request}
 use Rattle.world_core.specs.declared.asked.Request.TheVariants.{Begin, Note, Abort, Policy, Work as WorksDue, Step, Run, Crash}
 use Rattle.world_core.specs.declared.put.Put.{Put}
@@ -485,10 +485,10 @@ set_own l k a there =
     let is : a ≡ get_or l k a = cc in
     ap (λ z. slice_set l k z) is ∙ set-get_or l k a
 
-noted_not : (tree k : ℕ) (change : Change) (why : WorldFault) (old new : List Acting) → Changes k (NotesChange tree change (Err why)) old new → new ≡ old
-noted_not tree k change why old new c = on c.does.noted c.does.notes c.does.replies
+noted_not : (k : ℕ) (noting : Noting) (why : WorldFault) (old new : List Acting) → Changes k (NotesChange noting (Err why)) old new → new ≡ old
+noted_not k noting why old new c = on c.does.noted c.does.notes c.does.replies
   where
-    on : (noted : Result (Unit {0}) Refused) → NotesIn tree change c.before c.after noted → (let own : Result Reply WorldFault = Err why in own ≡ done_reply reply.Noted noted) → new ≡ old
+    on : (noted : Result (Unit {0}) Refused) → NotesIn noting c.before c.after noted → (let own : Result Reply WorldFault = Err why in own ≡ done_reply reply.Noted noted) → new ≡ old
     on (Ok done) notes replies = absurd (cc (replies))
     on (Err e) notes replies = c.rest ∙ (ap (λ a. slice_set old k a) notes.0 ∙ set_own old k c.before c.there)
 
@@ -551,7 +551,7 @@ module _ (n : ℕ) (before after : Seen) (old new : World) (why : WorldFault) wh
   does_short k (Begin o) h =
       let c = h.1 in
       record { before = c.before; after = c.after; there = c.there; does = untold_short o why c.before c.after c.does; rest = c.rest }
-  does_short k (Note tree change) h = noted_not tree k change why old.sessions new.sessions h.1
+  does_short k (Note noting) h = noted_not k noting why old.sessions new.sessions h.1
   does_short k Abort h = dropped_not k why old.sessions new.sessions h.1
   does_short k (Step wish) h = step_short k wish h
   does_short k (Policy role kept) h = absurd (policy_told k role kept h)

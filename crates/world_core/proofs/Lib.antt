@@ -15,6 +15,7 @@ pub mod Workers
 pub mod Checkpointing
 pub mod BeginLemmas
 pub mod EveryLine
+pub mod Joining
 pub mod Keeping
 pub mod Sound
 pub mod CommitReplies

@@ -19,7 +19,6 @@ use Rattle.cloud_trait.specs.Delivery.{unmarked}
 use Rattle.cloud_trait.specs.Seen.{Seen}
 use Rattle.cloud_trait.specs.State.{CloudState}
 use Rattle.cloud_trait.specs.declared.state.Posted.{Posted}
-use Rattle.db_base.specs.declared.change.Change.{Change}
 use Rattle.db_base.specs.declared.names.QueueName.{QueueName}
 use Rattle.db_base.specs.declared.refusal.Refusal.{Refusal}
 use Rattle.db_base.specs.declared.refusal.Refusal.TheVariants as rule
@@ -46,7 +45,7 @@ use Rattle.world_core.proofs.MeteredWork.{works_down_few}
 use Rattle.world_core.proofs.StandsLemmas.{changed_at, changed_was, no_memory, refused_is}
 use Rattle.world_core.proofs.Unsent.{NoCommits, none_waits, unbound_none}
 use Rattle.world_core.proofs.Workers.{HoldsWithin, IsBetween, open_rests, worker_begins, worker_rows}
-use Rattle.world_core.specs.Asked.{Asks, IsMade, IsNoted, IsReading, IsScanning, IsStep, OfSession, bound_of, change_noted}
+use Rattle.world_core.specs.Asked.{Asks, IsNoted, IsReading, IsScanning, IsStep, OfSession, bound_of, noting_of}
 use Rattle.world_core.specs.EachStep.{EachAsked, EachDone, EachThrough}
 use Rattle.world_core.specs.Handled.{Answers, BeginsOp, BeginsBook, BookBegins, Declines, Does, DropsChanges, GivesLedger, MakesNoCall, MakesStep, NotesChange, Policies, Runs, WorksThrough, book_begun}
 use Rattle.world_core.specs.Metered.{HasLedger, KeepsMeter, LeavesFewAt, Meters, MetersAt, StepGoesThrough}
@@ -57,6 +56,7 @@ use Rattle.world_core.specs.World.{World}
 use Rattle.world_core.specs.Writers.{Stage, Unbound, Even, Owing, Astray, by_line, given, own_line, stage_of, unbound_line, works}
 use Rattle.world_core.specs.declared.asked.Asked.{Asked}
 use Rattle.world_core.specs.declared.asked.Asked.TheVariants.{Session, Wait, Report, Settle}
+use Rattle.world_core.specs.declared.asked.Noting.{Noting}
 use Rattle.world_core.specs.declared.asked.Request.{Request}
 use Rattle.world_core.specs.declared.asked.Request.TheVariants.{Begin, Note as NoteChange, Abort, Policy, Work as WorksDue, Step, Run, Crash}
 use Rattle.world_core.specs.declared.world.WorldFault.{WorldFault}
@@ -192,11 +192,11 @@ module _ (lines : List Line) (n session k : ℕ) (before after : Seen) (old new 
 
   -- ---- changes that are noted and dropped
 
-  notes_keeps : (tree : ℕ) (change : Change) → Does n session (NoteChange tree change) before after old new (Ok r) → Keeps
-  notes_keeps tree change (quiet, c, same) =
-      changes_keeps (NotesChange tree change (Ok r)) quiet.seen c (λ left sends. on left c.does.noted c.does.notes sends) (notes_same same)
+  notes_keeps : (noting : Noting) → Does n session (NoteChange noting) before after old new (Ok r) → Keeps
+  notes_keeps noting (quiet, c, same) =
+      changes_keeps (NotesChange noting (Ok r)) quiet.seen c (λ left sends. on left c.does.noted c.does.notes sends) (notes_same same)
     where
-      on : (left : ℕ) (noted : Result (Unit {0}) Refused) → NotesIn tree change c.before c.after noted → SendsAtMost left c.before.work → SendsAtMost left c.after.work
+      on : (left : ℕ) (noted : Result (Unit {0}) Refused) → NotesIn noting c.before c.after noted → SendsAtMost left c.before.work → SendsAtMost left c.after.work
       on left (Ok done) p sends = subst (λ (a : Acting). SendsAtMost left a.work) (sym p.0) sends
       on left (Err why) p sends = subst (λ (a : Acting). SendsAtMost left a.work) (sym p.0) sends
 
@@ -345,12 +345,12 @@ module _ (lines : List Line) (n session k : ℕ) (before after : Seen) (old new 
   begin_line o is may Is own asked asks h each =
       requests Keeps Is asked asks h each declined_keeps (λ request so does. begins_keeps o is may (subst (DoesThrough session) (own request so) does).0)
 
-  note_line : (tree : ℕ) (Is : Result Change Refused → Type 0) (asked : Asked) → AsksOf (IsNoted tree Is) asked → (h : Answers n asked before after old new (Ok r))
+  note_line : (noting : Noting) (asked : Asked) → AsksOf (IsNoted noting) asked → (h : Answers n asked before after old new (Ok r))
       → EachAsked StepGoesThrough n asked before after old new (Ok r) h → Keeps
-  note_line tree Is asked asks h each = requests Keeps (IsNoted tree Is) asked asks h each declined_keeps on
+  note_line noting asked asks h each = requests Keeps (IsNoted noting) asked asks h each declined_keeps on
     where
-      on : (request : Request) → IsNoted tree Is (Ok request) → DoesThrough session request → Keeps
-      on (NoteChange j change) is does = notes_keeps j change does.0
+      on : (request : Request) → IsNoted noting (Ok request) → DoesThrough session request → Keeps
+      on (NoteChange other) is does = notes_keeps other does.0
       on (Begin o) is does = absurd is
       on (Policy role kept) is does = absurd is
       on WorksDue is does = absurd is
@@ -483,6 +483,12 @@ module _ (lines : List Line) (n session k : ℕ) (before after : Seen) (old new 
   same_insert s tree key payload attr Owing = refl
   same_insert s tree key payload attr Astray = refl
 
+  same_put : (s tree : ℕ) (key payload attr : List ℕ) (stage : Stage) → own_line k (event.Put s tree key payload attr) r stage ≡ stage
+  same_put s tree key payload attr Unbound = refl
+  same_put s tree key payload attr Even = refl
+  same_put s tree key payload attr Owing = refl
+  same_put s tree key payload attr Astray = refl
+
   same_update : (s tree : ℕ) (key payload : List ℕ) (stage : Stage) → own_line k (event.Update s tree key payload) r stage ≡ stage
   same_update s tree key payload Unbound = refl
   same_update s tree key payload Even = refl
@@ -600,16 +606,19 @@ module _ (lines : List Line) (n session k : ℕ) (before after : Seen) (old new 
       quiet s (own_line k (event.Run s) r) (same_run s) (λ e. run_line asked (of_session s _ asked e asks) h each) stage m
   line_keeps (event.Insert s tree key payload attr) asked asks h each stage is m =
       quiet s (own_line k (event.Insert s tree key payload attr) r) (same_insert s tree key payload attr)
-      (λ e. note_line tree (IsMade (change_noted (event.Insert s tree key payload attr))) asked (of_session s _ asked e asks) h each) stage m
+      (λ e. note_line (noting_of (event.Insert s tree key payload attr)) asked (of_session s _ asked e asks) h each) stage m
+  line_keeps (event.Put s tree key payload attr) asked asks h each stage is m =
+      quiet s (own_line k (event.Put s tree key payload attr) r) (same_put s tree key payload attr)
+      (λ e. note_line (noting_of (event.Put s tree key payload attr)) asked (of_session s _ asked e asks) h each) stage m
   line_keeps (event.Update s tree key payload) asked asks h each stage is m =
       quiet s (own_line k (event.Update s tree key payload) r) (same_update s tree key payload)
-      (λ e. note_line tree (IsMade (change_noted (event.Update s tree key payload))) asked (of_session s _ asked e asks) h each) stage m
+      (λ e. note_line (noting_of (event.Update s tree key payload)) asked (of_session s _ asked e asks) h each) stage m
   line_keeps (event.Delete s tree key) asked asks h each stage is m =
       quiet s (own_line k (event.Delete s tree key) r) (same_delete s tree key)
-      (λ e. note_line tree (IsMade (change_noted (event.Delete s tree key))) asked (of_session s _ asked e asks) h each) stage m
+      (λ e. note_line (noting_of (event.Delete s tree key)) asked (of_session s _ asked e asks) h each) stage m
   line_keeps (event.Add s tree key amount) asked asks h each stage is m =
       quiet s (own_line k (event.Add s tree key amount) r) (same_add s tree key amount)
-      (λ e. note_line tree (IsMade (change_noted (event.Add s tree key amount))) asked (of_session s _ asked e asks) h each) stage m
+      (λ e. note_line (noting_of (event.Add s tree key amount)) asked (of_session s _ asked e asks) h each) stage m
   line_keeps (event.Commit s) asked asks h each stage is m =
       by_own s (own_line k (event.Commit s) r) stage (λ e. commit_line s asked (of_session s _ asked e asks) h each stage m)
   line_keeps (event.Work s) asked asks h each stage is m =

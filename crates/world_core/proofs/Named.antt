@@ -147,7 +147,7 @@ module _ (lines : List Line) (n : ℕ) (before after : Seen) (old new : World) (
     does_names WorksDue h = works_names h
     does_names (Policy role kept) h = tt
     does_names (Begin op) h = tt
-    does_names (Note tree change) h = tt
+    does_names (Note noting) h = tt
     does_names Abort h = tt
 
     serves_names : (request : Result Request Refused) (h : Serves n k request before after old new result) → EachServed StepNames n k request before after old new result h

@@ -2,7 +2,6 @@
 use Rattle.std.proofs.Common.{◌≡◌, ◌+◌, ℕ, List, [], ◌∷◌, ◌++◌, length, Some, Ok, Err, Result, refl, sym, ap, subst, ◌∙◌, ◌⊎◌, inl, inr, Bool, true, false, arith}
 use Rattle.db_base.specs.declared.refusal.Refused.{Refused}
 use Rattle.db_base.specs.declared.refusal.Refused.TheVariants as refused
-use Rattle.db_base.specs.declared.change.Change.{Change}
 use Rattle.db_base.specs.declared.wish.Wish.{Wish}
 use Rattle.db_base.specs.declared.wish.Wish.TheVariants.{Plain}
 use Rattle.event_text.specs.declared.event.Event.{Event}
@@ -49,6 +48,7 @@ use Rattle.ckpt_policy.specs.declared.role.Role.{Role}
 use Rattle.cloud_facts.specs.Book.Tally.{at}
 use Rattle.world_core.proofs.Workers.{IsBetween, open_rests, within_begun, within_went, within_works, worker, IsInside}
 use Rattle.world_core.specs.World.{World}
+use Rattle.world_core.specs.declared.asked.Noting.{Noting}
 use Rattle.world_core.specs.declared.asked.Request.{Request}
 use Rattle.world_core.specs.declared.asked.Request.TheVariants.{Begin, Note, Abort, Policy, Work as WorksDue, Step, Run, Crash}
 use Rattle.world_core.specs.declared.asked.Asked.{Asked}
@@ -185,9 +185,9 @@ begins_so (op.Page tree page) a b result within begins takes = hands (paging_beg
 begins_so (op.Tree tree) a b result within begins takes = hands (folding_begun_by tree) a b result (λ home. (λ head h. h, tt, λ client h. h)) begins takes
 
 -- a change is noted, or all are dropped
-notes_so : (tree : ℕ) (change : Change) (a b : Acting) (noted : Result (Unit {0}) Refused) → NotesIn tree change a b noted → TakesNumber a.work → LeadsOn a b
-notes_so tree change a b (Ok done) h takes = subst (λ (z : Acting). LeadsOn a z) (sym h.0) (λ head k. k, takes, λ client k. k)
-notes_so tree change a b (Err why) h takes = same_session a b h.0 takes
+notes_so : (noting : Noting) (a b : Acting) (noted : Result (Unit {0}) Refused) → NotesIn noting a b noted → TakesNumber a.work → LeadsOn a b
+notes_so noting a b (Ok done) h takes = subst (λ (z : Acting). LeadsOn a z) (sym h.0) (λ head k. k, takes, λ client k. k)
+notes_so noting a b (Err why) h takes = same_session a b h.0 takes
 
 aborts_so : (a b : Acting) (dropped : Result (Unit {0}) Refused) → AbortsIn a b dropped → TakesNumber a.work → LeadsOn a b
 aborts_so a b (Ok done) h takes = subst (λ (z : Acting). LeadsOn a z) (sym h.0) (λ head k. k, takes, λ client k. k)
@@ -556,8 +556,8 @@ module _ (events : List Event) (first : CloudState) (n : ℕ) (before after : Se
     does_so k (Begin (op.Scan tree low high)) own done = with_more (does_within k (op.Scan tree low high) tt done)
     does_so k (Begin (op.Page tree page)) own done = with_more (does_within k (op.Page tree page) tt done)
     does_so k (Begin (op.Tree tree)) own done = with_more (does_within k (op.Tree tree) tt done)
-    does_so k (Note tree change) own done =
-        with_more (quietly events first k before after old new _ done.0.seen done.1 (notes_so tree change done.1.before done.1.after done.1.does.noted done.1.does.notes) h)
+    does_so k (Note noting) own done =
+        with_more (quietly events first k before after old new _ done.0.seen done.1 (notes_so noting done.1.before done.1.after done.1.does.noted done.1.does.notes) h)
     does_so k Abort own done =
         with_more (quietly events first k before after old new _ done.0.seen done.1 (aborts_so done.1.before done.1.after done.1.does.dropped done.1.does.drops) h)
     does_so k (Policy role kept) own done = with_more (policy_so k role kept done)

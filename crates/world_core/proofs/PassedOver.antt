@@ -211,7 +211,7 @@ module _ (lines : List Line) (n : ℕ) (before after : Seen) (old new : World) (
   done_passed k (Crash done) h calm explains = tt
   done_passed k (Policy role kept) h calm explains = tt
   done_passed k (Begin op) h calm explains = tt
-  done_passed k (Note tree change) h calm explains = tt
+  done_passed k (Note noting) h calm explains = tt
   done_passed k Abort h calm explains = tt
 
   served_passed : (k : ℕ) (request : Result Request Refused) (h : Serves n k request before after old new result) → EachServed StepIsCalm n k request before after old new result h

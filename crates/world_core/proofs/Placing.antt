@@ -6,8 +6,9 @@ use Rattle.std.proofs.lemmas.List.{map-set}
 use Rattle.std.proofs.lemmas.Option.{slice_get-map, slice_get-get_or}
 use Rattle.db_base.specs.declared.change.Change.{Change}
 use Rattle.db_base.specs.declared.refusal.Refused.{Refused}
-use Rattle.txn_buffer.specs.Noted.{noted_in}
-use Rattle.client_work.specs.Session.{Acting, rule_of, NoteRefused, AbortRefused}
+use Rattle.txn_buffer.specs.Noted.{noted_in, put_in}
+use Rattle.client_work.specs.Session.{Acting, rule_of, MayIndex, NoteRefused, PutRefused, AbortRefused}
+use Rattle.world_core.specs.declared.asked.Noting.TheVariants.{Single, Indexed}
 use Rattle.world_core.specs.Sessions.{Changes, NotesIn, AbortsIn}
 
 -- what stands in a place of a list stands in that of what its items are seen as
@@ -43,9 +44,15 @@ changes_there acting Does number place sessions items x y same long at within is
 
 pub notes_in : (tree : ℕ) (change : Change) (a b : Acting) (result : Result (Unit {0}) Refused)
     → OnOk result ((b ≡ record a { buffer = noted_in a.buffer tree change }) × (rule_of a.work ≡ None)) → OnErr result (b ≡ a) → IfErr result (NoteRefused a tree change)
-    → OnOk result (length b.buffer ≤ 200) → NotesIn tree change a b result
-notes_in tree change a b (Ok done) ok err cause few = (ok.0, ok.1, few)
+    → OnOk result (length b.buffer ≤ 200) → NotesIn (Single tree change) a b result
+notes_in tree change a b (Ok done) ok err cause few = (ok.0, ok.1, few, tt)
 notes_in tree change a b (Err why) ok err cause few = (err, cause)
+
+pub puts_in : (tree : ℕ) (key payload attr : List ℕ) (a b : Acting) (result : Result (Unit {0}) Refused)
+    → OnOk result ((b ≡ record a { buffer = put_in a.buffer tree key payload attr }) × (rule_of a.work ≡ None)) → OnOk result (MayIndex tree key attr) → OnErr result (b ≡ a)
+    → IfErr result (PutRefused a tree key payload attr) → OnOk result (length b.buffer ≤ 200) → NotesIn (Indexed tree key payload attr) a b result
+puts_in tree key payload attr a b (Ok done) ok may err cause few = (ok.0, ok.1, few, may)
+puts_in tree key payload attr a b (Err why) ok may err cause few = (err, cause)
 
 pub aborts_in : (a b : Acting) (result : Result (Unit {0}) Refused) → OnOk result ((b ≡ record a { buffer = [] }) × (rule_of a.work ≡ None)) → OnErr result (b ≡ a)
     → IfErr result (AbortRefused a) → AbortsIn a b result

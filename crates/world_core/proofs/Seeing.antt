@@ -139,7 +139,7 @@ module _ (n : ℕ) (before after : Seen) (old new : World) (r : Reply) where
 
   does_sees : (k : ℕ) (request : Request) → Does n k request before after old new (Ok r) → SeesOn before after old new
   does_sees k (Begin op) h = quiet_sees before after old new h.0
-  does_sees k (Note tree change) h = quiet_sees before after old new h.0
+  does_sees k (Note noting) h = quiet_sees before after old new h.0
   does_sees k Abort h = quiet_sees before after old new h.0
   does_sees k (Policy role number) h = policy_sees k role number h
   does_sees k WorksDue h = through_sees k h

@@ -13,7 +13,6 @@ use Rattle.cloud_trait.specs.Seen.{Seen}
 use Rattle.cloud_trait.specs.State.{CloudState}
 use Rattle.db_base.specs.declared.names.QueueName.{QueueName}
 use Rattle.cloud_trait.specs.declared.state.Posted.{Posted}
-use Rattle.db_base.specs.declared.change.Change.{Change}
 use Rattle.db_base.specs.declared.names.QueueName.TheVariants.{PagePu}
 use Rattle.db_base.specs.declared.refusal.Refusal.{Refusal}
 use Rattle.db_base.specs.declared.refusal.Refused.{Refused}
@@ -28,7 +27,7 @@ use Rattle.world_core.proofs.Landed.{HasSentSeen, comes_sent, step_sent, works_s
 use Rattle.world_core.proofs.Ledgers.{book_after, ledger_changed, writer_same}
 use Rattle.world_core.proofs.StandsLemmas.{no_memory, refused_is}
 use Rattle.world_core.specs.Alone.{StepIsUndisturbed}
-use Rattle.world_core.specs.Asked.{Asks, IsMade, IsNoted, IsReading, IsScanning, IsStep, OfSession, change_noted}
+use Rattle.world_core.specs.Asked.{Asks, IsNoted, IsReading, IsScanning, IsStep, OfSession, noting_of}
 use Rattle.world_core.specs.EachStep.{EachAsked, EachDone, EachMade, EachRun, EachThrough}
 use Rattle.world_core.specs.Handled.{Answers, BeginsBook, BookBegins, Declines, Does, GivesLedger, MakesStep, Policies, Runs, WorksThrough, book_begun}
 use Rattle.world_core.specs.Metered.{HasLedger}
@@ -37,6 +36,7 @@ use Rattle.world_core.specs.World.{World}
 use Rattle.world_core.specs.Writers.{Stage, Unbound, Even, Owing, Astray, by_line, given, own_line, unbound_line, works}
 use Rattle.world_core.specs.declared.asked.Asked.{Asked}
 use Rattle.world_core.specs.declared.asked.Asked.TheVariants.{Session, Wait, Report, Settle}
+use Rattle.world_core.specs.declared.asked.Noting.{Noting}
 use Rattle.world_core.specs.declared.asked.Request.{Request}
 use Rattle.world_core.specs.declared.asked.Request.TheVariants.{Begin, Note as NoteChange, Abort, Policy, Work as WorksDue, Step, Run, Crash}
 use Rattle.world_core.specs.declared.world.WorldFault.{WorldFault}
@@ -128,7 +128,7 @@ module _ (n session k : ℕ) (before after : Seen) (old new : World) (r : Reply)
   done_sent Run keeps d = run_sent d.0 d.1
   done_sent WorksDue keeps d = through_sent d.0 d.1
   done_sent (Begin o) keeps ((quiet, c, book), each) = with_ledger quiet.seen (begun_ledger o keeps book)
-  done_sent (NoteChange tree change) keeps ((quiet, c, same), each) = same_notes quiet.seen same
+  done_sent (NoteChange noting) keeps ((quiet, c, same), each) = same_notes quiet.seen same
   done_sent Abort keeps ((quiet, c, same), each) = same_notes quiet.seen same
   done_sent (Policy role number) never d = absurd never
   done_sent (Crash done) never d = absurd never
@@ -151,15 +151,15 @@ module _ (n session k : ℕ) (before after : Seen) (old new : World) (r : Reply)
   asked_so : (own request : Request) → KeepsLedger own → (let a : Result Request Refused = Ok request in let b : Result Request Refused = Ok own in a ≡ b) → KeepsLedger request
   asked_so own request keeps e = let is : request ≡ own = cc (e) in subst KeepsLedger (sym is) keeps
 
-  noted_so : (tree : ℕ) (Is : Result Change Refused → Type 0) (request : Request) → IsNoted tree Is (Ok request) → KeepsLedger request
-  noted_so tree Is (NoteChange j change) is = tt
-  noted_so tree Is (Begin o) never = absurd never
-  noted_so tree Is (Policy role number) never = never
-  noted_so tree Is WorksDue is = tt
-  noted_so tree Is Abort is = tt
-  noted_so tree Is (Step wish) is = tt
-  noted_so tree Is Run is = tt
-  noted_so tree Is (Crash done) never = never
+  noted_so : (noting : Noting) (request : Request) → IsNoted noting (Ok request) → KeepsLedger request
+  noted_so noting (NoteChange other) is = tt
+  noted_so noting (Begin o) never = absurd never
+  noted_so noting (Policy role number) never = never
+  noted_so noting WorksDue is = tt
+  noted_so noting Abort is = tt
+  noted_so noting (Step wish) is = tt
+  noted_so noting Run is = tt
+  noted_so noting (Crash done) never = never
 
   -- ---- by the stage
 
@@ -346,16 +346,19 @@ module _ (n session k : ℕ) (before after : Seen) (old new : World) (r : Reply)
         (λ e. keeps_by (λ request. request ≡ Ok Run) (λ request is. asked_so Run request tt is) asked (of_session s _ asked asks e) h each) stage m
     line_sent (event.Insert s tree key payload attr) asked asks h each stage m =
         quiet s (own_line k (event.Insert s tree key payload attr) r) refl refl refl refl
-        (λ e. let Is = IsMade (change_noted (event.Insert s tree key payload attr)) in keeps_by (IsNoted tree Is) (noted_so tree Is) asked (of_session s _ asked asks e) h each) stage m
+        (λ e. let noting = noting_of (event.Insert s tree key payload attr) in keeps_by (IsNoted noting) (noted_so noting) asked (of_session s _ asked asks e) h each) stage m
+    line_sent (event.Put s tree key payload attr) asked asks h each stage m =
+        quiet s (own_line k (event.Put s tree key payload attr) r) refl refl refl refl
+        (λ e. let noting = noting_of (event.Put s tree key payload attr) in keeps_by (IsNoted noting) (noted_so noting) asked (of_session s _ asked asks e) h each) stage m
     line_sent (event.Update s tree key payload) asked asks h each stage m =
         quiet s (own_line k (event.Update s tree key payload) r) refl refl refl refl
-        (λ e. let Is = IsMade (change_noted (event.Update s tree key payload)) in keeps_by (IsNoted tree Is) (noted_so tree Is) asked (of_session s _ asked asks e) h each) stage m
+        (λ e. let noting = noting_of (event.Update s tree key payload) in keeps_by (IsNoted noting) (noted_so noting) asked (of_session s _ asked asks e) h each) stage m
     line_sent (event.Delete s tree key) asked asks h each stage m =
         quiet s (own_line k (event.Delete s tree key) r) refl refl refl refl
-        (λ e. let Is = IsMade (change_noted (event.Delete s tree key)) in keeps_by (IsNoted tree Is) (noted_so tree Is) asked (of_session s _ asked asks e) h each) stage m
+        (λ e. let noting = noting_of (event.Delete s tree key) in keeps_by (IsNoted noting) (noted_so noting) asked (of_session s _ asked asks e) h each) stage m
     line_sent (event.Add s tree key amount) asked asks h each stage m =
         quiet s (own_line k (event.Add s tree key amount) r) refl refl refl refl
-        (λ e. let Is = IsMade (change_noted (event.Add s tree key amount)) in keeps_by (IsNoted tree Is) (noted_so tree Is) asked (of_session s _ asked asks e) h each) stage m
+        (λ e. let noting = noting_of (event.Add s tree key amount) in keeps_by (IsNoted noting) (noted_so noting) asked (of_session s _ asked asks e) h each) stage m
     line_sent (event.Commit s) asked asks h each stage m =
         by_own s (own_line k (event.Commit s) r) stage
         (λ e. commit_line s (keeps_by (λ request. request ≡ Ok (Begin op.Commit)) (λ request is. asked_so (Begin op.Commit) request tt is) asked (of_session s _ asked asks e) h each) stage m)

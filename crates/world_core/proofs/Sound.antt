@@ -18,7 +18,6 @@ use Rattle.world_audit.specs.Stop.{Stopped as StopsReport}
 use Rattle.cloud_trait.specs.declared.turn.Turn.{Turn}
 use Rattle.cloud_trait.specs.declared.turn.Turn.TheVariants.{More, Ended, Stopped}
 use Rattle.session_facts.specs.CommitRuns.Stopping.{MayEnd}
-use Rattle.db_base.specs.declared.change.Change.{Change}
 use Rattle.db_base.specs.declared.refusal.Refused.{Refused}
 use Rattle.db_base.specs.declared.refusal.Refused.TheVariants as refused
 use Rattle.db_base.specs.declared.trouble.CommitAnswer.{CommitAnswer}
@@ -50,11 +49,12 @@ use Rattle.cloud_facts.proofs.Audits.Whole.{only_slips}
 use Rattle.ckpt_policy.specs.declared.role.Role.{Role}
 use Rattle.world_core.specs.declared.asked.Asked.{Asked}
 use Rattle.world_core.specs.declared.asked.Asked.TheVariants.{Session, Wait, Report, Settle}
+use Rattle.world_core.specs.declared.asked.Noting.{Noting}
 use Rattle.world_core.specs.declared.asked.Request.{Request}
 use Rattle.world_core.specs.declared.asked.Request.TheVariants.{Begin, Note, Abort, Policy, Work as WorksDue, Step, Run, Crash}
 use Rattle.world_core.specs.World.{World}
 use Rattle.world_core.specs.declared.world.WorldFault.{WorldFault}
-use Rattle.world_core.specs.Asked.{change_noted, tree_noted, Asks, OfSession, IsOpening, IsReading, IsScanning, IsPaging, IsFolding, IsMade, IsNoted, IsStep, bound_of}
+use Rattle.world_core.specs.Asked.{Asks, OfSession, IsOpening, IsReading, IsScanning, IsPaging, IsFolding, IsNoted, IsStep, bound_of, noting_of}
 use Rattle.world_core.specs.Handled.{Declines, BeginsOp, MakesNoCall, StepsLooked, MakesStep, Runs, SettlesOn, Settles, Crashes, Reports, Does, Answers, Handled, Policies, WorksThrough}
 use Rattle.world_core.specs.Replying.{declined, done_reply, unsettled_reply, value_reply, RepliesTo, RepliesSettled, RepliesBegun, RepliesTurn}
 use Rattle.world_core.specs.Sessions.{Changes}
@@ -232,7 +232,7 @@ module _ (lines : List Line) (n k : ℕ) (before after : Seen) (old new : World)
 
   does_sound : (request : Request) → IsRight request → Does n k request before after old new (Ok r) → Sounds r
   does_sound (Begin o) right h = begin_sound o right h.0 h.1
-  does_sound (Note tree change) right h = done_sound reply.Noted tt h.1.does.noted h.1.does.replies
+  does_sound (Note noting) right h = done_sound reply.Noted tt h.1.does.noted h.1.does.replies
   does_sound Abort right h = done_sound reply.Aborted tt h.1.does.dropped h.1.does.replies
   does_sound (Policy role number) right h = policy_sound role number h
   does_sound WorksDue right h = through_sound h
@@ -253,15 +253,15 @@ module _ (lines : List Line) (n k : ℕ) (before after : Seen) (old new : World)
   same_right : (request own : Request) → (let a : Result Request Refused = Ok request in let b : Result Request Refused = Ok own in a ≡ b) → IsRight own → IsRight request
   same_right request own e right = let is : request ≡ own = cc in subst IsRight (sym is) right
 
-  noted_right : (tree : ℕ) (Is : Result Change Refused → Type 0) (request : Request) → IsNoted tree Is (Ok request) → IsRight request
-  noted_right tree Is (Note j change) is = tt
-  noted_right tree Is (Begin o) is = absurd is
-  noted_right tree Is (Policy role number) is = absurd is
-  noted_right tree Is WorksDue is = absurd is
-  noted_right tree Is Abort is = absurd is
-  noted_right tree Is (Step wish) is = absurd is
-  noted_right tree Is Run is = absurd is
-  noted_right tree Is (Crash done) is = absurd is
+  noted_right : (noting : Noting) (request : Request) → IsNoted noting (Ok request) → IsRight request
+  noted_right noting (Note other) is = tt
+  noted_right noting (Begin o) is = absurd is
+  noted_right noting (Policy role number) is = absurd is
+  noted_right noting WorksDue is = absurd is
+  noted_right noting Abort is = absurd is
+  noted_right noting (Step wish) is = absurd is
+  noted_right noting Run is = absurd is
+  noted_right noting (Crash done) is = absurd is
 
 -- ---- a settling
 
@@ -399,8 +399,8 @@ asked_sound n (event.Report tree) asked before after old new r lines t asks answ
 asked_sound n event.Settle asked before after old new r lines t asks answers at told stands =
     settle_sound lines n before after old new r t at told stands (subst (λ z. Answers n z before after old new (Ok r)) asks answers)
 asked_sound n e asked before after old new r lines t asks answers at told stands =
-    request_sound lines n (session_of e) before after old new r t at told stands (IsNoted (tree_noted e) (IsMade (change_noted e))) asked asks answers
-    (noted_right lines n (session_of e) before after old new r t at told stands (tree_noted e) (IsMade (change_noted e)))
+    request_sound lines n (session_of e) before after old new r t at told stands (IsNoted (noting_of e)) asked asks answers
+    (noted_right lines n (session_of e) before after old new r t at told stands (noting_of e))
 
 pub sound_after : (n : ℕ) (event : Event) (before after : Seen) (old new : World) (result : Result Reply WorldFault)
     → Handled n event before after old new result → AnswersSoundly n event before after old new result

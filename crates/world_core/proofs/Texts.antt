@@ -145,7 +145,7 @@ module _ (n : ℕ) (before after : Seen) (old new : World) (r : Reply) where
 
   does_text : (k : ℕ) (request : Request) → Does n k request before after old new (Ok r) → ReplyHasText r
   does_text k (Begin op) h = begun_text h.1.does.begun h.1.after r h.1.does.replies
-  does_text k (Note tree change) h = done_text r reply.Noted h.1.does.noted h.1.does.replies tt
+  does_text k (Note noting) h = done_text r reply.Noted h.1.does.noted h.1.does.replies tt
   does_text k Abort h = done_text r reply.Aborted h.1.does.dropped h.1.does.replies tt
   does_text k (Policy role number) h = policy_text k role number h
   does_text k WorksDue h = through_text k h

@@ -9,7 +9,6 @@ use Rattle.cloud_trait.specs.declared.state.Landing.{Landing}
 use Rattle.cloud_trait.specs.declared.state.Posted.{Posted}
 use Rattle.cloud_trait.specs.declared.state.Site.{Site}
 use Rattle.cloud_trait.specs.declared.state.Site.TheVariants.{Object, Queue}
-use Rattle.db_base.specs.declared.change.Change.{Change}
 use Rattle.db_base.specs.declared.names.ObjName.TheVariants as object
 use Rattle.db_base.specs.declared.names.QueueName.TheVariants.{TreePu, PagePu}
 use Rattle.db_base.specs.declared.trouble.CommitAnswer.TheVariants.{InDoubt, CommittedOpen}
@@ -21,7 +20,7 @@ use Rattle.head_codec.specs.declared.head.Phase.TheVariants as phase
 use Rattle.head_codec.specs.Spelling.{head_of}
 use Rattle.log_codec.specs.declared.record.AtomicRec.{AtomicRec}
 use Rattle.replay_meaning.specs.Committed.{Versions, changes_at, task_changes, entries_of_bytes, entries_of_head, entries_of_phase, site_entries, row_entries, committed_by}
-use Rattle.replay_meaning.specs.Standing.{Line, Task, Opening, Closing, Renewing, Committing, Reading, Scanning, Paging, Folding, Posture, Closed, Idle, Broken, Working, Standing, aborts, after_line, after_own, answered, begins, begins_opening, commit_answered, crashes, notes, opening_answered, session_of, standing, standing_from, steps, task_answered, unnamed}
+use Rattle.replay_meaning.specs.Standing.{Line, Task, Opening, Closing, Renewing, Committing, Reading, Scanning, Paging, Folding, Posture, Closed, Idle, Broken, Working, Standing, aborts, after_line, after_own, answered, begins, begins_opening, commit_answered, crashes, joins, opening_answered, session_of, standing, standing_from, steps, task_answered, unnamed}
 use Rattle.reply_text.specs.declared.reply.Reply.{Reply}
 use Rattle.reply_text.specs.declared.reply.Reply.TheVariants as reply
 use Rattle.report_types.specs.declared.entry.Entry.{Entry}
@@ -123,9 +122,9 @@ opening_quiet : (client : ℕ) (r : Reply) (s : Standing) → IsQuiet s → IsQu
 opening_quiet client reply.Begun s quiet = refl
 opening_quiet client r s quiet = quiet
 
-notes_quiet : (tree : ℕ) (change : Change) (r : Reply) (s : Standing) → IsQuiet s → IsQuiet (notes tree change r s)
-notes_quiet tree change reply.Noted s quiet = quiet
-notes_quiet tree change r s quiet = quiet
+joins_quiet : (Join : List Noted → List Noted) (r : Reply) (s : Standing) → IsQuiet s → IsQuiet (joins Join r s)
+joins_quiet Join reply.Noted s quiet = quiet
+joins_quiet Join r s quiet = quiet
 
 aborts_quiet : (r : Reply) (s : Standing) → IsQuiet s → IsQuiet (aborts r s)
 aborts_quiet reply.Aborted s quiet = quiet
@@ -169,10 +168,11 @@ own_quiet : (e : Event) (r : Reply) (s : Standing) → IsNoCommit e → IsQuiet 
 own_quiet (event.Open session client) r s none quiet = opening_quiet client r s quiet
 own_quiet (event.Close session) r s none quiet = begins_quiet Closing r s refl quiet
 own_quiet (event.Renew session) r s none quiet = begins_quiet Renewing r s refl quiet
-own_quiet (event.Insert session tree key payload attr) r s none quiet = notes_quiet tree _ r s quiet
-own_quiet (event.Update session tree key payload) r s none quiet = notes_quiet tree _ r s quiet
-own_quiet (event.Delete session tree key) r s none quiet = notes_quiet tree _ r s quiet
-own_quiet (event.Add session tree key amount) r s none quiet = notes_quiet tree _ r s quiet
+own_quiet (event.Insert session tree key payload attr) r s none quiet = joins_quiet _ r s quiet
+own_quiet (event.Put session tree key payload attr) r s none quiet = joins_quiet _ r s quiet
+own_quiet (event.Update session tree key payload) r s none quiet = joins_quiet _ r s quiet
+own_quiet (event.Delete session tree key) r s none quiet = joins_quiet _ r s quiet
+own_quiet (event.Add session tree key amount) r s none quiet = joins_quiet _ r s quiet
 own_quiet (event.Commit session) r s none quiet = absurd none
 own_quiet (event.Abort session) r s none quiet = aborts_quiet r s quiet
 own_quiet (event.Read session tree key) r s none quiet = begins_quiet (Reading tree key) r s refl quiet

@@ -13,6 +13,8 @@ use Rattle.event_text.specs.declared.event.Event.{Event}
 use Rattle.event_text.specs.declared.event.Event.TheVariants as event
 use Rattle.client_work.specs.declared.op.Op.TheVariants as op
 use Rattle.replay_meaning.specs.Standing.{session_of}
+use Rattle.world_core.specs.declared.asked.Noting.{Noting}
+use Rattle.world_core.specs.declared.asked.Noting.TheVariants.{Single, Indexed}
 use Rattle.world_core.specs.declared.asked.Request.{Request}
 use Rattle.world_core.specs.declared.asked.Request.TheVariants.{Begin, Note, Abort, Policy, Work, Step, Run, Crash}
 use Rattle.world_core.specs.declared.asked.Asked.{Asked}
@@ -106,27 +108,30 @@ IsMade change (Ok made) = (made ≡ change) × IsChange change
 IsMade change (Err (refused.Rule r)) = PartsRefused change r
 IsMade change (Err refused.Memory) = Unit {0}
 
--- the tree of a line that notes a change
-abbrev pub tree_noted : Event → ℕ
-tree_noted (event.Insert session tree key payload attr) = tree
-tree_noted (event.Update session tree key payload) = tree
-tree_noted (event.Delete session tree key) = tree
-tree_noted (event.Add session tree key amount) = tree
-tree_noted e = 0
+-- what a line notes
+abbrev pub noting_of : Event → Noting
+noting_of (event.Insert session tree key payload attr) = Single tree (Insert key payload attr)
+noting_of (event.Put session tree key payload attr) = Indexed tree key payload attr
+noting_of (event.Update session tree key payload) = Single tree (Update key payload)
+noting_of (event.Delete session tree key) = Single tree (Delete key)
+noting_of (event.Add session tree key amount) = Single tree (Add key amount)
+noting_of e = Single 0 (Delete [])
 
--- the change that such a line notes
-abbrev pub change_noted : Event → Change
-change_noted (event.Insert session tree key payload attr) = Insert key payload attr
-change_noted (event.Update session tree key payload) = Update key payload
-change_noted (event.Delete session tree key) = Delete key
-change_noted (event.Add session tree key amount) = Add key amount
-change_noted e = Delete []
+-- the tree of what is noted is one, and one with an index where an entry is noted too
+abbrev pub IsPlace : Noting → Type 0
+IsPlace (Single tree change) = IsTree tree
+IsPlace (Indexed tree key payload attr) = IsTree tree × (tree ≤ 8)
 
--- such a change of a tree is to be noted; it is refused by the number of the tree first
-abbrev pub IsNoted : ℕ → (Result Change Refused → Type 0) → Result Request Refused → Type 0
-IsNoted tree Is (Ok (Note t change)) = (t ≡ tree) × IsTree tree × Is (Ok change)
-IsNoted tree Is (Ok request) = ⊥
-IsNoted tree Is (Err why) = ((why ≡ refused.Rule rule.BadNumber) × (IsTree tree → ⊥)) ⊎ (IsTree tree × Is (Err why))
+-- the change of a record that is noted
+abbrev pub change_in : Noting → Change
+change_in (Single tree change) = change
+change_in (Indexed tree key payload attr) = Insert key payload (Some attr)
+
+-- this is to be noted; it is refused by the number of the tree first, and then by the parts of the change
+abbrev pub IsNoted : Noting → Result Request Refused → Type 0
+IsNoted noting (Ok (Note asked)) = (asked ≡ noting) × IsPlace noting × IsChange (change_in noting)
+IsNoted noting (Ok request) = ⊥
+IsNoted noting (Err why) = ((why ≡ refused.Rule rule.BadNumber) × (IsPlace noting → ⊥)) ⊎ (IsPlace noting × IsMade (change_in noting) (Err why))
 
 -- one step under the wish, or there is no memory for a copy of it
 abbrev pub IsStep : Wish → Result Request Refused → Type 0
@@ -140,7 +145,7 @@ OfSession number Is (Wait ticks) = ⊥
 OfSession number Is (Report tree) = ⊥
 OfSession number Is Settle = ⊥
 
--- what a line asks; the last of these are the lines that note a change
+-- what a line asks; the last of these are the lines that note something
 abbrev pub Asks : Event → Asked → Type 0
 Asks (event.Open session client) asked = OfSession session (IsOpening client) asked
 Asks (event.Close session) asked = OfSession session (λ request. request ≡ Ok (Begin op.Close)) asked
@@ -159,4 +164,4 @@ Asks (event.Crash session done) asked = OfSession session (λ request. request �
 Asks (event.Wait ticks) asked = asked ≡ Wait ticks
 Asks (event.Report tree) asked = asked ≡ Report tree
 Asks event.Settle asked = asked ≡ Settle
-Asks e asked = OfSession (session_of e) (IsNoted (tree_noted e) (IsMade (change_noted e))) asked
+Asks e asked = OfSession (session_of e) (IsNoted (noting_of e)) asked

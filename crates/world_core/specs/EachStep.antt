@@ -93,7 +93,7 @@ EachDone Holds n number (Crash done) before after old new result does = EachCras
 EachDone Holds n number Work before after old new result does = EachThrough Holds n number before after old new result does
 EachDone Holds n number (Policy role k) before after old new result does = Unit {0}
 EachDone Holds n number (Begin op) before after old new result does = Unit {0}
-EachDone Holds n number (Note tree change) before after old new result does = Unit {0}
+EachDone Holds n number (Note noting) before after old new result does = Unit {0}
 EachDone Holds n number Abort before after old new result does = Unit {0}
 
 abbrev pub EachServed : StepFact → (n number : ℕ) (request : Result Request Refused) (before after : Seen) (old new : World) (result : Result Reply WorldFault) → Serves n number request before after old new result

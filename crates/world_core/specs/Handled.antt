@@ -1,7 +1,6 @@
 -- What a line does to the world, and its reply.
 use Rattle.std.specs.Prelude.{ℕ, ◌≡◌, ◌≤◌, ◌<◌, ◌+◌, Bool, true, false, not, ◌⊎◌, List, [], ◌∷◌, ◌++◌, slice_get, Option, Some, None, Result, Ok, Err, IfOk}
 use Rattle.db_base.specs.Ids.{IsTree, IsSession}
-use Rattle.db_base.specs.declared.change.Change.{Change}
 use Rattle.db_base.specs.declared.names.QueueName.{QueueName}
 use Rattle.db_base.specs.declared.names.QueueName.TheVariants.{Atomic, TreePu, PagePu}
 use Rattle.db_base.specs.declared.refusal.Refusal.{Refusal}
@@ -48,6 +47,7 @@ use Rattle.replay_meaning.specs.Chain.{Walked}
 use Rattle.world_audit.specs.Counts.{heads_upto, AreWaiting}
 use Rattle.session_facts.specs.Sessions.Noting.{audited}
 use Rattle.session_facts.specs.Sessions.Sessions.{IsRightOp}
+use Rattle.world_core.specs.declared.asked.Noting.{Noting}
 use Rattle.world_core.specs.declared.asked.Request.{Request}
 use Rattle.world_core.specs.declared.asked.Request.TheVariants.{Begin, Note, Abort, Policy, Work as WorksDue, Step, Run, Crash}
 use Rattle.world_core.specs.declared.asked.Asked.{Asked}
@@ -118,9 +118,9 @@ abbrev pub BeginsOp : Op → Result Reply WorldFault → Acting → Acting → T
 BeginsOp op (Ok reply) old new = BeginsTold op reply old new
 BeginsOp op (Err why) old new = BeginsUntold op why old new
 
-pub record NotesChange (tree : ℕ) (change : Change) (result : Result Reply WorldFault) (old new : Acting) : Type 0 where
+pub record NotesChange (noting : Noting) (result : Result Reply WorldFault) (old new : Acting) : Type 0 where
   pub noted : Result (Unit {0}) Refused
-  pub notes : NotesIn tree change old new noted
+  pub notes : NotesIn noting old new noted
   pub replies : result ≡ done_reply reply.Noted noted
 
 pub record DropsChanges (result : Result Reply WorldFault) (old new : Acting) : Type 0 where
@@ -540,7 +540,7 @@ Crashes n number true before after old new result =
 
 abbrev pub Does : ℕ → ℕ → Request → Seen → Seen → World → World → Result Reply WorldFault → Type 0
 Does n number (Begin op) before after old new result = MakesNoCall before after old new × Changes number (BeginsOp op result) old.sessions new.sessions × BeginsBook number op old new
-Does n number (Note tree change) before after old new result = MakesNoCall before after old new × Changes number (NotesChange tree change result) old.sessions new.sessions × KeepsNotes old new
+Does n number (Note noting) before after old new result = MakesNoCall before after old new × Changes number (NotesChange noting result) old.sessions new.sessions × KeepsNotes old new
 Does n number Abort before after old new result = MakesNoCall before after old new × Changes number (DropsChanges result) old.sessions new.sessions × KeepsNotes old new
 Does n number (Policy role k) before after old new result = Policies number role k before after old new result
 Does n number WorksDue before after old new result = WorksThrough n number before after old new result

@@ -37,7 +37,7 @@ ServesShort number WorksDue old new = Changes number IsLeftShort old new
 ServesShort number (Policy role k) old new = ⊥
 ServesShort number Run old new = Changes number IsLeftShort old new
 ServesShort number (Crash done) old new = Changes number IsLeftShort old new
-ServesShort number (Note tree change) old new = new ≡ old
+ServesShort number (Note noting) old new = new ≡ old
 ServesShort number Abort old new = ⊥
 
 -- a line whose parts could not be read and a report change no session; a settler is closed, or there was none; and a wait takes no memory

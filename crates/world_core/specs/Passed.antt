@@ -59,7 +59,7 @@ DonePassed n number Run before after old new result does = Unit {0}
 DonePassed n number (Crash done) before after old new result does = Unit {0}
 DonePassed n number (Policy role k) before after old new result does = Unit {0}
 DonePassed n number (Begin op) before after old new result does = Unit {0}
-DonePassed n number (Note tree change) before after old new result does = Unit {0}
+DonePassed n number (Note noting) before after old new result does = Unit {0}
 DonePassed n number Abort before after old new result does = Unit {0}
 
 abbrev pub ServedPassed : (n number : ℕ) (request : Result Request Refused) (before after : Seen) (old new : World) (result : Result Reply WorldFault)

@@ -1,13 +1,14 @@
 -- Sessions of which one changes.
 use Rattle.std.specs.Prelude.{ℕ, ◌≡◌, ◌≤◌, [], List, length, slice_get, slice_set, Option, Some, None, Result, Ok, Err}
-use Rattle.db_base.specs.declared.change.Change.{Change}
 use Rattle.db_base.specs.declared.refusal.Refused.{Refused}
-use Rattle.txn_buffer.specs.Noted.{noted_in}
-use Rattle.client_work.specs.Session.{Acting, rule_of, NoteRefused, AbortRefused, ask_of_work}
+use Rattle.txn_buffer.specs.Noted.{Noted, noted_in, put_in}
+use Rattle.client_work.specs.Session.{Acting, rule_of, MayIndex, NoteRefused, PutRefused, AbortRefused, ask_of_work}
 use Rattle.cloud_trait.specs.Ask.{Ask}
 use Rattle.db_base.specs.declared.names.ObjName.{ObjName}
 use Rattle.history.specs.Audited.{Audited}
 use Rattle.world_core.specs.Put.{put_of, noted_put}
+use Rattle.world_core.specs.declared.asked.Noting.{Noting}
+use Rattle.world_core.specs.declared.asked.Noting.TheVariants.{Single, Indexed}
 use Rattle.world_core.specs.declared.put.Put.{Put}
 
 -- the session of a number does this, and the others stay
@@ -18,11 +19,26 @@ pub record Changes (number : ℕ) (Does : Acting → Acting → Type 0) (old new
   pub does : Does before after
   pub rest : new ≡ slice_set old number after
 
--- a change is noted in an open session; a refusal changes nothing
-abbrev pub NotesIn : ℕ → Change → Acting → Acting → Result (Unit {0}) Refused → Type 0
-NotesIn tree change before after (Ok done) =
-    (after ≡ record before { buffer = noted_in before.buffer tree change }) × (rule_of before.work ≡ None) × (length after.buffer ≤ 200)
-NotesIn tree change before after (Err why) = (after ≡ before) × NoteRefused before tree change why
+-- the changes after what is noted joined them
+abbrev pub joined : Noting → List Noted → List Noted
+joined (Single tree change) buffer = noted_in buffer tree change
+joined (Indexed tree key payload attr) buffer = put_in buffer tree key payload attr
+
+-- a record that is noted may join the index of its tree
+abbrev pub MayJoin : Noting → Type 0
+MayJoin (Single tree change) = Unit {0}
+MayJoin (Indexed tree key payload attr) = MayIndex tree key attr
+
+-- why it is not noted
+abbrev pub JoinRefused : Acting → Noting → Refused → Type 0
+JoinRefused s (Single tree change) why = NoteRefused s tree change why
+JoinRefused s (Indexed tree key payload attr) why = PutRefused s tree key payload attr why
+
+-- it is noted in an open session; a refusal changes nothing
+abbrev pub NotesIn : Noting → Acting → Acting → Result (Unit {0}) Refused → Type 0
+NotesIn noting before after (Ok done) =
+    (after ≡ record before { buffer = joined noting before.buffer }) × (rule_of before.work ≡ None) × (length after.buffer ≤ 200) × MayJoin noting
+NotesIn noting before after (Err why) = (after ≡ before) × JoinRefused before noting why
 
 -- the changes of an open session are dropped; a refusal changes nothing
 abbrev pub AbortsIn : Acting → Acting → Result (Unit {0}) Refused → Type 0

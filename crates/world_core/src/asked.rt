@@ -2,6 +2,7 @@
 
 ghost use Rattle.std.specs.Prelude.{◌≡◌};
 ghost use Rattle.world_core.specs.Asked.{Asks, IsBound, IsMade, IsMaybeAttr, IsOpening, IsReading, IsScanning, IsPaging, IsFolding, IsNoted, IsStep};
+ghost use Rattle.world_core.specs.declared.asked.Noting.TheVariants.{Single, Indexed};
 ghost use Rattle.db_base.specs.declared.change.Change.TheVariants.{Insert, Update, Delete, Add};
 
 use ckpt_policy::Role;
@@ -11,18 +12,27 @@ use db_base::blob::Blob;
 use db_base::change::Change;
 use db_base::ids::{ClientId, PageId, TreeId};
 use db_base::key::{Key, Payload};
-use db_base::refusal::Refused;
+use db_base::refusal::{Refusal, Refused};
 use db_base::wish::{Positions, Wish};
 use event_text::event::Event;
 use std::alloc::Global;
+
+/// What a line notes.
+#[derive(Drop)]
+pub enum Noting {
+    /// A change of a tree.
+    Single(TreeId, Change),
+    /// The insert of a record with an attribute, and that of its entry into the index of the tree.
+    Indexed(TreeId, Key, Payload, Attr),
+}
 
 /// What a line asks of its session.
 #[derive(Drop)]
 pub enum Request {
     /// To begin an operation.
     Begin(Op),
-    /// To note a change of a tree.
-    Note(TreeId, Change),
+    /// To note a change, or a record and its entry.
+    Note(Noting),
     /// To drop the changes that it noted.
     Abort,
     /// To have a ledger of a role and a number.
@@ -64,6 +74,13 @@ impl Asked {
                 payload,
                 attr,
             } => Asked::Session(*session, insert_noted(alloc, *tree, key, payload, attr)),
+            Event::Put {
+                session,
+                tree,
+                key,
+                payload,
+                attr,
+            } => Asked::Session(*session, put_noted(alloc, *tree, key, payload, attr)),
             Event::Update {
                 session,
                 tree,
@@ -216,56 +233,79 @@ fn insert_noted(
     payload: &Blob,
     attr: &Option<Blob>,
 ) -> Result<Request, Refused>
-    ensures { IsNoted tree (IsMade (Insert key.now payload.now attr.now)) result }
+    ensures { IsNoted (Single tree (Insert key.now payload.now attr.now)) result }
 {
     let tree = match TreeId::new(tree) {
         Ok(tree) => tree,
         Err(rule) => return Err(Refused::Rule(rule)),
     };
     match insert_of(alloc, key, payload, attr) {
-        Ok(change) => Ok(Request::Note(tree, change)),
+        Ok(change) => Ok(Request::Note(Noting::Single(tree, change))),
         Err(why) => Err(why),
     }
 }
 
+/// The insert of a key, a payload and an attribute into the tree of this number, which has an index, and of their entry there.
+fn put_noted(
+    alloc: Global,
+    tree: u64,
+    key: &Blob,
+    payload: &Blob,
+    attr: &Blob,
+) -> Result<Request, Refused>
+    ensures { IsNoted (Indexed tree key.now payload.now attr.now) result }
+{
+    let tree = match TreeId::new(tree) {
+        Ok(tree) => tree,
+        Err(rule) => return Err(Refused::Rule(rule)),
+    };
+    if tree.index().is_none() {
+        return Err(Refused::Rule(Refusal::BadNumber));
+    }
+    let key = Key::new(alloc, key.as_slice())?;
+    let payload = Payload::new(alloc, payload.as_slice())?;
+    let attr = Attr::new(alloc, attr.as_slice())?;
+    Ok(Request::Note(Noting::Indexed(tree, key, payload, attr)))
+}
+
 /// The update of a key by a payload in the tree of this number.
 fn update_noted(alloc: Global, tree: u64, key: &Blob, payload: &Blob) -> Result<Request, Refused>
-    ensures { IsNoted tree (IsMade (Update key.now payload.now)) result }
+    ensures { IsNoted (Single tree (Update key.now payload.now)) result }
 {
     let tree = match TreeId::new(tree) {
         Ok(tree) => tree,
         Err(rule) => return Err(Refused::Rule(rule)),
     };
     match update_of(alloc, key, payload) {
-        Ok(change) => Ok(Request::Note(tree, change)),
+        Ok(change) => Ok(Request::Note(Noting::Single(tree, change))),
         Err(why) => Err(why),
     }
 }
 
 /// The deletion of a key in the tree of this number.
 fn delete_noted(alloc: Global, tree: u64, key: &Blob) -> Result<Request, Refused>
-    ensures { IsNoted tree (IsMade (Delete key.now)) result }
+    ensures { IsNoted (Single tree (Delete key.now)) result }
 {
     let tree = match TreeId::new(tree) {
         Ok(tree) => tree,
         Err(rule) => return Err(Refused::Rule(rule)),
     };
     match delete_of(alloc, key) {
-        Ok(change) => Ok(Request::Note(tree, change)),
+        Ok(change) => Ok(Request::Note(Noting::Single(tree, change))),
         Err(why) => Err(why),
     }
 }
 
 /// The addition to a key's payload in the tree of this number.
 fn add_noted(alloc: Global, tree: u64, key: &Blob, amount: u64) -> Result<Request, Refused>
-    ensures { IsNoted tree (IsMade (Add key.now amount)) result }
+    ensures { IsNoted (Single tree (Add key.now amount)) result }
 {
     let tree = match TreeId::new(tree) {
         Ok(tree) => tree,
         Err(rule) => return Err(Refused::Rule(rule)),
     };
     match add_of(alloc, key, amount) {
-        Ok(change) => Ok(Request::Note(tree, change)),
+        Ok(change) => Ok(Request::Note(Noting::Single(tree, change))),
         Err(why) => Err(why),
     }
 }

@@ -1,13 +1,14 @@
 ghost use Rattle.std.specs.Prelude.{◌≡◌, ◌<◌};
+ghost use Rattle.world_core.specs.Sessions.{NotesIn};
 
+use crate::asked::Noting;
 use client_work::answer::{Answer, Begun};
 use client_work::calls::SessionCalls;
 use client_work::op::Op;
 use cloud_trait::cloud::Cloud;
 use cloud_trait::turn::Turn;
 use cloud_trait::who::Who;
-use db_base::change::Change;
-use db_base::ids::{SessionNo, TreeId};
+use db_base::ids::SessionNo;
 use db_base::refusal::Refused;
 use std::alloc::Global;
 use std::marker::Model;
@@ -73,16 +74,16 @@ impl<S: SessionCalls> Sessions<S> {
         self.list[place_of(number)].begin(alloc, op)
     }
 
-    /// Notes a change in the session of a number.
+    /// Notes a change, or a record and its entry, in the session of a number.
     pub(crate) fn note(
         &mut self,
+        alloc: Global,
         number: SessionNo,
-        tree: TreeId,
-        change: Change,
+        noting: Noting,
     ) -> Result<(), Refused>
-        ensures { Changes number (λ a b. NotesIn tree change a b result) self.old self.new }
+        ensures { Changes number (λ a b. NotesIn noting a b result) self.old self.new }
     {
-        self.list[place_of(number)].note(tree, change)
+        noted(&mut self.list[place_of(number)], alloc, noting)
     }
 
     /// Drops the changes of the session of a number.
@@ -126,6 +127,16 @@ impl<S: SessionCalls> Sessions<S> {
             Ok(turn) => turn,
             Err(_) => unreachable!(),
         }
+    }
+}
+
+/// Notes a change, or a record and its entry.
+fn noted<S: SessionCalls>(session: &mut S, alloc: Global, noting: Noting) -> Result<(), Refused>
+    ensures { NotesIn noting (S.acting session.old) (S.acting session.new) result }
+{
+    match noting {
+        Noting::Single(tree, change) => session.note(tree, change),
+        Noting::Indexed(tree, key, payload, attr) => session.put(alloc, tree, key, payload, attr),
     }
 }
 

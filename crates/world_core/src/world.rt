@@ -7,7 +7,7 @@ ghost use Rattle.ckpt_policy.specs.Notes.{IsPending};
 ghost use Rattle.reply_text.specs.Reply.{HasText};
 ghost use Rattle.session_notes.specs.Notebook.{blank, ChangesBook};
 
-use crate::asked::{Asked, Request};
+use crate::asked::{Asked, Noting, Request};
 use crate::checkpoint::{begin_notes, checkpoint_of, count_if, forget};
 use crate::noting::{keep_landed, note_put};
 use crate::put::{Put, is_newest, put_in_hand};
@@ -22,7 +22,6 @@ use client_work::op::Op;
 use cloud_trait::cloud::Bench;
 use cloud_trait::turn::Turn;
 use cloud_trait::who::Who;
-use db_base::change::Change;
 use db_base::ids::{ClientId, SessionNo, TreeId};
 use db_base::names::QueueName;
 use db_base::refusal::{Refusal, Refused};
@@ -245,7 +244,7 @@ impl<S: SessionCalls> World<S> {
     {
         match request {
             Request::Begin(op) => self.begin(alloc, who.session, op),
-            Request::Note(tree, change) => self.note(who.session, tree, change),
+            Request::Note(noting) => self.note(alloc, who.session, noting),
             Request::Abort => self.abort(who.session),
             Request::Policy(role, k) => self.policy(alloc, who.session, role, k),
             Request::Work => self.work(alloc, cloud, who),
@@ -277,13 +276,18 @@ impl<S: SessionCalls> World<S> {
         self.replied(number, reply)
     }
 
-    fn note(&mut self, number: SessionNo, tree: TreeId, change: Change) -> Result<Reply, WorldFault>
-        ensures session { Changes number (NotesChange tree change result) self.old.sessions self.new.sessions }
+    fn note(
+        &mut self,
+        alloc: Global,
+        number: SessionNo,
+        noting: Noting,
+    ) -> Result<Reply, WorldFault>
+        ensures session { Changes number (NotesChange noting result) self.old.sessions self.new.sessions }
         ensures audit { self.new.audit ≡ self.old.audit }
         ensures blind { self.new.blind ≡ self.old.blind }
         ensures notes { KeepsNotes self.old self.new }
     {
-        done(Reply::Noted, self.sessions.note(number, tree, change))
+        done(Reply::Noted, self.sessions.note(alloc, number, noting))
     }
 
     fn abort(&mut self, number: SessionNo) -> Result<Reply, WorldFault>

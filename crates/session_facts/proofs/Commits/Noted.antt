@@ -1,17 +1,18 @@
 -- Changes that may be committed.
-use Rattle.std.proofs.Common.{◌≡◌, ◌+◌, ◌≤◌, ℕ, lit<, Bool, true, false, cond, List, [], ◌∷◌, length, zero, suc, Some, refl, subst, arith}
+use Rattle.std.proofs.Common.{◌≡◌, ◌+◌, ◌≤◌, ℕ, lit<, Bool, true, false, cond, List, [], ◌∷◌, length, zero, suc, Some, is_some, refl, subst, arith}
 use Rattle.db_base.specs.Change.{key_of, net, plus, IsChange}
 use Rattle.db_base.specs.Key.{IsPayload}
 use Rattle.db_base.specs.Value.{plain}
 use Rattle.std.proofs.Math.Nat.{mod-lt}
 use Rattle.db_base.proofs.ChangeLaws.{act-payload}
-use Rattle.db_base.specs.Ids.{IsTree}
+use Rattle.db_base.specs.Entry.{entry_bytes, index_insert}
+use Rattle.db_base.specs.Ids.{IsTree, index_of}
 use Rattle.db_base.specs.declared.change.Change.{Change}
 use Rattle.db_base.specs.declared.change.Change.TheVariants.{Insert, Update, Delete, Add}
 use Rattle.cloud_facts.specs.Book.Records.{IsIn}
 use Rattle.cloud_facts.proofs.Book.Places.{in_none}
-use Rattle.txn_buffer.specs.Noted.{Noted, is_of, noted_in}
-use Rattle.txn_buffer.proofs.NotedLemmas.{AreDistinct-noted}
+use Rattle.txn_buffer.specs.Noted.{Noted, is_of, found_in, noted_in, put_in}
+use Rattle.txn_buffer.proofs.NotedLemmas.{AreDistinct-noted, length-noted}
 use Rattle.session_facts.specs.Commits.Committing.{MayCommit}
 
 pub may_none : MayCommit []
@@ -61,3 +62,28 @@ may_note buffer tree change t c most may = record {
   noted = record { most = most; distinct = AreDistinct-noted buffer tree change may.noted.distinct };
   each = each_noted buffer tree change t c may.each;
 }
+
+-- an entry that is short may be noted
+index_change : (key attr : List ℕ) → length (entry_bytes attr key) ≤ 64 → IsChange (index_insert attr key)
+index_change key attr short = record {
+  key = record { some = omega arith; short = short };
+  payload = omega arith;
+  attr = tt;
+  amount = lit< tt;
+}
+
+pub may_put : (buffer : List Noted) (tree : ℕ) (key payload attr : List ℕ) → IsTree tree → tree ≤ 8 → length (entry_bytes attr key) ≤ 64 → IsChange (Insert key payload (Some attr))
+    → length (put_in buffer tree key payload attr) ≤ 200 → MayCommit buffer → MayCommit (put_in buffer tree key payload attr)
+may_put buffer tree key payload attr t low short c most may =
+    let first : List Noted = noted_in buffer tree (Insert key payload (Some attr)) in
+    let index : IsTree (index_of tree) = record { some = omega arith; most = omega (arith, low) } in
+    let few : length first ≤ 200 = fewer first (index_of tree) (index_insert attr key) most in
+    may_note first (index_of tree) (index_insert attr key) index (index_change key attr short) most (may_note buffer tree (Insert key payload (Some attr)) t c few may)
+  where
+    -- noting makes no list shorter
+    fewer : (list : List Noted) (other : ℕ) (change : Change) → length (noted_in list other change) ≤ 200 → length list ≤ 200
+    fewer list other change most = on (is_some (found_in list other (key_of change))) (length-noted list other change)
+      where
+        on : (b : Bool) → length (noted_in list other change) ≡ cond b (length list) (length list + 1) → length list ≤ 200
+        on true e = omega (arith, e, most)
+        on false e = omega (arith, e, most)

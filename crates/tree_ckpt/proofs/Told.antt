@@ -1,6 +1,6 @@
 -- The low keys of the links that are known were brought by calls, or are those of pieces that were put: at most two for each call.
-use Rattle.std.proofs.Common.{◌≡◌, ◌+◌, ◌*◌, ◌-◌, ◌≤◌, ◌⊎◌, ℕ, true, List, [], ◌∷◌, ◌++◌, length, Option, Some, None, refl, sym, ap, subst, ◌∙◌, inl, inr, arith}
-use Rattle.std.specs.Prelude.{map, reverse, drop}
+use Rattle.std.proofs.Common.{◌≡◌, ◌+◌, ◌*◌, ◌-◌, ◌≤◌, ◌⊎◌, ℕ, List, [], ◌∷◌, ◌++◌, length, Option, Some, None, refl, sym, ap, subst, ◌∙◌, inl, inr, arith}
+use Rattle.std.specs.Prelude.{map, drop}
 use Rattle.std.proofs.lemmas.List.{length-append, length-map, length-reverse}
 use Rattle.cloud_trait.specs.declared.answer.Answer.TheVariants as call
 use Rattle.cloud_trait.specs.Ask.{GetHeld, Take}
@@ -11,8 +11,8 @@ use Rattle.node_codec.specs.Tree.{Tree}
 use Rattle.split_plan.specs.Part.{Part}
 use Rattle.split_plan.specs.Plan.{put_of, entry_of, on_pages}
 use Rattle.tree_parts.specs.Kept.{links_at}
-use Rattle.tree_ckpt.specs.Causing.{Calls, WasGot, WasNode}
-use Rattle.tree_ckpt.specs.Working.{IsAmong, done_over, page_puts, reserved_before, puts_of, PutsPieces, Outcome, Planned, Spared, Passed, Visit, placing_of, held_over, visit_over, visits_over, IsTurn, AreTurns, IsLeft, IsVisit, AreVisits, links_from, links_behind, Climb, climbs_over, links_above, AreClimbs}
+use Rattle.tree_ckpt.specs.Causing.{Calls, WasGot}
+use Rattle.tree_ckpt.specs.Working.{IsAmong, done_over, page_puts, reserved_before, puts_of, PutsPieces, Outcome, Planned, Spared, Passed, Visit, placing_of, held_over, visits_over, IsTurn, AreTurns, IsLeft, AreVisits, links_from, links_behind, Climb, climbs_over, links_above, AreClimbs}
 use Rattle.tree_ckpt.proofs.Words.{Answer, Ask, Claim, NewEntry, PagePut, Placing, Link, Taken}
 use Rattle.tree_ckpt.proofs.Adding.{AreWithin}
 use Rattle.tree_ckpt.proofs.Entries.{among_front, among_back, among_either}

@@ -95,7 +95,7 @@ abbrev pub UpsAt : Claim → Chart → Opening → Type 0
 UpsAt lease c o = Ups lease c.tree c.run c.applied c.nodes c.links o
 
 -- the puts of the newest plan are under way, those of a node or of the tree object
-abbrev UpTo : Bool → ℕ → Claim → List (ℕ × ℕ) → Placing → Option (List ℕ) → Option (List ℕ) → List Link → Calls → Calls → Option (List ℕ) → Type 0
+abbrev pub UpTo : Bool → ℕ → Claim → List (ℕ × ℕ) → Placing → Option (List ℕ) → Option (List ℕ) → List Link → Calls → Calls → Option (List ℕ) → Type 0
 UpTo spent tree lease top p root stood links below work None = (landed_root p root ≡ stood) × (done_over (puts_of tree lease None p) work ≡ below)
 UpTo spent tree lease top p root stood links below work (Some bytes) =
     (last : RootPlan) × (bytes ≡ last.last) × (spent ≡ false → PutsRoot (tree_held stood) (raised_root (tree_held stood) links top) last)

@@ -40,6 +40,10 @@ pub mod Tours
 pub mod Climbs
 pub mod Telling
 pub mod Meaning
+pub mod Adding
+pub mod RunLengths
+pub mod Told
+pub mod Sparing
 pub mod Dues
 pub mod Walking
 pub mod Demands

@@ -14,6 +14,7 @@ use Rattle.tree_ckpt.proofs.Words.{Answer, CkptAnswer, Turn, Stopped, Took, call
 use Rattle.tree_ckpt.proofs.Causes.{KnowsAt, went_brought, took_tells}
 use Rattle.tree_ckpt.proofs.Meaning.{went_done, took_done}
 use Rattle.tree_ckpt.proofs.Dues.{due_brought, cut_last_but_one}
+use Rattle.tree_ckpt.proofs.Sparing.{due_few}
 use Rattle.tree_ckpt.proofs.Demands.{took_owes}
 use Rattle.tree_ckpt.proofs.Failing.{told_fails}
 use Rattle.tree_ckpt.proofs.Leases.{went_stands, stands_returns}
@@ -34,6 +35,7 @@ stepped_by who before after old new turn a made took memory = record {
         owes = λ t k. took_owes old new h a turn t stands knows made.fits took k;
         fails = λ k. told_fails old new h a turn tells k;
         brought = λ due is. due_brought old h a knows due is;
+        few = λ due is. due_few old h a went (went_done old h went) due is;
         cut_short = λ is. cut_last_but_one old h a knows is;
         done = done;
         returned = stands_returns old new h a turn stands made.fits took;

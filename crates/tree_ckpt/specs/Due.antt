@@ -1,5 +1,5 @@
 -- What a step of a tree checkpoint comes to put, where a version or numbers of new pages may be spent.
-use Rattle.std.specs.Prelude.{ℕ, ◌≡◌, ◌≢◌, ◌<◌, ◌+◌, ◌-◌, ◌&&◌, nat_lt, is_some, true, false, List, length, Some, None, Ok, ◌⊎◌, if◌then◌else◌}
+use Rattle.std.specs.Prelude.{ℕ, ◌≡◌, ◌≢◌, ◌<◌, ◌≤◌, ◌+◌, ◌-◌, ◌/◌, ◌&&◌, nat_lt, is_some, true, false, List, length, Some, None, Ok, ◌⊎◌, if◌then◌else◌}
 use Rattle.byte_format.specs.Format.{greatest}
 use Rattle.byte_format.specs.Order.{below_bound, bytes_same}
 use Rattle.byte_format.specs.Whole.{whole}
@@ -68,6 +68,16 @@ abbrev pub pages_of : Due → ℕ
 pages_of (LeafDue root l run) = count_of (length (applied l 0 run).records) - 1
 pages_of (NodeDue root n links) = count_of (length (with_links n links n.entries)) - 1
 pages_of (RootDue root links top) = pages_of_root root (raised root links top)
+
+-- how many items it had: the records of a leaf, the entries of a node or of the tree object
+abbrev pub size_of : Due → ℕ
+size_of (LeafDue root l run) = length l.records
+size_of (NodeDue root n links) = length n.entries
+size_of (RootDue root links top) = length root.entries
+
+-- it needs at most one new page for each 64 items that it had, and one for each of these calls
+abbrev pub NeedsFew : Due → Calls → Type 0
+NeedsFew due cs = pages_of due ≤ size_of due / 64 + length cs
 
 -- ---- what is spent
 

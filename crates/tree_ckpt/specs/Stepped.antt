@@ -16,7 +16,7 @@ use Rattle.ckpt_parts.specs.Leasing.{outstanding}
 use Rattle.tree_ckpt.specs.Making.{Making, making_ask, MakingLeads, KeepsLeases}
 use Rattle.tree_ckpt.specs.Standing.{Went, AreReturned}
 use Rattle.tree_ckpt.specs.Causing.{Calls, Shows, kept_trouble}
-use Rattle.tree_ckpt.specs.Due.{Due, IsDue, IsCutShort, WasBrought, WasLastButOne}
+use Rattle.tree_ckpt.specs.Due.{Due, IsDue, IsCutShort, NeedsFew, WasBrought, WasLastButOne}
 use Rattle.tree_ckpt.specs.Demands.{Matters, Demands}
 use Rattle.tree_ckpt.specs.Meaning.{MeansDone}
 use Rattle.tree_ckpt.specs.Well.{IsWell}
@@ -62,14 +62,15 @@ ComesToFail m n (Stopped t) = (kept_trouble m.work ≡ None) × (t ≡ trouble.F
 
 -- What this answer came to behind these calls. Each trouble that is kept or answered was kept before or is shown (`tells`), and each that was kept, or
 -- that the answer demands, is kept or answered (`owes`); no failed deletion or release brings one (`fails`). What is due was brought by gets and puts,
--- and a tree object that is cut short stood at the last version but one. At an end the calls were those of a checkpoint that is done, in their order
--- (`done`), and before it each lease that a call took was given back by a call (`returned`). Where all calls were calm, and those before this one were
--- not answered for want of memory, an end leaves no message, and a stop is for what the cloud holds (`well`).
+-- and needs few new pages (`few`); a tree object that is cut short stood at the last version but one. At an end the calls were those of a checkpoint that
+-- is done, in their order (`done`), and before it each lease that a call took was given back by a call (`returned`). Where all calls were calm, and those
+-- before this one were not answered for want of memory, an end leaves no message, and a stop is for what the cloud holds (`well`).
 pub record Means (who : Caller) (before after : Seen) (h : List Deed) (old : Making) (answer : Answer) (new : Making) (turn : Turn CkptAnswer) : Type 0 where
   pub tells : Tells old h answer new turn
   pub owes : (t : Trouble) → (kept_trouble old.work ≡ Some t) ⊎ Demands old.tree old.work answer t → Owes new turn t
   pub fails : ComesToFail old new turn → Matters (making_ask old)
   pub brought : (due : Due) → IsDue old.work answer due → WasBrought old.tree due (calls_with old h answer)
+  pub few : (due : Due) → IsDue old.work answer due → NeedsFew due (calls_with old h answer)
   pub cut_short : IsCutShort old.work answer → WasLastButOne old.tree (calls_with old h answer)
   pub done : MeansDone (making_ask old) old h turn
   pub returned : AreReturned (outstanding (and_then who before after old answer h)) turn

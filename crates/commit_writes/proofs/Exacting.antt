@@ -220,13 +220,13 @@ decides_at Finished h cs w a k some fits ample = absurd k
 
 -- ---- a step of the code
 
-the_answer : (x y : CommitAnswer) → ◌≡◌ {A = Turn CommitAnswer} (Ended x) (Ended y) → x ≡ y
+pub the_answer : (x y : CommitAnswer) → ◌≡◌ {A = Turn CommitAnswer} (Ended x) (Ended y) → x ≡ y
 the_answer x y e = cc (e)
 
-stopped_not : (t : Trouble) (x : CommitAnswer) → ◌≡◌ {A = Turn CommitAnswer} (Stopped t) (Ended x) → ⊥
+pub stopped_not : (t : Trouble) (x : CommitAnswer) → ◌≡◌ {A = Turn CommitAnswer} (Stopped t) (Ended x) → ⊥
 stopped_not t x e = absurd (cc (e))
 
-more_not : (x : CommitAnswer) → ◌≡◌ {A = Turn CommitAnswer} More (Ended x) → ⊥
+pub more_not : (x : CommitAnswer) → ◌≡◌ {A = Turn CommitAnswer} More (Ended x) → ⊥
 more_not x e = absurd (cc (e))
 
 took_exactly : (why : CommitAnswer → Type 0) (old new : Writing) (a : Answer) (turn : Turn CommitAnswer) → Decides why (writing_next old a) → Took (LeadsBy writing_next) KeepsHome old a new turn → (x : CommitAnswer)

@@ -34,7 +34,8 @@ use Rattle.commit_writes.specs.Exact.{IsDeletion, deletions, Demands}
 use Rattle.commit_writes.specs.Well.{IsMarked, AreMarked}
 use Rattle.commit_writes.specs.Within.{Went}
 use Rattle.commit_writes.proofs.Knowing.{KnowsDeleting, KnowsAt, Knows}
-use Rattle.commit_writes.proofs.Meaning.{take_more, post_asked, came_knows, went_knows}
+use Rattle.recover_run.proofs.Keeping.{take_more}
+use Rattle.commit_writes.proofs.Meaning.{post_asked, came_knows, went_knows}
 use Rattle.commit_writes.proofs.Counting.{deleted_before}
 
 -- ---- marks

@@ -154,10 +154,6 @@ routing w leaves =
 abbrev pub first_leaves : List Noted → List ℕ
 first_leaves changes = replicate (length changes) 1
 
--- without walks: the next attempt number is taken, and each change counts as having come to page 1
-abbrev pub writing_ready : Writing → Next Writing CommitAnswer
-writing_ready w = if is_spent w.home then not_committed w (trouble.Exhausted counter.Txn) else routing (numbered w) (first_leaves w.changes)
-
 -- the head that settles is put: with the records at the end of its pending entries
 abbrev pub settled : Writing → Head
 settled w = settled_head w.home.head w.records
@@ -243,10 +239,6 @@ opens_at Sending w = None
 opens_at Settling w = None
 opens_at Deleting w = None
 opens_at Finished w = None
-
--- before the first write: but for its head and its attempt
-abbrev pub KeepsLease : Writing → Answer → Writing → Type 0
-KeepsLease w a n = n.home ≡ record w.home { head = n.home.head; attempt = n.home.attempt }
 
 -- at want of memory the home is as it was but for its head
 abbrev pub KeepsHome : Writing → Answer → Writing → Type 0

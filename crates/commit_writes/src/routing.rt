@@ -1,6 +1,6 @@
 //! The records of a commit's changes.
 
-ghost use Rattle.std.specs.Prelude.{◌≡◌, ◌⊎◌, ◌≤◌, length, replicate, true, false, IfOk, IfErr, OnOk};
+ghost use Rattle.std.specs.Prelude.{◌≡◌, ◌⊎◌, ◌≤◌, length, true, false, IfOk, IfErr, OnOk};
 ghost use Rattle.std.specs.List.{AllByRecursion};
 ghost use Rattle.log_codec.specs.Atomic.{HasPlace};
 ghost use Rattle.route_plan.specs.Route.{routed, AllFit, PassesGreatest};
@@ -11,7 +11,7 @@ use db_base::trouble::{Counter, Trouble};
 use log_codec::record::AtomicRec;
 use recover_run::home::Home;
 use route_plan::route::route;
-use std::alloc::{AllocError, Global};
+use std::alloc::Global;
 use txn_buffer::buffer::TxnBuffer;
 
 /// The records of changes by a home, each with the leaf that it came to.
@@ -46,11 +46,4 @@ pub(crate) fn records_of(
         changes,
         leaves,
     )
-}
-
-/// Page 1, so many times.
-pub(crate) fn first_leaves(alloc: Global, count: usize) -> Result<Vec<PageId>, AllocError>
-    ensures { IfOk result (λ pages. pages.items ≡ replicate count 1) }
-{
-    vec![in alloc; PageId::first(); count]
 }

@@ -7,7 +7,7 @@ ghost use Rattle.cloud_trait.specs.Machine.{LeadsBy, Took};
 ghost use Rattle.cloud_trait.specs.Weather.{Makes};
 
 use crate::pruning::{prune_home_leaf, prune_home_tree};
-use crate::routing::{first_leaves, records_of};
+use crate::routing::records_of;
 use crate::spelling::{copy_of, log_bytes, open_home, queue_bytes, settle_home, what_changes};
 use crate::stage::{Saved, Stage};
 use cloud_trait::answer::Answer;
@@ -19,7 +19,7 @@ use cloud_trait::who::Who;
 use db_base::blob::Blob;
 use db_base::ids::{MsgId, PageId, TreeId};
 use db_base::names::{ObjName, QueueName};
-use db_base::trouble::{CommitAnswer, Counter, Trouble};
+use db_base::trouble::{CommitAnswer, Trouble};
 use head_codec::head::Head;
 use head_codec::lists::CounterList;
 use leaf_view::LeafView;
@@ -75,7 +75,7 @@ impl Model for CommitWrites {
 }
 
 impl CommitWrites {
-    ghost use Rattle.commit_writes.specs.Writing.{Writing, waiting, writing_ready, routing, begun, writing_ask, writing_next, log_at, opening, send_at, settling, delete_at, logged_by, opened_by, sent_by, settled_by, deleted_by, not_committed, left_open, closed_again, finished, KeepsHome, KeepsLease, is_spent, numbered, pruned, opens_at};
+    ghost use Rattle.commit_writes.specs.Writing.{Writing, waiting, routing, begun, writing_ask, writing_next, log_at, opening, send_at, settling, delete_at, logged_by, opened_by, sent_by, settled_by, deleted_by, not_committed, left_open, closed_again, finished, KeepsHome, is_spent, numbered, pruned, opens_at};
     ghost use Rattle.route_plan.specs.Prune.{pruned_by_leaf, pruned_by_tree};
     ghost use Rattle.commit_writes.specs.Ending.{calls_left};
     ghost use Rattle.commit_writes.specs.Sound.{IsSound};
@@ -216,20 +216,6 @@ impl CommitWrites {
             Stage::Opening => put,
             Stage::Settling => put,
             Stage::Finished => put,
-        }
-    }
-
-    /// Takes the next attempt number and writes the records, each change as if it had come to page 1; the first send is in hand
-    /// where it answers More. It is called once, before the first step, where the client makes no walks.
-    pub fn ready(&mut self, alloc: Global) -> Turn<CommitAnswer>
-        ensures { Took (λ w _ n. writing_ready w ≡ n) KeepsLease self.old Answer.Failed self.new result }
-    {
-        if !self.take_number() {
-            return self.not_committed(Trouble::Exhausted { what: Counter::Txn });
-        }
-        match first_leaves(alloc, self.changes.len()) {
-            Ok(leaves) => self.route(alloc, leaves.as_slice()),
-            Err(_) => Turn::Stopped(Trouble::Memory),
         }
     }
 

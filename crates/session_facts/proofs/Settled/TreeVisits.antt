@@ -2,48 +2,37 @@
 use Rattle.std.proofs.Common.{◌≡◌, ◌≢◌, ℕ, zero, suc, Bool, true, false, cond, List, [], ◌∷◌, ◌++◌, length, Option, Some, None, Result, Ok, Err, refl, sym, subst, ◌∙◌}
 use Rattle.std.specs.Prelude.{◌==◌}
 use Rattle.std.proofs.lemmas.Bool.{eq-eqb}
-use Rattle.ckpt_parts.specs.declared.intake.Intake.{Intake}
-use Rattle.ckpt_parts.specs.declared.leases.Leases.{Leases}
-use Rattle.ckpt_parts.specs.Deleting.{next_id, tried}
-use Rattle.ckpt_parts.specs.Intakes.{has_items}
 use Rattle.cloud_facts.proofs.Copies.Tops.{any_of}
 use Rattle.cloud_facts.specs.Book.Records.{IsIn}
 use Rattle.cloud_trait.specs.declared.answer.Answer.{Answer}
-use Rattle.cloud_trait.specs.declared.message.Message.{Message}
-use Rattle.cloud_trait.specs.declared.turn.CkptAnswer.{CkptAnswer}
-use Rattle.cloud_trait.specs.Claim.{Claim}
 use Rattle.cloud_trait.specs.Machine.{Next, Goes, Ends, Stops}
-use Rattle.cloud_trait.specs.Views.{given_of, got_of, done_of, received_of}
-use Rattle.db_base.specs.declared.names.Lock.TheVariants as lock
+use Rattle.cloud_trait.specs.Views.{got_of, done_of}
 use Rattle.db_base.specs.declared.trouble.Trouble.{Trouble}
 use Rattle.db_base.specs.declared.trouble.Trouble.TheVariants as trouble
 use Rattle.leaf_fold.specs.declared.folding.Folding.{Folding}
 use Rattle.leaf_fold.specs.declared.folding.Left.{Left}
 use Rattle.leaf_fold.specs.declared.folding.Left.TheVariants.{Right, Handled}
 use Rattle.leaf_fold.specs.Folding as fold
-use Rattle.node_codec.specs.Tree.{Tree, tree_of}
 use Rattle.run_cursor.specs.Covered.{is_seen}
 use Rattle.session_facts.proofs.Settled.TreeLists.{apart_more}
 use Rattle.session_facts.specs.TreeCheckpoints.Counting.{Apart, Once}
-use Rattle.session_facts.proofs.Settled.TreePieces.{GotLeaf, got_leaf}
+use Rattle.tree_ckpt.proofs.LeafOutcomes.{reads, put_lands}
+use Rattle.tree_ckpt.proofs.LeafOutcomes as leaf
+use Rattle.tree_ckpt.proofs.Outcomes.{Descends, Comes, comes}
+use Rattle.tree_ckpt.proofs.Outcomes as step
 use Rattle.tree_descent.specs.declared.descent.Descent.{Descent}
 use Rattle.tree_descent.specs.declared.descent.Reach.{Reach}
 use Rattle.tree_descent.specs.declared.descent.Reach.TheVariants.{Node, Leaf}
 use Rattle.tree_descent.specs.declared.fork.Fork.{Fork}
 use Rattle.tree_descent.specs.declared.fork.Fork.TheVariants as fork
-use Rattle.tree_descent.specs.Descent.{passed, fork_of, go_on, stride_at, kept_at, stride, follow, walk, arrived, arrive, begun, with_node, got_node, descent_got, descent_next}
-use Rattle.tree_moves.specs.declared.work.Coming.{Coming}
+use Rattle.tree_descent.specs.Descent.{passed, fork_of, go_on, stride_at, kept_at, stride, follow, walk, arrived, arrive, begun, with_node, got_node, descent_got}
 use Rattle.tree_moves.specs.declared.work.Held.{Held}
-use Rattle.tree_moves.specs.declared.work.Onward.{Onward}
-use Rattle.tree_moves.specs.declared.work.Onward.TheVariants as onward
 use Rattle.tree_moves.specs.declared.work.Work.{Work}
 use Rattle.tree_moves.specs.declared.work.Work.TheVariants as work
-use Rattle.tree_moves.specs.Moves.{Step, released_by, deleting, deleting_by, went, rising_on, descending_on, root_entry, next_key, going, going_by, page_taken, folding_on, page_left, tree_taken, tree_read, tree_got, chart_of, started, intake_taken, ReceivedBy, Leads}
+use Rattle.tree_moves.specs.Moves.{Step, root_entry, onward_from, Leads}
 use Rattle.tree_parts.specs.declared.chart.Chart.{Chart}
 use Rattle.tree_parts.specs.declared.kept.KeptNode.{KeptNode}
-use Rattle.tree_parts.specs.Placing.{has_nothing, has_one_page}
-use Rattle.tree_rising.specs.declared.rising.Rising.{Rising}
-use Rattle.tree_rising.specs.Rising as rise
+use Rattle.tree_parts.specs.Placing.{has_nothing}
 
 abbrev pub OnceNext : Step → Type 0
 OnceNext (Goes w) = Once w
@@ -125,107 +114,51 @@ descent_got_once d (Ok (Some bytes)) unseen apart = got_once d bytes (fork_of d 
 descent_got_once d (Ok None) unseen apart = tt
 descent_got_once d (Err t) unseen apart = tt
 
-once_descending : (h : Held) (next : Next Descent (Unit {0})) → WayOnce next → OnceNext (descending_on h next)
-once_descending h (Goes d) apart = apart
-once_descending h (Ends d x) apart = apart
-once_descending h (Stops d t) apart = tt
-
--- ---- up, deletions and releases
-
-once_deleting : (h : Held) (applied : ℕ) → OnceNext (deleting h applied)
-once_deleting h applied = on (next_id h.deletions.ids) where
-  on : (id : Option ℕ) → OnceNext (deleting_by h applied id)
-  on (Some id) = tt
-  on None = tt
-
-once_rising : (h : Held) (next : Next Rising (Unit {0})) → OnceNext (rising_on h next)
-once_rising h (Goes r) = tt
-once_rising h (Ends r x) = once_deleting h r.chart.applied
-once_rising h (Stops r t) = tt
-
-once_released : (held : Leases) (end : Result CkptAnswer Trouble) (next : Option Claim) → OnceNext (released_by held end next)
-once_released held end (Some l) = tt
-once_released held (Ok x) None = tt
-once_released held (Err t) None = tt
-
--- ---- key by key
-
-once_going : (h : Held) (c : Chart) → OnceNext (going h c)
-once_going h c = on (next_key c) where
-  on : (key : Option (List ℕ)) → OnceNext (going_by h c key)
-  on (Some key) =
-      let to : Chart = record c { key = key } in
-      once_descending h (arrive (begun to (root_entry to).0 (root_entry to).1)) (arrive_once (begun to (root_entry to).0 (root_entry to).1) tt)
-  on None = once_rising h (rise.rise (rise.begun c))
-
-once_started : (h : Held) (c : Chart) (b : Bool) → OnceNext (started h c b)
-once_started h c true = once_going h c
-once_started h c false = once_deleting h 0
-
-once_intake : (tree : ℕ) (l : Claim) (root : Option (List ℕ)) (taken : Result Intake Trouble) → OnceNext (intake_taken tree l root taken)
-once_intake tree l root (Ok i) = once_started (record { lease = l; deletions = i.deletions }) (chart_of tree root i.run) (has_items i.run.items)
-once_intake tree l root (Err t) = tt
-
-once_received : (tree : ℕ) (l : Claim) (root : Option (List ℕ)) (g : Result (List Message) Trouble) (next : Step) → ReceivedBy tree l root g next → OnceNext next
-once_received tree l root (Ok ms) next r = subst OnceNext (sym r.2) (once_intake tree l root r.0)
-once_received tree l root (Err t) next r = subst OnceNext (sym r) tt
-
-once_taken : (g : Result Claim Trouble) → OnceNext (tree_taken g)
-once_taken (Ok l) = tt
-once_taken (Err t) = tt
-
-once_read : (tree : ℕ) (l : Claim) (bytes : List ℕ) (t : Option Tree) → OnceNext (tree_read tree l bytes t)
-once_read tree l bytes (Some t) = tt
-once_read tree l bytes None = tt
-
-once_got : (tree : ℕ) (l : Claim) (g : Result (Option (List ℕ)) Trouble) → OnceNext (tree_got tree l g)
-once_got tree l (Ok (Some bytes)) = once_read tree l bytes (tree_of bytes)
-once_got tree l (Ok None) = tt
-once_got tree l (Err t) = tt
+-- the way begins with no page, and goes on from one that was not visited
+descends_once : {tree : ℕ} {w : Work} {a : Answer} {h : Held} {next : Next Descent (Unit {0})} → Once w → IsNew w → Descends tree w a h next → WayOnce next
+descends_once is new (step.begins {c = c} key s e) =
+    let to : Chart = record c { key = key } in
+    arrive_once (begun to (root_entry to).0 (root_entry to).1) tt
+descends_once is new (step.goes_on h d a) = descent_got_once d (got_of a) new is
 
 -- ---- a leaf
 
-once_page : (h : Held) (c : Coming) (g : Result Claim Trouble) → Apart c.visited → OnceNext (page_taken h c g)
-once_page h c (Ok l) apart = apart
-once_page h c (Err t) apart = tt
+abbrev LeafOnce : Next Folding Left → Type 0
+LeafOnce (Goes f) = Apart f.visited
+LeafOnce (Ends f (Right low page)) = Apart f.visited
+LeafOnce (Ends f Handled) = Unit {0}
+LeafOnce (Stops f t) = Unit {0}
 
-once_leaf : (h : Held) (f : Folding) (next : Next Folding Left) → is_seen f.visited f.page ≡ false → Apart f.visited → GotLeaf f next → OnceNext (folding_on h next)
-once_leaf h f (Goes g) unseen apart leaf = subst Apart (sym leaf.2) apart
-once_leaf h f (Ends g (Right low page)) unseen apart leaf = subst Apart (sym leaf.1) (one_more f.visited f.page unseen apart)
-once_leaf h f (Ends g Handled) unseen apart leaf = tt
-once_leaf h f (Stops g t) unseen apart leaf = tt
+reads_once : {f : Folding} {g : Result (Option (List ℕ)) Trouble} {next : Next Folding Left} → is_seen f.visited f.page ≡ false → Apart f.visited → leaf.Reads f g next → LeafOnce next
+reads_once {f = f} unseen apart (leaf.passes got l high right behind e) = one_more f.visited f.page unseen apart
+reads_once unseen apart (leaf.plans got l x xs p here some e) = apart
+reads_once unseen apart c = tt
 
-once_put : (h : Held) (f : Folding) (done : Result (Unit {0}) Trouble) → Apart f.visited → OnceNext (folding_on h (fold.leaf_put f done))
-once_put h f (Ok x) apart = on (has_one_page f.placing) where
-  on : (b : Bool) → OnceNext (folding_on h (cond b (Ends (fold.counted (fold.landed f)) Handled) (Goes (fold.landed f))))
-  on true = tt
-  on false = apart
-once_put h f (Err t) apart = tt
+lands_once : {f : Folding} {done : Result (Unit {0}) Trouble} {next : Next Folding Left} → Apart f.visited → leaf.Lands f done next → LeafOnce next
+lands_once apart (leaf.lands x e) = apart
+lands_once apart c = tt
 
-once_folded : (h : Held) (f : Folding) (a : Answer) → IsNew (work.Folding h f) → Apart f.visited → OnceNext (folding_on h (fold.folding_next f a))
-once_folded h f a new apart = on (has_nothing f.placing) refl where
-  on : (b : Bool) → has_nothing f.placing ≡ b → OnceNext (folding_on h (cond b (fold.leaf_got f (got_of a)) (fold.leaf_put f (done_of a))))
-  on true e = once_leaf h f (fold.leaf_got f (got_of a)) (new e) apart (got_leaf f (got_of a))
-  on false e = once_put h f (done_of a) apart
+folding_once : (h : Held) (f : Folding) (a : Answer) → IsNew (work.Folding h f) → Apart f.visited → LeafOnce (fold.folding_next f a)
+folding_once h f a new apart = on (has_nothing f.placing) refl where
+  on : (b : Bool) → has_nothing f.placing ≡ b → LeafOnce (cond b (fold.leaf_got f (got_of a)) (fold.leaf_put f (done_of a)))
+  on true e = reads_once (new e) apart (reads f (got_of a))
+  on false e = lands_once apart (put_lands f (done_of a))
 
-once_left : (h : Held) (l : Claim) (o : Onward) → Once (work.ReleasingPage h l o) → OnceNext (page_left h o)
-once_left h l (onward.Right c) apart = apart
-once_left h l (onward.Handled c) apart = once_going h c
+onward_once : (h : Held) (f : Folding) (out : Left) → LeafOnce (Ends f out) → Once (work.ReleasingPage h f.lease (onward_from f out))
+onward_once h f (Right low page) apart = apart
+onward_once h f Handled apart = tt
 
 -- ---- wherever it stands
 
+next_once : {tree : ℕ} {w : Work} {a : Answer} {next : Step} → Once w → IsNew w → Comes tree w a next → OnceNext next
+next_once is new (step.descends h d down) = descends_once is new down
+next_once is new (step.arrives h d x down) = descends_once is new down
+next_once is new (step.takes_page h c l) = is
+next_once is new (step.folds h f g a e) = subst LeafOnce e (folding_once h f a new is)
+next_once is new (step.leaves h f g out a e) = onward_once h g out (subst LeafOnce e (folding_once h f a new is))
+next_once is new (step.turns h l c a) = is
+next_once is new (step.turns_alone h c a) = is
+next_once is new c = tt
+
 pub once_goes : (tree : ℕ) (w : Work) (a : Answer) (next : Step) → Once w → IsNew w → Leads tree w a next → OnceNext next
-once_goes tree work.TakingTree a next is new e = subst OnceNext (sym e) (once_taken (given_of (lock.Tree tree) a))
-once_goes tree (work.GettingTree l) a next is new e = subst OnceNext (sym e) (once_got tree l (got_of a))
-once_goes tree (work.Receiving l root) a next is new e = once_received tree l root (received_of a) next e
-once_goes tree (work.Descending h d) a next is new e = subst OnceNext (sym e) (once_descending h (descent_next d a) (descent_got_once d (got_of a) new is))
-once_goes tree (work.TakingPage h c) a next is new e = subst OnceNext (sym e) (once_page h c (given_of (lock.Page c.chart.tree c.page) a) is)
-once_goes tree (work.Folding h f) a next is new e = subst OnceNext (sym e) (once_folded h f a new is)
-once_goes tree (work.ReleasingPage h l o) a next is new e = subst OnceNext (sym e) (once_left h l o is)
-once_goes tree (work.LeftPage h (onward.Right c)) a next is new e = subst OnceNext (sym e) is
-once_goes tree (work.LeftPage h (onward.Handled c)) a next is new e = subst OnceNext (sym e) (once_going h c)
-once_goes tree (work.Rising h r) a next is new e = subst OnceNext (sym e) (once_rising h (rise.rising_next r a))
-once_goes tree (work.Deleting h applied) a next is new e =
-    subst OnceNext (sym e) (once_deleting (record h { deletions = tried h.deletions (went (done_of a)) }) applied)
-once_goes tree (work.Releasing held end) a next is new e = subst OnceNext (sym e) (once_released _ end _)
-once_goes tree work.Finished a next is new e = subst OnceNext (sym e) tt
+once_goes tree w a next is new leads = next_once is new (comes tree w a next leads)

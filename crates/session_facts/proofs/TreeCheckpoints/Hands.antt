@@ -2,56 +2,53 @@
 use Rattle.std.proofs.Common.{◌≡◌, ◌⊎◌, inl, inr, ℕ, zero, suc, List, [], ◌∷◌, Option, Some, None, Result, refl, sym, ap, subst, ◌∙◌}
 use Rattle.std.specs.Prelude.{unwrap_or}
 use Rattle.ckpt_parts.specs.Deleting.{next_id}
-use Rattle.ckpt_parts.specs.Leasing.{newest_lease}
+use Rattle.ckpt_parts.specs.Leasing.{newest_lease, outstanding_after}
 use Rattle.cloud_facts.specs.Calls.Acting.{Handles, Setting}
 use Rattle.cloud_facts.specs.Calls.Call.{IsCall}
 use Rattle.cloud_facts.specs.Calls.Standing.{StandsUnder}
 use Rattle.cloud_trait.specs.declared.answer.Answer.{Answer}
+use Rattle.cloud_trait.specs.declared.answer.Answer.TheVariants.{Given}
 use Rattle.cloud_trait.specs.declared.turn.CkptAnswer.{CkptAnswer}
-use Rattle.cloud_trait.specs.Ask.{Ask, GetHeld, Receive, Delete, Take, Release}
+use Rattle.cloud_trait.specs.Ask.{Ask, GetHeld, Take, Renew, Release, MovesNoLock}
 use Rattle.cloud_trait.specs.Caller.{Caller}
 use Rattle.cloud_trait.specs.Claim.{Claim}
 use Rattle.cloud_trait.specs.Machine.{Next, Goes, Ends, Stops}
 use Rattle.cloud_trait.specs.State.{CloudState, called}
-use Rattle.cloud_trait.specs.Views.{given_of, got_of, received_of, done_of}
-use Rattle.db_base.specs.declared.names.Lock.{Lock}
 use Rattle.db_base.specs.declared.names.Lock.TheVariants as lock
 use Rattle.db_base.specs.declared.names.ObjName.TheVariants as object
-use Rattle.db_base.specs.declared.names.QueueName.TheVariants as queue
 use Rattle.db_base.specs.declared.trouble.Trouble.{Trouble}
 use Rattle.cloud_facts.specs.Homes.Homes.{Parts}
 use Rattle.leaf_fold.specs.declared.folding.Folding.{Folding}
-use Rattle.leaf_fold.specs.Folding.{folding_ask, folding_next}
+use Rattle.leaf_fold.specs.Folding.{folding_ask}
 use Rattle.cloud_facts.specs.Leases.Guards.{IsGuarded}
-use Rattle.cloud_facts.specs.Leases.Leases.{KeptBy, GainedBy, Owns, RenewedTo}
+use Rattle.cloud_facts.specs.Leases.Leases.{AreOne, KeptBy, GainedBy, Owns, RenewedTo}
 use Rattle.report_types.specs.declared.entry.Entry.{Entry}
 use Rattle.split_plan.specs.declared.put_list.PagePut.{PagePut}
 use Rattle.cloud_facts.specs.Book.Book.{Book}
 use Rattle.cloud_facts.specs.Book.Records.{IsIn}
 use Rattle.cloud_facts.specs.Book.Tally.{Store}
-use Rattle.cloud_facts.proofs.Book.Places.{get_single, in_either, in_behind}
+use Rattle.cloud_facts.proofs.Book.Places.{get_single, in_either, in_none}
 use Rattle.cloud_facts.specs.Tellings.Told.{store_of}
 use Rattle.tree_ckpt.specs.Making.{Making, making_ask, MakingLeads}
 use Rattle.tree_ckpt.specs.Standing.{OfTree, HasIds}
-use Rattle.tree_ckpt.proofs.Leaving.{next_leaves}
-use Rattle.session_facts.specs.TreeCheckpoints.Checkpoint.{OfPage, HoldsLast, KnowsOnward, KnowsWork, KnowsMaking, leases_of_making, leases_next}
+use Rattle.tree_ckpt.proofs.Outcomes.{comes as taken_apart}
+use Rattle.session_facts.specs.TreeCheckpoints.Checkpoint.{OfPage, KnowsOnward, KnowsWork, KnowsMaking, leases_of_making, leases_next}
 use Rattle.session_facts.proofs.TreeCheckpoints.Guards.{leaf_guarded}
-use Rattle.session_facts.proofs.TreeCheckpoints.Held.{claims_next, Within, within, deleted_goes, rising_goes, descending_goes, left_on, got_on, received_on, folding_goes, tree_given, page_given, second_within, none_within}
+use Rattle.session_facts.proofs.TreeCheckpoints.Held.{claims_next, within, leaf_quiet, up_quiet, delete_quiet, left_by, on_left}
 use Rattle.session_facts.proofs.TreeCheckpoints.MakingOthers.{lock_of, making_later}
 use Rattle.session_facts.proofs.TreeCheckpoints.UpGuards.{rising_guarded}
-use Rattle.tree_descent.specs.Descent.{descent_next}
 use Rattle.session_facts.specs.Trees.Leaves.{IsReading, KnowsLeaf}
 use Rattle.tree_moves.specs.declared.work.Held.{Held}
 use Rattle.tree_moves.specs.declared.work.Onward.{Onward}
 use Rattle.tree_moves.specs.declared.work.Onward.TheVariants as onward
 use Rattle.tree_moves.specs.declared.work.Work.{Work}
 use Rattle.tree_moves.specs.declared.work.Work.TheVariants as work
-use Rattle.tree_moves.specs.Moves.{Step, deleted_by, rising_on, descending_on, folding_on, page_left, tree_got, Leads}
+use Rattle.tree_moves.specs.Moves.{Step, Leads}
 use Rattle.tree_moves.specs.Work.{delete_ask, release_ask, work_ask, claims_in}
 use Rattle.tree_parts.specs.declared.placing.Placing.{Placing}
 use Rattle.tree_parts.specs.Placing.{put_in_hand, put_first, put_next}
 use Rattle.tree_rising.specs.declared.rising.Rising.{Rising}
-use Rattle.tree_rising.specs.Rising.{last_ask, rising_ask, rising_next}
+use Rattle.tree_rising.specs.Rising.{last_ask, rising_ask}
 
 -- ---- locks apart
 
@@ -64,25 +61,9 @@ client_no_page client tree page e = cc
 tree_no_page : (tree other page : ℕ) → lock.Tree tree ≡ lock.Page other page → ⊥
 tree_no_page tree other page e = cc
 
--- ---- asks that neither take a lease nor give one back
+-- ---- what a call names
 
-abbrev KeepsAll : Ask → Type 0
-KeepsAll ask = (x : Claim) → KeptBy ask x
-
--- a put, or what stands where nothing is to be put
-put_keeps : (p : Placing) (tree : ℕ) (l : Claim) (second : Option Claim) (ask : Ask) → KeepsAll ask → KeepsAll (unwrap_or (put_in_hand p tree l second) ask)
-put_keeps p tree l second ask k = on p.reserved p.puts
-  where
-    on : (reserved : Option (List ℕ)) (puts : List PagePut) → KeepsAll (unwrap_or (put_first tree l (put_next tree l second puts) reserved) ask)
-    on (Some bytes) puts = λ x. tt
-    on None [] = k
-    on None (y ∷ ys) = λ x. tt
-
-last_keeps : (r : Rising) (l : Claim) (last : Option (List ℕ)) → KeepsAll (last_ask r l last)
-last_keeps r l (Some bytes) = λ x. tt
-last_keeps r l None = λ x. tt
-
--- and what they name is in hand
+-- what a put names is in hand, or what the call names where nothing is to be put
 leaf_owns : (mine : List Claim) (session : ℕ) (p : Placing) (tree page : ℕ) (l leaf : Claim) → IsIn mine l → IsIn mine leaf
     → Owns (λ n. mine) session (unwrap_or (put_in_hand p tree l (Some leaf)) (GetHeld (object.Page tree page) leaf))
 leaf_owns mine session p tree page l leaf one two = on p.reserved p.puts
@@ -104,19 +85,34 @@ up_owns mine session p r l last one = on p.reserved p.puts last
     on None [] None = one
     on None (y ∷ ys) final = (one, tt)
 
--- none of them renews
-put_renews : (who : Caller) (p : Placing) (tree : ℕ) (l : Claim) (second : Option Claim) (ask : Ask) (x : Claim) (b t : CloudState) → RenewedTo who ask x b t
-    → RenewedTo who (unwrap_or (put_in_hand p tree l second) ask) x b t
-put_renews who p tree l second ask x b t k = on p.reserved p.puts
-  where
-    on : (reserved : Option (List ℕ)) (puts : List PagePut) → RenewedTo who (unwrap_or (put_first tree l (put_next tree l second puts) reserved) ask) x b t
-    on (Some bytes) puts = tt
-    on None [] = k
-    on None (y ∷ ys) = tt
+delete_owns : (mine : List Claim) (session tree : ℕ) (ids : List ℕ) → HasIds ids → Owns (λ n. mine) session (delete_ask tree (next_id ids))
+delete_owns mine session tree [] never = absurd never
+delete_owns mine session tree (id ∷ ids) has = tt
 
-last_renews : (who : Caller) (r : Rising) (l : Claim) (last : Option (List ℕ)) (x : Claim) (b t : CloudState) → RenewedTo who (last_ask r l last) x b t
-last_renews who r l (Some bytes) x b t = tt
-last_renews who r l None x b t = tt
+delete_guarded : (s : CloudState) (now tree : ℕ) (ids : List ℕ) → HasIds ids → IsGuarded s now (delete_ask tree (next_id ids))
+delete_guarded s now tree [] never = absurd never
+delete_guarded s now tree (id ∷ ids) has = tt
+
+-- ---- what a call leaves in hand
+
+quiet_renews : (who : Caller) (ask : Ask) (x : Claim) (b t : CloudState) → MovesNoLock ask → RenewedTo who ask x b t
+quiet_renews who (Renew l ticks) x b t never = absurd never
+quiet_renews who ask x b t quiet = tt
+
+quiet_keeps : (ask : Ask) (x : Claim) → MovesNoLock ask → KeptBy ask x
+quiet_keeps (Renew l ticks) x never = absurd never
+quiet_keeps (Release l) x never = absurd never
+quiet_keeps ask x quiet = tt
+
+-- what is outstanding was so before, or the call gave it
+outstanding_own : (ask : Ask) (a : Answer) (renewed : Claim) (cs : List Claim) (x : Claim) → (IsIn (outstanding_after ask a cs) x → KeptBy ask x) → IsIn (outstanding_after ask a cs) x
+    → (IsIn cs x × KeptBy ask x) ⊎ GainedBy ask a renewed x
+outstanding_own (Take k ticks) (Given l) renewed cs x kept (zero, is) = inr (sym (get_single l 0 x is))
+outstanding_own (Take k ticks) (Given l) renewed cs x kept (suc place, is) = inl ((place, is), tt)
+outstanding_own (Take k ticks) a renewed cs x kept there = inl (there, tt)
+outstanding_own (Release l) a renewed [] x kept there = inl (there, kept there)
+outstanding_own (Release l) a renewed (c ∷ cs) x kept there = inl ((suc there.0, there.1), kept there)
+outstanding_own ask a renewed cs x kept there = inl (there, kept there)
 
 -- where a lease in hand comes from
 pub record Led (tree : ℕ) (w : Work) (reply : Answer) (x : Claim) : Type 0 where
@@ -132,44 +128,6 @@ module _ (who : Caller) (s t : CloudState) (home : Claim) (client : ℕ) (home_l
   abbrev Hand : Work → Ask → Type 0
   Hand w ask = Handles who s t ask reply (home ∷ claims_in w) after
 
-  home_in : (ls : List Claim) (x : Claim) → home ≡ x → IsIn (home ∷ ls) x
-  home_in ls x e = (zero, ap (λ (l : Claim). Some l) e)
-
-  -- a call that takes no lease, and gives none back
-  keeps : (w : Work) (ask : Ask) → Comes w → KeepsAll ask → ((next : Step) → Leads tree w reply next → Within (claims_in w) next)
-      → (x : Claim) → IsIn after x → (IsIn (home ∷ claims_in w) x × KeptBy ask x) ⊎ GainedBy ask reply home x
-  keeps w ask comes kept within x there = on (comes x there)
-    where
-      on : (home ≡ x) ⊎ Led tree w reply x → (IsIn (home ∷ claims_in w) x × KeptBy ask x) ⊎ GainedBy ask reply home x
-      on (inl h) = inl (home_in (claims_in w) x h, kept x)
-      on (inr led) = inl (in_behind (home ∷ []) (claims_in w) x (within led.next led.leads x led.there), kept x)
-
-  -- a call that gives a lease back
-  gives : (w : Work) (l : Claim) → Comes w → (home.lock ≡ l.lock → ⊥)
-      → ((next : Step) → Leads tree w reply next → (x : Claim) → IsIn (claims_next next) x → IsIn (claims_in w) x × (x.lock ≡ l.lock → ⊥))
-      → (x : Claim) → IsIn after x → (IsIn (home ∷ claims_in w) x × KeptBy (Release l) x) ⊎ GainedBy (Release l) reply home x
-  gives w l comes home_apart within x there = on (comes x there)
-    where
-      on : (home ≡ x) ⊎ Led tree w reply x → (IsIn (home ∷ claims_in w) x × KeptBy (Release l) x) ⊎ GainedBy (Release l) reply home x
-      on (inl h) = inl (home_in (claims_in w) x h, λ one. home_apart (ap (λ (c : Claim). c.lock) h ∙ sym one.lock))
-      on (inr led) =
-          let r = within led.next led.leads x led.there in
-          inl (in_behind (home ∷ []) (claims_in w) x r.0, λ one. r.1 (sym one.lock))
-
-  -- a call that takes one
-  takes : (w : Work) (k : Lock) (ticks : ℕ) → Comes w
-      → ((next : Step) → Leads tree w reply next → (x : Claim) → IsIn (claims_next next) x → IsIn (claims_in w) x ⊎ GainedBy (Take k ticks) reply home x)
-      → (x : Claim) → IsIn after x → (IsIn (home ∷ claims_in w) x × Unit {0}) ⊎ GainedBy (Take k ticks) reply home x
-  takes w k ticks comes within x there = on (comes x there)
-    where
-      from : IsIn (claims_in w) x ⊎ GainedBy (Take k ticks) reply home x → (IsIn (home ∷ claims_in w) x × Unit {0}) ⊎ GainedBy (Take k ticks) reply home x
-      from (inl old) = inl (in_behind (home ∷ []) (claims_in w) x old, tt)
-      from (inr new) = inr new
-
-      on : (home ≡ x) ⊎ Led tree w reply x → (IsIn (home ∷ claims_in w) x × Unit {0}) ⊎ GainedBy (Take k ticks) reply home x
-      on (inl h) = inl (home_in (claims_in w) x h, tt)
-      on (inr led) = from (within led.next led.leads x led.there)
-
   -- the locks of the home, of the tree and of a leaf are apart
   no_tree : (l : Claim) → OfTree tree l → home.lock ≡ l.lock → ⊥
   no_tree l is e = client_no_tree client tree (sym home_lock ∙ (e ∙ is))
@@ -182,40 +140,9 @@ module _ (who : Caller) (s t : CloudState) (home : Claim) (client : ℕ) (home_l
       let same : h ≡ x = get_single h there.0 x there.1 in
       tree_no_page tree tree of_page.page (sym own ∙ (ap (λ (c : Claim). c.lock) same ∙ (e ∙ of_page.lock_is)))
 
-  -- ---- the ends
-
-  releases : (first second : Option Claim) (end : Result CkptAnswer Trouble) → HoldsLast tree first second → Comes (work.Releasing (record { first = first; second = second }) end)
-      → Hand (work.Releasing (record { first = first; second = second }) end) (release_ask tree (newest_lease (record { first = first; second = second })))
-  releases (Some l) (Some leaf) end own comes = record {
-    owns = (suc zero, refl);
-    guarded = tt;
-    renewed = home;
-    renews = tt;
-    own = gives (work.Releasing (record { first = Some l; second = Some leaf }) end) leaf comes (no_page leaf own.1)
-        (λ next leads x there.
-        let here : IsIn (l ∷ []) x = second_within l leaf end x (subst (λ (q : Step). IsIn (claims_next q) x) leads there) in
-        ((suc here.0, here.1), alone l leaf own.0 own.1 x here));
-  }
-  releases (Some l) None end own comes = record {
-    owns = (suc zero, refl);
-    guarded = tt;
-    renewed = home;
-    renews = tt;
-    own = gives (work.Releasing (record { first = Some l; second = None }) end) l comes (no_tree l own)
-        (λ next leads x there. absurd (none_within l end x (subst (λ (q : Step). IsIn (claims_next q) x) leads there)));
-  }
-  releases None second end own comes = absurd own
-
-  deletes : (h : Held) (applied : ℕ) (ids : List ℕ) → HasIds ids → Comes (work.Deleting h applied) → Hand (work.Deleting h applied) (delete_ask tree (next_id ids))
-  deletes h applied [] has comes = absurd has
-  deletes h applied (id ∷ ids) has comes = record {
-    owns = tt;
-    guarded = tt;
-    renewed = home;
-    renews = tt;
-    own = keeps (work.Deleting h applied) (Delete (queue.TreePu tree) id) comes (λ x. tt)
-        (λ next leads. subst (Within (h.lease ∷ [])) (sym leads) (within (h.lease ∷ []) (deleted_by h applied (done_of reply)) (deleted_goes h applied (done_of reply))));
-  }
+  apart_from : (l : Claim) (ls : List Claim) → (home.lock ≡ l.lock → ⊥) → ((x : Claim) → IsIn ls x → x.lock ≡ l.lock → ⊥) → (x : Claim) → IsIn (home ∷ ls) x → AreOne l x → ⊥
+  apart_from l ls home_apart rest x (zero, is) one = home_apart (ap (λ (c : Claim). c.lock) (get_single home 0 x is) ∙ sym one.lock)
+  apart_from l ls home_apart rest x (suc place, is) one = rest x (place, is) (sym one.lock)
 
   -- ---- where it stands
 
@@ -232,79 +159,65 @@ module _ (who : Caller) (s t : CloudState) (home : Claim) (client : ℕ) (home_l
     at_leaf_guarded h f is (inl reading) = reading_guarded h f reading
     at_leaf_guarded h f is (inr putting) = leaf_guarded book order s stands t.now h.lease f h.deletions.ids is putting
 
-    pub work_hands : (w : Work) → KnowsWork st t.now tree w → Comes w → Hand w (work_ask tree w)
-    work_hands work.TakingTree k comes = record {
-      owns = tt;
-      guarded = tt;
+    -- the home's lease stays in hand, and of those of the checkpoint what is outstanding
+    hand : (w : Work) → KnowsWork st t.now tree w → Comes w → Owns (λ n. home ∷ claims_in w) who.session (work_ask tree w) → IsGuarded s t.now (work_ask tree w)
+        → RenewedTo who (work_ask tree w) home (called who t.now s) t → ((x : Claim) → IsIn (home ∷ left_by tree w reply) x → KeptBy (work_ask tree w) x) → Hand w (work_ask tree w)
+    hand w k comes owns guarded renews kept = record {
+      owns = owns;
+      guarded = guarded;
       renewed = home;
-      renews = tt;
-      own = takes work.TakingTree (lock.Tree tree) 60 comes
-          (λ next leads x there. inr (tree_given tree home reply (given_of (lock.Tree tree) reply) refl x (subst (λ (q : Step). IsIn (claims_next q) x) leads there)));
-    }
-    work_hands (work.GettingTree l) k comes = record {
-      owns = (suc zero, refl);
-      guarded = tt;
-      renewed = home;
-      renews = tt;
-      own = keeps (work.GettingTree l) (GetHeld (object.Tree tree) l) comes (λ x. tt) (λ next leads. subst (Within (l ∷ [])) (sym leads) (within (l ∷ []) (tree_got tree l (got_of reply)) (got_on tree l (got_of reply))));
-    }
-    work_hands (work.Receiving l root) k comes = record {
-      owns = tt;
-      guarded = tt;
-      renewed = home;
-      renews = tt;
-      own = keeps (work.Receiving l root) (Receive (queue.TreePu tree) 256) comes (λ x. tt) (λ next leads. within (l ∷ []) next (received_on tree l root (received_of reply) next leads));
-    }
-    work_hands (work.Descending h d) k comes = record {
-      owns = (suc zero, refl);
-      guarded = tt;
-      renewed = home;
-      renews = tt;
-      own = keeps (work.Descending h d) (GetHeld (object.Page d.chart.tree d.page) h.lease) comes (λ x. tt)
-          (λ next leads. subst (Within (h.lease ∷ [])) (sym leads) (within (h.lease ∷ []) (descending_on h (descent_next d reply)) (descending_goes h (descent_next d reply))));
-    }
-    work_hands (work.TakingPage h c) k comes = record {
-      owns = tt;
-      guarded = tt;
-      renewed = home;
-      renews = tt;
-      own = takes (work.TakingPage h c) (lock.Page c.chart.tree c.page) 30 comes
-          (λ next leads x there. page_given h c home reply (given_of (lock.Page c.chart.tree c.page) reply) refl x (subst (λ (q : Step). IsIn (claims_next q) x) leads there));
-    }
-    work_hands (work.Folding h f) k comes = record {
-      owns = leaf_owns (home ∷ f.lease ∷ h.lease ∷ []) who.session f.placing f.chart.tree f.page h.lease f.lease (suc (suc zero), refl) (suc zero, refl);
-      guarded = at_leaf_guarded h f (lock_of tree f.chart.tree h.lease k.0) k.1;
-      renewed = home;
-      renews = put_renews who f.placing f.chart.tree h.lease (Some f.lease) (GetHeld (object.Page f.chart.tree f.page) f.lease) home (called who t.now s) t tt;
-      own = keeps (work.Folding h f) (folding_ask f h.lease) comes
-          (put_keeps f.placing f.chart.tree h.lease (Some f.lease) (GetHeld (object.Page f.chart.tree f.page) f.lease) (λ x. tt))
-          (λ next leads. subst (Within (f.lease ∷ h.lease ∷ [])) (sym leads) (within (f.lease ∷ h.lease ∷ []) (folding_on h (folding_next f reply)) (folding_goes h f (folding_next f reply) (next_leaves f reply))));
-    }
-    work_hands (work.ReleasingPage h l o) k comes = record {
-      owns = (suc zero, refl);
-      guarded = tt;
-      renewed = home;
-      renews = tt;
-      own = gives (work.ReleasingPage h l o) l comes (no_page l k.0)
-          (λ next leads x there.
-          let here : IsIn (h.lease ∷ []) x = within (h.lease ∷ []) (page_left h o) (left_on h o) x (subst (λ (q : Step). IsIn (claims_next q) x) leads there) in
-          ((suc here.0, here.1), alone h.lease l (onward_lock h o k.1) k.0 x here));
+      renews = renews;
+      own = λ x there. on x (comes x there);
     }
       where
-        onward_lock : (h : Held) (o : Onward) → KnowsOnward st t.now tree h o → OfTree tree h.lease
-        onward_lock h (onward.Right c) k = k.0.lock_is
-        onward_lock h (onward.Handled c) k = k.0.lock_is
+        on : (x : Claim) → (home ≡ x) ⊎ Led tree w reply x → (IsIn (home ∷ claims_in w) x × KeptBy (work_ask tree w) x) ⊎ GainedBy (work_ask tree w) reply home x
+        on x (inl same) = let first : Some home ≡ Some x = ap (λ (l : Claim). Some l) same in inl ((zero, first), kept x (zero, first))
+        on x (inr led) =
+            from (outstanding_own (work_ask tree w) reply home (claims_in w) x (λ there. kept x (suc there.0, there.1))
+            (within (left_by tree w reply) led.next (on_left st t.now tree k (taken_apart tree w reply led.next led.leads)) x led.there))
+          where
+            from : (IsIn (claims_in w) x × KeptBy (work_ask tree w) x) ⊎ GainedBy (work_ask tree w) reply home x
+                → (IsIn (home ∷ claims_in w) x × KeptBy (work_ask tree w) x) ⊎ GainedBy (work_ask tree w) reply home x
+            from (inl old) = inl ((suc old.0.0, old.0.1), old.1)
+            from (inr new) = inr new
+
+    onward_lock : (h : Held) (o : Onward) → KnowsOnward st t.now tree h o → OfTree tree h.lease
+    onward_lock h (onward.Right c) k = k.0.lock_is
+    onward_lock h (onward.Handled c) k = k.0.lock_is
+
+    releases : (first second : Option Claim) (end : Result CkptAnswer Trouble) → KnowsWork st t.now tree (work.Releasing (record { first = first; second = second }) end)
+        → Comes (work.Releasing (record { first = first; second = second }) end)
+        → Hand (work.Releasing (record { first = first; second = second }) end) (release_ask tree (newest_lease (record { first = first; second = second })))
+    releases (Some l) (Some leaf) end k comes =
+        hand (work.Releasing (record { first = Some l; second = Some leaf }) end) k comes (suc zero, refl) tt tt
+        (apart_from leaf (l ∷ []) (no_page leaf k.0.1) (alone l leaf k.0.0 k.0.1))
+    releases (Some l) None end k comes =
+        hand (work.Releasing (record { first = Some l; second = None }) end) k comes (suc zero, refl) tt tt
+        (apart_from l [] (no_tree l k.0) (λ x there. absurd (in_none [] x refl there)))
+    releases None second end k comes = absurd k.0
+
+    pub work_hands : (w : Work) → KnowsWork st t.now tree w → Comes w → Hand w (work_ask tree w)
+    work_hands work.TakingTree k comes = hand work.TakingTree k comes tt tt tt (λ x there. tt)
+    work_hands (work.GettingTree l) k comes = hand (work.GettingTree l) k comes (suc zero, refl) tt tt (λ x there. tt)
+    work_hands (work.Receiving l root) k comes = hand (work.Receiving l root) k comes tt tt tt (λ x there. tt)
+    work_hands (work.Descending h d) k comes = hand (work.Descending h d) k comes (suc zero, refl) tt tt (λ x there. tt)
+    work_hands (work.TakingPage h c) k comes = hand (work.TakingPage h c) k comes tt tt tt (λ x there. tt)
+    work_hands (work.Folding h f) k comes =
+        hand (work.Folding h f) k comes (leaf_owns (home ∷ f.lease ∷ h.lease ∷ []) who.session f.placing f.chart.tree f.page h.lease f.lease (suc (suc zero), refl) (suc zero, refl))
+        (at_leaf_guarded h f (lock_of tree f.chart.tree h.lease k.0) k.1) (quiet_renews who (folding_ask f h.lease) home (called who t.now s) t (leaf_quiet f h.lease))
+        (λ x there. quiet_keeps (folding_ask f h.lease) x (leaf_quiet f h.lease))
+    work_hands (work.ReleasingPage h l o) k comes =
+        hand (work.ReleasingPage h l o) k comes (suc zero, refl) tt tt (apart_from l (h.lease ∷ []) (no_page l k.0) (alone h.lease l (onward_lock h o k.1) k.0))
     work_hands (work.LeftPage h o) k comes = absurd k
-    work_hands (work.Rising h r) k comes = record {
-      owns = up_owns (home ∷ h.lease ∷ []) who.session r.placing r h.lease r.last (suc zero, refl);
-      guarded = rising_guarded book order s stands t.now h.lease r h.deletions.ids (lock_of tree r.chart.tree h.lease k.0) k.1;
-      renewed = home;
-      renews = put_renews who r.placing r.chart.tree h.lease None (last_ask r h.lease r.last) home (called who t.now s) t (last_renews who r h.lease r.last home (called who t.now s) t);
-      own = keeps (work.Rising h r) (rising_ask r h.lease) comes (put_keeps r.placing r.chart.tree h.lease None (last_ask r h.lease r.last) (last_keeps r h.lease r.last))
-          (λ next leads. subst (Within (h.lease ∷ [])) (sym leads) (within (h.lease ∷ []) (rising_on h (rising_next r reply)) (rising_goes h (rising_next r reply))));
-    }
-    work_hands (work.Deleting h applied) k comes = deletes h applied h.deletions.ids k.2 comes
-    work_hands (work.Releasing held end) k comes = releases held.first held.second end k.0 comes
+    work_hands (work.Rising h r) k comes =
+        hand (work.Rising h r) k comes (up_owns (home ∷ h.lease ∷ []) who.session r.placing r h.lease r.last (suc zero, refl))
+        (rising_guarded book order s stands t.now h.lease r h.deletions.ids (lock_of tree r.chart.tree h.lease k.0) k.1)
+        (quiet_renews who (rising_ask r h.lease) home (called who t.now s) t (up_quiet r h.lease)) (λ x there. quiet_keeps (rising_ask r h.lease) x (up_quiet r h.lease))
+    work_hands (work.Deleting h applied) k comes =
+        let ask : Ask = delete_ask tree (next_id h.deletions.ids) in
+        hand (work.Deleting h applied) k comes (delete_owns (home ∷ h.lease ∷ []) who.session tree h.deletions.ids k.2) (delete_guarded s t.now tree h.deletions.ids k.2)
+        (quiet_renews who ask home (called who t.now s) t (delete_quiet tree h.deletions.ids k.2)) (λ x there. quiet_keeps ask x (delete_quiet tree h.deletions.ids k.2))
+    work_hands (work.Releasing held end) k comes = releases held.first held.second end k comes
     work_hands work.Finished k comes = absurd k
 
 -- a call of a checkpoint beside its home's lease, and where its answer leads

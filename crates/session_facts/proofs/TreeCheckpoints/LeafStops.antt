@@ -1,33 +1,29 @@
 -- A leaf under its lease stops a checkpoint for no damage: it is the leaf that its link promised, and no page is come to twice.
-use Rattle.std.proofs.Common.{◌≡◌, ◌≤◌, ◌==◌, ◌&&◌, ◌||◌, ℕ, Bool, true, false, cond, List, [], ◌∷◌, ◌++◌, length, map, Option, Some, None, Result, Ok, Err, refl, sym, ap, subst, ◌∙◌, arith}
+use Rattle.std.proofs.Common.{◌≡◌, ◌≤◌, ◌==◌, ◌&&◌, ℕ, Bool, true, false, cond, List, ◌∷◌, length, map, Option, Some, None, Result, Ok, Err, refl, sym, ap, subst, ◌∙◌, arith}
 use Rattle.std.specs.Prelude.{is_none}
 use Rattle.std.proofs.lemmas.Bool.{eq-eqb, eqb-true}
 use Rattle.std.proofs.lemmas.List.{length-reverse, length-map}
 use Rattle.byte_format.specs.Order.{bytes_below, bytes_same}
+use Rattle.byte_format.specs.Whole.{whole, offset}
 use Rattle.byte_format.proofs.OrderLemmas.{same_itself}
 use Rattle.cloud_facts.specs.Calls.Standing.{StandsUnder}
 use Rattle.cloud_trait.specs.declared.answer.Answer.{Answer}
 use Rattle.cloud_trait.specs.Claim.{Claim}
-use Rattle.cloud_trait.specs.Machine.{Ends, Goes, Stops}
 use Rattle.cloud_trait.specs.State.{CloudState, newest}
 use Rattle.cloud_trait.specs.Views.{got_of, done_of}
 use Rattle.db_base.specs.declared.names.ObjName.TheVariants as object
 use Rattle.db_base.specs.declared.trouble.Trouble.{Trouble}
-use Rattle.db_base.specs.declared.trouble.Trouble.TheVariants as trouble
 use Rattle.leaf_edit.specs.Applied.{applied}
-use Rattle.leaf_edit.specs.Lacked.{lacked}
 use Rattle.leaf_fold.specs.declared.folding.Folding.{Folding}
-use Rattle.leaf_fold.specs.declared.folding.Left.TheVariants.{Right, Handled}
 use Rattle.leaf_fold.specs.declared.plan.LeafPlan.{LeafPlan}
-use Rattle.leaf_fold.specs.Folding.{Step, bad_low, turned, to_right, planned, handled_by, handle, leaf_side, leaf_at, leaf_found, leaf_got, landed, counted, leaf_put, folding_next}
+use Rattle.leaf_fold.specs.Folding.{Step, planned, leaf_got, leaf_put, folding_next}
 use Rattle.leaf_fold.specs.Plan.{planned_by, leaf_plan}
 use Rattle.leaf_fold.specs.Plan as plan
-use Rattle.leaf_view.specs.Leaf.{Leaf}
-use Rattle.leaf_view.specs.Lookup.{empty_leaf, page_at}
+use Rattle.leaf_view.specs.Leaf.{Leaf, leaf as leaf_format}
+use Rattle.leaf_view.specs.Lookup.{page_at}
 use Rattle.log_codec.specs.declared.record.PuItem.{PuItem}
 use Rattle.node_codec.specs.Tree.{Tree}
 use Rattle.report_types.specs.declared.entry.Entry.{Entry}
-use Rattle.run_cursor.specs.Covered.{is_seen}
 use Rattle.split_plan.specs.declared.put_list.PagePut.{PagePut}
 use Rattle.split_plan.specs.Plan.{put_of, on_pages, leaf_bytes}
 use Rattle.cloud_facts.specs.Book.Book.{Book}
@@ -37,11 +33,14 @@ use Rattle.cloud_facts.specs.Tellings.Told.{store_of}
 use Rattle.session_facts.specs.TreeCheckpoints.Checkpoint.{MayStop}
 use Rattle.session_facts.proofs.TreeCheckpoints.Refusing.{StopsWell, IsFair, spent_may, done_may, reservation_fair}
 use Rattle.session_facts.specs.Trees.Leaves.{IsReading, IsPutting}
-use Rattle.session_facts.specs.Trees.Ways.{IsOnWay}
 use Rattle.session_facts.proofs.Trees.LeafReads.{leaf_low, absent_is, spelled_is, leaf_right, right_fresh}
+use Rattle.tree_ckpt.specs.Causing.{GoesRight}
+use Rattle.tree_ckpt.specs.Working.{HoldsLeaf}
+use Rattle.tree_ckpt.proofs.LeafOutcomes.{Reads, Lands, came_to, reads, put_lands}
+use Rattle.tree_ckpt.proofs.LeafOutcomes as step
 use Rattle.tree_parts.specs.declared.reserve.Reserved.{Reserved}
-use Rattle.tree_parts.specs.Placing.{has_nothing, has_one_page}
-use Rattle.tree_parts.specs.Read.{tree_held}
+use Rattle.tree_parts.specs.Placing.{has_nothing}
+use Rattle.tree_parts.specs.Read.{leaf_or, tree_held}
 use Rattle.tree_parts.specs.Reserve.{version_spent}
 
 -- ---- the plan of a leaf
@@ -67,65 +66,53 @@ module _ (book : Book) (order : List Entry) (s : CloudState) (stands : StandsUnd
   abbrev leaf : Leaf
   leaf = newest_leaf (nodes_of s) tree f.page
 
-  planned_may : (high : Option (List ℕ)) (missing : List PuItem) (p : Result LeafPlan Trouble) → IsFair p → StopsWell (planned f high missing p)
-  planned_may high missing (Ok p) may = tt
-  planned_may high missing (Err t) may = spent_may t may
+  -- what the get brought is the newest leaf
+  whole_is : (bytes : List ℕ) → Some bytes ≡ newest s (object.Page tree f.page) → (r : Result Leaf ℕ) → whole leaf_format bytes ≡ r → leaf_or tree f.page (offset leaf_format bytes) r ≡ Ok leaf
+  whole_is bytes seen r e =
+      subst (λ (x : Result Leaf ℕ). leaf_or tree f.page (offset leaf_format bytes) x ≡ Ok leaf) e
+      (spelled_is book order s stands tree k.at.chart.tree f.page f.low f.chart.key f.visited k.at.way bytes (sym seen))
 
-  handle_may : StopsWell (handle f leaf)
-  handle_may = on (lacked leaf 0 f.chart.run.items)
+  read_is : (got : Option (List ℕ)) (l : Leaf) → got ≡ newest s (object.Page tree f.page) → HoldsLeaf f.page l got → l ≡ leaf
+  read_is (Some bytes) l seen holds = same l (whole_is bytes seen (Ok l) holds)
     where
-      on : (missing : List PuItem) → StopsWell (handled_by f leaf missing)
-      on [] = tt
-      on (x ∷ xs) = planned_may leaf.high (x ∷ xs) (leaf_plan (tree_held f.chart.root) f.page leaf f.chart.run.items) (plan_fair (tree_held f.chart.root) f.page leaf f.chart.run.items)
+      same : (m : Leaf) → ◌≡◌ {A = Result Leaf Trouble} (Ok m) (Ok leaf) → m ≡ leaf
+      same m e = cc
+  read_is None l seen holds = holds.1 ∙ sym (absent_is book order s stands tree k.at.chart.tree f.page f.low f.chart.key f.visited k.at.way (sym seen)).1
 
-  right_may : (high : List ℕ) (right : ℕ) → leaf.high ≡ Some high → page_at leaf.right ≡ Some right → bytes_below f.chart.key high ≡ false → StopsWell (to_right f high right)
-  right_may high right is named out = subst (λ (seen : Bool). StopsWell (cond seen (Stops f (trouble.Loop right)) (Ends (turned f high right) (Right high right)))) (sym fresh) tt
-    where
-      way : IsOnWay (book.chain tree) 0 right high f.chart.key (f.visited ++ f.page ∷ [])
-      way = leaf_right book order s stands tree k.at.chart.tree f.page f.low f.chart.key f.visited k.at.way high right is named out
+  low_same : (l : Leaf) → l ≡ leaf → bytes_same l.low f.low ≡ true
+  low_same l is =
+      ap (λ (m : Leaf). bytes_same m.low f.low) is
+      ∙ (ap (λ (low : List ℕ). bytes_same low f.low) (leaf_low book order s stands tree k.at.chart.tree f.page f.low f.chart.key f.visited k.at.way) ∙ same_itself f.low)
 
-      fresh : ((right == f.page) || is_seen f.visited right) ≡ false
-      fresh = right_fresh book order s stands tree k.at.chart.tree f.page f.low f.chart.key f.visited k.at.way high right way
+  -- no page is come to twice
+  fresh : (l : Leaf) (high : List ℕ) (right : ℕ) → l ≡ leaf → GoesRight l.high (page_at l.right) high right → bytes_below f.chart.key high ≡ false → came_to f right ≡ false
+  fresh l high right is goes out =
+      right_fresh book order s stands tree k.at.chart.tree f.page f.low f.chart.key f.visited k.at.way high right
+      (leaf_right book order s stands tree k.at.chart.tree f.page f.low f.chart.key f.visited k.at.way high right
+      (subst (λ (m : Leaf). m.high ≡ Some high) is goes.0) (subst (λ (m : Leaf). page_at m.right ≡ Some right) is goes.1) out)
 
-  side_may : (high : Option (List ℕ)) (right : Option ℕ) → leaf.high ≡ high → page_at leaf.right ≡ right → StopsWell (leaf_side f leaf high right)
-  side_may None right e g = handle_may
-  side_may (Some high) None e g = handle_may
-  side_may (Some high) (Some right) e g = on (bytes_below f.chart.key high) refl
-    where
-      on : (b : Bool) → bytes_below f.chart.key high ≡ b → StopsWell (cond b (handle f leaf) (to_right f high right))
-      on true below = handle_may
-      on false beyond = right_may high right e g beyond
-
-  at_may : StopsWell (leaf_at f leaf)
-  at_may = subst (λ (b : Bool). StopsWell (cond b (leaf_side f leaf leaf.high (page_at leaf.right)) (Stops f (bad_low f leaf.low)))) (sym same) (side_may leaf.high (page_at leaf.right) refl refl)
-    where
-      same : bytes_same leaf.low f.low ≡ true
-      same =
-          ap (λ (low : List ℕ). bytes_same low f.low) (leaf_low book order s stands tree k.at.chart.tree f.page f.low f.chart.key f.visited k.at.way)
-          ∙ same_itself f.low
-
-  absent_may : (f.page ≡ 1) × (leaf ≡ empty_leaf) → StopsWell (cond (f.page == 1) (leaf_at f empty_leaf) (Stops f (trouble.Absent f.page)))
-  absent_may (first, empty) =
-      subst (λ (b : Bool). StopsWell (cond b (leaf_at f empty_leaf) (Stops f (trouble.Absent f.page)))) (sym (eq-eqb f.page 1 first))
-      (subst (λ (l : Leaf). StopsWell (leaf_at f l)) empty at_may)
+  reads_may : {g : Result (Option (List ℕ)) Trouble} {next : Step} → ((v : Option (List ℕ)) → g ≡ Ok v → v ≡ newest s (object.Page tree f.page)) → ((t : Trouble) → g ≡ Err t → MayStop t)
+      → Reads f g next → StopsWell next
+  reads_may seen refused (step.refused t) = refused t refl
+  reads_may seen refused (step.absent other) =
+      let here = eq-eqb f.page 1 (absent_is book order s stands tree k.at.chart.tree f.page f.low f.chart.key f.visited k.at.way (sym (seen None refl))).0 in absurd (cc (other, here))
+  reads_may seen refused (step.wrong bytes left e) = let none = whole_is bytes (seen (Some bytes) refl) (Err left) e in absurd (cc (none))
+  reads_may seen refused (step.misled got l holds e) = let same = low_same l (read_is got l (seen got refl) holds) in absurd (cc (e, same))
+  reads_may seen refused (step.loops got l high right behind e) =
+      let new = fresh l high right (read_is got l (seen got refl) behind.holds) behind.goes behind.beyond in absurd (cc (e, new))
+  reads_may seen refused (step.unplanned got l x xs t here some e) =
+      spent_may t (subst (λ (p : Result LeafPlan Trouble). IsFair p) e (plan_fair (tree_held f.chart.root) f.page l f.chart.run.items))
+  reads_may seen refused c = tt
 
   pub leaf_may : (g : Result (Option (List ℕ)) Trouble) → ((v : Option (List ℕ)) → g ≡ Ok v → v ≡ newest s (object.Page tree f.page)) → ((t : Trouble) → g ≡ Err t → MayStop t)
       → StopsWell (leaf_got f g)
-  leaf_may (Ok (Some bytes)) seen refused =
-      subst (λ (found : Result Leaf Trouble). StopsWell (leaf_found f found))
-      (sym (spelled_is book order s stands tree k.at.chart.tree f.page f.low f.chart.key f.visited k.at.way bytes (sym (seen (Some bytes) refl)))) at_may
-  leaf_may (Ok None) seen refused = absent_may (absent_is book order s stands tree k.at.chart.tree f.page f.low f.chart.key f.visited k.at.way (sym (seen None refl)))
-  leaf_may (Err t) seen refused = refused t refl
+  leaf_may g seen refused = reads_may seen refused (reads f g)
 
 -- ---- the puts
 
-placed_may : (f : Folding) (g : Result (Unit {0}) Trouble) → ((t : Trouble) → g ≡ Err t → MayStop t) → StopsWell (leaf_put f g)
-placed_may f (Err t) refused = refused t refl
-placed_may f (Ok x) refused = on (has_one_page f.placing)
-  where
-    on : (b : Bool) → (let last : Step = Ends (counted (landed f)) Handled in StopsWell (cond b last (Goes (landed f))))
-    on true = tt
-    on false = tt
+lands_may : {f : Folding} {g : Result (Unit {0}) Trouble} {next : Step} → ((t : Trouble) → g ≡ Err t → MayStop t) → Lands f g next → StopsWell next
+lands_may refused (step.not_put t) = refused t refl
+lands_may refused c = tt
 
 -- a put is in hand
 some_put : (reserved : Option (List ℕ)) (puts : List PagePut) → 1 ≤ length puts → (is_none reserved && (length puts == 0)) ≡ false
@@ -138,7 +125,7 @@ some_put None puts some = on (length puts == 0) refl
 
 pub put_may : (st : Store) (now : ℕ) (lease : Claim) (f : Folding) (ids : List ℕ) → IsPutting st now lease f ids → (reply : Answer) → StopsWell (folding_next f reply)
 put_may st now lease f ids k reply =
-    subst (λ (b : Bool). StopsWell (cond b (leaf_got f (got_of reply)) (leaf_put f (done_of reply)))) (sym full) (placed_may f (done_of reply) (done_may reply))
+    subst (λ (b : Bool). StopsWell (cond b (leaf_got f (got_of reply)) (leaf_put f (done_of reply)))) (sym full) (lands_may (done_may reply) (put_lands f (done_of reply)))
   where
     some : 1 ≤ length f.placing.puts
     some =

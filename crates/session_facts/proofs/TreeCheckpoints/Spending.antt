@@ -1,5 +1,5 @@
 -- Where a checkpoint of a tree finds a version spent, the cloud tells so: what is to be put next was got, or put by the checkpoint, and it landed.
-use Rattle.std.proofs.Common.{◌≡◌, ◌+◌, ◌-◌, ◌^◌, ◌<◌, ◌≤◌, ◌==◌, ◌⊎◌, inl, inr, ℕ, Bool, true, false, cond, nat_lt, List, [], ◌∷◌, ◌++◌, length, map, drop, Option, Some, None, Result, Ok, Err, refl, sym, ap, subst, ◌∙◌, arith}
+use Rattle.std.proofs.Common.{◌≡◌, ◌+◌, ◌-◌, ◌^◌, ◌<◌, ◌≤◌, ◌==◌, ◌⊎◌, inl, inr, ℕ, Bool, true, false, cond, nat_lt, List, [], ◌∷◌, ◌++◌, length, map, drop, Option, Some, None, refl, sym, ap, subst, ◌∙◌, arith}
 use Rattle.std.specs.Prelude.{◌&&◌, is_none, is_some, reverse, slice_get}
 use Rattle.std.proofs.lemmas.Bool.{eqb-true}
 use Rattle.std.proofs.lemmas.List.{append-nil, length-reverse, length-map}
@@ -45,6 +45,7 @@ use Rattle.split_plan.specs.declared.put_list.PagePut.{PagePut}
 use Rattle.split_plan.specs.Part.{NodePart}
 use Rattle.split_plan.specs.Plan.{put_of, on_pages, node_bytes}
 use Rattle.split_plan.specs.Sizes.{count_of}
+use Rattle.tree_ckpt.specs.Working.{HoldsLeaf}
 use Rattle.tree_ckpt.specs.Due.{Due, LeafDue, NodeDue, RootDue, IsSpent, pages_of, pages_of_root, raised, root_of, version_of}
 use Rattle.tree_moves.specs.Moves.{chart_of}
 use Rattle.tree_parts.specs.declared.chart.Chart.{Chart}
@@ -196,9 +197,8 @@ module _ (st : Store) (now : ℕ) (t : CloudState) (tells : IsToldBy st t) (tree
         meets_spent (LeafDue (tree_held f.chart.root) l f.chart.run.items) root (λ last. inr (last_leaf t tree page l there last)) (leaf_needs page l f.chart.run.items there few)
 
     -- whatever the get of the page brought
-    pub spends_leaf : (f : Folding) (ids : List ℕ) → f.chart.tree ≡ tree → KnowsLeaf st now lease f ids → (g : Result (Option (List ℕ)) Trouble)
-        → ((got : Option (List ℕ)) → g ≡ Ok got → newest t (object.Page tree f.page) ≡ got) → SpendsLeaf Met free f g
-    spends_leaf f ids same known g told = on g told
+    pub spends_leaf : (f : Folding) (ids : List ℕ) → f.chart.tree ≡ tree → KnowsLeaf st now lease f ids → (got : Option (List ℕ)) → newest t (object.Page tree f.page) ≡ got → SpendsLeaf Met free f got
+    spends_leaf f ids same known got told l holds = leaf_spent f f.page l root few (there got told holds)
       where
         root_of_leaf : KnowsLeaf st now lease f ids → KnowsRoot st now lease f.chart.tree (tree_held f.chart.root)
         root_of_leaf (inl reading) = reading.at.chart.root
@@ -216,10 +216,9 @@ module _ (st : Store) (now : ℕ) (t : CloudState) (tells : IsToldBy st t) (tree
             subst (λ (n : ℕ). length f.chart.run.items ≤ length (st.tally.posts n 0)) same
             (run_length st f.chart.tree (tree_held f.chart.root).cursor f.chart.run ids (run_of_leaf known))
 
-        on : (g : Result (Option (List ℕ)) Trouble) → ((got : Option (List ℕ)) → g ≡ Ok got → newest t (object.Page tree f.page) ≡ got) → SpendsLeaf Met free f g
-        on (Ok (Some bytes)) told = λ l reads. leaf_spent f f.page l root few (inr (whole_landed t tree f.page bytes l (told (Some bytes) refl) reads))
-        on (Ok None) told = leaf_spent f f.page empty_leaf root few (inl refl)
-        on (Err k) told = tt
+        there : (got : Option (List ℕ)) → newest t (object.Page tree f.page) ≡ got → HoldsLeaf f.page l got → (l ≡ empty_leaf) ⊎ IsIn (nodes_of t tree f.page) (Leafy l)
+        there (Some bytes) told holds = inr (whole_landed t tree f.page bytes l told holds)
+        there None told holds = inl holds.1
 
     -- ---- the way up
 

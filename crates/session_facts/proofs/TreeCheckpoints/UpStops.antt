@@ -1,9 +1,9 @@
 -- The way up stops for no damage: its nodes are those that were got, and read as they were.
-use Rattle.std.proofs.Common.{◌≡◌, ◌+◌, ◌-◌, ◌==◌, ◌&&◌, ◌||◌, ℕ, Bool, true, false, cond, List, length, drop, Option, Some, None, Result, Ok, Err, refl, subst}
-use Rattle.std.specs.Prelude.{not, nat_lt, is_some}
+use Rattle.std.proofs.Common.{◌≡◌, ◌+◌, ◌-◌, ◌==◌, ◌&&◌, ℕ, Bool, true, false, cond, List, length, drop, Option, None, Result, Ok, Err, refl, subst}
+use Rattle.std.specs.Prelude.{nat_lt}
 use Rattle.cloud_trait.specs.declared.answer.Answer.{Answer}
 use Rattle.cloud_trait.specs.Claim.{Claim}
-use Rattle.cloud_trait.specs.Machine.{Next, Goes, Ends, Stops}
+use Rattle.cloud_trait.specs.Machine.{Next}
 use Rattle.cloud_trait.specs.Views.{done_of}
 use Rattle.db_base.specs.declared.trouble.Trouble.{Trouble}
 use Rattle.node_codec.specs.Inner.{Inner}
@@ -19,14 +19,16 @@ use Rattle.tree_parts.proofs.Reading.{inner_is}
 use Rattle.tree_parts.specs.declared.kept.KeptNode.{KeptNode}
 use Rattle.tree_parts.specs.declared.link.Link.{Link as Found}
 use Rattle.tree_parts.specs.declared.reserve.Reserved.{Reserved}
-use Rattle.tree_parts.specs.Placing.{has_nothing}
 use Rattle.tree_parts.specs.Read.{tree_held}
 use Rattle.tree_parts.specs.Reserve.{version_spent, pages_spent, next_tree, reservation}
 use Rattle.tree_rising.specs.declared.node.NodePlan.{NodePlan}
 use Rattle.tree_rising.specs.declared.rising.Rising.{Rising}
 use Rattle.tree_rising.specs.declared.root.RootPlan.{RootPlan}
 use Rattle.tree_rising.specs.Nodes.{touched_at, with_links, planned_by, planned_of, linked_by, node_plan}
-use Rattle.tree_rising.specs.Rising.{put_node, plan_of, last_plan, put_root, next_touched, touched_node, rise_at, rise, landed, put_next, after_put, risen_by, rising_next}
+use Rattle.tree_rising.specs.Rising.{plan_of, last_plan, landed}
+use Rattle.tree_rising.specs.Rising as up
+use Rattle.tree_ckpt.proofs.RiseOutcomes.{Rises, Lands, rises, lands}
+use Rattle.tree_ckpt.proofs.RiseOutcomes as step
 use Rattle.tree_rising.specs.Root.{risen_by as root_risen, lowered, cut_at, cut_by, cut_behind, root_cut, uncut, root_plan}
 
 -- ---- the plan of a node
@@ -83,47 +85,29 @@ last_fair r = on (next_tree (tree_held r.chart.root)) (next_fair (tree_held r.ch
 
 -- ---- level by level
 
-node_may : (r : Rising) (next level : ℕ) (p : Result NodePlan Trouble) → IsFair p → StopsWell (put_node r next level p)
-node_may r next level (Ok p) may = tt
-node_may r next level (Err t) may = spent_may t may
-
-root_may : (r : Rising) (p : Result RootPlan Trouble) → IsFair p → StopsWell (put_root r p)
-root_may r (Ok p) may = tt
-root_may r (Err t) may = spent_may t may
-
 -- the nodes from here on were got
-pub rise_may : (st : Store) (now : ℕ) (lease : Claim) (r : Rising) → KnowsNodes st now lease r.chart.tree (drop r.at r.chart.nodes) → StopsWell (rise r)
-rise_may st now lease r nodes = on (touched_node r) refl
-  where
-    on : (o : Option KeptNode) → touched_node r ≡ o → StopsWell (rise_at r (next_touched r) o)
-    on None e = root_may r (last_plan r) (last_fair r)
-    on (Some kept) e =
-        let place : ℕ = touched_at r.chart.tree r.chart.links (drop r.at r.chart.nodes) in
-        node_may r (next_touched r + 1) (kept.level + 1) (node_plan (tree_held r.chart.root) r.chart.tree kept r.chart.links)
-        (node_fair st now lease r.chart.tree (tree_held r.chart.root) kept r.chart.links (nodes kept (place, get_dropped r.at place r.chart.nodes kept e)))
+rises_may : (st : Store) (now : ℕ) (lease : Claim) (r : Rising) {next : Next Rising (Unit {0})} → KnowsNodes st now lease r.chart.tree (drop r.at r.chart.nodes) → Rises r next
+    → StopsWell next
+rises_may st now lease r nodes (step.node_due kept p at e) = tt
+rises_may st now lease r nodes (step.no_node kept t at e) =
+    let place : ℕ = touched_at r.chart.tree r.chart.links (drop r.at r.chart.nodes) in
+    spent_may t
+    (subst (λ (p : Result NodePlan Trouble). IsFair p) e
+    (node_fair st now lease r.chart.tree (tree_held r.chart.root) kept r.chart.links (nodes kept (place, get_dropped r.at place r.chart.nodes kept at))))
+rises_may st now lease r nodes (step.root_due p none e) = tt
+rises_may st now lease r nodes (step.no_root t none e) = spent_may t (subst (λ (p : Result RootPlan Trouble). IsFair p) e (last_fair r))
+
+pub rise_may : (st : Store) (now : ℕ) (lease : Claim) (r : Rising) → KnowsNodes st now lease r.chart.tree (drop r.at r.chart.nodes) → StopsWell (up.rise r)
+rise_may st now lease r nodes = rises_may st now lease r nodes (rises r)
 
 -- ---- the puts
 
-pub rising_may : (st : Store) (now : ℕ) (lease : Claim) (r : Rising) (ids : List ℕ) → KnowsRising st now lease r ids → (reply : Answer) → StopsWell (rising_next r reply)
-rising_may st now lease r ids k reply = on (done_of reply) (done_may reply)
-  where
-    next : (b : Bool) → (let to : Next Rising (Unit {0}) = cond b (Stops (landed r) version_spent) (Goes (landed r)) in StopsWell to)
-    next true = tt
-    next false = tt
+lands_may : (st : Store) (now : ℕ) (lease : Claim) (r : Rising) (ids : List ℕ) {g : Result (Unit {0}) Trouble} {next : Next Rising (Unit {0})} → KnowsRising st now lease r ids
+    → ((t : Trouble) → g ≡ Err t → MayStop t) → Lands r g next → StopsWell next
+lands_may st now lease r ids k refused (step.not_put t) = refused t refl
+lands_may st now lease r ids k refused (step.goes_on x some nothing none next) =
+    let puts : PutsOf st now lease r None = subst (PutsOf st now lease r) none k.puts in rises_may st now lease (landed r) puts.nodes next
+lands_may st now lease r ids k refused c = tt
 
-    further : (b : Bool) (last : Option (List ℕ)) → PutsOf st now lease r last → StopsWell (cond (not b || is_some last) (put_next (landed r)) (rise (landed r)))
-    further b (Some bytes) puts = sent (not b)
-      where
-        sent : (c : Bool) → StopsWell (cond (c || true) (put_next (landed r)) (rise (landed r)))
-        sent true = next (has_nothing (landed r).placing && r.is_spent)
-        sent false = next (has_nothing (landed r).placing && r.is_spent)
-    further true None puts = rise_may st now lease (landed r) puts.nodes
-    further false None puts = next (has_nothing (landed r).placing && r.is_spent)
-
-    put : (b : Bool) → StopsWell (cond b (Ends r tt) (after_put (landed r)))
-    put true = tt
-    put false = further (has_nothing (landed r).placing) r.last k.puts
-
-    on : (g : Result (Unit {0}) Trouble) → ((t : Trouble) → g ≡ Err t → MayStop t) → StopsWell (risen_by r g)
-    on (Ok x) refused = put (has_nothing r.placing)
-    on (Err t) refused = refused t refl
+pub rising_may : (st : Store) (now : ℕ) (lease : Claim) (r : Rising) (ids : List ℕ) → KnowsRising st now lease r ids → (reply : Answer) → StopsWell (up.rising_next r reply)
+rising_may st now lease r ids k reply = lands_may st now lease r ids k (done_may reply) (lands r (done_of reply))

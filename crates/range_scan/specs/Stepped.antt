@@ -5,7 +5,7 @@ use Rattle.cloud_trait.specs.declared.answer.Answer.{Answer}
 use Rattle.cloud_trait.specs.declared.turn.Turn.{Turn}
 use Rattle.cloud_trait.specs.declared.turn.Turn.TheVariants.{Stopped}
 use Rattle.cloud_trait.specs.Caller.{Caller}
-use Rattle.cloud_trait.specs.Machine.{LeadsBy, Took, Steps}
+use Rattle.cloud_trait.specs.Machine.{LeadsBy, Took}
 use Rattle.cloud_trait.specs.Seen.{Seen}
 use Rattle.cloud_trait.specs.Weather.{Makes}
 use Rattle.cloud_trait.specs.Calm.{IsCalm}
@@ -42,8 +42,3 @@ pub record Stepped (who : Caller) (before after : Seen) (old new : Scan × Cache
   -- no version that was served falls
   pub served : ServesOn old.1 new.1
   pub meant : (r : Range) (h : List Move) → Scanned r h old → Meant r h who before after old new answer turn
-
--- the call and the step alone
-abbrev pub steps_of : {who : Caller} {before after : Seen} {old new : Scan × Cache} {turn : Turn ℕ} → Stepped who before after old new turn
-    → Steps scan_asks (LeadsBy scan_next) KeepsServed who before after old new turn
-steps_of p = record { answer = p.answer; made = p.made; took = p.took }

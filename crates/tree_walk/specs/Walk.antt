@@ -114,15 +114,6 @@ is_page page (Some s) = s.page == page
 abbrev pub came_to : Walk → ℕ → Bool
 came_to w page = is_page page w.spot || (is_among w.nodes page || is_among w.leaves page)
 
-abbrev pub listed : Option ObjName → List ObjName
-listed None = []
-listed (Some name) = name ∷ []
-
--- the tree object or leaf that the newest turn's local work used, kept or got: one at most, since a leaf is always got. It
--- passed its checks, and where that turn is More or Ended the cache keeps it
-abbrev pub used_by : Walk → List ObjName
-used_by w = listed w.used
-
 abbrev pub use_of : Walk → Walk
 use_of w = record w { used = Some (object_of w) }
 

@@ -142,20 +142,6 @@ impl Audit {
         self.order.truncate(mark.order);
     }
 
-    /// What is committed, in the order of commit.
-    pub fn committed(&self) -> &[Entry]
-        ensures { result.now ≡ self.now.committed }
-    {
-        self.committed.as_slice()
-    }
-
-    /// What is applied, in the order of application.
-    pub fn order(&self) -> &[Entry]
-        ensures { result.now ≡ self.now.order }
-    {
-        self.order.as_slice()
-    }
-
     /// The report of a tree, by looks at the newest versions: its committed and applied entries, the records of its
     /// leaves from page 1 along right pages, its open heads, and its messages that are not deleted. The first trouble
     /// in the order of the looks: Absent, Damaged, BadFence and Loop where the leaves are no chain, then Damaged for

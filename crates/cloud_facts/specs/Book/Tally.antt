@@ -4,7 +4,6 @@ use Rattle.cloud_trait.specs.declared.state.Posted.{Posted}
 use Rattle.db_base.specs.Value.{Value}
 use Rattle.head_codec.specs.declared.head.Head.{Head}
 use Rattle.leaf_view.specs.Leaf.{Leaf}
-use Rattle.node_codec.specs.Node.{Entry}
 use Rattle.node_codec.specs.Inner.{Inner}
 use Rattle.node_codec.specs.Tree.{Tree}
 use Rattle.report_types.specs.declared.entry.Entry.{Entry as Change}
@@ -21,11 +20,6 @@ abbrev pub version_of : Node → ℕ
 version_of (Leafy l) = l.version
 version_of (Branch n) = n.version
 
--- its level above the leaves
-abbrev pub level_of : Node → ℕ
-level_of (Leafy l) = 0
-level_of (Branch n) = n.level
-
 abbrev pub low_of : Node → List ℕ
 low_of (Leafy l) = l.low
 low_of (Branch n) = n.low
@@ -38,11 +32,6 @@ right_of (Branch n) = n.right
 abbrev pub high_of : Node → Option (List ℕ)
 high_of (Leafy l) = l.high
 high_of (Branch n) = n.high
-
--- the entries for the level below
-abbrev pub children_of : Node → List Entry
-children_of (Leafy l) = []
-children_of (Branch n) = n.entries
 
 -- ---- the tally
 

@@ -59,7 +59,3 @@ pub data Landing (who : Caller) (st : Store) : Ask → Store → Type 0 where
   raises_root : (tree : ℕ) (t : Tree) (level : ℕ) (links : List Link) (bytes : List ℕ) (one : Claim) (two : Option Claim) → IsTree tree → SpellsTree bytes t
       → CoversApplied st tree t → Raises st tree t level links → Landing who st (PutHeld (object.Tree tree) bytes one two) (after_raise tree t level links st)
   stays : (ask : Ask) → PutsNothing ask → TouchesNoMessage ask → Landing who st ask st
-
--- what a session owes for a call: it has an effect that rests on what is known
-abbrev pub Ticket : Caller → Store → Ask → Type 0
-Ticket who st ask = (su : Store) × Landing who st ask su

@@ -1,6 +1,12 @@
-//! Tests of a session's cache and of the machines that read trees, by walks, reads and scans.
+//! Tests of a session's cache and of the machines that read trees, by walks, reads, scans and look-ups.
 #![tactic(auto)]
 
+#[cfg(test)]
+mod index_objects;
+#[cfg(test)]
+mod lookup_tests;
+#[cfg(test)]
+mod lookups;
 #[cfg(test)]
 mod machine;
 #[cfg(test)]

@@ -1,6 +1,6 @@
-//! What client 1 does in tree 1, step by step. It is told of any client and any cloud, so that it is proved without the types of each.
+//! What client 1 does in tree 1 and its index, step by step. It is told of any client and any cloud, so that it is proved without the types of each.
 
-use crate::store::put;
+use crate::store::{put, put_in_index};
 use crate::story::Story;
 use cloud_trait::cloud::Bench;
 use db_base::wish::Wish;
@@ -11,6 +11,8 @@ use std::test::Fail;
 pub(crate) enum Step<'a> {
     /// Another client puts an object by its number, 0 for the tree object.
     Puts(u64, &'a [u8]),
+    /// Another client puts an object of the index so.
+    PutsInIndex(u64, &'a [u8]),
     /// The next call fails.
     Fails,
     /// The next call is answered by the version of this number.
@@ -19,6 +21,10 @@ pub(crate) enum Step<'a> {
     HasHead(&'a [u8]),
     /// The client notes an insert of a key with a payload, and no attribute.
     Inserts(&'a [u8], &'a [u8]),
+    /// The same with an attribute.
+    InsertsWith(&'a [u8], &'a [u8], &'a [u8]),
+    /// The client notes an insert of an entry in the index.
+    Lists(&'a [u8]),
     /// The client notes an update of a key with a payload.
     Updates(&'a [u8], &'a [u8]),
     /// The client notes a deletion of a key.
@@ -35,12 +41,18 @@ pub(crate) enum Step<'a> {
     ScansLate(&'a [u8], &'a [u8], u64),
     /// A scan that tells at each leaf the key at which a new one goes on.
     Resumes(&'a [u8], &'a [u8]),
+    /// A look-up of an attribute.
+    LooksUp(&'a [u8]),
+    /// The same, whose calls from this number on, from 1, are answered by the first version.
+    LooksUpLate(&'a [u8], u64),
 }
 
 /// A change that a client notes.
 #[derive(Clone, Copy)]
 pub(crate) enum Edit<'a> {
     Insert(&'a [u8], &'a [u8]),
+    InsertWith(&'a [u8], &'a [u8], &'a [u8]),
+    List(&'a [u8]),
     Update(&'a [u8], &'a [u8]),
     Delete(&'a [u8]),
 }
@@ -83,6 +95,15 @@ pub(crate) trait Client {
         from: &[u8],
         to: &[u8],
     ) -> Result<(), Fail>;
+
+    /// A look-up of an attribute: its calls, and the records found or its trouble.
+    fn look_up<C: Bench>(
+        &mut self,
+        cloud: &mut C,
+        story: &mut Story,
+        attr: &[u8],
+        late: u64,
+    ) -> Result<(), Fail>;
 }
 
 /// Plays a script.
@@ -106,10 +127,15 @@ fn play_step<M: Client, C: Bench>(
 ) -> Result<(), Fail> {
     match step {
         Step::Puts(number, bytes) => put(cloud, number, bytes),
+        Step::PutsInIndex(number, bytes) => put_in_index(cloud, number, bytes),
         Step::Fails => wish(cloud, Wish::Fail),
         Step::GetsVersion(number) => wish(cloud, Wish::Old(number)),
         Step::HasHead(bytes) => client.has_head(bytes),
         Step::Inserts(key, payload) => client.note(Edit::Insert(key, payload)),
+        Step::InsertsWith(key, payload, attr) => {
+            client.note(Edit::InsertWith(key, payload, attr))
+        }
+        Step::Lists(entry) => client.note(Edit::List(entry)),
         Step::Updates(key, payload) => client.note(Edit::Update(key, payload)),
         Step::Deletes(key) => client.note(Edit::Delete(key)),
         Step::Walks(to) => client.walk(cloud, story, to, false),
@@ -118,6 +144,8 @@ fn play_step<M: Client, C: Bench>(
         Step::Scans(from, to) => client.scan(cloud, story, from, to, 0),
         Step::ScansLate(from, to, late) => client.scan(cloud, story, from, to, late),
         Step::Resumes(from, to) => client.resume(cloud, story, from, to),
+        Step::LooksUp(attr) => client.look_up(cloud, story, attr, 0),
+        Step::LooksUpLate(attr, late) => client.look_up(cloud, story, attr, late),
     }
 }
 

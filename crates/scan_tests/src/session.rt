@@ -1,13 +1,15 @@
-//! A session of client 1 that reads tree 1 of a cloud in memory.
+//! A session of client 1 that reads tree 1 and its index of a cloud in memory.
 
+use crate::lookups;
 use crate::machine::{Teller, run};
 use crate::objects::Objects;
 use crate::script::{Client, Edit, Step, play_all};
-use crate::store::{put_all, tree};
+use crate::store::{index, put_all, tree};
 use crate::story::Story;
 use cloud_trait::cloud::Bench;
+use db_base::attr::Attr;
 use db_base::change::Change;
-use db_base::ids::ClientId;
+use db_base::ids::{ClientId, TreeId};
 use db_base::key::{Key, Payload};
 use head_codec::head::Head;
 use memory_cloud::memory::MemoryCloud;
@@ -113,15 +115,20 @@ fn scan_of(alloc: Global, from: &[u8], to: &[u8]) -> Result<RangeScan, Fail> {
     Ok(RangeScan::new(alloc, tree()?, from, to))
 }
 
-/// An insert of a key, without attribute.
-fn insert_of(alloc: Global, key: &[u8], payload: &[u8]) -> Result<Change, Fail> {
+/// An attribute, none of no byte.
+fn attr(alloc: Global, bytes: &[u8]) -> Result<Option<Attr>, Fail> {
+    if bytes.is_empty() {
+        return Ok(None);
+    }
+    Ok(Some(Attr::new(alloc, bytes)?))
+}
+
+/// An insert of a key, of no byte for no attribute.
+fn insert_of(alloc: Global, key: &[u8], payload: &[u8], of: &[u8]) -> Result<Change, Fail> {
     let key = Key::new(alloc, key)?;
     let payload = Payload::new(alloc, payload)?;
-    Ok(Change::Insert {
-        key,
-        payload,
-        attr: None,
-    })
+    let attr = attr(alloc, of)?;
+    Ok(Change::Insert { key, payload, attr })
 }
 
 /// An update of a key.
@@ -139,16 +146,38 @@ fn deletion_of(alloc: Global, key: &[u8]) -> Result<Change, Fail> {
 
 fn change_of(alloc: Global, edit: Edit<'_>) -> Result<Change, Fail> {
     match edit {
-        Edit::Insert(key, payload) => insert_of(alloc, key, payload),
+        Edit::Insert(key, payload) => insert_of(alloc, key, payload, &[]),
+        Edit::InsertWith(key, payload, attr) => insert_of(alloc, key, payload, attr),
+        Edit::List(entry) => insert_of(alloc, entry, &[], &[]),
         Edit::Update(key, payload) => update_of(alloc, key, payload),
         Edit::Delete(key) => deletion_of(alloc, key),
     }
 }
 
+/// The tree in which an edit is noted.
+fn tree_of(edit: Edit<'_>) -> Result<TreeId, Fail> {
+    match edit {
+        Edit::List(_) => index(),
+        Edit::Insert(_, _) | Edit::InsertWith(_, _, _) | Edit::Update(_, _) | Edit::Delete(_) => {
+            tree()
+        }
+    }
+}
+
 impl Own {
-    fn note(&mut self, change: Change) -> Result<(), Fail> {
-        self.buffer.note(tree()?, change)?;
+    fn note(&mut self, tree: TreeId, change: Change) -> Result<(), Fail> {
+        self.buffer.note(tree, change)?;
         Ok(())
+    }
+
+    /// The same for a look-up.
+    fn changes(&self) -> Result<attr_index::Own<'_>, Fail> {
+        let client = ClientId::new(1)?;
+        Ok(attr_index::Own {
+            client,
+            head: &self.head,
+            buffer: &self.buffer,
+        })
     }
 }
 
@@ -203,7 +232,8 @@ impl Client for Session {
     }
 
     fn note(&mut self, edit: Edit<'_>) -> Result<(), Fail> {
-        self.own.note(change_of(self.alloc, edit)?)
+        let tree = tree_of(edit)?;
+        self.own.note(tree, change_of(self.alloc, edit)?)
     }
 
     fn walk<C: Bench>(
@@ -275,5 +305,16 @@ impl Client for Session {
             story,
             0,
         )
+    }
+
+    fn look_up<C: Bench>(
+        &mut self,
+        cloud: &mut C,
+        story: &mut Story,
+        attr: &[u8],
+        late: u64,
+    ) -> Result<(), Fail> {
+        let own = self.own.changes()?;
+        lookups::run(self.alloc, attr, &own, cloud, &mut self.cache, story, late)
     }
 }

@@ -1,4 +1,6 @@
-//! Tree 1 in any cloud.
+//! Tree 1 and its index in any cloud.
+
+ghost use Rattle.std.specs.Prelude.{◌≤◌, IfOk};
 
 use crate::objects::Objects;
 use cloud_trait::cloud::Cloud;
@@ -13,16 +15,29 @@ pub(crate) fn who() -> Result<Who, Fail> {
     Ok(Who::new(SessionNo::new(3)?, 7))
 }
 
-pub(crate) fn tree() -> Result<TreeId, Fail> {
+/// The tree, which has an index.
+pub(crate) fn tree() -> Result<TreeId, Fail>
+    ensures { IfOk result (λ tree. tree ≤ 8) }
+{
     Ok(TreeId::new(1)?)
 }
 
-/// An object of the tree by its number: 0 for the tree object, else a page.
-pub(crate) fn object(number: u64) -> Result<ObjName, Fail> {
+/// The tree of its index.
+pub(crate) fn index() -> Result<TreeId, Fail> {
+    Ok(TreeId::new(9)?)
+}
+
+/// An object of a tree by its number: 0 for the tree object, else a page.
+fn object_of(tree: TreeId, number: u64) -> Result<ObjName, Fail> {
     if number == 0 {
-        return Ok(ObjName::Tree(tree()?));
+        return Ok(ObjName::Tree(tree));
     }
-    Ok(ObjName::Page(tree()?, PageId::new(number)?))
+    Ok(ObjName::Page(tree, PageId::new(number)?))
+}
+
+/// An object of the tree by its number.
+pub(crate) fn object(number: u64) -> Result<ObjName, Fail> {
+    object_of(tree()?, number)
 }
 
 fn take<C: Cloud>(cloud: &mut C) -> Result<Lease, Fail> {
@@ -36,19 +51,28 @@ fn take<C: Cloud>(cloud: &mut C) -> Result<Lease, Fail> {
 fn put_under<C: Cloud>(
     cloud: &mut C,
     lease: &Lease,
-    number: u64,
+    name: ObjName,
     bytes: &[u8],
 ) -> Result<(), Fail> {
-    cloud.put_held(who()?, object(number)?, bytes, lease, None)?;
+    cloud.put_held(who()?, name, bytes, lease, None)?;
+    Ok(())
+}
+
+fn put_object<C: Cloud>(cloud: &mut C, name: ObjName, bytes: &[u8]) -> Result<(), Fail> {
+    let lease = take(cloud)?;
+    put_under(cloud, &lease, name, bytes)?;
+    cloud.release(who()?, lease)?;
     Ok(())
 }
 
 /// Puts an object by its number.
 pub(crate) fn put<C: Cloud>(cloud: &mut C, number: u64, bytes: &[u8]) -> Result<(), Fail> {
-    let lease = take(cloud)?;
-    put_under(cloud, &lease, number, bytes)?;
-    cloud.release(who()?, lease)?;
-    Ok(())
+    put_object(cloud, object(number)?, bytes)
+}
+
+/// Puts an object of the index by its number.
+pub(crate) fn put_in_index<C: Cloud>(cloud: &mut C, number: u64, bytes: &[u8]) -> Result<(), Fail> {
+    put_object(cloud, object_of(index()?, number)?, bytes)
 }
 
 /// Puts objects.

@@ -3,11 +3,13 @@
 use cloud_trait::call::Call;
 use cloud_trait::turn::Turn;
 use db_base::ids::PageId;
+use db_base::pair::Pair;
 use db_base::trouble::Trouble;
 use db_base::value::Value;
 use range_scan::Items;
 use reply_text::call_text;
 use reply_text::write::trouble_text;
+use report_types::pair_list::PairList;
 use std::alloc::Global;
 use std::test::Fail;
 use words::bytes::hexadecimal;
@@ -95,11 +97,17 @@ impl Story {
         }
     }
 
-    /// Adds a key, a payload and an attribute, where there is one.
-    fn pair(&mut self, key: &[u8], value: &Value<'_>) -> Result<(), Fail> {
+    /// Adds a key, without ending its line.
+    fn key(&mut self, key: &[u8]) -> Result<(), Fail> {
         let key = hexadecimal(self.alloc, key)?;
         self.text.push_str(key.as_str())?;
         self.text.push_str("=")?;
+        Ok(())
+    }
+
+    /// Adds a key, a payload and an attribute, where there is one.
+    fn pair(&mut self, key: &[u8], value: &Value<'_>) -> Result<(), Fail> {
+        self.key(key)?;
         self.parts(value.payload(), value.attr())
     }
 
@@ -113,6 +121,20 @@ impl Story {
             self.pair(key, &value)?;
         }
         Err(Fail::from("more pairs than any tree of these tests has"))
+    }
+
+    fn record(&mut self, record: &Pair) -> Result<(), Fail> {
+        self.key(record.key.as_slice())?;
+        self.bytes(record.payload.as_slice())
+    }
+
+    /// Adds how many records a look-up found, and each.
+    pub(crate) fn found(&mut self, records: &PairList) -> Result<(), Fail> {
+        self.number("found", records.len() as u64)?;
+        for record in records.as_slice() {
+            self.record(record)?;
+        }
+        Ok(())
     }
 
     /// Adds the key at which a new scan goes on, where there is one.

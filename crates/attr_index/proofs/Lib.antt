@@ -1,0 +1,10 @@
+pub mod Firsts
+pub mod Prefixes
+pub mod Ranks
+pub mod Highs
+pub mod Ending
+pub mod Ascents
+pub mod Entries
+pub mod Listings
+pub mod Meaning
+pub mod Turns

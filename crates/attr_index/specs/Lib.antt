@@ -1,0 +1,5 @@
+pub mod Prefix
+pub mod Look
+pub mod Ending
+pub mod Found
+pub mod Stepped

@@ -9,7 +9,7 @@ replies, and holds every report against what it follows:
 
 A commit that was cut off by a crash, or is in doubt, is committed where the next report says so, and never afterwards.
 A report while a commit is half done is not for it: lines and replies do not tell whether its head landed.
-A read or a scan shows payloads that a session noted for that key. A session without a ledger makes no checkpoint by `work`, and a watchdog
+A read, a scan or a look-up shows payloads that a session noted for that key, and a look-up records whose attribute and entry one noted. A session without a ledger makes no checkpoint by `work`, and a watchdog
 no more than its number. Lines and replies are matched by their numbers.
 
 Usage: bench/model.py SCHEDULE REPLIES [..]     prints one line for each pair; status 1 where one is not as the model says
@@ -40,6 +40,11 @@ def must(holds, what):
 def plus(payload, amount):
     """A payload of eight bytes with an amount added, modulo 2^64; another stays."""
     return f"{(int(payload, 16) + int(amount)) % 2**64:016x}" if len(payload) == 16 else payload
+
+
+def entry_of(tree, key, attr):
+    """The tree of a record's index, and its key there."""
+    return str(int(tree) + 8), f"{len(attr) // 2:02x}{attr}{key}"
 
 
 def fold(changes):
@@ -95,7 +100,7 @@ class Model:
     def __init__(self):
         self.sessions = {}
         self.attempts = {}
-        self.noted = {}
+        self.noted, self.attrs = {}, {}
         # What was tried, in its order: for each transaction its changes, and those of them that nobody knows of yet.
         self.tried, self.doubtful = [], set()
         self.orders = {}
@@ -123,7 +128,7 @@ class Model:
             must(said == "noted", f"{line}: {said}")
             tree, key, payload, attr = words[1:]
             self.note(session, "insert", tree, key, payload, attr)
-            self.note(session, "insert", str(int(tree) + 8), f"{len(attr) // 2:02x}{attr}{key}", "-")
+            self.note(session, "insert", *entry_of(tree, key, attr), "-")
         elif what == "abort":
             session.buffer = {}
         elif what == "policy":
@@ -151,6 +156,7 @@ class Model:
 
     def note(self, session, what, tree, key, *words):
         self.noted.setdefault((tree, key), set()).update([what] if what == "add" else words[:1])
+        self.attrs.setdefault((tree, key), set()).update(words[1:])
         before = session.buffer.get((tree, key))
         if before:
             first, _, *old = before.split(" ")
@@ -169,6 +175,10 @@ class Model:
         made = sum(int(it) for it in counts)
         must(made == 0 or session.policy is not None, f"{line}: {said}, and the session has no ledger")
         must(made == 0 or session.policy[0] != "watchdog" or made <= session.policy[1], f"{line}: {said}, and the watchdog's number is {session.policy}")
+
+    def may_have(self, tree, key, attr):
+        """Whether somebody noted the record with this attribute, and its entry in the index."""
+        return attr in self.attrs.get((tree, key), ()) and entry_of(tree, key, attr) in self.noted
 
     def may_show(self, tree, key, payload):
         """Whether somebody noted the payload, or it may be a sum."""
@@ -205,6 +215,13 @@ class Model:
             must(len(keys) == int(rest[0]) and keys == sorted(set(keys)), "a scan out of order")
             must(all((low == "-" or low <= it) and (high == "-" or it < high) for it in keys), "a scan out of its bounds")
             must(all(self.may_show(tree, *it.split("=")) for it in rest[1:]), "a scan of what nobody noted")
+
+        elif session.at_work == "lookup" and word == "scan":
+            tree, attr = session.asked
+            keys = [it.split("=")[0] for it in rest[1:]]
+            must(len(keys) == int(rest[0]) and keys == sorted(set(keys)), "a look-up out of order")
+            must(all(self.may_have(tree, it, attr) for it in keys), "a look-up of what nobody noted with that attribute")
+            must(all(self.may_show(tree, *it.split("=")) for it in rest[1:]), "a look-up of what nobody noted")
 
     def report(self, tree, report):
         for attempt in [it for it in self.tried if it[0] in self.doubtful]:

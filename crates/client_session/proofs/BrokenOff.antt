@@ -6,7 +6,7 @@ use Rattle.client_work.specs.declared.phase.Phase.{Phase}
 use Rattle.client_work.specs.declared.shown.Shown.{Shown}
 use Rattle.client_work.specs.declared.shown.Shown.TheVariants.{Nothing}
 use Rattle.client_work.specs.declared.work.Work.{Work}
-use Rattle.client_work.specs.declared.work.Work.TheVariants.{Closed, Idle, Opening, Committing, Reading, Scanning, Paging, Folding, Closing, Renewing, Settling, Broken}
+use Rattle.client_work.specs.declared.work.Work.TheVariants.{Closed, Idle, Opening, Committing, Reading, Scanning, Looking, Paging, Folding, Closing, Renewing, Settling, Broken}
 use Rattle.client_work.specs.BrokenOff.{broken_off, broken_work}
 use Rattle.client_work.specs.Causing.{HasCome}
 use Rattle.client_work.specs.Phase.{kept_in, noted_in, phase_of}
@@ -14,7 +14,7 @@ use Rattle.client_work.specs.Session.{Acting, noted_behind, shown_behind}
 use Rattle.client_work.specs.Showing.{IsKnown}
 use Rattle.client_session.proofs.Phases.{kept_by, noted_by}
 
--- no scan is in hand then, and nothing that calls led to
+-- no scan and no look-up is in hand then, and nothing that calls led to
 unscanned : (w : Work) (buffer : List Noted) (c : Cache) → IsKnown buffer (broken_work w) c × HasCome (broken_work w) c
 unscanned Closed buffer c = (tt, tt)
 unscanned (Idle home) buffer c = (tt, tt)
@@ -22,6 +22,7 @@ unscanned (Opening m) buffer c = (tt, tt)
 unscanned (Committing m) buffer c = (tt, tt)
 unscanned (Reading home m) buffer c = (tt, tt)
 unscanned (Scanning home m) buffer c = (tt, tt)
+unscanned (Looking home m) buffer c = (tt, tt)
 unscanned (Paging home m) buffer c = (tt, tt)
 unscanned (Folding home m) buffer c = (tt, tt)
 unscanned (Closing lease) buffer c = (tt, tt)

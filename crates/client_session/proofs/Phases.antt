@@ -7,7 +7,7 @@ use Rattle.client_work.specs.declared.op.Op.{Op}
 use Rattle.client_work.specs.declared.op.Op.TheVariants as op
 use Rattle.client_work.specs.declared.shown.Shown.{Shown}
 use Rattle.client_work.specs.declared.work.Work.{Work}
-use Rattle.client_work.specs.declared.work.Work.TheVariants.{Closed, Idle, Opening, Committing, Reading, Scanning, Paging, Folding, Closing, Renewing, Settling, Broken}
+use Rattle.client_work.specs.declared.work.Work.TheVariants.{Closed, Idle, Opening, Committing, Reading, Scanning, Looking, Paging, Folding, Closing, Renewing, Settling, Broken}
 use Rattle.client_work.specs.Phase.{BeginsAt, kept_in, noted_in, phase_of}
 use Rattle.client_work.specs.Session.{Acting, Begins, noted_behind, shown_behind}
 
@@ -19,6 +19,7 @@ noted_by (Opening m) buffer = refl
 noted_by (Committing m) buffer = refl
 noted_by (Reading home m) buffer = refl
 noted_by (Scanning home m) buffer = refl
+noted_by (Looking home m) buffer = refl
 noted_by (Paging home m) buffer = refl
 noted_by (Folding home m) buffer = refl
 noted_by (Closing lease) buffer = refl
@@ -34,6 +35,7 @@ kept_by (Opening m) c = refl
 kept_by (Committing m) c = refl
 kept_by (Reading home m) c = refl
 kept_by (Scanning home m) c = refl
+kept_by (Looking home m) c = refl
 kept_by (Paging home m) c = refl
 kept_by (Folding home m) c = refl
 kept_by (Closing lease) c = refl
@@ -49,6 +51,7 @@ begun_at op.Renew old new b is = is
 begun_at op.Commit old new b is = is
 begun_at (op.Read tree key) old new b is = is
 begun_at (op.Scan tree from to) old new b is = is
+begun_at (op.Lookup tree attr) old new b is = is
 begun_at (op.Page tree page) old new b is = is
 begun_at (op.Tree tree) old new b is = is
 

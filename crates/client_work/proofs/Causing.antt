@@ -14,6 +14,8 @@ use Rattle.page_cache.specs.Cache.{Cache}
 use Rattle.tree_walk.specs.Stepped.{Stepped as StepsWalk}
 use Rattle.tree_walk.specs.Walk.{Walk}
 use Rattle.range_scan.specs.Listing.{range_of}
+use Rattle.attr_index.specs.Look.{Look}
+use Rattle.attr_index.specs.Stepped.{Stepped as StepsLook}
 use Rattle.recover_run.specs.declared.home.Home.{Home}
 use Rattle.recover_run.specs.declared.stage.Aim.TheVariants as aim
 use Rattle.recover_run.specs.declared.stage.RecoverAnswer.{RecoverAnswer}
@@ -34,10 +36,10 @@ use Rattle.client_work.specs.declared.answer.Answer.TheVariants as answer
 use Rattle.client_work.specs.declared.listing.Listing.{Listing}
 use Rattle.client_work.specs.declared.shown.Shown.{Shown}
 use Rattle.client_work.specs.declared.work.Work.{Work}
-use Rattle.client_work.specs.declared.work.Work.TheVariants.{Closed, Idle, Opening, Committing, Reading, Scanning, Paging, Folding, Closing, Renewing, Settling, Broken}
-use Rattle.client_work.specs.Causing.{OpeningBy, CommitBy, ScanAnswers, PagingBy, FoldingBy, MachineSteps, HasCome, OpeningCauses, CommitCauses, ReadingCauses, PagingCauses, FoldingCauses, SettlingCauses, CausesAt}
-use Rattle.client_work.specs.Session.{StepsAt, ShowsAt, ReadsBy, StepsScanning, StepsSettling, Follows, ListsLeaf, StepsClosing, StepsRenewing}
-use Rattle.client_work.specs.Showing.{IsUnderWay, IsKnown}
+use Rattle.client_work.specs.declared.work.Work.TheVariants.{Closed, Idle, Opening, Committing, Reading, Scanning, Looking, Paging, Folding, Closing, Renewing, Settling, Broken}
+use Rattle.client_work.specs.Causing.{OpeningBy, CommitBy, ScanAnswers, PagingBy, FoldingBy, MachineSteps, HasCome, OpeningCauses, CommitCauses, ReadingCauses, LookingCauses, PagingCauses, FoldingCauses, SettlingCauses, CausesAt}
+use Rattle.client_work.specs.Session.{StepsAt, ShowsAt, ReadsBy, LooksBy, StepsScanning, StepsSettling, Follows, ListsLeaf, StepsClosing, StepsRenewing}
+use Rattle.client_work.specs.Showing.{IsUnderWay, IsKnown, own_of}
 
 -- ---- a step that is more than it was said to be
 
@@ -121,6 +123,19 @@ module _ (who : Caller) (before after : Seen) (buffer : List Noted) (c d : Cache
     follows_answer home (record { scan = p.scan; pairs = m.pairs }) p.moved left shown turn p.follows,
   )
 
+  looking_causes : (home : Home) (m : Look) (left : Work) (shown : Shown) (turn : Turn Answer) → HasCome (Looking home m) c
+      → LooksBy home buffer who before after m c d left shown turn → CausesAt who before after (Looking home m) c d left turn
+  looking_causes home m left shown turn (start, h, begun, walked) looks = by turn looks where
+    on : (n : Look) (t : Turn (Unit {0})) → StepsLook (own_of home buffer) who before after (m, c) (n, d) t → LookingCauses who before after (m, c) (n, d) t
+    on n t stepped =
+        record { start = start; earlier = h; begun = begun; walked = walked; own = own_of home buffer; stepped = stepped; led = stepped.walked.led start begun h walked }
+
+    by : (turn : Turn Answer) → LooksBy home buffer who before after m c d left shown turn → CausesAt who before after (Looking home m) c d left turn
+    by More (n, stepped, is, none, less) = (n, on n More stepped, is)
+    by (Ended answer.Scan) (n, stepped, is, some) = (n, on n (Ended tt) stepped)
+    by (Ended (answer.Trouble t)) (n, stepped, is, none) = (n, on n (Stopped t) stepped)
+    by turn never = absurd never
+
   paging_causes : (home : Home) (m : Page) (left : Work) (turn : Turn Answer) → HasCome (Paging home m) c → MachineSteps who before after (Paging home m) c d left turn
       → CausesAt who before after (Paging home m) c d left turn
   paging_causes home m left turn (h, went, is) steps = paging_by home (StepsPage who before after m) (PagingCauses who before after m) left turn on steps where
@@ -168,6 +183,7 @@ module _ (who : Caller) (before after : Seen) (buffer : List Noted) (c d : Cache
   step_causes noted (Committing m) left shown turn known came steps shows machine = commit_causes m left turn came machine
   step_causes noted (Reading home m) left shown turn known came steps shows machine = reading_causes home m left shown turn came shows
   step_causes noted (Scanning home m) left shown turn known came steps shows machine = scanning_causes noted home m left shown turn known shows
+  step_causes noted (Looking home m) left shown turn known came steps shows machine = looking_causes home m left shown turn came shows
   step_causes noted (Paging home m) left shown turn known came steps shows machine = paging_causes home m left turn came machine
   step_causes noted (Folding home m) left shown turn known came steps shows machine = folding_causes home m left turn came machine
   step_causes noted (Closing lease) left shown turn known came steps shows machine = closing_causes lease left turn steps

@@ -15,6 +15,8 @@ use Rattle.cloud_trait.specs.Seen.{Seen}
 use Rattle.page_cache.specs.Cache.{Cache}
 use Rattle.tree_walk.specs.Serving.{deed_of as walk_deed}
 use Rattle.tree_walk.specs.Walk.{Walk, new_walk}
+use Rattle.attr_index.specs.Look.{Query, Look}
+use Rattle.client_work.proofs.Looks.{ready_walked, step_walked}
 use Rattle.recover_run.specs.declared.home.Home.{Home}
 use Rattle.recover_run.specs.declared.stage.Aim.TheVariants as aim
 use Rattle.recover_run.specs.Recovery.{Recovery, new_recovery, recovery_ask, recovery_next, KeepsLeases}
@@ -34,10 +36,11 @@ use Rattle.client_work.specs.declared.op.Op.TheVariants as op
 use Rattle.client_work.specs.declared.listing.Listing.{Listing}
 use Rattle.client_work.specs.declared.shown.Shown.{Shown}
 use Rattle.client_work.specs.declared.work.Work.{Work}
-use Rattle.client_work.specs.declared.work.Work.TheVariants.{Closed, Idle, Opening, Committing, Reading, Scanning, Paging, Folding, Closing, Renewing, Settling, Broken}
+use Rattle.client_work.specs.declared.work.Work.TheVariants.{Closed, Idle, Opening, Committing, Reading, Scanning, Looking, Paging, Folding, Closing, Renewing, Settling, Broken}
 use Rattle.client_work.specs.Causing.{MachineSteps, HasCome, deed_by}
 use Rattle.client_work.specs.Settling.{IsUntold}
-use Rattle.client_work.specs.Session.{Acting, Begins, HasInHand, CommitsOf, CommitsNoted, ReadsOf, ReadsBy, Follows, ListsLeaf, StepsAt, ShowsAt, stopped_work, opened_work, committed_work, opening_of, old_lease, paging_begun_by, folding_begun_by, shown_behind}
+use Rattle.client_work.specs.Session.{Acting, Begins, HasInHand, CommitsOf, CommitsNoted, ReadsOf, ReadsBy, LooksOf, LooksBy, Follows, ListsLeaf, StepsAt, ShowsAt, stopped_work, opened_work, committed_work, opening_of, old_lease, paging_begun_by, folding_begun_by, shown_behind}
+use Rattle.client_work.specs.Showing.{own_of}
 use Rattle.client_work.proofs.Settles.{untold, made_untold, follows_untold, settles_on}
 
 -- ---- one call more
@@ -147,6 +150,7 @@ kept_come (Opening m) d h = h
 kept_come (Committing m) d h = h
 kept_come (Reading home m) d h = h
 kept_come (Scanning home m) d h = h
+kept_come (Looking home m) d h = h
 kept_come (Paging home m) d h = h
 kept_come (Folding home m) d h = h
 kept_come (Closing lease) d h = h
@@ -199,6 +203,14 @@ module _ (who : Caller) (before after : Seen) (buffer : List Noted) (c d : Cache
   reading_come home m left shown (Ended (answer.Trouble k)) came (n, stepped, left_is, none) = rest_come left d (rest_as left (stopped_work k home) left_is (stopped_rests k home))
   reading_come home m left shown turn came never = absurd never
 
+  looking_come : (home : Home) (m : Look) (left : Work) (shown : Shown) (turn : Turn Answer) → HasCome (Looking home m) c
+      → LooksBy home buffer who before after m c d left shown turn → HasCome left d
+  looking_come home m left shown More came (n, stepped, left_is, none, less) =
+      come_as left (Looking home n) d left_is (step_walked (own_of home buffer) who before after (m, c) (n, d) stepped came)
+  looking_come home m left shown (Ended answer.Scan) came (n, stepped, left_is, some) = rest_come left d (rest_as left (Idle home) left_is tt)
+  looking_come home m left shown (Ended (answer.Trouble k)) came (n, stepped, left_is, none) = rest_come left d (rest_as left (stopped_work k home) left_is (stopped_rests k home))
+  looking_come home m left shown turn came never = absurd never
+
   paging_come : (home : Home) (m : Page) (left : Work) (turn : Turn Answer) → HasCome (Paging home m) c → StepsAt who before after (Paging home m) left turn
       → MachineSteps who before after (Paging home m) c d left turn → HasCome left d
   paging_come home m left More (h, went, is) steps (n, stepped, left_is) =
@@ -231,6 +243,7 @@ module _ (who : Caller) (before after : Seen) (buffer : List Noted) (c d : Cache
   step_come (Committing m) left shown turn came steps shows machine = commit_come m left turn came steps machine
   step_come (Reading home m) left shown turn came steps shows machine = reading_come home m left shown turn came shows
   step_come (Scanning home m) left shown turn came steps shows machine = followed_come buffer d home _ shows.moved left shown turn shows.follows
+  step_come (Looking home m) left shown turn came steps shows machine = looking_come home m left shown turn came shows
   step_come (Paging home m) left shown turn came steps shows machine = paging_come home m left turn came steps machine
   step_come (Folding home m) left shown turn came steps shows machine = folding_come home m left turn came steps machine
   step_come (Closing lease) left shown (Ended answer.Closed) came steps shows machine = rest_come left d (rest_as left Closed steps.1 tt)
@@ -276,6 +289,11 @@ module _ (old new : Acting) (begun : Begun) where
   reads_come home tree key (Answered (answer.Trouble t)) h = new_rests (stopped_work t home) h.2 (stopped_rests t home)
   reads_come home tree key (Answered a) h = absurd h
 
+  looks_come : (home : Home) (q : Query) (b : Begun) → LooksOf home q old.cache new.cache new.work new.shown b → HasCome new.work new.cache
+  looks_come home q Working (m, ready, is, none) = new_is (Looking home m) is (ready_walked q old.cache (m, new.cache) ready)
+  looks_come home q (Answered (answer.Trouble t)) h = new_rests (stopped_work t home) h.1 (stopped_rests t home)
+  looks_come home q (Answered a) h = absurd h
+
   pub begins_come : (o : Op) → Begins o old new (Ok begun) → HasCome new.work new.cache
   begins_come (op.Open client) b = opens begun b where
     opens : (x : Begun) → Begins (op.Open client) old new (Ok x) → HasCome new.work new.cache
@@ -286,5 +304,6 @@ module _ (old new : Acting) (begun : Begun) where
   begins_come op.Commit (home, idle, (none, noted, shown)) = committed_come home noted
   begins_come (op.Read tree key) (home, idle, (same, h)) = reads_come home tree key begun h
   begins_come (op.Scan tree from to) (home, idle, (same, h)) = followed_come old.buffer new.cache home _ h.moved new.work new.shown h.turn h.follows
+  begins_come (op.Lookup tree attr) (low, (home, idle, (same, h))) = looks_come home (record { tree = tree; attr = attr }) begun h
   begins_come (op.Page tree page) (home, idle, has) = in_hand_come (paging_begun_by tree page home) ([], refl, tt) has
   begins_come (op.Tree tree) (home, idle, has) = in_hand_come (folding_begun_by tree home) ([], refl, tt) has

@@ -5,7 +5,7 @@ use Rattle.cloud_trait.specs.Caller.{Caller}
 use Rattle.cloud_trait.specs.Seen.{Seen}
 use Rattle.range_scan.specs.Ending.{calls_left as scanning_left}
 use Rattle.client_work.specs.declared.work.Work.{Work}
-use Rattle.client_work.specs.declared.work.Work.TheVariants.{Closed, Idle, Opening, Committing, Reading, Scanning, Paging, Folding, Closing, Renewing, Settling, Broken}
+use Rattle.client_work.specs.declared.work.Work.TheVariants.{Closed, Idle, Opening, Committing, Reading, Scanning, Looking, Paging, Folding, Closing, Renewing, Settling, Broken}
 use Rattle.client_work.specs.Session.{Acting, StepsSession, StepsAt, ScansLess, calls_left}
 
 -- a scan that goes on has fewer calls left
@@ -16,6 +16,7 @@ scan_less left (Idle home) p = absurd p
 scan_less left (Opening m) p = absurd p
 scan_less left (Committing m) p = absurd p
 scan_less left (Reading home m) p = absurd p
+scan_less left (Looking home m) p = absurd p
 scan_less left (Paging home m) p = absurd p
 scan_less left (Folding home m) p = absurd p
 scan_less left (Closing lease) p = absurd p
@@ -28,6 +29,7 @@ work_less who before after (Opening m) new p = subst (λ (z : Work). calls_left 
 work_less who before after (Committing m) new p = subst (λ (z : Work). calls_left z < calls_left (Committing m)) (sym p.3.2) p.3.3
 work_less who before after (Reading home m) new p = subst (λ (z : Work). calls_left z < calls_left (Reading home m)) (sym p.2) p.3
 work_less who before after (Scanning home m) new p = scan_less (scanning_left m.scan) new (p.4.less refl)
+work_less who before after (Looking home m) new p = subst (λ (z : Work). calls_left z < calls_left (Looking home m)) (sym p.4.2) p.4.4
 work_less who before after (Paging home m) new p = subst (λ (z : Work). calls_left z < calls_left (Paging home m)) (sym p.2) p.3
 work_less who before after (Folding home m) new p = subst (λ (z : Work). calls_left z < calls_left (Folding home m)) (sym p.2) p.3
 work_less who before after Closed new p = absurd p

@@ -1,6 +1,7 @@
 pub mod Causing
 pub mod Coming
 pub mod Ending
+pub mod Looks
 pub mod Opens
 pub mod Readying
 pub mod Resting

@@ -7,7 +7,7 @@ use Rattle.commit_run.specs.Run.{Run}
 use Rattle.settle_run.specs.Settling.{Settling as SettlingState}
 use Rattle.tree_ckpt.specs.Making.{Making}
 use Rattle.client_work.specs.declared.work.Work.{Work}
-use Rattle.client_work.specs.declared.work.Work.TheVariants.{Closed, Idle, Opening, Committing, Reading, Scanning, Paging, Folding, Closing, Renewing, Settling, Broken}
+use Rattle.client_work.specs.declared.work.Work.TheVariants.{Closed, Idle, Opening, Committing, Reading, Scanning, Looking, Paging, Folding, Closing, Renewing, Settling, Broken}
 use Rattle.client_work.specs.Session.{is_other, is_working, rule_of}
 
 some_none : (r : Refusal) → Some r ≡ None → ⊥
@@ -20,6 +20,7 @@ only_idle (Opening m) e other = some_none rule.AtWork e
 only_idle (Committing m) e other = some_none rule.AtWork e
 only_idle (Reading home m) e other = some_none rule.AtWork e
 only_idle (Scanning home m) e other = some_none rule.AtWork e
+only_idle (Looking home m) e other = some_none rule.AtWork e
 only_idle (Paging home m) e other = some_none rule.AtWork e
 only_idle (Folding home m) e other = some_none rule.AtWork e
 only_idle (Closing lease) e other = some_none rule.AtWork e
@@ -35,6 +36,7 @@ other_work (Folding home m) at_work commit fold settle = absurd (fold home m ref
 other_work (Opening m) at_work commit fold settle = refl
 other_work (Reading home m) at_work commit fold settle = refl
 other_work (Scanning home m) at_work commit fold settle = refl
+other_work (Looking home m) at_work commit fold settle = refl
 other_work (Paging home m) at_work commit fold settle = refl
 other_work (Closing lease) at_work commit fold settle = refl
 other_work (Renewing home) at_work commit fold settle = refl

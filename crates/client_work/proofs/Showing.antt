@@ -1,4 +1,4 @@
--- A step of a session shows what its operation read, and a scan in hand is under way behind it.
+-- A step of a session shows what its operation read, and a scan or a look-up in hand is under way behind it.
 use Rattle.std.proofs.Common.{◌≡◌, inl, inr, ℕ, Bool, true, false, List, [], ◌∷◌, ◌++◌, Option, Some, None, Ok, refl, ap, sym, subst, ◌∙◌}
 use Rattle.std.specs.Prelude.{map, if◌then◌else◌, unwrap_or}
 use Rattle.std.specs.List.{AllByRecursion}
@@ -17,6 +17,7 @@ use Rattle.cloud_trait.specs.declared.turn.Turn.{Turn}
 use Rattle.cloud_trait.specs.declared.turn.Turn.TheVariants.{More, Ended, Stopped}
 use Rattle.cloud_trait.specs.Ask.{Get}
 use Rattle.cloud_trait.specs.Caller.{Caller}
+use Rattle.cloud_trait.specs.Machine.{Deed}
 use Rattle.cloud_trait.specs.Seen.{Seen}
 use Rattle.page_cache.specs.Cache.{Cache}
 use Rattle.page_cache.specs.Held.{leaf_at, as_leaf}
@@ -32,6 +33,10 @@ use Rattle.range_scan.proofs.Outcomes.{unended_ready}
 use Rattle.range_scan.proofs.Fences.{read_is_fenced}
 use Rattle.range_scan.proofs.Meaning.{scanned_range, served_by}
 use Rattle.range_scan.proofs.Whole.{is_whole}
+use Rattle.attr_index.specs.Found.{leaf_by, visited}
+use Rattle.attr_index.specs.Look.{Query, Look}
+use Rattle.attr_index.specs.Stepped.{Stepped as StepsLook}
+use Rattle.client_work.proofs.Looks.{ready_looked, step_looked}
 use Rattle.record_read.specs.Read.{seen_in, read_value}
 use Rattle.recover_run.specs.declared.home.Home.{Home}
 use Rattle.client_work.specs.declared.answer.Answer.{Answer}
@@ -43,18 +48,20 @@ use Rattle.client_work.specs.declared.op.Op.{Op}
 use Rattle.client_work.specs.declared.op.Op.TheVariants as op
 use Rattle.client_work.specs.declared.shown.Shown.{Shown}
 use Rattle.client_work.specs.declared.work.Work.{Work}
-use Rattle.client_work.specs.declared.work.Work.TheVariants.{Closed, Idle, Opening, Committing, Reading, Scanning, Paging, Folding, Closing, Renewing, Settling, Broken}
-use Rattle.client_work.specs.Session.{Acting, Begins, HasInHand, CommitsOf, CommitsNoted, ReadsOf, ScansOf, Follows, ListsLeaf, StepsAt, ShowsAt, ReadsBy, StepsScanning, ShowsWhole, stopped_work, opened_work, committed_work, opening_of, old_lease, paging_begun_by, folding_begun_by, noted_behind, shown_behind, value_in, items_in}
-use Rattle.client_work.specs.Showing.{ShowsValue, pair_of, sight_in, IsSeen, Lists, IsUnderWay, ShowsRecords, IsKnown, read_deed, scan_deed}
+use Rattle.client_work.specs.declared.work.Work.TheVariants.{Closed, Idle, Opening, Committing, Reading, Scanning, Looking, Paging, Folding, Closing, Renewing, Settling, Broken}
+use Rattle.client_work.specs.Session.{Acting, Begins, HasInHand, CommitsOf, CommitsNoted, ReadsOf, ScansOf, LooksOf, Follows, ListsLeaf, StepsAt, ShowsAt, ReadsBy, StepsScanning, LooksBy, ShowsWhole, stopped_work, opened_work, committed_work, opening_of, old_lease, paging_begun_by, folding_begun_by, noted_behind, shown_behind, value_in, items_in}
+use Rattle.client_work.specs.Showing.{ShowsValue, pair_of, sight_in, IsSeen, Lists, IsUnderWay, ShowsRecords, IsKnown, read_deed, scan_deed, own_of, IsLooking, look_deed, ShowsFound}
 
--- ---- what is no scan
+-- ---- what is no scan and no look-up
 
 abbrev pub IsPlain : Work → Type 0
 IsPlain (Scanning home m) = ⊥
+IsPlain (Looking home m) = ⊥
 IsPlain work = Unit {0}
 
 pub plain_known : (buffer : List Noted) (w : Work) (c : Cache) → IsPlain w → IsKnown buffer w c
 plain_known buffer (Scanning home m) c p = absurd p
+plain_known buffer (Looking home m) c p = absurd p
 plain_known buffer w c p = tt
 
 plain_as : (w v : Work) → w ≡ v → IsPlain v → IsPlain w
@@ -74,7 +81,7 @@ committed_plain (CommittedOpen t) home = tt
 committed_plain (Committed txn) home = tt
 committed_plain (NotCommitted t) home = tt
 
--- what is no scan leads to none
+-- .. leads to none
 
 module _ (who : Caller) (before after : Seen) where
   work_plain : (was left : Work) (turn : Turn Answer) → IsPlain was → StepsAt who before after was left turn → IsPlain left
@@ -91,6 +98,7 @@ module _ (who : Caller) (before after : Seen) where
   work_plain (Reading home m) left (Ended (answer.Trouble k)) o p = plain_as left (stopped_work k home) p.1 (stopped_plain k home)
   work_plain (Reading home m) left turn o p = absurd p
   work_plain (Scanning home m) left turn o p = absurd o
+  work_plain (Looking home m) left turn o p = absurd o
   work_plain (Paging home m) left More o p = plain_as left (Paging home p.0) p.2 tt
   work_plain (Paging home m) left (Ended (answer.Done n)) o p = plain_as left (Idle home) p.2 tt
   work_plain (Paging home m) left (Ended (answer.Trouble k)) o p = plain_as left (stopped_work k home) p.2 (stopped_plain k home)
@@ -253,6 +261,35 @@ module _ (who : Caller) (before after : Seen) (home : Home) (buffer : List Noted
       → IsKnown buffer left d × ScanShows who before after home buffer m c shown turn
   scan_known left shown turn p = followed p.scan p.moved p.steps left shown turn p.follows
 
+-- ---- a look-up
+
+abbrev pub LookShows : Caller → Seen → Seen → Home → List Noted → Look → Cache → Shown → Turn Answer → Type 0
+LookShows who before after home buffer m c shown (Ended answer.Scan) = ShowsFound who before after home buffer m c (items_in shown)
+LookShows who before after home buffer m c shown (Ended answer.Value) = ⊥
+LookShows who before after home buffer m c shown turn = Unit {0}
+
+module _ (who : Caller) (before after : Seen) (home : Home) (buffer : List Noted) (m : Look) (c d : Cache) (way : IsLooking home buffer m c) where
+  looks_on : (n : Look) → StepsLook (own_of home buffer) who before after (m, c) (n, d) More → IsLooking home buffer n d
+  looks_on n p =
+      let x : Deed = look_deed who m p.walked.answer before after in
+      let came = step_looked (own_of home buffer) who before after (m, c) (n, d) way.calls way.visits p way.came in
+      record { calls = x ∷ way.calls; visits = visited m x (leaf_by (m, c) x) way.visits; came = came }
+
+  finds : (n : Look) → StepsLook (own_of home buffer) who before after (m, c) (n, d) (Ended tt) → ShowsFound who before after home buffer m c n.pairs
+  finds n p =
+      let found = p.means m.query way.calls way.visits way.came in
+      record { calls = way.calls; visits = way.visits; came = way.came; answer = p.walked.answer; made = p.walked.made; found = found }
+
+  pub look_known : (left : Work) (shown : Shown) (turn : Turn Answer) → LooksBy home buffer who before after m c d left shown turn
+      → IsKnown buffer left d × LookShows who before after home buffer m c shown turn
+  look_known left shown More (n, steps, is, none, less) = (subst (λ (w : Work). IsKnown buffer w d) (sym is) (looks_on n steps), tt)
+  look_known left shown (Ended answer.Scan) (n, steps, is, some) = (
+    plain_known buffer left d (plain_as left (Idle home) is tt),
+    subst (λ (x : Shown). ShowsFound who before after home buffer m c (items_in x)) (sym some) (finds n steps),
+  )
+  look_known left shown (Ended (answer.Trouble t)) (n, steps, is, none) = (plain_known buffer left d (plain_as left (stopped_work t home) is (stopped_plain t home)), tt)
+  look_known left shown turn never = absurd never
+
 -- ---- a session
 
 kept_known : (buffer : List Noted) (w : Work) (d : Cache) → IsKnown buffer w d → IsKnown buffer w (shown_behind w d)
@@ -262,6 +299,7 @@ kept_known buffer w d k = plain_again w k where
   plain_again : (w : Work) → IsKnown buffer w d → IsKnown buffer w (shown_behind w d)
   plain_again Closed k = tt
   plain_again (Scanning home m) k = k
+  plain_again (Looking home m) k = k
   plain_again (Idle home) k = k
   plain_again (Opening m) k = k
   plain_again (Committing m) k = k
@@ -273,7 +311,7 @@ kept_known buffer w d k = plain_again w k where
   plain_again (Settling m) k = k
   plain_again (Broken lease) k = k
 
--- an operation that neither reads nor scans is not answered by a value or a list
+-- an operation that neither reads nor scans nor looks up is not answered by a value or a list
 abbrev pub TellsNone : Turn Answer → Type 0
 TellsNone (Ended answer.Value) = ⊥
 TellsNone (Ended answer.Scan) = ⊥
@@ -282,11 +320,13 @@ TellsNone turn = Unit {0}
 abbrev pub IsOther : Work → Type 0
 IsOther (Reading home m) = ⊥
 IsOther (Scanning home m) = ⊥
+IsOther (Looking home m) = ⊥
 IsOther work = Unit {0}
 
 tells_none : (who : Caller) (before after : Seen) (was left : Work) (turn : Turn Answer) → IsOther was → StepsAt who before after was left turn → TellsNone turn
 tells_none who before after (Reading home m) left turn o p = absurd o
 tells_none who before after (Scanning home m) left turn o p = absurd o
+tells_none who before after (Looking home m) left turn o p = absurd o
 tells_none who before after (Opening m) left (Ended answer.Value) o p = absurd p.1
 tells_none who before after (Opening m) left (Ended answer.Scan) o p = absurd p.1
 tells_none who before after (Opening m) left turn o p = tt
@@ -348,7 +388,18 @@ module _ (who : Caller) (before after : Seen) (buffer noted : List Noted) (c d :
       (kept_known noted left d (subst (λ (b : List Noted). IsKnown b left d) (sym same) both.0), on turn both.1)
     where
       on : (turn : Turn Answer) → ScanShows who before after home buffer m c shown turn → ShowsWhole who before after (old_of (Scanning home m)) (new_of left shown) (Ok turn)
-      on (Ended answer.Scan) h = (home, m, refl, h)
+      on (Ended answer.Scan) h = inl (home, m, refl, h)
+      on (Ended answer.Value) never = absurd never
+      on turn h = tt
+
+  looking_known : (home : Home) (m : Look) (left : Work) (shown : Shown) (turn : Turn Answer) → noted ≡ buffer → IsLooking home buffer m c
+      → LooksBy home noted who before after m c d left shown turn → Known (Looking home m) left shown turn
+  looking_known home m left shown turn same way p =
+      let both = look_known who before after home buffer m c d way left shown turn (subst (λ (b : List Noted). LooksBy home b who before after m c d left shown turn) same p) in
+      (kept_known noted left d (subst (λ (b : List Noted). IsKnown b left d) (sym same) both.0), on turn both.1)
+    where
+      on : (turn : Turn Answer) → LookShows who before after home buffer m c shown turn → ShowsWhole who before after (old_of (Looking home m)) (new_of left shown) (Ok turn)
+      on (Ended answer.Scan) h = inr (home, m, refl, h)
       on (Ended answer.Value) never = absurd never
       on turn h = tt
 
@@ -356,6 +407,7 @@ module _ (who : Caller) (before after : Seen) (buffer noted : List Noted) (c d :
       → ShowsAt who before after noted was c d left shown turn → Known was left shown turn
   step_known (Reading home w) left shown turn same known steps shows = reading_known home w left shown turn steps shows
   step_known (Scanning home m) left shown turn same known steps shows = scanning_known home m left shown turn same known shows
+  step_known (Looking home m) left shown turn same known steps shows = looking_known home m left shown turn same known shows
   step_known (Opening m) left shown turn same known steps shows = other_known (Opening m) left shown turn tt tt steps
   step_known (Committing m) left shown turn same known steps shows = other_known (Committing m) left shown turn tt tt steps
   step_known (Paging home m) left shown turn same known steps shows = other_known (Paging home m) left shown turn tt tt steps
@@ -415,6 +467,13 @@ module _ (old new : Acting) (begun : Begun) where
   reads home start (Answered (answer.Trouble t)) h = plain_is (stopped_work t home) h.2 (stopped_plain t home)
   reads home start (Answered a) h = absurd h
 
+  looks : (home : Home) (q : Query) (b : Begun) → LooksOf home q old.cache new.cache new.work new.shown b → IsKnown new.buffer new.work new.cache
+  looks home q Working (m, ready, is, none) =
+      let came = ready_looked q (own_of home new.buffer) old.cache (m, new.cache) ready in
+      subst (λ (w : Work). IsKnown new.buffer w new.cache) (sym is) (record { calls = []; visits = []; came = came })
+  looks home q (Answered (answer.Trouble t)) h = plain_is (stopped_work t home) h.1 (stopped_plain t home)
+  looks home q (Answered a) h = absurd h
+
   pub begins_known : (o : Op) → Begins o old new (Ok begun) → IsKnown new.buffer new.work new.cache
   begins_known (op.Open client) b = opens begun b where
     opens : (x : Begun) → Begins (op.Open client) old new (Ok x) → IsKnown new.buffer new.work new.cache
@@ -426,5 +485,6 @@ module _ (old new : Acting) (begun : Begun) where
   begins_known (op.Read tree key) (home, idle, (same, h)) = reads home (new_walk tree (Some key) false) begun h
   begins_known (op.Scan tree from to) (home, idle, (same, h)) =
       subst (λ (b : List Noted). IsKnown b new.work new.cache) (sym same) (begun_known home old.buffer tree from to old.cache new.cache new.work new.shown begun h)
+  begins_known (op.Lookup tree attr) (low, (home, idle, (same, h))) = looks home (record { tree = tree; attr = attr }) begun h
   begins_known (op.Page tree page) (home, idle, has) = in_hand_is (paging_begun_by tree page home) tt has
   begins_known (op.Tree tree) (home, idle, has) = in_hand_is (folding_begun_by tree home) tt has

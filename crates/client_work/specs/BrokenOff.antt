@@ -1,7 +1,7 @@
 -- What is left of a session that is broken off, as want of memory leaves it.
 use Rattle.client_work.specs.declared.shown.Shown.TheVariants.{Nothing}
 use Rattle.client_work.specs.declared.work.Work.{Work}
-use Rattle.client_work.specs.declared.work.Work.TheVariants.{Closed, Idle, Opening, Committing, Reading, Scanning, Paging, Folding, Closing, Renewing, Settling, Broken}
+use Rattle.client_work.specs.declared.work.Work.TheVariants.{Closed, Idle, Opening, Committing, Reading, Scanning, Looking, Paging, Folding, Closing, Renewing, Settling, Broken}
 use Rattle.commit_run.specs.Run.{home_of as home_of_run}
 use Rattle.client_work.specs.Session.{Acting, noted_behind, shown_behind}
 
@@ -13,6 +13,7 @@ broken_work (Opening m) = Closed
 broken_work (Committing m) = Broken (home_of_run m).lease
 broken_work (Reading home m) = Broken home.lease
 broken_work (Scanning home m) = Broken home.lease
+broken_work (Looking home m) = Broken home.lease
 broken_work (Paging home m) = Broken home.lease
 broken_work (Folding home m) = Broken home.lease
 broken_work (Closing lease) = Closed

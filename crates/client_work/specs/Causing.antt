@@ -35,6 +35,8 @@ use Rattle.recover_run.specs.Stepped.{Means as RecoveryMeans, Stepped as StepsRe
 use Rattle.commit_run.specs.Run.{Run, asks as run_asks}
 use Rattle.commit_run.specs.Stepped.{Whole, Stepped as StepsRun}
 use Rattle.commit_run.specs.Within.{Went as RunWent}
+use Rattle.attr_index.specs.Look.{Own, Look}
+use Rattle.attr_index.specs.Stepped.{Stepped as StepsLook}
 use Rattle.page_ckpt.specs.Paging.{Paging as Page}
 use Rattle.page_ckpt.specs.Standing.{Went as PageWent}
 use Rattle.page_ckpt.specs.Stepped.{Means as PageMeans, Stepped as StepsPage}
@@ -49,7 +51,7 @@ use Rattle.client_work.specs.Settling.{IsUntold}
 use Rattle.client_work.specs.declared.answer.Answer.{Answer}
 use Rattle.client_work.specs.declared.answer.Answer.TheVariants as answer
 use Rattle.client_work.specs.declared.work.Work.{Work}
-use Rattle.client_work.specs.declared.work.Work.TheVariants.{Closed, Idle, Opening, Committing, Reading, Scanning, Paging, Folding, Closing, Renewing, Settling, Broken}
+use Rattle.client_work.specs.declared.work.Work.TheVariants.{Closed, Idle, Opening, Committing, Reading, Scanning, Looking, Paging, Folding, Closing, Renewing, Settling, Broken}
 
 -- ---- what a session answers where its machine took such a step: where that stopped, its trouble
 
@@ -79,6 +81,13 @@ ScanAnswers (Stopped t) turn = turn ≡ Ended (answer.Trouble t)
 
 abbrev pub ScanningBy : (Scan → Turn ℕ → Type 0) → Turn Answer → Type 0
 ScanningBy Step turn = (s : Scan) × (moved : Turn ℕ) × Step s moved × ScanAnswers moved turn
+
+-- at its end a look-up shows what it found
+abbrev pub LookingBy : Home → (Look → Turn (Unit {0}) → Type 0) → Work → Turn Answer → Type 0
+LookingBy home Step work More = (m : Look) × Step m More × (work ≡ Looking home m)
+LookingBy home Step work (Ended answer.Scan) = (m : Look) × Step m (Ended tt)
+LookingBy home Step work (Ended (answer.Trouble t)) = (m : Look) × Step m (Stopped t)
+LookingBy home Step work turn = ⊥
 
 abbrev pub PagingBy : Home → (Page → Turn CkptAnswer → Type 0) → Work → Turn Answer → Type 0
 PagingBy home Step work More = (m : Page) × Step m More × (work ≡ Paging home m)
@@ -116,6 +125,7 @@ abbrev pub HasCome : Work → Cache → Type 0
 HasCome (Opening m) c = (client : ℕ) × (former : Option Claim) × (h : List Deed) × RecoveryWent client aim.Opening former h m × IsUntold h
 HasCome (Committing m) c = (home : Home) × (changes : List Noted) × (first : Cache) × (h : List Deed) × (1 ≤ length changes) × RunWent home changes first h (m, c) × IsUntold h
 HasCome (Reading home m) c = (start : Walk × Cache) × (h : List Deed) × IsBegun start × Walked start h (m, c)
+HasCome (Looking home m) c = (start : Walk × Cache) × (h : List Deed) × IsBegun start × Walked start h (m.walk, c)
 HasCome (Paging home m) c = (h : List Deed) × PageWent h m × IsUntold h
 HasCome (Folding home m) c = (h : List Deed) × MakingWent h m × IsUntold h
 HasCome (Settling m) c = (h : List Deed) × SettlingWent h m × IsUntold h
@@ -164,6 +174,16 @@ pub record ScanningCauses (who : Caller) (before after : Seen) (old new : Scan �
   pub stepped : StepsScan who before after old new turn
   pub meant : Meant (range_of old.0) moves who before after old new stepped.answer turn
 
+-- of a look-up: as of a read, by the calls of the walk in hand; or the next walk meets a trouble in what the cache keeps
+pub record LookingCauses (who : Caller) (before after : Seen) (old new : Look × Cache) (turn : Turn (Unit {0})) : Type 0 where
+  pub start : Walk × Cache
+  pub earlier : List Deed
+  pub begun : IsBegun start
+  pub walked : Walked start earlier (old.0.walk, old.1)
+  pub own : Own
+  pub stepped : StepsLook own who before after old new turn
+  pub led : LedBy (began_with start begun) earlier (walk_deed who (old.0.walk, old.1) stepped.walked.answer before after) (old.0.walk, old.1) stepped.walked.answer
+
 -- of a page checkpoint: as of an opening
 pub record PagingCauses (who : Caller) (before after : Seen) (old new : Page) (turn : Turn CkptAnswer) : Type 0 where
   pub earlier : List Deed
@@ -198,6 +218,7 @@ CausesAt who before after (Opening m) c d work turn = OpeningBy (OpeningCauses w
 CausesAt who before after (Committing m) c d work turn = CommitBy (λ n. CommitCauses who before after (m, c) (n, d)) work turn
 CausesAt who before after (Reading home m) c d work turn = ReadingBy home (λ n. ReadingCauses who before after (m, c) (n, d)) work turn
 CausesAt who before after (Scanning home m) c d work turn = ScanningBy (λ n. ScanningCauses who before after (m.scan, c) (n, d)) turn
+CausesAt who before after (Looking home m) c d work turn = LookingBy home (λ n. LookingCauses who before after (m, c) (n, d)) work turn
 CausesAt who before after (Paging home m) c d work turn = PagingBy home (PagingCauses who before after m) work turn
 CausesAt who before after (Folding home m) c d work turn = FoldingBy home (FoldingCauses who before after m) work turn
 CausesAt who before after (Closing lease) c d work turn = CallCauses (Release lease) done_of who before after turn

@@ -1,4 +1,5 @@
 -- What one machine leaves in hand.
+use Rattle.attr_index.specs.Look.{Look}
 use Rattle.commit_run.specs.Run.{Run}
 use Rattle.page_ckpt.specs.Paging.{Paging as Page}
 use Rattle.recover_run.specs.declared.home.Home.{Home}
@@ -11,7 +12,7 @@ use Rattle.client_work.specs.declared.left.Rest.{Rest}
 use Rattle.client_work.specs.declared.left.Rest.TheVariants as rest
 use Rattle.client_work.specs.declared.listing.Listing.{Listing}
 use Rattle.client_work.specs.declared.work.Work.{Work}
-use Rattle.client_work.specs.declared.work.Work.TheVariants.{Closed, Idle, Opening, Committing, Reading, Scanning, Paging, Folding, Broken}
+use Rattle.client_work.specs.declared.work.Work.TheVariants.{Closed, Idle, Opening, Committing, Reading, Scanning, Looking, Paging, Folding, Broken}
 
 -- what is in hand where nothing is at work
 abbrev pub at_rest : Rest → Work
@@ -36,6 +37,10 @@ behind_read (Rests r) = at_rest r
 abbrev pub behind_scan : Left (Home × Listing) → Work
 behind_scan (Goes (home, m)) = Scanning home m
 behind_scan (Rests r) = at_rest r
+
+abbrev pub behind_look : Left (Home × Look) → Work
+behind_look (Goes (home, m)) = Looking home m
+behind_look (Rests r) = at_rest r
 
 abbrev pub behind_page : Left (Home × Page) → Work
 behind_page (Goes (home, m)) = Paging home m

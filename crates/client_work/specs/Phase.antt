@@ -1,5 +1,5 @@
 -- How a session stands, whatever is at work.
-use Rattle.std.specs.Prelude.{Ok, Bool, true, false, List, [], Option, Some, None}
+use Rattle.std.specs.Prelude.{ℕ, Ok, Bool, true, false, nat_lt, if◌then◌else◌, List, [], Option, Some, None}
 use Rattle.db_base.specs.declared.refusal.Refusal.{Refusal}
 use Rattle.db_base.specs.declared.refusal.Refusal.TheVariants as rule
 use Rattle.page_cache.specs.Cache.{Cache, empty_cache}
@@ -9,7 +9,7 @@ use Rattle.client_work.specs.declared.op.Op.TheVariants as op
 use Rattle.client_work.specs.declared.phase.Phase.{Phase}
 use Rattle.client_work.specs.declared.phase.Phase.TheVariants as phase
 use Rattle.client_work.specs.declared.work.Work.{Work}
-use Rattle.client_work.specs.declared.work.Work.TheVariants.{Closed, Idle, Opening, Committing, Reading, Scanning, Paging, Folding, Closing, Renewing, Settling, Broken}
+use Rattle.client_work.specs.declared.work.Work.TheVariants.{Closed, Idle, Opening, Committing, Reading, Scanning, Looking, Paging, Folding, Closing, Renewing, Settling, Broken}
 use Rattle.client_work.specs.declared.answer.Begun.{Begun}
 use Rattle.client_work.specs.declared.shown.Shown.{Shown}
 use Rattle.client_work.specs.declared.shown.Shown.TheVariants.{Nothing}
@@ -22,6 +22,7 @@ phase_of (Opening m) = phase.Working
 phase_of (Committing m) = phase.Working
 phase_of (Reading home m) = phase.Working
 phase_of (Scanning home m) = phase.Working
+phase_of (Looking home m) = phase.Working
 phase_of (Paging home m) = phase.Working
 phase_of (Folding home m) = phase.Working
 phase_of (Closing lease) = phase.Closing
@@ -62,6 +63,10 @@ abbrev pub kept_in : Phase → Cache → Cache
 kept_in phase.Closed c = empty_cache
 kept_in phase c = c
 
+-- a tree above 8 has no index; of another one the phase decides
+abbrev pub index_bar : ℕ → Option Refusal → Option Refusal
+index_bar tree by = if nat_lt 8 tree then Some rule.BadNumber else by
+
 -- the rule that bars an operation from beginning, where one does
 
 abbrev pub bar_in : Op → Phase → Option Refusal
@@ -71,6 +76,7 @@ bar_in op.Renew p = rule_in p
 bar_in op.Commit p = rule_in p
 bar_in (op.Read tree key) p = rule_in p
 bar_in (op.Scan tree from to) p = rule_in p
+bar_in (op.Lookup tree attr) p = index_bar tree (rule_in p)
 bar_in (op.Page tree page) p = rule_in p
 bar_in (op.Tree tree) p = rule_in p
 
@@ -81,6 +87,7 @@ bar_of op.Renew work = rule_of work
 bar_of op.Commit work = rule_of work
 bar_of (op.Read tree key) work = rule_of work
 bar_of (op.Scan tree from to) work = rule_of work
+bar_of (op.Lookup tree attr) work = index_bar tree (rule_of work)
 bar_of (op.Page tree page) work = rule_of work
 bar_of (op.Tree tree) work = rule_of work
 

@@ -45,6 +45,9 @@ use Rattle.range_scan.specs.Ending.{calls_left as scanning_left}
 use Rattle.range_scan.specs.Pairs.{AreItemsIn}
 use Rattle.range_scan.specs.Scan.{Scan, new_scan, scan_object, scan_ask, scan_ready, goes_on, moved_on}
 use Rattle.range_scan.specs.Stepped.{Stepped as StepsScan}
+use Rattle.attr_index.specs.Ending.{calls_left as looking_left}
+use Rattle.attr_index.specs.Look.{Query, Look, look_ask, look_ready}
+use Rattle.attr_index.specs.Stepped.{Stepped as StepsLook}
 use Rattle.page_ckpt.specs.Ending.{calls_left as paging_left}
 use Rattle.page_ckpt.specs.Paging.{new_paging, paging_ask, PagingLeads, KeepsLeases as KeepsPageLeases, Paging as Page}
 use Rattle.tree_moves.specs.Work.{applying_in}
@@ -64,9 +67,9 @@ use Rattle.client_work.specs.declared.answer.Begun.TheVariants.{Working, Answere
 use Rattle.client_work.specs.declared.op.Op.{Op}
 use Rattle.client_work.specs.declared.op.Op.TheVariants as op
 use Rattle.client_work.specs.declared.work.Work.{Work}
-use Rattle.client_work.specs.declared.work.Work.TheVariants.{Closed, Idle, Opening, Committing, Reading, Scanning, Paging, Folding, Closing, Renewing, Settling, Broken}
+use Rattle.client_work.specs.declared.work.Work.TheVariants.{Closed, Idle, Opening, Committing, Reading, Scanning, Looking, Paging, Folding, Closing, Renewing, Settling, Broken}
 use Rattle.client_work.specs.Causing.{CausesAt}
-use Rattle.client_work.specs.Showing.{pair_of, ShowsValue, ShowsRecords}
+use Rattle.client_work.specs.Showing.{pair_of, own_of, ShowsValue, ShowsRecords, ShowsFound}
 
 -- a session: the changes that it noted, what it has in hand, what it keeps of the cloud, and what its newest operation shows beside its
 -- answer
@@ -91,6 +94,7 @@ rule_of (Opening m) = Some rule.AtWork
 rule_of (Committing m) = Some rule.AtWork
 rule_of (Reading home m) = Some rule.AtWork
 rule_of (Scanning home m) = Some rule.AtWork
+rule_of (Looking home m) = Some rule.AtWork
 rule_of (Paging home m) = Some rule.AtWork
 rule_of (Folding home m) = Some rule.AtWork
 rule_of (Closing lease) = Some rule.AtWork
@@ -106,6 +110,7 @@ open_client (Opening m) = Err rule.AtWork
 open_client (Committing m) = Err rule.AtWork
 open_client (Reading home m) = Err rule.AtWork
 open_client (Scanning home m) = Err rule.AtWork
+open_client (Looking home m) = Err rule.AtWork
 open_client (Paging home m) = Err rule.AtWork
 open_client (Folding home m) = Err rule.AtWork
 open_client (Closing lease) = Err rule.AtWork
@@ -151,6 +156,7 @@ opening_rule_of (Opening m) = Some rule.AtWork
 opening_rule_of (Committing m) = Some rule.AtWork
 opening_rule_of (Reading home m) = Some rule.AtWork
 opening_rule_of (Scanning home m) = Some rule.AtWork
+opening_rule_of (Looking home m) = Some rule.AtWork
 opening_rule_of (Paging home m) = Some rule.AtWork
 opening_rule_of (Folding home m) = Some rule.AtWork
 opening_rule_of (Closing lease) = Some rule.AtWork
@@ -167,6 +173,7 @@ old_lease (Opening m) = None
 old_lease (Committing m) = None
 old_lease (Reading home m) = None
 old_lease (Scanning home m) = None
+old_lease (Looking home m) = None
 old_lease (Paging home m) = None
 old_lease (Folding home m) = None
 old_lease (Closing lease) = None
@@ -284,6 +291,25 @@ pub record ScansOf (home : Home) (buffer : List Noted) (start : Scan) (old new :
 abbrev pub ScansIn : ℕ → Option (List ℕ) → Option (List ℕ) → Acting → Home → Acting → Begun → Type 0
 ScansIn tree from to old home new begun = (new.buffer ≡ old.buffer) × ScansOf home old.buffer (new_scan tree from to) old.cache new.cache new.work new.shown begun
 
+-- ---- look-ups
+
+-- an operation of a tree that is to have an index begins with the home of its client; of a tree above 8 it is refused first
+abbrev pub BeginsIndexed : ℕ → (Home → Acting → Begun → Type 0) → Acting → Acting → Result Begun Refused → Type 0
+BeginsIndexed tree Does old new (Ok begun) = (tree ≤ 8) × BeginsWith Does old new (Ok begun)
+BeginsIndexed tree Does old new (Err e) =
+    ((e ≡ refused.Rule rule.BadNumber) × (8 < tree) × (new ≡ old)) ⊎ ((tree ≤ 8) × BeginsWith Does old new (Err e))
+
+-- a look-up is in hand, or it stopped at once; want of memory leaves the lease alone
+abbrev pub LooksOf : Home → Query → Cache → Cache → Work → Shown → Begun → Type 0
+LooksOf home q old new work shown Working = (m : Look) × (look_ready q old ≡ Goes (m, new)) × (work ≡ Looking home m) × (shown ≡ Nothing)
+LooksOf home q old new work shown (Answered (answer.Trouble t)) =
+    (t ≢ trouble.Memory → (m : Look) × (look_ready q old ≡ Stops (m, new) t)) × (work ≡ stopped_work t home) × (shown ≡ Nothing)
+LooksOf home q old new work shown (Answered answer) = ⊥
+
+abbrev pub LooksIn : ℕ → List ℕ → Acting → Home → Acting → Begun → Type 0
+LooksIn tree attr old home new begun =
+    (new.buffer ≡ old.buffer) × LooksOf home (record { tree = tree; attr = attr }) old.cache new.cache new.work new.shown begun
+
 -- ---- every begin
 
 abbrev pub Begins : Op → Acting → Acting → Result Begun Refused → Type 0
@@ -293,6 +319,7 @@ Begins op.Renew old new result = BeginsWith (λ home. HasInHand old (Renewing ho
 Begins op.Commit old new result = BeginsWith (CommitsIn old) old new result
 Begins (op.Read tree key) old new result = BeginsWith (ReadsIn tree key old) old new result
 Begins (op.Scan tree from to) old new result = BeginsWith (ScansIn tree from to old) old new result
+Begins (op.Lookup tree attr) old new result = BeginsIndexed tree (LooksIn tree attr old) old new result
 Begins (op.Page tree page) old new result = BeginsWith (λ home. HasInHand old (paging_begun_by tree page home)) old new result
 Begins (op.Tree tree) old new result = BeginsWith (λ home. HasInHand old (folding_begun_by tree home)) old new result
 
@@ -392,6 +419,17 @@ pub record StepsScanning (home : Home) (buffer : List Noted) (who : Caller) (bef
   pub follows : Follows home buffer (record { scan = scan; pairs = old.pairs }) d moved work shown turn
   pub less : turn ≡ More → ScansLess (scanning_left old.scan) work
 
+-- one step of a look-up beside the cache: what is got goes into it, and at the end the records found are shown
+abbrev pub LooksBy : Home → List Noted → Caller → Seen → Seen → Look → Cache → Cache → Work → Shown → Turn Answer → Type 0
+LooksBy home buffer who before after old c d work shown More =
+    (m : Look) × StepsLook (own_of home buffer) who before after (old, c) (m, d) More × (work ≡ Looking home m) × (shown ≡ Nothing)
+    × (looking_left m < looking_left old)
+LooksBy home buffer who before after old c d work shown (Ended answer.Scan) =
+    (m : Look) × StepsLook (own_of home buffer) who before after (old, c) (m, d) (Ended tt) × (work ≡ Idle home) × (shown ≡ Listed m.pairs)
+LooksBy home buffer who before after old c d work shown (Ended (answer.Trouble k)) =
+    (m : Look) × StepsLook (own_of home buffer) who before after (old, c) (m, d) (Stopped k) × (work ≡ stopped_work k home) × (shown ≡ Nothing)
+LooksBy home buffer who before after old c d work shown turn = ⊥
+
 -- one step of a page checkpoint, and what it leaves in hand
 abbrev pub StepsPaging : Home → Caller → Seen → Seen → Page → Work → Turn Answer → Type 0
 StepsPaging home who before after old work More = (m : Page) × Steps paging_ask PagingLeads KeepsPageLeases who before after old m More × (work ≡ Paging home m) × (paging_left m < paging_left old)
@@ -453,6 +491,8 @@ StepsAt who before after (Committing m) work turn = IsSoundRun m × (c : Cache) 
 StepsAt who before after (Reading home m) work turn = StepsReading home who before after m work turn
 StepsAt who before after (Scanning home m) work turn =
     (buffer : List Noted) × (c : Cache) × (d : Cache) × (shown : Shown) × StepsScanning home buffer who before after m c d work shown turn
+StepsAt who before after (Looking home m) work turn =
+    (buffer : List Noted) × (c : Cache) × (d : Cache) × (shown : Shown) × LooksBy home buffer who before after m c d work shown turn
 StepsAt who before after (Paging home m) work turn = StepsPaging home who before after m work turn
 StepsAt who before after (Folding home m) work turn = StepsFolding home who before after m work turn
 StepsAt who before after (Closing lease) work turn = StepsClosing lease who before after work turn
@@ -467,6 +507,7 @@ is_working (Opening m) = true
 is_working (Committing m) = true
 is_working (Reading home m) = true
 is_working (Scanning home m) = true
+is_working (Looking home m) = true
 is_working (Paging home m) = true
 is_working (Folding home m) = true
 is_working Closed = false
@@ -482,6 +523,7 @@ is_other (Opening m) = true
 is_other (Committing m) = false
 is_other (Reading home m) = true
 is_other (Scanning home m) = true
+is_other (Looking home m) = true
 is_other (Paging home m) = true
 is_other (Folding home m) = false
 is_other Closed = false
@@ -506,6 +548,7 @@ noted_behind work buffer = buffer
 abbrev pub ShowsAt : Caller → Seen → Seen → List Noted → Work → Cache → Cache → Work → Shown → Turn Answer → Type 0
 ShowsAt who before after buffer (Reading home m) c d work shown turn = ReadsBy home who before after m c d work shown turn
 ShowsAt who before after buffer (Scanning home m) c d work shown turn = StepsScanning home buffer who before after m c d work shown turn
+ShowsAt who before after buffer (Looking home m) c d work shown turn = LooksBy home buffer who before after m c d work shown turn
 ShowsAt who before after buffer (Committing m) c d work shown turn = StepsCommit who before after m c d work turn × (shown ≡ Nothing)
 ShowsAt who before after buffer old c d work shown turn = (d ≡ c) × (shown ≡ Nothing)
 
@@ -536,12 +579,17 @@ items_in shown = []
 abbrev pub items_of : Acting → List Pair
 items_of s = items_in s.shown
 
--- what a session shows at the end of a read or of a scan, by all its calls
+-- the records behind the last step of a scan or of a look-up
+abbrev pub ShowsList : Caller → Seen → Seen → Acting → Acting → Type 0
+ShowsList who before after old new =
+    ((home : Home) × (m : Listing) × (old.work ≡ Scanning home m) × ShowsRecords who before after home old.buffer m old.cache (items_of new))
+    ⊎ ((home : Home) × (m : Look) × (old.work ≡ Looking home m) × ShowsFound who before after home old.buffer m old.cache (items_of new))
+
+-- what a session shows at the end of a read, of a scan or of a look-up, by all its calls
 abbrev pub ShowsWhole : Caller → Seen → Seen → Acting → Acting → Result (Turn Answer) Refused → Type 0
 ShowsWhole who before after old new (Ok (Ended answer.Value)) =
     (home : Home) × (w : Walk) × (old.work ≡ Reading home w) × ShowsValue who before after home new.buffer w (value_of new)
-ShowsWhole who before after old new (Ok (Ended answer.Scan)) =
-    (home : Home) × (m : Listing) × (old.work ≡ Scanning home m) × ShowsRecords who before after home old.buffer m old.cache (items_of new)
+ShowsWhole who before after old new (Ok (Ended answer.Scan)) = ShowsList who before after old new
 ShowsWhole who before after old new result = Unit {0}
 
 -- each step has the cause that its machine's contract names, behind the calls that led to it
@@ -563,6 +611,7 @@ calls_left (Opening m) = opening_left m
 calls_left (Committing m) = commit_left m
 calls_left (Reading home m) = reading_left m
 calls_left (Scanning home m) = scanning_left m.scan
+calls_left (Looking home m) = looking_left m
 calls_left (Paging home m) = paging_left m
 calls_left (Folding home m) = calls_in m.work
 calls_left Closed = 0
@@ -578,6 +627,7 @@ ask_of_work (Opening m) = Some (recovery_ask m)
 ask_of_work (Committing m) = Some (run_ask m)
 ask_of_work (Reading home m) = Some (walk_ask m)
 ask_of_work (Scanning home m) = Some (scan_ask m.scan)
+ask_of_work (Looking home m) = Some (look_ask m)
 ask_of_work (Paging home m) = Some (paging_ask m)
 ask_of_work (Folding home m) = Some (making_ask m)
 ask_of_work Closed = None
@@ -593,6 +643,7 @@ committing_of (Committing m) = Some m.draft.writes.changes
 committing_of (Opening m) = None
 committing_of (Reading home m) = None
 committing_of (Scanning home m) = None
+committing_of (Looking home m) = None
 committing_of (Paging home m) = None
 committing_of (Folding home m) = None
 committing_of Closed = None
@@ -608,6 +659,7 @@ opens_of (Committing m) = run_opens m
 opens_of (Opening m) = None
 opens_of (Reading home m) = None
 opens_of (Scanning home m) = None
+opens_of (Looking home m) = None
 opens_of (Paging home m) = None
 opens_of (Folding home m) = None
 opens_of Closed = None
@@ -621,6 +673,7 @@ opens_of (Broken lease) = None
 abbrev pub applying_of : Work → List PuItem
 applying_of (Reading home m) = []
 applying_of (Scanning home m) = []
+applying_of (Looking home m) = []
 applying_of (Paging home m) = m.applying
 applying_of (Folding home m) = applying_in m.work
 applying_of (Committing m) = []

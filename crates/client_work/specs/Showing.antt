@@ -1,5 +1,7 @@
--- What a session shows at the end of a read and of a scan, by all the calls of the operation.
+-- What a session shows at the end of a read, of a scan and of a look-up, by all the calls of the operation.
 use Rattle.std.specs.Prelude.{◌≡◌, true, List, [], ◌∷◌, map, Option, unwrap_or}
+use Rattle.attr_index.specs.Look.{Own, Look, look_ask}
+use Rattle.attr_index.specs.Found.{Visit, Looked, IsFound, leaf_by, visited}
 use Rattle.std.specs.List.{AllByRecursion}
 use Rattle.db_base.specs.declared.pair.Pair.{Pair}
 use Rattle.db_base.specs.Value.{Value}
@@ -20,7 +22,7 @@ use Rattle.range_scan.specs.Whole.{Listed, leaves_in, all_pairs, IsListed, IsWho
 use Rattle.recover_run.specs.declared.home.Home.{Home}
 use Rattle.client_work.specs.declared.listing.Listing.{Listing}
 use Rattle.client_work.specs.declared.work.Work.{Work}
-use Rattle.client_work.specs.declared.work.Work.TheVariants.{Scanning}
+use Rattle.client_work.specs.declared.work.Work.TheVariants.{Scanning, Looking}
 
 -- ---- a read
 
@@ -85,9 +87,37 @@ pub record ShowsRecords (who : Caller) (before after : Seen) (home : Home) (buff
   pub lists : Lists (range_of m.scan) home buffer (leaf ∷ leaves_of moves) records
   pub whole : IsWhole lists.listed
 
+-- ---- a look-up
+
+-- what the client of a home sees beside the leaves
+abbrev pub own_of : Home → List Noted → Own
+own_of home buffer = record { client = home.client; head = home.head; buffer = buffer }
+
+-- a look-up in hand came from its begin by some calls, and by these its walks ended at some leaves
+pub record IsLooking (home : Home) (buffer : List Noted) (m : Look) (c : Cache) : Type 0 where
+  pub calls : List Deed
+  pub visits : List Visit
+  pub came : Looked m.query (own_of home buffer) calls visits (m, c)
+
+-- the call that a look-up makes
+abbrev pub look_deed : Caller → Look → Answer → Seen → Seen → Deed
+look_deed who l answer before after = record { who = who; ask = look_ask l; answer = answer; before = before; after = after }
+
+-- The records behind the last step of a look-up: those found in the leaves at which its walks ended, each as a call of this look-up served it, the last
+-- one by this step's own.
+pub record ShowsFound (who : Caller) (before after : Seen) (home : Home) (buffer : List Noted) (m : Look) (c : Cache) (records : List Pair) : Type 0 where
+  pub calls : List Deed
+  pub visits : List Visit
+  pub came : Looked m.query (own_of home buffer) calls visits (m, c)
+  pub answer : Answer
+  pub made : IsMade (look_deed who m answer before after)
+  pub found : IsFound m.query (own_of home buffer)
+      (visited m (look_deed who m answer before after) (leaf_by (m, c) (look_deed who m answer before after)) visits) records
+
 -- ---- what holds of a session at any time
 
--- a scan in hand is under way beside the changes and the cache
+-- a scan or a look-up in hand is under way beside the changes and the cache
 abbrev pub IsKnown : List Noted → Work → Cache → Type 0
 IsKnown buffer (Scanning home m) c = IsUnderWay home buffer m c
+IsKnown buffer (Looking home m) c = IsLooking home buffer m c
 IsKnown buffer work c = Unit {0}

@@ -26,7 +26,7 @@ pub enum Answer {
     Done(CkptAnswer),
     /// A read found its leaf: the session shows the value.
     Value,
-    /// A scan came to its end: the session shows the records.
+    /// A scan or a look-up came to its end: the session shows the records.
     Scan,
     /// A settling came to its end.
     Settled(Settled),

@@ -9,6 +9,7 @@ mod folding;
 pub mod hand;
 pub mod left;
 pub mod listing;
+mod looking;
 pub mod op;
 pub mod opening;
 mod paging;

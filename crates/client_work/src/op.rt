@@ -1,3 +1,4 @@
+use db_base::attr::Attr;
 use db_base::ids::{ClientId, PageId, TreeId};
 use db_base::key::Key;
 
@@ -16,6 +17,8 @@ pub enum Op {
     Read(TreeId, Key),
     /// Scans the records of a tree from a key on, or from its left end, and below a key, or to its right end.
     Scan(TreeId, Option<Key>, Option<Key>),
+    /// Looks up the records of a tree that have an attribute, through the tree's index.
+    Lookup(TreeId, Attr),
     /// Checkpoints a page of a tree.
     Page(TreeId, PageId),
     /// Checkpoints a tree.

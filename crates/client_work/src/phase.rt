@@ -1,6 +1,8 @@
 ghost use Rattle.std.specs.Prelude.{◌≡◌};
+ghost use Rattle.client_work.specs.Phase.{index_bar as index_bar_of};
 
 use crate::op::Op;
+use db_base::ids::TreeId;
 use db_base::refusal::Refusal;
 use page_cache::PageCache;
 use txn_buffer::buffer::TxnBuffer;
@@ -18,6 +20,17 @@ pub enum Phase {
     Closing,
     /// The newest operation left the client in doubt.
     Broken,
+}
+
+/// The rule that bars a look-up: a tree above 8 has no index, and of another one the phase decides.
+fn index_bar(tree: TreeId, by: Option<Refusal>) -> Option<Refusal>
+    ensures { result ≡ index_bar_of tree by }
+{
+    if tree.get() > 8 {
+        Some(Refusal::BadNumber)
+    } else {
+        by
+    }
 }
 
 impl Phase {
@@ -60,6 +73,7 @@ impl Phase {
             Op::Commit => self.rule(),
             Op::Read(_, _) => self.rule(),
             Op::Scan(_, _, _) => self.rule(),
+            Op::Lookup(tree, _) => index_bar(*tree, self.rule()),
             Op::Page(_, _) => self.rule(),
             Op::Tree(_) => self.rule(),
         }

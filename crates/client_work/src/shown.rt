@@ -7,7 +7,7 @@ pub enum Shown {
     Nothing,
     /// A read that ended at its leaf.
     Read(RecordRead),
-    /// The records that a scan listed.
+    /// The records that a scan or a look-up listed.
     Listed(PairList),
 }
 

@@ -1,6 +1,6 @@
 ghost use Rattle.std.specs.Prelude.{◌≡◌, true, None};
 ghost use Rattle.client_work.specs.Causing.{MachineSteps};
-ghost use Rattle.client_work.specs.Left.{at_rest, behind_opening, behind_commit, behind_read, behind_scan, behind_page, behind_tree};
+ghost use Rattle.client_work.specs.Left.{at_rest, behind_opening, behind_commit, behind_read, behind_scan, behind_look, behind_page, behind_tree};
 ghost use Rattle.client_work.specs.Session.{ShowsAt, StepsAt, behind_settling, ended_by, is_other, old_lease, rule_of, stopped_work};
 
 use crate::answer::{Answer, Begun};
@@ -10,6 +10,7 @@ use crate::folding::{fold, left_by_fold};
 use crate::hand::Hand;
 use crate::left::{Left, Rest};
 use crate::listing::Listing;
+use crate::looking::{begin_looking, step_looking};
 use crate::op::Op;
 use crate::opening::OpeningRun;
 use crate::paging::step_paging;
@@ -19,6 +20,7 @@ use crate::renewing::step_renewal;
 use crate::scanning::{begin_scanning, step_scanning};
 use crate::settling::SettlingRun;
 use crate::shown::Shown;
+use attr_index::Lookup;
 use cloud_trait::call::Call;
 use cloud_trait::cloud::Cloud;
 use cloud_trait::lease::Lease;
@@ -56,6 +58,8 @@ pub enum Work {
     Reading(Home, RecordRead),
     /// A scan under way, beside the open client.
     Scanning(Home, Listing),
+    /// A look-up under way, beside the open client.
+    Looking(Home, Lookup),
     /// A page checkpoint under way, beside the open client.
     Paging(Home, PageCkpt),
     /// A tree checkpoint under way, beside the open client.
@@ -80,6 +84,7 @@ impl Drop for Work {
             Work::Committing(_) => {}
             Work::Reading(_, _) => {}
             Work::Scanning(_, _) => {}
+            Work::Looking(_, _) => {}
             Work::Paging(_, machine) => drop_paging(machine),
             Work::Folding(_, _) => {}
             Work::Closing(_) => {}
@@ -114,6 +119,7 @@ impl Hand for Work {
             Work::Committing(_) => Phase::Working,
             Work::Reading(_, _) => Phase::Working,
             Work::Scanning(_, _) => Phase::Working,
+            Work::Looking(_, _) => Phase::Working,
             Work::Paging(_, _) => Phase::Working,
             Work::Folding(_, _) => Phase::Working,
             Work::Closing(_) => Phase::Closing,
@@ -131,6 +137,7 @@ impl Hand for Work {
             Work::Committing(_) => Err(Refusal::AtWork),
             Work::Reading(_, _) => Err(Refusal::AtWork),
             Work::Scanning(_, _) => Err(Refusal::AtWork),
+            Work::Looking(_, _) => Err(Refusal::AtWork),
             Work::Paging(_, _) => Err(Refusal::AtWork),
             Work::Folding(_, _) => Err(Refusal::AtWork),
             Work::Closing(_) => Err(Refusal::AtWork),
@@ -146,6 +153,7 @@ impl Hand for Work {
             Work::Committing(machine) => Some(machine.in_hand()),
             Work::Reading(_, machine) => Some(machine.in_hand()),
             Work::Scanning(_, listing) => Some(listing.scan.in_hand()),
+            Work::Looking(_, machine) => Some(machine.in_hand()),
             Work::Paging(_, machine) => Some(machine.in_hand()),
             Work::Folding(_, machine) => Some(machine.in_hand()),
             Work::Closing(lease) => Some(Call::Release(lease)),
@@ -165,6 +173,7 @@ impl Hand for Work {
             Work::Opening(_) => None,
             Work::Reading(_, _) => None,
             Work::Scanning(_, _) => None,
+            Work::Looking(_, _) => None,
             Work::Paging(_, _) => None,
             Work::Folding(_, _) => None,
             Work::Closing(_) => None,
@@ -182,6 +191,7 @@ impl Hand for Work {
             Work::Opening(_) => None,
             Work::Reading(_, _) => None,
             Work::Scanning(_, _) => None,
+            Work::Looking(_, _) => None,
             Work::Paging(_, _) => None,
             Work::Folding(_, _) => None,
             Work::Closing(_) => None,
@@ -195,6 +205,7 @@ impl Hand for Work {
         match self {
             Work::Reading(_, _) => &[],
             Work::Scanning(_, _) => &[],
+            Work::Looking(_, _) => &[],
             Work::Paging(_, machine) => machine.applying(),
             Work::Folding(_, machine) => machine.applying(),
             Work::Closed => &[],
@@ -265,6 +276,16 @@ impl Hand for Work {
                 );
                 (after_scan(left), shown, begun)
             }
+            Op::Lookup(tree, attr) => {
+                let (left, shown, begun) = begin_looking(
+                    alloc,
+                    self.into_home(),
+                    tree,
+                    attr,
+                    cache,
+                );
+                (after_look(left), shown, begun)
+            }
             Op::Page(tree, page) => {
                 let machine = PageCkpt::new(alloc, tree, page);
                 let work = Work::Paging(self.into_home(), machine);
@@ -284,6 +305,7 @@ impl Hand for Work {
             Work::Committing(machine) => resting(broken(machine)),
             Work::Reading(home, _) => Work::Broken(home.into_lease()),
             Work::Scanning(home, _) => Work::Broken(home.into_lease()),
+            Work::Looking(home, _) => Work::Broken(home.into_lease()),
             Work::Paging(home, machine) => {
                 drop_paging(machine);
                 Work::Broken(home.into_lease())
@@ -401,6 +423,12 @@ impl Work {
                 );
                 (after_scan(left), shown, turn)
             }
+            Work::Looking(home, look) => {
+                let (left, shown, turn) = step_looking(
+                    alloc, cloud, who, home, look, cache, buffer,
+                );
+                (after_look(left), shown, turn)
+            }
             Work::Opening(machine) => {
                 let (left, turn) = machine.step(alloc, cloud, who);
                 (after_opening(left), Shown::Nothing, turn)
@@ -494,6 +522,16 @@ fn after_scan(left: Left<(Home, Listing)>) -> Work
 {
     match left {
         Left::Goes((home, listing)) => Work::Scanning(home, listing),
+        Left::Rests(rest) => resting(rest),
+    }
+}
+
+/// What is in hand behind a look-up.
+fn after_look(left: Left<(Home, Lookup)>) -> Work
+    ensures { result ≡ behind_look left }
+{
+    match left {
+        Left::Goes((home, look)) => Work::Looking(home, look),
         Left::Rests(rest) => resting(rest),
     }
 }

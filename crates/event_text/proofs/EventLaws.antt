@@ -22,7 +22,7 @@ use Rattle.ckpt_policy.specs.declared.role.Role.TheVariants.{Writer, Reader, Wat
 use Rattle.event_text.specs.declared.event.Event.{Event}
 use Rattle.event_text.specs.declared.event.Event.TheVariants as event
 use Rattle.event_text.specs.declared.keyword.Keyword.{Keyword}
-use Rattle.event_text.specs.declared.keyword.Keyword.TheVariants.{Open, Close, Renew, Insert, Put, Update, Delete, Add, Commit, Abort, Read, Scan, Page, Tree, Policy, Work, Step, Run, Crash, Wait, Report, Settle}
+use Rattle.event_text.specs.declared.keyword.Keyword.TheVariants.{Open, Close, Renew, Insert, Put, Update, Delete, Add, Commit, Abort, Read, Scan, Lookup, Page, Tree, Policy, Work, Step, Run, Crash, Wait, Report, Settle}
 use Rattle.event_text.specs.Keyword.{keyword_of, keyword_text, keywords, is_shell}
 use Rattle.event_text.specs.RoleWord.{role_of, role_text, roles}
 use Rattle.event_text.specs.Event.{wish_words, crash_words, event_words, line_of, spelling, IsWish, IsInRange, IsEvent, IsShellLine}
@@ -82,6 +82,7 @@ keyword_of-again Commit = refl
 keyword_of-again Abort = refl
 keyword_of-again Read = refl
 keyword_of-again Scan = refl
+keyword_of-again Lookup = refl
 keyword_of-again Page = refl
 keyword_of-again Tree = refl
 keyword_of-again Policy = refl
@@ -312,6 +313,10 @@ event_by-takes Scan session words e small h =
     let m = mapped (λ (x : ℕ × List ℕ × List ℕ). event.Scan session x.0 x.1 x.2) (record_of words) e h in
     let x = record_of-takes words m.0 m.1 in
     rw (← m.2) ((small, x.0, x.1, x.2), behind _ (behind _ x.3))
+event_by-takes Lookup session words e small h =
+    let m = mapped (λ (x : ℕ × List ℕ). event.Lookup session x.0 x.1) (place_of words) e h in
+    let x = place_of-takes words m.0 m.1 in
+    rw (← m.2) ((small, x.0, x.1), behind _ (behind _ x.2))
 event_by-takes Page session words e small h =
     let m = mapped (λ (x : ℕ × ℕ). event.Page session x.0 x.1) (two_of words) e h in
     let x = two_of-takes words m.0 m.1 in
@@ -374,6 +379,7 @@ event_behind-takes Commit words e h = session_event-takes Commit words e h
 event_behind-takes Abort words e h = session_event-takes Abort words e h
 event_behind-takes Read words e h = session_event-takes Read words e h
 event_behind-takes Scan words e h = session_event-takes Scan words e h
+event_behind-takes Lookup words e h = session_event-takes Lookup words e h
 event_behind-takes Page words e h = session_event-takes Page words e h
 event_behind-takes Tree words e h = session_event-takes Tree words e h
 event_behind-takes Policy words e h = session_event-takes Policy words e h
@@ -406,6 +412,7 @@ event_of_words-again (event.Commit session) h = rw (number_at-again session [] h
 event_of_words-again (event.Abort session) h = rw (number_at-again session [] h, alone-again (event.Abort session)) refl
 event_of_words-again (event.Read session tree key) h = rw (number_at-again session (decimal tree ∷ hexadecimal key ∷ []) h.0, place_of-again tree key h.1 h.2) refl
 event_of_words-again (event.Scan session tree from to) h = rw (number_at-again session (decimal tree ∷ hexadecimal from ∷ hexadecimal to ∷ []) h.0, record_of-again tree from to h.1 h.2 h.3) refl
+event_of_words-again (event.Lookup session tree attr) h = rw (number_at-again session (decimal tree ∷ hexadecimal attr ∷ []) h.0, place_of-again tree attr h.1 h.2) refl
 event_of_words-again (event.Page session tree page) h = rw (number_at-again session (decimal tree ∷ decimal page ∷ []) h.0, two_of-again tree page h.1 h.2) refl
 event_of_words-again (event.Tree session tree) h = rw (number_at-again session (decimal tree ∷ []) h.0, one_of-again tree h.1) refl
 event_of_words-again (event.Policy session role k) h = rw (number_at-again session (role_text role ∷ decimal k ∷ []) h.0, policy_of-again role k h.1) refl
@@ -465,6 +472,7 @@ event_lacks (event.Commit session) h = rw (lacks_number session h) refl
 event_lacks (event.Abort session) h = rw (lacks_number session h) refl
 event_lacks (event.Read session tree key) h = rw (lacks_number session h.0, lacks_number tree h.1, lacks_bytes key h.2) refl
 event_lacks (event.Scan session tree from to) h = rw (lacks_number session h.0, lacks_number tree h.1, lacks_bytes from h.2, lacks_bytes to h.3) refl
+event_lacks (event.Lookup session tree attr) h = rw (lacks_number session h.0, lacks_number tree h.1, lacks_bytes attr h.2) refl
 event_lacks (event.Page session tree page) h = rw (lacks_number session h.0, lacks_number tree h.1, lacks_number page h.2) refl
 event_lacks (event.Tree session tree) h = rw (lacks_number session h.0, lacks_number tree h.1) refl
 event_lacks (event.Policy session role k) h = rw (lacks_number session h.0, role_lacks role, lacks_number k h.1) refl
@@ -539,6 +547,7 @@ shell_behind Wait h rest = absurd cc
 shell_behind Report h rest = absurd cc
 shell_behind Settle h rest = absurd cc
 shell_behind Put h rest = absurd cc
+shell_behind Lookup h rest = absurd cc
 shell_behind Policy h rest = absurd cc
 shell_behind Work h rest = absurd cc
 

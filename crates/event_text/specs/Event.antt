@@ -10,7 +10,7 @@ use Rattle.event_text.specs.declared.event.Event.{Event}
 use Rattle.event_text.specs.declared.keyword.Keyword.{Keyword}
 use Rattle.event_text.specs.RoleWord.{role_text}
 use Rattle.event_text.specs.Keyword.{keyword_text, is_shell}
-use Rattle.event_text.specs.declared.event.Event.TheVariants.{Open, Close, Renew, Insert, Put, Update, Delete, Add, Commit, Abort, Read, Scan, Page, Tree, Policy, Work, Step, Run, Crash, Wait, Report, Settle}
+use Rattle.event_text.specs.declared.event.Event.TheVariants.{Open, Close, Renew, Insert, Put, Update, Delete, Add, Commit, Abort, Read, Scan, Lookup, Page, Tree, Policy, Work, Step, Run, Crash, Wait, Report, Settle}
 
 -- the words of a wish
 abbrev pub wish_words : Wish → List (List ℕ)
@@ -40,6 +40,7 @@ event_words (Commit session) = codes "commit" ∷ decimal session ∷ []
 event_words (Abort session) = codes "abort" ∷ decimal session ∷ []
 event_words (Read session tree key) = codes "read" ∷ decimal session ∷ decimal tree ∷ hexadecimal key ∷ []
 event_words (Scan session tree from to) = codes "scan" ∷ decimal session ∷ decimal tree ∷ hexadecimal from ∷ hexadecimal to ∷ []
+event_words (Lookup session tree attr) = codes "lookup" ∷ decimal session ∷ decimal tree ∷ hexadecimal attr ∷ []
 event_words (Page session tree page) = codes "page" ∷ decimal session ∷ decimal tree ∷ decimal page ∷ []
 event_words (Tree session tree) = codes "tree" ∷ decimal session ∷ decimal tree ∷ []
 event_words (Policy session role k) = codes "policy" ∷ decimal session ∷ role_text role ∷ decimal k ∷ []
@@ -82,6 +83,7 @@ IsInRange (Commit session) = session < 2 ^ 64
 IsInRange (Abort session) = session < 2 ^ 64
 IsInRange (Read session tree key) = (session < 2 ^ 64) × (tree < 2 ^ 64) × AreBytes key
 IsInRange (Scan session tree from to) = (session < 2 ^ 64) × (tree < 2 ^ 64) × AreBytes from × AreBytes to
+IsInRange (Lookup session tree attr) = (session < 2 ^ 64) × (tree < 2 ^ 64) × AreBytes attr
 IsInRange (Page session tree page) = (session < 2 ^ 64) × (tree < 2 ^ 64) × (page < 2 ^ 64)
 IsInRange (Tree session tree) = (session < 2 ^ 64) × (tree < 2 ^ 64)
 IsInRange (Policy session role k) = (session < 2 ^ 64) × (k < 2 ^ 64)

@@ -3,7 +3,7 @@ use Rattle.std.specs.Prelude.{ℕ, Bool, true, false, List, [], ◌∷◌, Optio
 use Rattle.std.specs.List.{find}
 use Rattle.std.specs.Str.{bytes_eq}
 use Rattle.event_text.specs.declared.keyword.Keyword.{Keyword}
-use Rattle.event_text.specs.declared.keyword.Keyword.TheVariants.{Open, Close, Renew, Insert, Put, Update, Delete, Add, Commit, Abort, Read, Scan, Page, Tree, Policy, Work, Step, Run, Crash, Wait, Report, Settle}
+use Rattle.event_text.specs.declared.keyword.Keyword.TheVariants.{Open, Close, Renew, Insert, Put, Update, Delete, Add, Commit, Abort, Read, Scan, Lookup, Page, Tree, Policy, Work, Step, Run, Crash, Wait, Report, Settle}
 
 -- the spelling of a keyword
 abbrev pub keyword_text : Keyword → List ℕ
@@ -19,6 +19,7 @@ keyword_text Commit = codes "commit"
 keyword_text Abort = codes "abort"
 keyword_text Read = codes "read"
 keyword_text Scan = codes "scan"
+keyword_text Lookup = codes "lookup"
 keyword_text Page = codes "page"
 keyword_text Tree = codes "tree"
 keyword_text Policy = codes "policy"
@@ -32,7 +33,7 @@ keyword_text Settle = codes "settle"
 
 -- all keywords
 abbrev pub keywords : List Keyword
-keywords = Open ∷ Close ∷ Renew ∷ Insert ∷ Put ∷ Update ∷ Delete ∷ Add ∷ Commit ∷ Abort ∷ Read ∷ Scan ∷ Page ∷ Tree ∷ Policy ∷ Work ∷ Step ∷ Run ∷ Crash ∷ Wait ∷ Report ∷ Settle ∷ []
+keywords = Open ∷ Close ∷ Renew ∷ Insert ∷ Put ∷ Update ∷ Delete ∷ Add ∷ Commit ∷ Abort ∷ Read ∷ Scan ∷ Lookup ∷ Page ∷ Tree ∷ Policy ∷ Work ∷ Step ∷ Run ∷ Crash ∷ Wait ∷ Report ∷ Settle ∷ []
 
 -- the keyword that a word spells
 abbrev pub keyword_of : List ℕ → Option Keyword
@@ -60,5 +61,6 @@ is_shell Wait = false
 is_shell Report = false
 is_shell Settle = false
 is_shell Put = false
+is_shell Lookup = false
 is_shell Policy = false
 is_shell Work = false

@@ -8,7 +8,7 @@ use Rattle.ckpt_policy.specs.declared.role.Role.{Role}
 use Rattle.event_text.specs.declared.event.Event.{Event}
 use Rattle.event_text.specs.declared.event.Event.TheVariants as event
 use Rattle.event_text.specs.declared.keyword.Keyword.{Keyword}
-use Rattle.event_text.specs.declared.keyword.Keyword.TheVariants.{Open, Close, Renew, Insert, Put, Update, Delete, Add, Commit, Abort, Read, Scan, Page, Tree, Policy, Work, Step, Run, Crash, Wait, Report, Settle}
+use Rattle.event_text.specs.declared.keyword.Keyword.TheVariants.{Open, Close, Renew, Insert, Put, Update, Delete, Add, Commit, Abort, Read, Scan, Lookup, Page, Tree, Policy, Work, Step, Run, Crash, Wait, Report, Settle}
 use Rattle.event_text.specs.Keyword.{keyword_of, is_shell}
 use Rattle.event_text.specs.RoleWord.{role_of}
 
@@ -87,6 +87,7 @@ event_by Commit session words = alone (event.Commit session) words
 event_by Abort session words = alone (event.Abort session) words
 event_by Read session words = option_map (λ x. event.Read session x.0 x.1) (place_of words)
 event_by Scan session words = option_map (λ x. event.Scan session x.0 x.1 x.2) (record_of words)
+event_by Lookup session words = option_map (λ x. event.Lookup session x.0 x.1) (place_of words)
 event_by Page session words = option_map (λ x. event.Page session x.0 x.1) (two_of words)
 event_by Tree session words = option_map (event.Tree session) (one_of words)
 event_by Policy session words = option_map (λ x. event.Policy session x.0 x.1) (policy_of words)

@@ -74,6 +74,12 @@ pub enum Event {
         from: Blob,
         to: Blob,
     },
+    /// Begins a look-up of the records with an attribute.
+    Lookup {
+        session: u64,
+        tree: u64,
+        attr: Blob,
+    },
     /// Begins a checkpoint of a page.
     Page {
         session: u64,
@@ -173,6 +179,11 @@ impl Drop for Event {
                 tree: _,
                 from: _,
                 to: _,
+            } => {}
+            Event::Lookup {
+                session: _,
+                tree: _,
+                attr: _,
             } => {}
             Event::Page {
                 session: _,

@@ -27,6 +27,8 @@ pub enum Keyword {
     Read,
     /// `scan`
     Scan,
+    /// `lookup`
+    Lookup,
     /// `page`
     Page,
     /// `tree`
@@ -50,7 +52,7 @@ pub enum Keyword {
 }
 
 /// All keywords.
-const KEYWORDS: [Keyword; 22] = [
+const KEYWORDS: [Keyword; 23] = [
     Keyword::Open,
     Keyword::Close,
     Keyword::Renew,
@@ -63,6 +65,7 @@ const KEYWORDS: [Keyword; 22] = [
     Keyword::Abort,
     Keyword::Read,
     Keyword::Scan,
+    Keyword::Lookup,
     Keyword::Page,
     Keyword::Tree,
     Keyword::Policy,
@@ -95,6 +98,7 @@ impl Keyword {
             Keyword::Abort => "abort",
             Keyword::Read => "read",
             Keyword::Scan => "scan",
+            Keyword::Lookup => "lookup",
             Keyword::Page => "page",
             Keyword::Tree => "tree",
             Keyword::Policy => "policy",
@@ -128,7 +132,7 @@ impl Keyword {
             Keyword::Tree | Keyword::Renew | Keyword::Add => true,
             Keyword::Open | Keyword::Close | Keyword::Step | Keyword::Run => false,
             Keyword::Crash | Keyword::Wait | Keyword::Report | Keyword::Settle => false,
-            Keyword::Put | Keyword::Policy | Keyword::Work => false,
+            Keyword::Put | Keyword::Lookup | Keyword::Policy | Keyword::Work => false,
         }
     }
 }

@@ -217,6 +217,14 @@ fn event_by(
                 to,
             })
         }
+        Keyword::Lookup => {
+            let (tree, attr) = words.place(alloc)?;
+            Ok(Event::Lookup {
+                session,
+                tree,
+                attr,
+            })
+        }
         Keyword::Page => {
             let (tree, page) = words.two_numbers()?;
             Ok(Event::Page {

@@ -75,7 +75,7 @@ fn old_line(alloc: Global, session: u64, version: u64) -> Result<String, AllocEr
     Ok(line)
 }
 
-/// The line of a keyword, a session, a tree and a key.
+/// The line of a keyword, a session, a tree, and a key or an attribute.
 fn place_line(
     alloc: Global,
     keyword: &str,
@@ -239,6 +239,11 @@ impl Event {
                 from,
                 to,
             } => record_line(alloc, "scan", *session, *tree, from, to),
+            Event::Lookup {
+                session,
+                tree,
+                attr,
+            } => place_line(alloc, "lookup", *session, *tree, attr),
             Event::Page {
                 session,
                 tree,

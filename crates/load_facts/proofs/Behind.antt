@@ -4,7 +4,7 @@ use Rattle.std.specs.Prelude.{slice_get, All, nat_le, ◌==◌}
 use Rattle.std.specs.Option.{option_map}
 use Rattle.std.proofs.lemmas.Bool.{le-leb}
 use Rattle.client_work.specs.declared.work.Work.{Work}
-use Rattle.client_work.specs.declared.work.Work.TheVariants.{Closed, Idle, Opening, Committing, Reading, Scanning, Paging, Folding, Closing, Renewing, Settling, Broken}
+use Rattle.client_work.specs.declared.work.Work.TheVariants.{Closed, Idle, Opening, Committing, Reading, Scanning, Looking, Paging, Folding, Closing, Renewing, Settling, Broken}
 use Rattle.cloud_facts.proofs.Book.Places.{get_map, get_within, in_front}
 use Rattle.cloud_facts.proofs.Numbers.Lists.{map_there, filter_there, filter_at}
 use Rattle.cloud_facts.specs.Book.Records.{IsIn}
@@ -121,6 +121,7 @@ resting (Opening r) s acts e = let is = acts.0 in absurd (cc)
 resting (Committing r) s acts e = let is = acts.0 in absurd (cc)
 resting (Reading home m) s acts e = let is = acts.0 in absurd (cc)
 resting (Scanning home l) s acts e = let is = acts.0 in absurd (cc)
+resting (Looking home m) s acts e = let is = acts.0 in absurd (cc)
 resting (Paging home p) s acts e = let is = acts.0 in absurd (cc)
 resting (Folding home f) s acts e = let is = acts.0 in absurd (cc)
 resting (Closing lease) s acts e = absurd (cc)

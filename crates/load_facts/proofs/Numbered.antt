@@ -9,7 +9,7 @@ use Rattle.client_work.specs.declared.answer.Begun.TheVariants.{Working, Answere
 use Rattle.client_work.specs.declared.op.Op.{Op}
 use Rattle.client_work.specs.declared.op.Op.TheVariants as op
 use Rattle.client_work.specs.declared.work.Work.{Work}
-use Rattle.client_work.specs.declared.work.Work.TheVariants.{Closed, Idle, Opening, Committing, Reading, Scanning, Paging, Folding, Closing, Renewing, Settling, Broken}
+use Rattle.client_work.specs.declared.work.Work.TheVariants.{Closed, Idle, Opening, Committing, Reading, Scanning, Looking, Paging, Folding, Closing, Renewing, Settling, Broken}
 use Rattle.cloud_facts.proofs.Book.Names.{at_same, at_other}
 use Rattle.cloud_trait.specs.Caller.{Caller}
 use Rattle.cloud_trait.specs.Claim.{Claim}
@@ -58,6 +58,7 @@ Numbered n (Idle home) = home.attempt ≡ n
 Numbered n (Committing r) = (home_of r).attempt ≡ n
 Numbered n (Reading home m) = home.attempt ≡ n
 Numbered n (Scanning home l) = home.attempt ≡ n
+Numbered n (Looking home m) = home.attempt ≡ n
 Numbered n (Paging home p) = home.attempt ≡ n
 Numbered n (Folding home f) = home.attempt ≡ n
 Numbered n (Renewing home) = home.attempt ≡ n
@@ -128,6 +129,10 @@ module _ (n : ℕ) where
   step_numbered who before after (Reading home m) new (Ended answer.Value) p h = then (Idle home) new p.1 h
   step_numbered who before after (Reading home m) new (Ended (answer.Trouble k)) p h = then (stopped_work k home) new p.1 (stopped k home h)
   step_numbered who before after (Reading home m) new turn p h = absurd p
+  step_numbered who before after (Looking home m) new More (buffer, c, d, shown, (k, steps, is, none, less)) h = then (Looking home k) new is h
+  step_numbered who before after (Looking home m) new (Ended answer.Scan) (buffer, c, d, shown, (k, steps, is, some)) h = then (Idle home) new is h
+  step_numbered who before after (Looking home m) new (Ended (answer.Trouble t)) (buffer, c, d, shown, (k, steps, is, none)) h = then (stopped_work t home) new is (stopped t home h)
+  step_numbered who before after (Looking home m) new turn (buffer, c, d, shown, never) h = absurd never
   step_numbered who before after (Scanning home m) new turn (buffer, c, d, shown, p) h =
       scanned (record { scan = p.scan; pairs = m.pairs }) p.moved turn p.follows
     where

@@ -4,7 +4,7 @@ use Rattle.std.specs.Prelude.{slice_get}
 use Rattle.client_work.specs.Session.{Acting, StepsSession, StepsAt}
 use Rattle.client_work.specs.declared.answer.Answer.TheVariants as answer
 use Rattle.client_work.specs.declared.work.Work.{Work}
-use Rattle.client_work.specs.declared.work.Work.TheVariants.{Closed, Idle, Opening, Committing, Reading, Scanning, Paging, Folding, Closing, Renewing, Settling, Broken}
+use Rattle.client_work.specs.declared.work.Work.TheVariants.{Closed, Idle, Opening, Committing, Reading, Scanning, Looking, Paging, Folding, Closing, Renewing, Settling, Broken}
 use Rattle.cloud_facts.proofs.Book.Names.{at_same}
 use Rattle.cloud_facts.proofs.Book.Places.{get_front, get_map, in_front}
 use Rattle.cloud_facts.proofs.Numbers.Lists.{map_there}
@@ -194,6 +194,7 @@ module _ (lines : List Line) (line : Line) (who : Caller) (wish : Wish) (before 
   by_lines (Idle home) is acts steps has = absurd steps
   by_lines (Reading home m) is acts steps has = absurd steps
   by_lines (Scanning home l) is acts steps has = subst (λ q. SentAt u (committed (lines ++ line ∷ []) u) (standing lines who.session).client q p.session.after.work (Committed txn)) (sym acts.0) tt
+  by_lines (Looking home m) is acts (buffer, c, d, shown, never) has = absurd never
   by_lines (Paging home k) is acts steps has = absurd steps
   by_lines (Folding home f) is acts steps has = absurd steps
   by_lines (Renewing home) is acts steps has = absurd steps

@@ -17,7 +17,7 @@ use Rattle.head_codec.specs.Spelling.{head_of}
 use Rattle.history.specs.Audited.{committed_entry}
 use Rattle.replay_meaning.specs.Committed.{changes_at, changes_of_row, entries_of_phase, entries_of_head, entries_of_bytes, site_entries, row_entries, committed_by, committed}
 use Rattle.replay_meaning.specs.Kinds.{MayPutPhase, MayPutHead, MayPutBytes, IsOfKindAt, IsOfKind}
-use Rattle.replay_meaning.specs.Standing.{Line, Posture, Closed, Idle, Broken, Working, Opening, Closing, Renewing, Committing, Reading, Scanning, Paging, Folding, Standing, standing_of_row}
+use Rattle.replay_meaning.specs.Standing.{Line, Posture, Closed, Idle, Broken, Working, Opening, Closing, Renewing, Committing, Reading, Scanning, LookingUp, Paging, Folding, Standing, standing_of_row}
 use Rattle.report_types.specs.declared.entry.Entry.{Entry}
 use Rattle.txn_buffer.specs.Noted.{Noted}
 use Rattle.load_facts.proofs.Lines.{CommitsParts, IsLoading}
@@ -42,6 +42,7 @@ committing_by (Working Closing) n is = absurd (cc (is.1))
 committing_by (Working Renewing) n is = absurd (cc (is.1))
 committing_by (Working (Reading tree key)) n is = absurd (cc (is.1))
 committing_by (Working (Scanning tree from to)) n is = absurd (cc (is.1))
+committing_by (Working (LookingUp tree attr)) n is = absurd (cc (is.1))
 committing_by (Working (Paging tree page)) n is = absurd (cc (is.1))
 committing_by (Working (Folding tree)) n is = absurd (cc (is.1))
 committing_by Closed n is = absurd (cc (is.1))

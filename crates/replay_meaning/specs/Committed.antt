@@ -15,7 +15,7 @@ use Rattle.cloud_trait.specs.declared.state.Site.TheVariants.{Object, Queue}
 use Rattle.cloud_trait.specs.declared.state.Version.{Version}
 use Rattle.cloud_trait.specs.State.{CloudState, version_at}
 use Rattle.history.specs.Audited.{committed_entry}
-use Rattle.replay_meaning.specs.Standing.{Line, Task, Opening, Closing, Renewing, Committing, Reading, Scanning, Paging, Folding, Posture, Closed, Idle, Broken, Working, standing_of_row}
+use Rattle.replay_meaning.specs.Standing.{Line, Task, Opening, Closing, Renewing, Committing, Reading, Scanning, LookingUp, Paging, Folding, Posture, Closed, Idle, Broken, Working, standing_of_row}
 
 -- the changes of the commit on which a session works
 abbrev pub task_changes : Task → List Noted
@@ -25,6 +25,7 @@ task_changes Closing = []
 task_changes Renewing = []
 task_changes (Reading tree key) = []
 task_changes (Scanning tree from to) = []
+task_changes (LookingUp tree attr) = []
 task_changes (Paging tree page) = []
 task_changes (Folding tree) = []
 

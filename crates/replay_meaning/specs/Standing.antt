@@ -23,6 +23,7 @@ pub data Task : Type 0 where
   Committing : (changes : List Noted) → Task
   Reading : (tree : ℕ) (key : List ℕ) → Task
   Scanning : (tree : ℕ) (from to : List ℕ) → Task
+  LookingUp : (tree : ℕ) (attr : List ℕ) → Task
   Paging : (tree page : ℕ) → Task
   Folding : (tree : ℕ) → Task
 
@@ -105,6 +106,7 @@ task_answered (Committing changes) reply s = commit_answered reply s
 task_answered Renewing reply s = idle s
 task_answered (Reading tree key) reply s = idle s
 task_answered (Scanning tree from to) reply s = idle s
+task_answered (LookingUp tree attr) reply s = idle s
 task_answered (Paging tree page) reply s = idle s
 task_answered (Folding tree) reply s = idle s
 
@@ -134,6 +136,7 @@ after_own (event.Commit session) reply s = begins_commit reply s
 after_own (event.Abort session) reply s = aborts reply s
 after_own (event.Read session tree key) reply s = begins (Reading tree key) reply s
 after_own (event.Scan session tree from to) reply s = begins (Scanning tree from to) reply s
+after_own (event.Lookup session tree attr) reply s = begins (LookingUp tree attr) reply s
 after_own (event.Page session tree page) reply s = begins (Paging tree page) reply s
 after_own (event.Tree session tree) reply s = begins (Folding tree) reply s
 after_own (event.Policy session role k) reply s = s
@@ -159,6 +162,7 @@ session_of (event.Commit session) = session
 session_of (event.Abort session) = session
 session_of (event.Read session tree key) = session
 session_of (event.Scan session tree from to) = session
+session_of (event.Lookup session tree attr) = session
 session_of (event.Page session tree page) = session
 session_of (event.Tree session tree) = session
 session_of (event.Policy session role k) = session

@@ -22,6 +22,8 @@ mod killed_loads;
 #[cfg(test)]
 mod long_dumps;
 #[cfg(test)]
+mod lookups;
+#[cfg(test)]
 mod old_store;
 #[cfg(test)]
 mod planted;

@@ -81,7 +81,7 @@ IsKeptLine entries before line = IsKeptReply entries (standing before (session_o
 -- absent, or no leaf; the calls of a checkpoint are few up to it, and that of a tree names its new pieces at its end; a settling
 -- leaves nothing and comes to its end so;
 -- a commit that it answers as committed is among what was committed, and of one that it answers as not committed nothing is; the two numbers of a
--- report count what is left then; and a read and a scan show what their own calls served, by what the lines say of the client
+-- report count what is left then; and a read, a scan and a look-up show what their own calls served, by what the lines say of the client
 pub record IsExplained (lines : List Line) (line : Line) (before after : Seen) (old new : World) (handled : Handled (length lines + 1) line.event before after old new (Ok line.reply))
     : Type 0 where
   pub explains : EachStep StepExplains (length lines + 1) line.event before after old new (Ok line.reply) handled

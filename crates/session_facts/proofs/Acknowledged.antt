@@ -227,6 +227,7 @@ kept_by_lines entries w s a = on w
     on (work.Opening r) acts h = subst At (sym acts.0) tt
     on (work.Reading home m) acts h = subst At (sym acts.0) tt
     on (work.Scanning home l) acts h = subst At (sym acts.0) tt
+    on (work.Looking home m) acts h = subst At (sym acts.0) tt
     on (work.Paging home p) acts h = subst At (sym acts.0) tt
     on (work.Folding home f) acts h = subst At (sym acts.0) tt
     on (work.Closing lease) acts h = subst At (sym acts) tt

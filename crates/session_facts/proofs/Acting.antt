@@ -16,24 +16,27 @@ use Rattle.range_scan.specs.Scan.{Scan, scan_next, moved_on, KeepsServed}
 use Rattle.recover_run.specs.declared.home.Home.{Home}
 use Rattle.recover_run.specs.declared.stage.RecoverAnswer.TheVariants.{Opened}
 use Rattle.commit_run.specs.Run.{Run, home_of as home_of_run}
+use Rattle.attr_index.specs.Look.{Query}
+use Rattle.client_work.specs.Showing.{own_of}
 use Rattle.client_work.specs.declared.answer.Answer.{Answer}
 use Rattle.client_work.specs.declared.answer.Answer.TheVariants as answer
 use Rattle.client_work.specs.declared.listing.Listing.{Listing}
 use Rattle.client_work.specs.declared.shown.Shown.{Shown}
 use Rattle.client_work.specs.declared.work.Work.{Work}
-use Rattle.client_work.specs.declared.work.Work.TheVariants.{Closed, Idle, Opening, Committing, Reading, Scanning, Paging, Folding, Closing, Renewing, Settling, Broken}
+use Rattle.client_work.specs.declared.work.Work.TheVariants.{Closed, Idle, Opening, Committing, Reading, Scanning, Looking, Paging, Folding, Closing, Renewing, Settling, Broken}
 use Rattle.page_cache.specs.Cache.{Cache}
 use Rattle.tree_walk.specs.Walk.{sought}
 use Rattle.client_work.specs.Session.{Follows, StepsAt, ShowsAt, noted_behind, opened_work, committed_work, stopped_work}
 use Rattle.reply_text.specs.declared.reply.Reply.{Reply}
 use Rattle.reply_text.specs.declared.reply.Reply.TheVariants as reply
-use Rattle.replay_meaning.specs.Standing.{Standing, Posture, Working, Opening as OpeningTask, Closing as ClosingTask, Renewing as RenewingTask, Committing as Noting, Reading as ReadingKey, Paging as PagingPage, Folding as FoldingTree, steps, answered, idle, broken, shut}
+use Rattle.replay_meaning.specs.Standing.{Standing, Posture, Working, Opening as OpeningTask, Closing as ClosingTask, Renewing as RenewingTask, Committing as Noting, Reading as ReadingKey, LookingUp, Paging as PagingPage, Folding as FoldingTree, steps, answered, idle, broken, shut}
 use Rattle.session_facts.specs.Facts.{WorksAs}
 use Rattle.session_facts.proofs.FoldingTree.{tree_stays}
 use Rattle.session_facts.proofs.OpeningSteps.{OpensFor, opens_on}
 use Rattle.session_facts.proofs.RunSteps.{RunsFor, AnyAnswer, runs_on}
 use Rattle.session_facts.proofs.PagingPage.{same_page}
 use Rattle.session_facts.proofs.SettledHead.{settled_on}
+use Rattle.session_facts.proofs.Looks.Queries.{look_goes_for}
 use Rattle.session_facts.proofs.ReadingWalk.{reading_goes}
 use Rattle.session_facts.proofs.ScanningRange.{range_of, scanning_goes, scanning_ends, moved_range}
 
@@ -78,6 +81,9 @@ goes_as who before after buffer (Reading home m) new c d shows s p shown acts =
     let same = reading_goes m shown.0 c d shown.1.answer shown.1.took in
     works_same new (Reading home shown.0) s shown.2 (acts.0 ∙ ap (λ k. Working (ReadingKey k (sought m))) (sym same.0) ∙ ap (λ k. Working (ReadingKey shown.0.tree k)) (sym same.1), acts.1)
 goes_as who before after buffer (Scanning home l) new c d shows s p shown acts = scan_goes_as home buffer l c d shown.scan shown.steps.answer shown.moved new shows s shown.steps.took shown.follows acts
+goes_as who before after buffer (Looking home l) new c d shows s p shown acts =
+    let same = look_goes_for (own_of home buffer) l shown.0 c d shown.1.walked.answer shown.1.took in
+    works_same new (Looking home shown.0) s shown.2 (acts.0 ∙ ap (λ (q : Query). Working (LookingUp q.tree q.attr)) (sym same), acts.1)
 goes_as who before after buffer (Paging home m) new c d shows s p shown acts =
     let same = same_page m p.0 p.1.answer p.1.took in
     works_same new (Paging home p.0) s p.2 (acts.0 ∙ ap (λ k. Working (PagingPage k m.page)) (sym same.0) ∙ ap (λ k. Working (PagingPage p.0.tree k)) (sym same.1), acts.1)
@@ -97,6 +103,7 @@ goes_noted who before after (Opening m) new buffer p = refl
 goes_noted who before after (Committing m) new buffer p = refl
 goes_noted who before after (Reading home m) new buffer p = refl
 goes_noted who before after (Scanning home m) new buffer p = refl
+goes_noted who before after (Looking home l) new buffer p = refl
 goes_noted who before after (Paging home m) new buffer p = refl
 goes_noted who before after (Folding home f) new buffer p = refl
 goes_noted who before after (Closing lease) new buffer p = absurd p
@@ -196,6 +203,11 @@ ends_as who before after (Reading home m) new s (answer.Trouble t) r p is acts =
 ends_as who before after (Reading home m) new s a r p is acts = absurd p
 ends_as who before after (Scanning home l) new s a r (buffer, c, d, shows, p) is acts =
     scan_ends_as home buffer l d p.scan p.moved new shows s a r p.follows is acts
+ends_as who before after (Looking home l) new s answer.Scan r (buffer, c, d, shows, p) is acts =
+    ends_idle (Looking home l) new home s (Working (LookingUp l.query.tree l.query.attr)) r (reply.Scan is.0) is.1 acts.0 refl refl p.2 acts.1 refl
+ends_as who before after (Looking home l) new s (answer.Trouble t) r (buffer, c, d, shows, p) is acts =
+    ends_idle (Looking home l) new home s (Working (LookingUp l.query.tree l.query.attr)) r (reply.Trouble t) is.0 acts.0 refl refl (p.2 ∙ stopped_idle t home is.1) acts.1 refl
+ends_as who before after (Looking home l) new s a r (buffer, c, d, shows, p) is acts = absurd p
 ends_as who before after (Paging home m) new s (answer.Done n) r p is acts =
     ends_idle (Paging home m) new home s (Working (PagingPage m.tree m.page)) r (reply.Done n) is acts.0 refl refl p.2 acts.1 refl
 ends_as who before after (Paging home m) new s (answer.Trouble t) r p is acts =

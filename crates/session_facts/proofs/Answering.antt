@@ -14,6 +14,7 @@ may_by_lines (work.Opening r) s t acts may = subst (λ (p : Posture). MayTrouble
 may_by_lines (work.Committing r) s t acts may = subst (λ (p : Posture). MayTrouble p t) (sym acts.0) may
 may_by_lines (work.Reading home m) s t acts may = subst (λ (p : Posture). MayTrouble p t) (sym acts.0) may
 may_by_lines (work.Scanning home l) s t acts may = subst (λ (p : Posture). MayTrouble p t) (sym acts.0) may
+may_by_lines (work.Looking home m) s t acts may = subst (λ (p : Posture). MayTrouble p t) (sym acts.0) may
 may_by_lines (work.Paging home p) s t acts may = subst (λ (q : Posture). MayTrouble q t) (sym acts.0) may
 may_by_lines (work.Folding home f) s t acts may = subst (λ (p : Posture). MayTrouble p t) (sym acts.0) may
 may_by_lines (work.Closing lease) s t acts may = subst (λ (p : Posture). MayTrouble p t) (sym acts) may

@@ -21,6 +21,7 @@ use Rattle.commit_run.specs.declared.hand.Hand.TheVariants.{Writes, First, Chang
 use Rattle.commit_run.specs.Run.{Run, home_of, ask_at as run_ask_at, run_ask}
 use Rattle.commit_run.specs.Sound.{IsSoundAt as IsSoundHand, IsSoundRun}
 use Rattle.page_ckpt.specs.Paging.{Paging as PageState, paging_ask}
+use Rattle.attr_index.specs.Look.{look_ask}
 use Rattle.range_scan.specs.Scan.{scan_ask}
 use Rattle.recover_run.specs.declared.items.AtomicItem.{AtomicItem}
 use Rattle.recover_run.specs.declared.stage.Stage.{Stage as OpeningStage}
@@ -40,7 +41,7 @@ use Rattle.settle_run.specs.declared.part.Part.TheVariants.{Client, Tree, Page}
 use Rattle.settle_run.specs.Parts.{part_ask, IsSoundPart}
 use Rattle.settle_run.specs.Settling.{Settling as SettlingState, settle_ask}
 use Rattle.client_work.specs.declared.work.Work.{Work}
-use Rattle.client_work.specs.declared.work.Work.TheVariants.{Closed, Idle, Opening, Committing, Reading, Scanning, Paging, Folding, Closing, Renewing, Settling, Broken}
+use Rattle.client_work.specs.declared.work.Work.TheVariants.{Closed, Idle, Opening, Committing, Reading, Scanning, Looking, Paging, Folding, Closing, Renewing, Settling, Broken}
 use Rattle.client_work.specs.Session.{ask_of_work}
 use Rattle.session_facts.specs.RowKinds.Asks.{MayAsk, MayAskBeside}
 use Rattle.session_facts.specs.Sessions.Puts.{IsSoundWork}
@@ -245,6 +246,7 @@ module _ (lines : List Line) (row : Landing) where
       of_hand (run_ask r) ask e (run_may r (record { changes = r.draft.writes.changes; commits = acts.0; as_many = refl; own = acts.1 }) acts.2 sound)
   work_asks (Reading home m) acts sound ask e = of_hand _ ask e tt
   work_asks (Scanning home m) acts sound ask e = of_hand (scan_ask m.scan) ask e tt
+  work_asks (Looking home m) acts sound ask e = of_hand (look_ask m) ask e tt
   work_asks (Paging home p) acts sound ask e = of_hand (paging_ask p) ask e (paging_asks lines row p (inl (p.page, acts.0)))
   work_asks (Folding home f) acts sound ask e = of_hand (making_ask f) ask e (work_may f.tree f.work (own_root f.tree f.work acts.2 (inl acts.0)))
   work_asks (Settling m) acts sound ask e = absurd acts

@@ -29,7 +29,7 @@ use Rattle.cloud_facts.specs.Decoding.Kinds.{MomentsDiffer}
 use Rattle.cloud_facts.proofs.Decoding.Newest.{newest_last}
 use Rattle.history.specs.Audited.{Audited, committed_entry}
 use Rattle.client_work.specs.declared.work.Work.{Work}
-use Rattle.client_work.specs.declared.work.Work.TheVariants.{Closed, Idle, Opening, Committing, Reading, Scanning, Paging, Folding, Closing, Renewing, Settling, Broken}
+use Rattle.client_work.specs.declared.work.Work.TheVariants.{Closed, Idle, Opening, Committing, Reading, Scanning, Looking, Paging, Folding, Closing, Renewing, Settling, Broken}
 use Rattle.client_work.specs.Session.{ask_of_work, committing_of, opens_of}
 use Rattle.replay_meaning.specs.Standing.{Line, Standing, standing}
 use Rattle.replay_meaning.specs.Committed.{committed, entries_of_bytes, entries_of_head, entries_of_phase, changes_at}
@@ -138,6 +138,7 @@ working_changes (Closing lease) s changes acts e = absurd (cc)
 working_changes (Renewing home) s changes acts e = absurd (cc)
 working_changes (Reading home m) s changes acts e = absurd (cc)
 working_changes (Scanning home m) s changes acts e = absurd (cc)
+working_changes (Looking home m) s changes acts e = absurd (cc)
 working_changes (Settling m) s changes acts e = absurd (cc)
 working_changes Closed s changes acts e = absurd (cc)
 working_changes (Idle home) s changes acts e = absurd (cc)

@@ -284,6 +284,7 @@ module _ (n : ℕ) (lines : List Line) (who : Caller) (before after : Seen) (x y
       on (work.Opening r) is acts shows = subst At (sym acts.0) tt
       on (work.Reading home m) is acts shows = subst At (sym acts.0) tt
       on (work.Scanning home l) is acts shows = subst At (sym acts.0) tt
+      on (work.Looking home m) is acts shows = subst At (sym acts.0) tt
       on (work.Paging home p) is acts shows = subst At (sym acts.0) tt
       on (work.Folding home f) is acts shows = subst At (sym acts.0) tt
       on (work.Closing lease) is acts shows = subst At (sym acts) tt

@@ -1,5 +1,6 @@
 pub mod Walks
 pub mod Scans
+pub mod Looks
 pub mod Openings
 pub mod Commits
 pub mod CommitRuns

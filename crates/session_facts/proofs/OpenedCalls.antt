@@ -47,7 +47,7 @@ use Rattle.client_work.specs.declared.answer.Answer.TheVariants as answer
 use Rattle.client_work.specs.declared.listing.Listing.{Listing}
 use Rattle.client_work.specs.declared.shown.Shown.{Shown}
 use Rattle.client_work.specs.declared.work.Work.{Work}
-use Rattle.client_work.specs.declared.work.Work.TheVariants.{Closed, Idle, Opening, Committing, Reading, Scanning, Paging, Folding, Closing, Renewing, Settling, Broken}
+use Rattle.client_work.specs.declared.work.Work.TheVariants.{Closed, Idle, Opening, Committing, Reading, Scanning, Looking, Paging, Folding, Closing, Renewing, Settling, Broken}
 use Rattle.client_work.specs.Session.{Acting, closed_session, opening_of, Follows, StepsAt, ask_of_work, opened_work, committed_work, stopped_work}
 use Rattle.recover_run.specs.declared.stage.RecoverAnswer.TheVariants as opening
 use Rattle.session_facts.specs.RowKinds.Asks.{MayAsk}
@@ -270,6 +270,7 @@ opened_stays (Opening r) head h = h
 opened_stays (Idle home) head h = h
 opened_stays (Reading home m) head h = h
 opened_stays (Scanning home l) head h = h
+opened_stays (Looking home m) head h = h
 opened_stays (Paging home p) head h = h
 opened_stays (Folding home f) head h = h
 opened_stays (Renewing home) head h = h
@@ -303,6 +304,7 @@ call_new w s ask client head acts for takes sound e puts = on w acts for.commits
     on (Idle home) acts (changes, commits) takes sound e = absurd (cc)
     on (Reading home m) acts (changes, commits) takes sound e = let is = acts.0 in absurd (cc)
     on (Scanning home l) acts (changes, commits) takes sound e = let is = acts.0 in absurd (cc)
+    on (Looking home m) acts (changes, commits) takes sound e = let is = acts.0 in absurd (cc)
     on (Paging home p) acts (changes, commits) takes sound e = let is = acts.0 in absurd (cc)
     on (Folding home f) acts (changes, commits) takes sound e = let is = acts.0 in absurd (cc)
     on (Renewing home) acts (changes, commits) takes sound e = let is = acts.0 in absurd (cc)
@@ -403,6 +405,12 @@ step_leads who before after (Reading home m) new (Ended (answer.Trouble k)) s ac
 step_leads who before after (Reading home m) new turn s acts p = absurd p
 step_leads who before after (Scanning home m) new turn s acts (buffer, c, d, shown, p) =
     scan_leads home buffer (record { scan = p.scan; pairs = m.pairs }) d p.moved new shown turn p.follows
+step_leads who before after (Looking home m) new More s acts (buffer, c, d, shown, (n, steps, is, none, less)) =
+    own_leads home (Looking home n) new is (λ head h. h, tt, λ client h. h)
+step_leads who before after (Looking home m) new (Ended answer.Scan) s acts (buffer, c, d, shown, (n, steps, is, some)) = own_leads home (Idle home) new is (idle_leads home)
+step_leads who before after (Looking home m) new (Ended (answer.Trouble k)) s acts (buffer, c, d, shown, (n, steps, is, none)) =
+    own_leads home (stopped_work k home) new is (stopped_leads k home)
+step_leads who before after (Looking home m) new turn s acts (buffer, c, d, shown, never) = absurd never
 step_leads who before after (Paging home m) new More s acts p = own_leads home (Paging home p.0) new p.2 (λ head h. h, tt, λ client h. h)
 step_leads who before after (Paging home m) new (Ended (answer.Done n)) s acts p = own_leads home (Idle home) new p.2 (idle_leads home)
 step_leads who before after (Paging home m) new (Ended (answer.Trouble k)) s acts p = own_leads home (stopped_work k home) new p.2 (stopped_leads k home)

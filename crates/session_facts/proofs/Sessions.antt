@@ -2,6 +2,7 @@
 pub mod Kept
 pub mod Keeping
 pub mod Laws
+pub mod Indexed
 pub mod Begins
 pub mod Troubles
 pub mod Showing
@@ -15,6 +16,7 @@ pub mod PagingSteps
 pub mod GettingSteps
 pub mod ReadingSteps
 pub mod ScanningSteps
+pub mod LookingSteps
 pub mod SettlingSteps
 pub mod SettlingExplaining
 pub mod Quiet
@@ -30,6 +32,7 @@ pub mod Answered
 pub mod PagingExplaining
 pub mod LeaseExplaining
 pub mod ReadingExplaining
+pub mod LookingExplaining
 pub mod Explaining
 pub mod Untroubled
 pub mod AtOnce

@@ -1,10 +1,10 @@
--- What a read and a scan show is what the lines say.
-use Rattle.std.proofs.Common.{◌≡◌, ℕ, List, Ok, sym, ap, subst, ◌∙◌, Bool}
-use Rattle.client_work.specs.Session.{Acting, StepsAt, StepsSession, noted_behind}
+-- What a read, a scan and a look-up show is what the lines say.
+use Rattle.std.proofs.Common.{◌≡◌, ◌⊎◌, inl, inr, ℕ, List, Ok, sym, ap, subst, ◌∙◌, Bool}
+use Rattle.client_work.specs.Session.{Acting, ShowsList, StepsAt, StepsSession, noted_behind}
 use Rattle.client_work.specs.declared.answer.Answer.{Answer}
 use Rattle.client_work.specs.declared.answer.Answer.TheVariants as answer
 use Rattle.client_work.specs.declared.work.Work.{Work}
-use Rattle.client_work.specs.declared.work.Work.TheVariants.{Reading, Scanning, Settling}
+use Rattle.client_work.specs.declared.work.Work.TheVariants.{Reading, Scanning, Looking, Settling}
 use Rattle.cloud_facts.specs.Book.Messages.{IsLogMessage}
 use Rattle.cloud_facts.specs.Book.Records.{IsIn, entry_of}
 use Rattle.cloud_facts.specs.Book.Tally.{Store}
@@ -25,7 +25,7 @@ use Rattle.report_types.specs.declared.entry.Entry.{Entry}
 use Rattle.session_facts.specs.Facts.{WorksAs, ActsAs, CloudHolds}
 use Rattle.session_facts.specs.Sessions.Sessions.{Sessions, IsHome, KnowsWork}
 use Rattle.session_facts.proofs.CallKinds.{HasCheckpoint}
-use Rattle.session_facts.specs.ShownByLines.{IsOfCommitted, ShowsByLines}
+use Rattle.session_facts.specs.ShownByLines.{IsOfCommitted, ScansByLines, LooksByLines, ShowsByLines}
 
 module _ (n : ℕ) (lines : List Line) (sessions : Sessions) (audit : Audited) (blind : Bool) (t : CloudState) (h : CloudHolds n lines sessions audit blind t) where
   abbrev st : Store
@@ -59,6 +59,37 @@ module _ (n : ℕ) (lines : List Line) (sessions : Sessions) (audit : Audited) (
     stands_as : (w : Work) → mine.work ≡ w → ActsAs mine s → WorksAs w s
     stands_as w is acts = subst (λ (v : Work). WorksAs v s) is acts.work
 
+    -- a scan or a look-up
+    lists : ActsAs mine s → ShowsList who before after mine new → ScansByLines lines t who before after mine new ⊎ LooksByLines lines t who before after mine new
+    lists acts (inl (home, scan, was, shows)) =
+        let stands = stands_as (Scanning home scan) was acts in
+        inl (record {
+          home = home;
+          listing = scan;
+          was = was;
+          shows = shows;
+          by = record {
+            works = stands.0;
+            client = stands.1;
+            noted = acts.buffer;
+            pending = pending_by home (h.stand.parts who.session) (known_as (Scanning home scan) was).0;
+          };
+        })
+    lists acts (inr (home, look, was, shows)) =
+        let stands = stands_as (Looking home look) was acts in
+        inr (record {
+          home = home;
+          look = look;
+          was = was;
+          shows = shows;
+          by = record {
+            works = stands.0;
+            client = stands.1;
+            noted = acts.buffer;
+            pending = pending_by home (h.stand.parts who.session) (known_as (Looking home look) was).0;
+          };
+        })
+
     pub shown_by_lines : (turn : Turn Answer) → ActsAs mine s → StepsSession who before after mine new (Ok turn) → ShowsByLines lines t who before after mine new turn
     shown_by_lines (Ended answer.Value) acts p =
         let read = p.whole in
@@ -75,21 +106,7 @@ module _ (n : ℕ) (lines : List Line) (sessions : Sessions) (audit : Audited) (
             pending = pending_by read.0 (h.stand.parts who.session) (known_as (Reading read.0 read.1) read.2).0;
           };
         }
-    shown_by_lines (Ended answer.Scan) acts p =
-        let scan = p.whole in
-        let stands = stands_as (Scanning scan.0 scan.1) scan.2 acts in
-        record {
-          home = scan.0;
-          listing = scan.1;
-          was = scan.2;
-          shows = scan.3;
-          by = record {
-            works = stands.0;
-            client = stands.1;
-            noted = acts.buffer;
-            pending = pending_by scan.0 (h.stand.parts who.session) (known_as (Scanning scan.0 scan.1) scan.2).0;
-          };
-        }
+    shown_by_lines (Ended answer.Scan) acts p = lists acts p.whole
     shown_by_lines turn acts p = tt
 
 -- ---- a settling, whatever the cloud tells
@@ -107,12 +124,20 @@ settler_goes who before after w new is p = absurd is
 pub settler_by_lines : (lines : List Line) (t : CloudState) (who : Caller) (before after : Seen) (old new : Acting) (turn : Turn Answer) → IsSettler old.work
     → StepsSession who before after old new (Ok turn) → ShowsByLines lines t who before after old new turn
 settler_by_lines lines t who before after old new (Ended answer.Value) settles p = absurd (subst IsSettler p.whole.2 settles)
-settler_by_lines lines t who before after old new (Ended answer.Scan) settles p = absurd (subst IsSettler p.whole.2 settles)
+settler_by_lines lines t who before after old new (Ended answer.Scan) settles p = absurd (never p.whole)
+  where
+    never : ShowsList who before after old new → ⊥
+    never (inl (home, scan, was, shows)) = subst IsSettler was settles
+    never (inr (home, look, was, shows)) = subst IsSettler was settles
 settler_by_lines lines t who before after old new turn settles p = tt
 
 -- nor does a checkpoint
 pub checkpoint_by_lines : (lines : List Line) (t : CloudState) (who : Caller) (before after : Seen) (home : Home) (old new : Acting) (turn : Turn Answer) → HasCheckpoint home old.work
     → StepsSession who before after old new (Ok turn) → ShowsByLines lines t who before after old new turn
 checkpoint_by_lines lines t who before after home old new (Ended answer.Value) has p = absurd (subst (HasCheckpoint home) p.whole.2 has)
-checkpoint_by_lines lines t who before after home old new (Ended answer.Scan) has p = absurd (subst (HasCheckpoint home) p.whole.2 has)
+checkpoint_by_lines lines t who before after home old new (Ended answer.Scan) has p = absurd (never p.whole)
+  where
+    never : ShowsList who before after old new → ⊥
+    never (inl (of, scan, was, shows)) = subst (HasCheckpoint home) was has
+    never (inr (of, look, was, shows)) = subst (HasCheckpoint home) was has
 checkpoint_by_lines lines t who before after home old new turn has p = tt

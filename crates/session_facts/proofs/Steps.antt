@@ -27,7 +27,7 @@ use Rattle.client_work.specs.declared.answer.Answer.TheVariants as answer
 use Rattle.client_work.specs.declared.listing.Listing.{Listing}
 use Rattle.client_work.specs.declared.shown.Shown.{Shown}
 use Rattle.client_work.specs.declared.work.Work.{Work}
-use Rattle.client_work.specs.declared.work.Work.TheVariants.{Closed, Idle, Opening, Committing, Reading, Scanning, Paging, Folding, Closing, Renewing, Settling, Broken}
+use Rattle.client_work.specs.declared.work.Work.TheVariants.{Closed, Idle, Opening, Committing, Reading, Scanning, Looking, Paging, Folding, Closing, Renewing, Settling, Broken}
 use Rattle.client_work.specs.Session.{Acting, Follows, StepsSession, StepsAt, ask_of_work, committing_of}
 use Rattle.txn_buffer.specs.Noted.{Noted}
 use Rattle.replay_meaning.specs.Standing.{Line, standing}
@@ -48,6 +48,7 @@ use Rattle.session_facts.proofs.CommitRows.{CommitsAs, stood_on, ask_commits, au
 use Rattle.session_facts.proofs.CommittedLemmas.{placed_effect, placed_called}
 use Rattle.session_facts.proofs.Once.{OpensUnopened, once_same, once_effect}
 use Rattle.session_facts.proofs.LineRows.{kinds_same, kinds_effect}
+use Rattle.attr_index.specs.Look.{look_ask}
 use Rattle.range_scan.specs.Scan.{scan_ask}
 use Rattle.settle_run.specs.Settling.{settle_ask}
 use Rattle.tree_walk.specs.Walk.{walk_ask}
@@ -74,6 +75,13 @@ made_call who before after (Reading home m) new (Ended answer.Value) p = record 
 made_call who before after (Reading home m) new (Ended (answer.Trouble k)) p = record { ask = walk_ask m; answer = p.0.answer; hand = refl; made = p.0.made }
 made_call who before after (Reading home m) new turn p = absurd p
 made_call who before after (Scanning home m) new turn (buffer, c, d, shown, p) = record { ask = scan_ask m.scan; answer = p.steps.answer; hand = refl; made = p.steps.made }
+made_call who before after (Looking home m) new More (buffer, c, d, shown, (n, steps, is, none, less)) =
+    record { ask = look_ask m; answer = steps.walked.answer; hand = refl; made = steps.walked.made }
+made_call who before after (Looking home m) new (Ended answer.Scan) (buffer, c, d, shown, (n, steps, is, some)) =
+    record { ask = look_ask m; answer = steps.walked.answer; hand = refl; made = steps.walked.made }
+made_call who before after (Looking home m) new (Ended (answer.Trouble k)) (buffer, c, d, shown, (n, steps, is, none)) =
+    record { ask = look_ask m; answer = steps.walked.answer; hand = refl; made = steps.walked.made }
+made_call who before after (Looking home m) new turn (buffer, c, d, shown, never) = absurd never
 made_call who before after (Paging home m) new More p = record { ask = paging_ask m; answer = p.1.answer; hand = refl; made = p.1.made }
 made_call who before after (Paging home m) new (Ended (answer.Done n)) p = record { ask = paging_ask m; answer = p.1.answer; hand = refl; made = p.1.made }
 made_call who before after (Paging home m) new (Ended (answer.Trouble k)) p = record { ask = paging_ask m; answer = p.1.answer; hand = refl; made = p.1.made }
@@ -108,6 +116,7 @@ never_stops who before after (Opening m) new t p = p.1
 never_stops who before after (Committing m) new t (sound, c, d, p) = p
 never_stops who before after (Reading home m) new t p = p
 never_stops who before after (Scanning home m) new t (buffer, c, d, shown, p) = scan_goes_on home buffer (record { scan = p.scan; pairs = m.pairs }) d p.moved new shown t p.follows
+never_stops who before after (Looking home m) new t (buffer, c, d, shown, never) = never
 never_stops who before after (Paging home m) new t p = p
 never_stops who before after (Folding home f) new t p = p
 never_stops who before after (Closing lease) new t p = p
@@ -123,6 +132,7 @@ sound_of who before after (Opening m) new turn p = p.0
 sound_of who before after (Committing m) new turn p = p.0
 sound_of who before after (Reading home m) new turn p = tt
 sound_of who before after (Scanning home m) new turn p = tt
+sound_of who before after (Looking home m) new turn p = tt
 sound_of who before after (Paging home m) new turn p = tt
 sound_of who before after (Folding home f) new turn p = tt
 sound_of who before after (Closing lease) new turn p = tt

@@ -3,7 +3,7 @@ use Rattle.session_facts.specs.CommitRuns.Stopping.{MayStop as MayStopCommit, Ma
 use Rattle.db_base.specs.declared.trouble.Trouble.{Trouble}
 use Rattle.session_facts.specs.Openings.Opening.{MayStop as MayStopOpening}
 use Rattle.session_facts.specs.PageCheckpoints.Checkpoint.{MayStop as MayStopPage}
-use Rattle.replay_meaning.specs.Standing.{Task, Opening, Closing, Renewing, Committing, Reading, Scanning, Paging, Folding, Posture, Closed, Idle, Broken, Working}
+use Rattle.replay_meaning.specs.Standing.{Task, Opening, Closing, Renewing, Committing, Reading, Scanning, LookingUp, Paging, Folding, Posture, Closed, Idle, Broken, Working}
 use Rattle.reply_text.specs.declared.reply.Reply.{Reply}
 use Rattle.reply_text.specs.declared.reply.Reply.TheVariants as reply
 use Rattle.session_facts.specs.Sessions.Answering.{MayRefuse, MaySettle}
@@ -18,6 +18,7 @@ MayFail Renewing t = MayRefuse t
 MayFail (Committing changes) t = MayStopCommit t
 MayFail (Reading tree key) t = MayStopWalk t
 MayFail (Scanning tree from to) t = MayStopWalk t
+MayFail (LookingUp tree attr) t = MayStopWalk t
 MayFail (Paging tree page) t = MayStopPage page t
 MayFail (Folding tree) t = MayStopTree t
 

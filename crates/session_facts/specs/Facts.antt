@@ -14,7 +14,7 @@ use Rattle.reply_text.specs.declared.reply.Reply.TheVariants as reply
 use Rattle.client_work.specs.declared.work.Work.{Work}
 use Rattle.client_work.specs.declared.work.Work.TheVariants as work
 use Rattle.client_work.specs.Session.{Acting, closed_session}
-use Rattle.replay_meaning.specs.Standing.{Line, Closed, Idle, Broken, Working, Opening, Closing, Renewing, Committing, Reading as ReadingKey, Scanning as ScanningRange, Paging as PagingPage, Folding as FoldingTree, Standing, standing}
+use Rattle.replay_meaning.specs.Standing.{Line, Closed, Idle, Broken, Working, Opening, Closing, Renewing, Committing, Reading as ReadingKey, Scanning as ScanningRange, LookingUp, Paging as PagingPage, Folding as FoldingTree, Standing, standing}
 use Rattle.replay_meaning.specs.Committed.{Versions, committed}
 use Rattle.replay_meaning.specs.Kinds.{IsOfKind, OpensOnce}
 use Rattle.tree_walk.specs.Walk.{sought}
@@ -71,6 +71,7 @@ WorksAs (work.Opening r) s = (s.posture ≡ Working Opening) × (s.client ≡ r.
 WorksAs (work.Committing r) s = (s.posture ≡ Working (Committing r.draft.writes.changes)) × (s.client ≡ (home_of r).client) × IsRunning r
 WorksAs (work.Reading home m) s = (s.posture ≡ Working (ReadingKey m.tree (sought m))) × (s.client ≡ home.client)
 WorksAs (work.Scanning home l) s = (s.posture ≡ Working (ScanningRange l.scan.walk.tree (sought l.scan.walk) (unwrap_or l.scan.to []))) × (s.client ≡ home.client)
+WorksAs (work.Looking home m) s = (s.posture ≡ Working (LookingUp m.query.tree m.query.attr)) × (s.client ≡ home.client)
 WorksAs (work.Paging home p) s = (s.posture ≡ Working (PagingPage p.tree p.page)) × (s.client ≡ home.client)
 WorksAs (work.Folding home f) s = (s.posture ≡ Working (FoldingTree f.tree)) × (s.client ≡ home.client) × IsOfTree f.tree f.work
 WorksAs (work.Closing lease) s = s.posture ≡ Working Closing

@@ -1,6 +1,7 @@
 pub mod Few
 pub mod Walks
 pub mod Scans
+pub mod Looks
 pub mod Openings
 pub mod Commits
 pub mod CommitRuns

@@ -12,7 +12,7 @@ use Rattle.commit_run.specs.declared.hand.Hand.{Hand}
 use Rattle.commit_run.specs.declared.hand.Hand.TheVariants.{Writes, First, Change}
 use Rattle.commit_run.specs.Run.{Run, home_of}
 use Rattle.client_work.specs.declared.work.Work.{Work}
-use Rattle.client_work.specs.declared.work.Work.TheVariants.{Closed, Idle, Opening, Committing, Reading, Scanning, Paging, Folding, Closing, Renewing, Settling, Broken}
+use Rattle.client_work.specs.declared.work.Work.TheVariants.{Closed, Idle, Opening, Committing, Reading, Scanning, Looking, Paging, Folding, Closing, Renewing, Settling, Broken}
 use Rattle.replay_meaning.specs.Kinds.{LandsOpen, OpensOnce}
 use Rattle.session_facts.specs.Facts.{IsPlaced}
 use Rattle.session_facts.specs.Sessions.Sessions.{Sessions}
@@ -81,6 +81,7 @@ MayHaveOpened (Committing r) head = IsBelow (home_of r).head.epoch (first_of r) 
 MayHaveOpened (Idle home) head = IsOpenedBy home head
 MayHaveOpened (Reading home m) head = IsOpenedBy home head
 MayHaveOpened (Scanning home l) head = IsOpenedBy home head
+MayHaveOpened (Looking home m) head = IsOpenedBy home head
 MayHaveOpened (Paging home p) head = IsOpenedBy home head
 MayHaveOpened (Folding home f) head = IsOpenedBy home head
 MayHaveOpened (Renewing home) head = IsOpenedBy home head
@@ -103,6 +104,7 @@ WorksFor client (Committing r) = (home_of r).client ≡ client
 WorksFor client (Idle home) = home.client ≡ client
 WorksFor client (Reading home m) = home.client ≡ client
 WorksFor client (Scanning home l) = home.client ≡ client
+WorksFor client (Looking home m) = home.client ≡ client
 WorksFor client (Paging home p) = home.client ≡ client
 WorksFor client (Folding home f) = home.client ≡ client
 WorksFor client (Renewing home) = home.client ≡ client

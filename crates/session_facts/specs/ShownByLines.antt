@@ -1,8 +1,9 @@
--- What a read and a scan show by the lines: the session's buffer is what its lines noted, and the pending entries of its head are records that its client
+-- What a read, a scan and a look-up show by the lines: the session's buffer is what its lines noted, and the pending entries of its head are records that its client
 -- committed.
-use Rattle.std.specs.Prelude.{ℕ, ◌≡◌, List, [], unwrap_or}
+use Rattle.std.specs.Prelude.{ℕ, ◌≡◌, ◌⊎◌, List, [], unwrap_or}
+use Rattle.attr_index.specs.Look.{Look}
 use Rattle.client_work.specs.Session.{Acting, value_of, items_of}
-use Rattle.client_work.specs.Showing.{ShowsValue, ShowsRecords}
+use Rattle.client_work.specs.Showing.{ShowsValue, ShowsRecords, ShowsFound}
 use Rattle.client_work.specs.declared.answer.Answer.{Answer}
 use Rattle.client_work.specs.declared.answer.Answer.TheVariants as answer
 use Rattle.client_work.specs.declared.listing.Listing.{Listing}
@@ -20,7 +21,7 @@ use Rattle.log_codec.specs.declared.record.AtomicRec.{AtomicRec}
 use Rattle.range_scan.specs.Listing.{Range, range_of}
 use Rattle.recover_run.specs.declared.home.Home.{Home}
 use Rattle.replay_meaning.specs.Committed.{committed}
-use Rattle.replay_meaning.specs.Standing.{Line, Task, Working, Reading, Scanning, standing}
+use Rattle.replay_meaning.specs.Standing.{Line, Task, Working, Reading, Scanning, LookingUp, standing}
 use Rattle.route_plan.specs.Record.{pending_of}
 use Rattle.tree_walk.specs.Walk.{Walk, sought}
 use Rattle.txn_buffer.specs.Noted.{Noted}
@@ -61,8 +62,16 @@ pub record ScansByLines (lines : List Line) (t : CloudState) (who : Caller) (bef
   pub shows : ShowsRecords who before after home old.buffer listing old.cache (items_of new)
   pub by : IsByLines lines t who.session (scan_task (range_of listing.scan)) home old.buffer
 
--- a step that ends a read or a scan shows it so, over the state before its call
+-- and a look-up with the records that it found at the ends of its walks
+pub record LooksByLines (lines : List Line) (t : CloudState) (who : Caller) (before after : Seen) (old new : Acting) : Type 0 where
+  pub home : Home
+  pub look : Look
+  pub was : old.work ≡ work.Looking home look
+  pub shows : ShowsFound who before after home old.buffer look old.cache (items_of new)
+  pub by : IsByLines lines t who.session (LookingUp look.query.tree look.query.attr) home old.buffer
+
+-- a step that ends a read, a scan or a look-up shows it so, over the state before its call
 abbrev pub ShowsByLines : List Line → CloudState → Caller → Seen → Seen → Acting → Acting → Turn Answer → Type 0
 ShowsByLines lines t who before after old new (Ended answer.Value) = ReadsByLines lines t who before after old new
-ShowsByLines lines t who before after old new (Ended answer.Scan) = ScansByLines lines t who before after old new
+ShowsByLines lines t who before after old new (Ended answer.Scan) = ScansByLines lines t who before after old new ⊎ LooksByLines lines t who before after old new
 ShowsByLines lines t who before after old new turn = Unit {0}

@@ -4,7 +4,7 @@ use std::process::Abort;
 use words::fault::TextFault;
 
 /// Every line of a schedule.
-const LINES: [&str; 34] = [
+const LINES: [&str; 36] = [
     "open 1 64\n",
     "close 16\n",
     "renew 2\n",
@@ -24,6 +24,8 @@ const LINES: [&str; 34] = [
     "read 1 2 6b\n",
     "scan 1 1 - -\n",
     "scan 1 1 6b 6c\n",
+    "lookup 1 1 61\n",
+    "lookup 0 18446744073709551615 -\n",
     "page 1 2 3\n",
     "tree 1 1\n",
     "step 1 plain\n",
@@ -42,7 +44,7 @@ const LINES: [&str; 34] = [
 ];
 
 /// Lines that are nearly in the grammar.
-const NEAR_MISSES: [&str; 36] = [
+const NEAR_MISSES: [&str; 39] = [
     "",
     "\n",
     "open 1 64",
@@ -70,6 +72,9 @@ const NEAR_MISSES: [&str; 36] = [
     "put 1 1 6b 76\n",
     "put 1 1 6b 76 \n",
     "put 1 1 6b 76 61 61\n",
+    "lookup 1 1\n",
+    "lookup 1 1 \n",
+    "lookup 1 1 61 61\n",
     "update 1 1 6b 76 61\n",
     "delete 1 1 6b 61\n",
     "add 1 1 6b 1 61\n",
@@ -99,7 +104,7 @@ const SHELL_LINES: [(&str, &str); 13] = [
 ];
 
 /// Lines of a schedule that are no shell's lines.
-const NO_SHELL_LINES: [&str; 9] = [
+const NO_SHELL_LINES: [&str; 10] = [
     "open 1\n",
     "close\n",
     "run\n",
@@ -108,6 +113,7 @@ const NO_SHELL_LINES: [&str; 9] = [
     "commit 1\n",
     "insert 1 6b 76 61 61\n",
     "put 1 6b 76 61\n",
+    "lookup 1 61\n",
     "update 1 6b 76 61\n",
 ];
 

@@ -22,14 +22,14 @@ use Rattle.world_core.specs.declared.asked.Request.{Request}
 use Rattle.world_core.specs.declared.asked.Request.TheVariants.{Begin, Note, Abort, Policy, Work as WorksDue, Step, Run, Crash}
 use Rattle.world_core.specs.declared.asked.Asked.{Asked}
 use Rattle.world_core.specs.declared.asked.Asked.TheVariants.{Session, Wait, Report, Settle}
-use Rattle.world_core.specs.Asked.{bound_of, IsOpening, IsReading, IsScanning, IsPaging, IsFolding, IsNoted, IsStep, OfSession, Asks, noting_of}
+use Rattle.world_core.specs.Asked.{bound_of, IsOpening, IsReading, IsScanning, IsLookingUp, IsPaging, IsFolding, IsNoted, IsStep, OfSession, Asks, noting_of}
 use Rattle.world_core.specs.Replying.{done_reply}
 use Rattle.world_core.specs.Sessions.{NotesIn, AbortsIn, joined}
 use Rattle.world_core.specs.Handled.{NotesChange, DropsChanges, Does, Answers, Handled}
 use Rattle.world_core.specs.Added.{WorldAdds}
 use Rattle.world_core.proofs.WorkerRows.{adds_work}
 use Rattle.world_core.proofs.AddedSteps.{adds_policy, adds_declined, adds_quietly, adds_step, adds_run, adds_crash, adds_settle, adds_wait, adds_report}
-use Rattle.world_core.proofs.BeginLemmas.{IsOk, refused_is, opens, has_in_hand, commits, reads, scans, works_with}
+use Rattle.world_core.proofs.BeginLemmas.{IsOk, refused_is, opens, has_in_hand, commits, reads, scans, looks, works_with}
 use Rattle.world_core.proofs.EveryLine.{does_own, asked_is}
 
 -- a request to a session is served, or it is not done
@@ -129,6 +129,11 @@ module _ (n : ℕ) (before after : Seen) (old new : World) (r : Reply) (lines : 
       let h = does k request (Begin (op.Scan tree (bound_of low) (bound_of high))) is.3 done in
       adds_quietly lines (event.Scan k tree low high) r k first before after old new _ refl some h.0 h.1
       (λ acts. (scans k tree low high r lines h.1.before h.1.after h.1.does.begun acts h.1.does.begins h.1.does.replies).0) w)
+  asked_adds (event.Lookup k tree attr) asked asks answers = by_request k (event.Lookup k tree attr) (IsLookingUp tree attr) asked asks answers
+      (λ request some is done.
+      let h = does k request (Begin (op.Lookup tree attr)) is.2 done in
+      adds_quietly lines (event.Lookup k tree attr) r k first before after old new _ refl some h.0 h.1
+      (λ acts. (looks k tree attr r lines h.1.before h.1.after h.1.does.begun acts h.1.does.begins h.1.does.replies).0) w)
   asked_adds (event.Page k tree page) asked asks answers = by_request k (event.Page k tree page) (IsPaging tree page) asked asks answers
       (λ request some is done.
       let h = does k request (Begin (op.Page tree page)) is.2 done in

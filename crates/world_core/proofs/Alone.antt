@@ -30,7 +30,7 @@ use Rattle.session_facts.specs.Settled.Locks.{HoldsAlone}
 use Rattle.world_core.proofs.EachHeld.{each_held}
 use Rattle.world_core.proofs.StandsLemmas.{changed_at, changed_was, end_later, no_memory}
 use Rattle.world_core.specs.Alone.{IsAloneIn, KeepsAlone, LeavesAlone, StepIsUndisturbed}
-use Rattle.world_core.specs.Asked.{Asks, IsFolding, IsNoted, IsOpening, IsPaging, IsReading, IsScanning, IsStep, OfSession, noting_of}
+use Rattle.world_core.specs.Asked.{Asks, IsFolding, IsLookingUp, IsNoted, IsOpening, IsPaging, IsReading, IsScanning, IsStep, OfSession, noting_of}
 use Rattle.world_core.specs.Calm.{StepIsCalm, work_at}
 use Rattle.world_core.specs.EachStep.{EachAsked, EachCome, EachDone, EachMade, EachRun, EachThrough, EachWent, EachWork, StepFact}
 use Rattle.world_core.specs.Handled.{Answers, BeginsCheckpoint, BeginsOp, ComesTo, Declines, Does, DropsChanges, MakesStep, NotesChange, Policies, Runs, StepsLooked, Went, Works, WorksThrough, checkpoint_more, checkpoint_of, further, no_checkpoint, start}
@@ -306,6 +306,8 @@ module _ (session : ℕ) where
   leaves_it (event.Abort s) asked asks own = of_session s _ (λ request is. asked_so Abort request tt is) asked asks own
   leaves_it (event.Read s tree key) asked asks own = of_session s (IsReading tree key) (λ request is. same_request (Begin (op.Read tree key)) request tt is.2) asked asks own
   leaves_it (event.Scan s tree from to) asked asks own = of_session s (IsScanning tree from to) (λ request is. same_request _ request tt is.3) asked asks own
+  leaves_it (event.Lookup s tree attr) asked asks own =
+      of_session s (IsLookingUp tree attr) (λ request is. same_request (Begin (op.Lookup tree attr)) request tt is.2) asked asks own
   leaves_it (event.Page s tree page) asked asks own = of_session s (IsPaging tree page) (λ request is. same_request (Begin (op.Page tree page)) request tt is.2) asked asks own
   leaves_it (event.Tree s tree) asked asks own = of_session s (IsFolding tree) (λ request is. same_request (Begin (op.Tree tree)) request tt is.1) asked asks own
   leaves_it (event.Policy s role k) asked asks own = of_session s _ (λ request is. asked_so (Policy role k) request tt is) asked asks own

@@ -28,7 +28,7 @@ use Rattle.client_work.specs.declared.listing.Listing.{Listing}
 use Rattle.client_work.specs.declared.shown.Shown.TheVariants.{Nothing}
 use Rattle.client_work.specs.declared.work.Work.{Work}
 use Rattle.client_work.specs.declared.work.Work.TheVariants as work
-use Rattle.client_work.specs.Session.{Acting, Begins, BeginsOpening, BeginsWith, HasInHand, CommitsNothing, CommitsNoted, CommitsIn, CommitsOf, Follows, ReadsIn, ReadsOf, ScansIn, ScansOf, begins_by, paging_begun_by, folding_begun_by, old_lease, rule_of, stopped_work}
+use Rattle.client_work.specs.Session.{Acting, Begins, BeginsOpening, BeginsWith, BeginsIndexed, HasInHand, CommitsNothing, CommitsNoted, CommitsIn, CommitsOf, Follows, LooksIn, LooksOf, ReadsIn, ReadsOf, ScansIn, ScansOf, begins_by, paging_begun_by, folding_begun_by, old_lease, rule_of, stopped_work}
 use Rattle.session_facts.specs.Sessions.Sessions.{Sessions, SessionsStand, IsRightOp}
 use Rattle.session_facts.proofs.Sessions.Begins.{begins_keeps}
 use Rattle.session_facts.proofs.Sessions.Laws.{buffer_keeps, same_sessions}
@@ -38,12 +38,13 @@ use Rattle.cloud_trait.specs.declared.turn.Turn.TheVariants.{More, Ended, Stoppe
 use Rattle.range_scan.specs.Scan.{Scan, new_scan, scan_ready, moved_on}
 use Rattle.tree_walk.specs.Moves.{Moves}
 use Rattle.tree_walk.specs.Walk.{new_walk}
+use Rattle.attr_index.specs.Look.{Query}
 use Rattle.commit_run.specs.Run.{home_of}
 use Rattle.session_facts.specs.Commits.Committing.{MayCommit}
 use Rattle.session_facts.proofs.Commits.Noted.{may_none}
 use Rattle.cloud_facts.specs.Book.Tally.{at}
 use Rattle.cloud_facts.proofs.Book.Names.{at_same, at_other}
-use Rattle.replay_meaning.specs.Standing.{Line, Standing, Working as WorkingOn, Committing as CommittingAll, Reading as ReadingKey, Scanning as ScanningRange, standing, after_own, joins}
+use Rattle.replay_meaning.specs.Standing.{Line, Standing, Working as WorkingOn, Committing as CommittingAll, Reading as ReadingKey, Scanning as ScanningRange, LookingUp, standing, after_own, joins}
 use Rattle.session_facts.specs.Facts.{session_at, ActsAs, WorksAs}
 use Rattle.session_facts.proofs.Acting.{IsReplyTo}
 use Rattle.session_facts.proofs.RunSteps.{RunsFor, IsRefusal, run_begins}
@@ -51,6 +52,7 @@ use Rattle.session_facts.proofs.LineLemmas.{line_of, refused_own}
 use Rattle.session_facts.proofs.OpeningSteps.{opening_begins}
 use Rattle.session_facts.proofs.ReadingWalk.{reading_begins}
 use Rattle.session_facts.proofs.ScanningRange.{range_of, moved_range, scanning_begins, scanning_begins_ended}
+use Rattle.session_facts.proofs.Looks.Queries.{look_begins_for}
 use Rattle.world_core.specs.declared.asked.Noting.{Noting}
 use Rattle.world_core.specs.World.{World}
 use Rattle.world_core.specs.declared.world.WorldFault.{WorldFault}
@@ -269,6 +271,35 @@ scans k tree first last r lines a b (Ok begun) acts begins e =
 scans k tree first last r lines a b (Err (refused.Rule rule)) acts begins e = refused_session (event.Scan k tree first last) r rule k lines a b e begins.1 acts
 scans k tree first last r lines a b (Err refused.Memory) acts begins e = absurd begins
 
+-- a look-up begins, or it stops at once
+looks_of : (k tree : ℕ) (attr : List ℕ) (r : Reply) (lines : List Line) (home : Home) (old : Cache) (b : Acting) (begun : Begun) → b.buffer ≡ (standing lines k).buffer
+    → WorksAs (work.Idle home) (standing lines k) → LooksOf home (record { tree = tree; attr = attr }) old b.cache b.work b.shown begun → RepliesBegun (Ok begun) b (Ok r)
+    → LeavesSession (event.Lookup k tree attr) r k lines b
+looks_of k tree attr r lines home old b Working same idle (m, ready, is, none) e =
+    let begins : r ≡ reply.Begun = cc in
+    let query : Query = record { tree = tree; attr = attr } in
+    let for : m.query ≡ query = look_begins_for query m old b.cache ready in
+    let P : Reply → Type 0 = λ z. LeavesSession (event.Lookup k tree attr) z k lines b in
+    subst P (sym begins) (
+      acts_by b (work.Looking home m) (after_own (event.Lookup k tree attr) reply.Begun (standing lines k)) is same
+          (ap (λ (q : Query). WorkingOn (LookingUp q.tree q.attr)) (sym for), idle.1),
+      tt,
+    )
+looks_of k tree attr r lines home old b (Answered (answer.Trouble t)) same idle (leads, is, none) e =
+    let tells = (replies_to (answer.Trouble t) b r e).0 in
+    let P : Reply → Type 0 = λ z. LeavesSession (event.Lookup k tree attr) z k lines b in
+    subst P (sym tells.0) (acts_by b (work.Idle home) (standing lines k) (is ∙ stays_idle t home tells.1) same idle, tt)
+looks_of k tree attr r lines home old b (Answered a) same idle never e = absurd never
+
+pub looks : (k tree : ℕ) (attr : List ℕ) (r : Reply) (lines : List Line) (a b : Acting) (begun : Result Begun Refused) → ActsAs a (standing lines k)
+    → BeginsIndexed tree (LooksIn tree attr a) a b begun → RepliesBegun begun b (Ok r) → LeavesSession (event.Lookup k tree attr) r k lines b
+looks k tree attr r lines a b (Ok begun) acts (few, (home, idle, does)) e =
+    looks_of k tree attr r lines home a.cache b begun (does.0 ∙ acts.buffer) (idle_of k lines a home idle acts) does.1 e
+looks k tree attr r lines a b (Err (refused.Rule rule)) acts (inl (bad, above, same)) e = refused_session (event.Lookup k tree attr) r rule k lines a b e same acts
+looks k tree attr r lines a b (Err (refused.Rule rule)) acts (inr (few, (why, same))) e = refused_session (event.Lookup k tree attr) r rule k lines a b e same acts
+looks k tree attr r lines a b (Err refused.Memory) acts (inl (bad, above, same)) e = absurd (cc (bad))
+looks k tree attr r lines a b (Err refused.Memory) acts (inr (few, never)) e = absurd never
+
 pub opening_begun : (lines : List Line) (k client : ℕ) (r : Reply) (before after : Seen) (old new : World) (t : CloudState) → IsClient client
     → Ready lines (event.Open k client) k before after old new t → Changes k (BeginsOp (op.Open client) (Ok r)) old.sessions new.sessions
     → LineLeaves (lines ++ line_of (event.Open k client) r ∷ []) new after r
@@ -339,6 +370,14 @@ scan_begun lines k tree first last r before after old new t is ready c =
     let left = scans k tree first last r lines c.before c.after c.does.begun (acts_before lines (event.Scan k tree first last) k before after old new t _ ready c) c.does.begins c.does.replies in
     quiet_line lines (event.Scan k tree first last) r k before after old new t _ ready c
     (begun_stands lines (event.Scan k tree first last) k before after old new t (op.Scan tree (bound_of first) (bound_of last)) r is ready c) left.0 left.1
+
+pub look_begun : (lines : List Line) (k tree : ℕ) (attr : List ℕ) (r : Reply) (before after : Seen) (old new : World) (t : CloudState) → IsTree tree
+    → Ready lines (event.Lookup k tree attr) k before after old new t → Changes k (BeginsOp (op.Lookup tree attr) (Ok r)) old.sessions new.sessions
+    → LineLeaves (lines ++ line_of (event.Lookup k tree attr) r ∷ []) new after r
+look_begun lines k tree attr r before after old new t is ready c =
+    let left = looks k tree attr r lines c.before c.after c.does.begun (acts_before lines (event.Lookup k tree attr) k before after old new t _ ready c) c.does.begins c.does.replies in
+    quiet_line lines (event.Lookup k tree attr) r k before after old new t _ ready c
+    (begun_stands lines (event.Lookup k tree attr) k before after old new t (op.Lookup tree attr) r is ready c) left.0 left.1
 
 -- ---- changes are noted and dropped
 

@@ -7,11 +7,15 @@ use Rattle.db_base.specs.declared.trouble.Trouble.{Trouble}
 use Rattle.db_base.specs.declared.trouble.Trouble.TheVariants as trouble
 use Rattle.txn_buffer.specs.Noted.{Noted}
 use Rattle.cloud_trait.specs.Seen.{Seen}
+use Rattle.cloud_trait.specs.Machine.{Next, Goes, Ends, Stops}
 use Rattle.cloud_trait.specs.declared.turn.Turn.{Turn}
 use Rattle.cloud_trait.specs.declared.turn.Turn.TheVariants.{More, Ended, Stopped}
 use Rattle.page_cache.specs.Cache.{Cache}
-use Rattle.tree_walk.specs.Walk.{Walk, new_walk}
+use Rattle.tree_walk.specs.Causing.{LinkShows}
+use Rattle.tree_walk.specs.Walk.{Walk, new_walk, walk_ready}
 use Rattle.tree_walk.proofs.Causes.{ready_shows}
+use Rattle.tree_walk.proofs.Outcomes.{unended_ready}
+use Rattle.attr_index.specs.Look.{Query, Look, new_look, set_out}
 use Rattle.range_scan.specs.Scan.{Scan, new_scan}
 use Rattle.range_scan.proofs.Demands.{scan_ready_shows}
 use Rattle.recover_run.specs.declared.home.Home.{Home}
@@ -20,7 +24,7 @@ use Rattle.commit_run.proofs.Causing.{ready_causes}
 use Rattle.commit_run.proofs.Exacting.{ready_exact}
 use Rattle.commit_run.proofs.Meaning.{ready_means}
 use Rattle.client_work.specs.declared.listing.Listing.{Listing}
-use Rattle.client_work.specs.Session.{Acting, CommitsNoted, ReadsOf, ScansOf, Follows, begins_by, Begins}
+use Rattle.client_work.specs.Session.{Acting, CommitsNoted, LooksOf, ReadsOf, ScansOf, Follows, begins_by, Begins}
 use Rattle.client_work.specs.declared.answer.Answer.{Answer}
 use Rattle.client_work.specs.declared.answer.Answer.TheVariants as answer
 use Rattle.client_work.specs.declared.answer.Begun.{Begun}
@@ -80,6 +84,16 @@ scan_shown : (home : Home) (buffer : List Noted) (start : Scan) (c d : Cache) (w
 scan_shown home buffer start c d work shown begun t s is other =
     (s.scan.walk, scan_ready_shows start c (s.scan, d) s.moved s.moves t (scan_stopped home buffer (record { scan = s.scan; pairs = [] }) d s.moved work shown s.turn begun t s.follows s.begins is other) other)
 
+-- a look-up that is answered a trouble at its begin stopped by it in its first walk, if memory did not run out
+look_shown : (home : Home) (q : Query) (c d : Cache) (work : Work) (shown : Shown) (t : Trouble) → LooksOf home q c d work shown (Answered (answer.Trouble t)) → KeptShows (new_look q).walk c t
+look_shown home q c d work shown t (must, is, none) other = let leads = must other in on leads.0 (walk_ready ((new_look q).walk, c)) refl leads.1
+  where
+    on : (m : Look) (x : Next (Walk × Cache) ℕ) → walk_ready ((new_look q).walk, c) ≡ x → set_out (new_look q) x ≡ Stops (m, d) t
+        → (left : Walk) × LinkShows c (new_look q).walk left t
+    on m (Goes n) ready leads = absurd (cc (leads))
+    on m (Ends n page) ready leads = absurd (unended_ready ((new_look q).walk, c) n page ready)
+    on m (Stops n s) ready leads = let same : s ≡ t = cc (leads) in (n.0, ready_shows (new_look q).walk c n (Stopped s) (λ some. ready) t (ap Stopped same) other)
+
 -- ---- every begin
 
 commit_begun : (old new : Acting) (begun : Begun) → Begins op.Commit old new (Ok begun) → BeginShows op.Commit old begun
@@ -92,11 +106,17 @@ read_begun tree key old new begun h t is =
 scan_begun : (tree : ℕ) (from to : Option (List ℕ)) (old new : Acting) (begun : Begun) → Begins (op.Scan tree from to) old new (Ok begun) → BeginShows (op.Scan tree from to) old begun
 scan_begun tree from to old new begun h t is = scan_shown h.0 old.buffer (new_scan tree from to) old.cache new.cache new.work new.shown begun t h.2.1 is
 
+look_begun : (tree : ℕ) (attr : List ℕ) (old new : Acting) (begun : Begun) → Begins (op.Lookup tree attr) old new (Ok begun) → BeginShows (op.Lookup tree attr) old begun
+look_begun tree attr old new begun (few, (home, idle, does)) t is =
+    let q : Query = record { tree = tree; attr = attr } in
+    look_shown home q old.cache new.cache new.work new.shown t (subst (LooksOf home q old.cache new.cache new.work new.shown) is does.1)
+
 was_begun : (o : Op) (old new : Acting) (begun : Result Begun Refused) → Begins o old new begun → WasBegun o old begun
 was_begun o old new (Err why) h = tt
 was_begun op.Commit old new (Ok begun) h = commit_begun old new begun h
 was_begun (op.Read tree key) old new (Ok begun) h = read_begun tree key old new begun h
 was_begun (op.Scan tree from to) old new (Ok begun) h = scan_begun tree from to old new begun h
+was_begun (op.Lookup tree attr) old new (Ok begun) h = look_begun tree attr old new begun h
 was_begun (op.Open client) old new (Ok begun) h = tt
 was_begun op.Close old new (Ok begun) h = tt
 was_begun op.Renew old new (Ok begun) h = tt

@@ -33,7 +33,7 @@ use Rattle.event_text.specs.declared.event.Event.{Event}
 use Rattle.event_text.specs.declared.event.Event.TheVariants as event
 use Rattle.page_cache.specs.Cache.{Cache}
 use Rattle.recover_run.specs.declared.home.Home.{Home}
-use Rattle.replay_meaning.specs.Standing.{Line, Task, Opening, Closing, Renewing, Committing, Reading, Scanning, Paging, Folding, Posture, Working, Standing, session_of, standing}
+use Rattle.replay_meaning.specs.Standing.{Line, Task, Opening, Closing, Renewing, Committing, Reading, Scanning, LookingUp, Paging, Folding, Posture, Working, Standing, session_of, standing}
 use Rattle.session_facts.specs.Answers.{IsSoundReply}
 use Rattle.session_facts.specs.Facts.{session_at, WorksAs}
 use Rattle.reply_text.specs.declared.reply.Reply.{Reply}
@@ -57,7 +57,7 @@ use Rattle.world_core.specs.declared.asked.Request.{Request}
 use Rattle.world_core.specs.declared.asked.Request.TheVariants.{Begin, Note, Abort, Policy, Work as WorksDue, Step, Run, Crash}
 use Rattle.world_core.specs.World.{World}
 use Rattle.world_core.specs.declared.world.WorldFault.{WorldFault}
-use Rattle.world_core.specs.Asked.{Asks, OfSession, IsOpening, IsReading, IsScanning, IsPaging, IsFolding, IsNoted, IsStep, bound_of, noting_of}
+use Rattle.world_core.specs.Asked.{Asks, OfSession, IsOpening, IsReading, IsScanning, IsLookingUp, IsPaging, IsFolding, IsNoted, IsStep, bound_of, noting_of}
 use Rattle.world_core.specs.Calm.{StepIsCalm, spent_by, work_at, DoesWell, BeginsWell, RunsWell, StepsWell, SettlesWell, RepliesWell, AnswersWell, WorksWell}
 use Rattle.world_core.specs.EachStep.{EachWent, EachMade, EachRun, EachSettlingOn, EachSettling, EachDone, EachAsked}
 use Rattle.world_core.specs.Explained.{StepExplains}
@@ -82,6 +82,7 @@ IsAnswerOf Renewing (answer.Renewed end) = Unit {0}
 IsAnswerOf (Committing changes) (answer.Commit c) = Unit {0}
 IsAnswerOf (Reading tree key) answer.Value = Unit {0}
 IsAnswerOf (Scanning tree from to) answer.Scan = Unit {0}
+IsAnswerOf (LookingUp tree attr) answer.Scan = Unit {0}
 IsAnswerOf (Paging tree page) (answer.Done n) = Unit {0}
 IsAnswerOf (Folding tree) (answer.Done n) = Unit {0}
 IsAnswerOf task (answer.Trouble k) = Unit {0}
@@ -118,6 +119,9 @@ answers_as who before after (work.Scanning home m) new s a (buffer, c, d, shown,
   posture = acts.0;
   of = scan_answers home buffer (record { scan = p.scan; pairs = m.pairs }) d p.moved new shown a m.scan.walk.tree (sought m.scan.walk) (unwrap_or m.scan.to []) p.follows;
 }
+answers_as who before after (work.Looking home m) new s answer.Scan p acts = record { task = _; counts = λ u what is. is; posture = acts.0; of = tt }
+answers_as who before after (work.Looking home m) new s (answer.Trouble k) p acts = record { task = _; counts = λ u what is. is; posture = acts.0; of = tt }
+answers_as who before after (work.Looking home m) new s a (buffer, c, d, shown, never) acts = absurd never
 answers_as who before after (work.Paging home m) new s (answer.Done n) p acts = record { task = Paging m.tree m.page; counts = λ u what is. is; posture = acts.0; of = tt }
 answers_as who before after (work.Paging home m) new s (answer.Trouble k) p acts = record { task = Paging m.tree m.page; counts = λ u what is. is; posture = acts.0; of = tt }
 answers_as who before after (work.Paging home m) new s a p acts = absurd p
@@ -152,6 +156,7 @@ trouble_well u Renewing k may none other = refuse_never u (spent_by Renewing) k 
 trouble_well u (Committing changes) k may none other = commit_spent u k may none other
 trouble_well u (Reading tree key) k may none other = walk_never u (spent_by (Reading tree key)) k may none other
 trouble_well u (Scanning tree from to) k may none other = walk_never u (spent_by (Scanning tree from to)) k may none other
+trouble_well u (LookingUp tree attr) k may none other = walk_never u (spent_by (LookingUp tree attr)) k may none other
 trouble_well u (Paging tree page) k may none other = page_spent u tree page k may none other
 trouble_well u (Folding tree) k may none other = tree_spent u tree k may none other
 
@@ -174,6 +179,7 @@ answer_well u (Committing changes) (answer.Commit c) left r of sound e none =
     subst (DoesWell u (Committing changes)) (sym is) (commit_well u c (none.told c refl) none.trouble (subst (IsSoundReply (Working (Committing changes))) is sound))
 answer_well u (Reading tree key) answer.Value left r of sound e none = value_well u tree key (value_of left) r e
 answer_well u (Scanning tree from to) answer.Scan left r of sound e none = subst (DoesWell u (Scanning tree from to)) (sym e) tt
+answer_well u (LookingUp tree attr) answer.Scan left r of sound e none = subst (DoesWell u (LookingUp tree attr)) (sym e) tt
 answer_well u (Paging tree page) (answer.Done n) left r of sound e none =
     let is : r ≡ reply.Done n = cc in
     subst (DoesWell u (Paging tree page)) (sym is) none.left
@@ -186,6 +192,7 @@ answer_well u Renewing a left r of sound e none = absurd of
 answer_well u (Committing changes) a left r of sound e none = absurd of
 answer_well u (Reading tree key) a left r of sound e none = absurd of
 answer_well u (Scanning tree from to) a left r of sound e none = absurd of
+answer_well u (LookingUp tree attr) a left r of sound e none = absurd of
 answer_well u (Paging tree page) a left r of sound e none = absurd of
 answer_well u (Folding tree) a left r of sound e none = absurd of
 
@@ -200,6 +207,7 @@ paging_of (work.Opening m) s tree page acts is = absurd (cc (acts.0, is))
 paging_of (work.Committing m) s tree page acts is = absurd (cc (acts.0, is))
 paging_of (work.Reading home m) s tree page acts is = absurd (cc (acts.0, is))
 paging_of (work.Scanning home m) s tree page acts is = absurd (cc (acts.0, is))
+paging_of (work.Looking home m) s tree page acts is = absurd (cc (acts.0, is))
 paging_of (work.Folding home m) s tree page acts is = absurd (cc (acts.0, is))
 paging_of (work.Closing lease) s tree page acts is = absurd (cc (acts, is))
 paging_of (work.Renewing home) s tree page acts is = absurd (cc (acts.0, is))
@@ -436,6 +444,7 @@ module _ (lines : List Line) (n k : ℕ) (before after : Seen) (old new : World)
   OpWell op.Commit q = BeginsWell u (Committing []) q
   OpWell (op.Read tree key) q = BeginsWell u (Reading tree key) q
   OpWell (op.Scan tree from to) q = (first last : List ℕ) → BeginsWell u (Scanning tree first last) q
+  OpWell (op.Lookup tree attr) q = BeginsWell u (LookingUp tree attr) q
   OpWell (op.Page tree page) q = BeginsWell u (Paging tree page) q
   OpWell (op.Tree tree) q = BeginsWell u (Folding tree) q
 
@@ -446,6 +455,7 @@ module _ (lines : List Line) (n k : ℕ) (before after : Seen) (old new : World)
   op_begun op.Commit = tt
   op_begun (op.Read tree key) = tt
   op_begun (op.Scan tree from to) = λ first last. tt
+  op_begun (op.Lookup tree attr) = tt
   op_begun (op.Page tree page) = tt
   op_begun (op.Tree tree) = tt
 
@@ -456,6 +466,7 @@ module _ (lines : List Line) (n k : ℕ) (before after : Seen) (old new : World)
   op_refused op.Commit rule = tt
   op_refused (op.Read tree key) rule = tt
   op_refused (op.Scan tree from to) rule = λ first last. tt
+  op_refused (op.Lookup tree attr) rule = tt
   op_refused (op.Page tree page) rule = tt
   op_refused (op.Tree tree) rule = tt
 
@@ -466,6 +477,7 @@ module _ (lines : List Line) (n k : ℕ) (before after : Seen) (old new : World)
   memory_at_once op.Commit q e = e
   memory_at_once (op.Read tree key) q e = e
   memory_at_once (op.Scan tree from to) q e = e
+  memory_at_once (op.Lookup tree attr) q e = e
   memory_at_once (op.Page tree page) q e = e
   memory_at_once (op.Tree tree) q e = e
 
@@ -484,6 +496,7 @@ module _ (lines : List Line) (n k : ℕ) (before after : Seen) (old new : World)
   op_answered op.Commit a left is e = absurd is
   op_answered (op.Read tree key) a left is e = absurd is
   op_answered (op.Scan tree from to) a left is e = absurd is
+  op_answered (op.Lookup tree attr) a left is e = absurd is
   op_answered (op.Page tree page) a left is e = absurd is
   op_answered (op.Tree tree) a left is e = absurd is
 
@@ -692,6 +705,11 @@ module _ (lines : List Line) (n : ℕ) (before after : Seen) (old new : World) (
       let d = as_asked lines n k before after old new r t number told stands well u told_after request (Begin (op.Scan tree (bound_of from) (bound_of to))) (ap (λ q. Ok q) is.3) does in
       let w = begins_well lines n k before after old new r t number told stands well u told_after (op.Scan tree (bound_of from) (bound_of to)) is.0 d.0.0.seen d.0.1 in
       (w.0, w.1 from to))
+  asked_well (event.Lookup k tree attr) asked asks h calm explains sound well =
+      request_well lines n k before after old new r t number told stands well u told_after (BeginsWell u (LookingUp tree attr)) (λ rule. tt) (IsLookingUp tree attr) asked asks h calm explains
+      (λ request is does.
+      let d = as_asked lines n k before after old new r t number told stands well u told_after request (Begin (op.Lookup tree attr)) (ap (λ q. Ok q) is.2) does in
+      begins_well lines n k before after old new r t number told stands well u told_after (op.Lookup tree attr) is.0.0 d.0.0.seen d.0.1)
   asked_well (event.Page k tree page) asked asks h calm explains sound well =
       request_well lines n k before after old new r t number told stands well u told_after (BeginsWell u (Paging tree page)) (λ rule. tt) (IsPaging tree page) asked asks h calm explains
       (λ request is does. let d = as_asked lines n k before after old new r t number told stands well u told_after request (Begin (op.Page tree page)) (ap (λ q. Ok q) is.2) does in begins_well lines n k before after old new r t number told stands well u told_after (op.Page tree page) (is.0, is.1) d.0.0.seen d.0.1)

@@ -35,7 +35,7 @@ use Rattle.world_core.specs.declared.asked.Asked.TheVariants.{Session, Wait, Rep
 use Rattle.world_core.specs.declared.asked.Request.{Request}
 use Rattle.world_core.specs.declared.asked.Request.TheVariants.{Begin, Note, Abort, Policy, Work as WorksDue, Step, Run, Crash}
 use Rattle.world_core.specs.declared.world.WorldFault.{WorldFault}
-use Rattle.world_core.specs.Asked.{Asks, OfSession, IsOpening, IsReading, IsScanning, IsPaging, IsFolding, IsNoted, IsStep, noting_of}
+use Rattle.world_core.specs.Asked.{Asks, OfSession, IsOpening, IsReading, IsScanning, IsLookingUp, IsPaging, IsFolding, IsNoted, IsStep, noting_of}
 use Rattle.world_core.specs.Handled.{Declines, BeginsOp, StepsLooked, MakesStep, Runs, Settles, SettlesOn, Crashes, Reports, Does, Answers, Policies, WorksThrough}
 use Rattle.world_core.specs.Replying.{declined, done_reply, unsettled_reply, value_reply, RepliesTo, RepliesSettled, RepliesBegun, RepliesTurn}
 use Rattle.world_core.specs.Sessions.{Changes}
@@ -126,6 +126,7 @@ begin_rests op.Renew old new begun does = subst IsAtRest (sym does.1) tt
 begin_rests op.Commit old new begun does = subst IsAtRest (sym does.1) tt
 begin_rests (op.Read tree key) old new begun does = subst IsAtRest (sym does.1) tt
 begin_rests (op.Scan tree from to) old new begun does = subst IsAtRest (sym does.1) tt
+begin_rests (op.Lookup tree attr) old new begun does = subst IsAtRest (sym does.1.1) tt
 begin_rests (op.Page tree page) old new begun does = subst IsAtRest (sym does.1) tt
 begin_rests (op.Tree tree) old new begun does = subst IsAtRest (sym does.1) tt
 
@@ -283,6 +284,7 @@ module _ (Holds : Posture → Work → CommitAnswer → Type 0) (nothing : SaysN
   asked_keeps (event.Abort k) ends asked asks answers = of_session (event.Abort k) ends (λ request. request ≡ Ok Abort) asked asks answers
   asked_keeps (event.Read k tree key) ends asked asks answers = of_session (event.Read k tree key) ends (IsReading tree key) asked asks answers
   asked_keeps (event.Scan k tree from to) ends asked asks answers = of_session (event.Scan k tree from to) ends (IsScanning tree from to) asked asks answers
+  asked_keeps (event.Lookup k tree attr) ends asked asks answers = of_session (event.Lookup k tree attr) ends (IsLookingUp tree attr) asked asks answers
   asked_keeps (event.Page k tree page) ends asked asks answers = of_session (event.Page k tree page) ends (IsPaging tree page) asked asks answers
   asked_keeps (event.Tree k tree) ends asked asks answers = of_session (event.Tree k tree) ends (IsFolding tree) asked asks answers
   asked_keeps (event.Policy k role number) ends asked asks answers = of_session (event.Policy k role number) ends (λ request. request ≡ Ok (Policy role number)) asked asks answers

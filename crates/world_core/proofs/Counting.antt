@@ -12,7 +12,7 @@ use Rattle.client_work.specs.declared.op.Op.{Op}
 use Rattle.client_work.specs.declared.op.Op.TheVariants as op
 use Rattle.client_work.specs.declared.shown.Shown.{Shown}
 use Rattle.client_work.specs.declared.work.Work.{Work}
-use Rattle.client_work.specs.declared.work.Work.TheVariants.{Idle, Broken, Committing, Reading, Scanning, Closing, Renewing}
+use Rattle.client_work.specs.declared.work.Work.TheVariants.{Idle, Broken, Committing, Reading, Scanning, Looking, Closing, Renewing}
 use Rattle.cloud_facts.proofs.Book.Names.{at_same, at_other}
 use Rattle.cloud_facts.specs.Book.Book.{Book}
 use Rattle.cloud_facts.specs.Book.Tally.{at}
@@ -222,6 +222,15 @@ module _ (r : Reply) (calls : ℕ) (s : CloudState) (a b : Acting) where
   scan_counts tree from to (Err (refused.Rule rule)) begins e k = refused_counts rule e begins.1 k
   scan_counts tree from to (Err refused.Memory) begins e k = absurd begins
 
+  look_counts : (tree : ℕ) (attr : List ℕ) (begun : Result Begun Refused) → Begins (op.Lookup tree attr) a b begun → RepliesBegun begun b (Ok r) → CountsWork calls s a.work → Left
+  look_counts tree attr (Ok Working) (few, (home, idle, does)) e k = other_by (counted r calls) s b.work (Looking home does.1.0) does.1.2 tt
+  look_counts tree attr (Ok (Answered (answer.Trouble t))) (few, (home, idle, does)) e k = stopped_counts (counted r calls) s b.work t home does.1.1
+  look_counts tree attr (Ok (Answered x)) (few, (home, idle, does)) e k = absurd does.1
+  look_counts tree attr (Err (refused.Rule rule)) (inl (bad, above, same)) e k = refused_counts rule e same k
+  look_counts tree attr (Err (refused.Rule rule)) (inr (few, (why, same))) e k = refused_counts rule e same k
+  look_counts tree attr (Err refused.Memory) (inl (bad, above, same)) e k = absurd (cc (bad))
+  look_counts tree attr (Err refused.Memory) (inr (few, never)) e k = absurd never
+
   begin_counts : (o : Op) (begun : Result Begun Refused) → Begins o a b begun → RepliesBegun begun b (Ok r) → CountsWork calls s a.work → Left
   begin_counts (op.Open client) begun begins e k = open_counts client begun begins e k
   begin_counts op.Close begun begins e k = hand_counts (λ home. Closing home.lease) begun (λ home. tt) begins e k
@@ -229,6 +238,7 @@ module _ (r : Reply) (calls : ℕ) (s : CloudState) (a b : Acting) where
   begin_counts op.Commit begun begins e k = commit_counts begun begins e k
   begin_counts (op.Read tree key) begun begins e k = read_counts tree key begun begins e k
   begin_counts (op.Scan tree from to) begun begins e k = scan_counts tree from to begun begins e k
+  begin_counts (op.Lookup tree attr) begun begins e k = look_counts tree attr begun begins e k
   begin_counts (op.Page tree page) begun begins e k = first_counts (paging_begun_by tree page) (λ home. page_begun s home tree page) begun begins e k
   begin_counts (op.Tree tree) begun begins e k = first_counts (folding_begun_by tree) (λ home. begun_counts s home tree) begun begins e k
 

@@ -16,13 +16,13 @@ use Rattle.world_core.specs.declared.asked.Request.{Request}
 use Rattle.world_core.specs.declared.asked.Request.TheVariants.{Begin, Note, Abort, Policy, Work as WorksDue, Step, Run, Crash}
 use Rattle.world_core.specs.declared.asked.Asked.{Asked}
 use Rattle.world_core.specs.declared.asked.Asked.TheVariants.{Session, Wait, Report, Settle}
-use Rattle.world_core.specs.Asked.{noting_of, bound_of, IsOpening, IsReading, IsScanning, IsPaging, IsFolding, IsNoted, IsStep, OfSession, Asks}
+use Rattle.world_core.specs.Asked.{noting_of, bound_of, IsOpening, IsReading, IsScanning, IsLookingUp, IsPaging, IsFolding, IsNoted, IsStep, OfSession, Asks}
 use Rattle.world_core.specs.Sessions.{joined}
 use Rattle.world_core.specs.Handled.{MakesNoCall, Does, Answers, Handled}
 use Rattle.world_core.proofs.Behind.{LinesStand, LineLeaves}
 use Rattle.world_core.proofs.StandsLemmas.{Ready, declines, runs, makes_step, crashes, policies, settles, waits, reports}
 use Rattle.world_core.proofs.Workers.{works_through}
-use Rattle.world_core.proofs.BeginLemmas.{opening_begun, read_begun, scan_begun, paging_begun, close_begun, renewal_begun, folding_begun, commit_begun, notes, aborts}
+use Rattle.world_core.proofs.BeginLemmas.{opening_begun, read_begun, scan_begun, look_begun, paging_begun, close_begun, renewal_begun, folding_begun, commit_begun, notes, aborts}
 
 -- the line of a session, and what is known before it is looked at
 pub record Served (lines : List Line) (n k : ℕ) (t : CloudState) (before : Seen) (old : World) : Type 0 where
@@ -94,6 +94,11 @@ asked_stands n (event.Scan k tree first last) asked before after old new r lines
     (λ request s is done.
     let h = does_own n k request (Begin (op.Scan tree (bound_of first) (bound_of last))) before after old new r is.3 done in
     scan_begun lines k tree first last r before after old new t is.0 (ready_of lines (event.Scan k tree first last) n k before after old new t refl s h.0) h.1)
+asked_stands n (event.Lookup k tree attr) asked before after old new r lines t asks answers at told stands =
+    request_stands n k (event.Lookup k tree attr) (IsLookingUp tree attr) asked before after old new r lines t asks answers at told stands
+    (λ request s is done.
+    let h = does_own n k request (Begin (op.Lookup tree attr)) before after old new r is.2 done in
+    look_begun lines k tree attr r before after old new t is.0.0 (ready_of lines (event.Lookup k tree attr) n k before after old new t refl s h.0) h.1)
 asked_stands n (event.Page k tree page) asked before after old new r lines t asks answers at told stands =
     request_stands n k (event.Page k tree page) (IsPaging tree page) asked before after old new r lines t asks answers at told stands
     (λ request s is done.

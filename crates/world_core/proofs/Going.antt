@@ -12,7 +12,7 @@ use Rattle.recover_run.specs.declared.home.Home.{Home}
 use Rattle.txn_buffer.specs.Noted.{Noted}
 use Rattle.db_base.specs.declared.wish.Wish.{Wish}
 use Rattle.client_work.specs.declared.work.Work.{Work}
-use Rattle.client_work.specs.declared.work.Work.TheVariants.{Closed, Idle, Opening, Committing, Reading, Scanning, Paging, Folding, Closing, Renewing, Settling, Broken}
+use Rattle.client_work.specs.declared.work.Work.TheVariants.{Closed, Idle, Opening, Committing, Reading, Scanning, Looking, Paging, Folding, Closing, Renewing, Settling, Broken}
 use Rattle.client_work.specs.declared.listing.Listing.{Listing}
 use Rattle.client_work.specs.declared.shown.Shown.{Shown}
 use Rattle.client_work.specs.Session.{Acting, closed_session, Follows, StepsAt, ask_of_work, calls_left}
@@ -70,6 +70,7 @@ more_asks who before after (Opening m) new p = (_, ap ask_of_work p.1.2)
 more_asks who before after (Committing m) new p = (_, ap ask_of_work p.3.2)
 more_asks who before after (Reading home m) new p = (_, ap ask_of_work p.2)
 more_asks who before after (Scanning home m) new (buffer, c, d, shown, p) = follows_asks home buffer (record { scan = p.scan; pairs = m.pairs }) d p.moved new shown p.follows
+more_asks who before after (Looking home m) new (buffer, c, d, shown, p) = (_, ap ask_of_work p.2)
 more_asks who before after (Paging home m) new p = (_, ap ask_of_work p.2)
 more_asks who before after (Folding home f) new p = (_, ap ask_of_work p.2)
 more_asks who before after (Closing lease) new p = absurd p

@@ -36,7 +36,7 @@ use Rattle.db_base.specs.declared.names.QueueName.{QueueName}
 use Rattle.ckpt_policy.specs.declared.role.Role.{Role}
 use Rattle.world_core.proofs.Joining.{may_join}
 use Rattle.world_core.proofs.StandsLemmas.{changed_at, changed_was, changed_rests, went_rests, has_at, no_memory}
-use Rattle.world_core.specs.Asked.{bound_of, IsOpening, IsReading, IsScanning, IsPaging, IsFolding, IsNoted, IsStep, OfSession, Asks, noting_of, IsPlace, change_in}
+use Rattle.world_core.specs.Asked.{bound_of, IsOpening, IsReading, IsScanning, IsLookingUp, IsPaging, IsFolding, IsNoted, IsStep, OfSession, Asks, noting_of, IsPlace, change_in}
 use Rattle.world_core.specs.Handled.{Declines, Has, BeginsOp, NotesChange, DropsChanges, MakesNoCall, StepsLooked, MakesStep, Went, start, further, Runs, SettlesOn, Settles, Dies, Crashes, Does, WaitsFor, WaitsTooLong, Reports, Answers, Handled, Policies, Works, WorksThrough, checkpoint_more, checkpoint_of, no_checkpoint}
 use Rattle.world_core.specs.Sessions.{Changes, NotesIn, AbortsIn, joined}
 use Rattle.world_core.specs.Stands.{KeepsABook}
@@ -88,6 +88,10 @@ scanning_right : (tree : ℕ) (from to : List ℕ) (request : Result Request Ref
 scanning_right tree from to (Ok request) is = begins_right (op.Scan tree (bound_of from) (bound_of to)) request is.0 is.3
 scanning_right tree from to (Err why) is = tt
 
+looking_right : (tree : ℕ) (attr : List ℕ) (request : Result Request Refused) → IsLookingUp tree attr request → IsRightIfAny request
+looking_right tree attr (Ok request) is = begins_right (op.Lookup tree attr) request is.0.0 is.2
+looking_right tree attr (Err why) is = tt
+
 paging_right : (tree page : ℕ) (request : Result Request Refused) → IsPaging tree page request → IsRightIfAny request
 paging_right tree page (Ok request) is = begins_right (op.Page tree page) request (is.0, is.1) is.2
 paging_right tree page (Err why) is = tt
@@ -119,6 +123,7 @@ asks_right (event.Commit k) asked asks = of_session k (λ request. request ≡ O
 asks_right (event.Abort k) asked asks = of_session k (λ request. request ≡ Ok Abort) (same_right Abort tt) asked asks
 asks_right (event.Read k tree key) asked asks = of_session k (IsReading tree key) (reading_right tree key) asked asks
 asks_right (event.Scan k tree from to) asked asks = of_session k (IsScanning tree from to) (scanning_right tree from to) asked asks
+asks_right (event.Lookup k tree attr) asked asks = of_session k (IsLookingUp tree attr) (looking_right tree attr) asked asks
 asks_right (event.Page k tree page) asked asks = of_session k (IsPaging tree page) (paging_right tree page) asked asks
 asks_right (event.Tree k tree) asked asks = of_session k (IsFolding tree) (folding_right tree) asked asks
 asks_right (event.Policy k role number) asked asks = of_session k (λ request. request ≡ Ok (Policy role number)) (same_right (Policy role number) tt) asked asks

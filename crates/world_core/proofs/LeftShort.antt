@@ -29,6 +29,7 @@ use Rattle.recover_run.specs.declared.stage.RecoverAnswer.{RecoverAnswer}
 use Rattle.recover_run.specs.Recovery.{Recovery, Step as Leads, recovery_ask, under}
 use Rattle.recover_run.proofs.Outcomes.{Comes, gives_old, takes, refused as taken_not, stops, finds_none, reads_settled, reads_open, deletes, receives, sends, puts, clears, sweeps, clears_past, opens, closes, ends, stopped, astray, nothing as does_nothing, comes_to}
 use Rattle.tree_walk.specs.Walk.{Walk, new_walk}
+use Rattle.attr_index.specs.Look.{Query}
 use Rattle.client_work.specs.declared.answer.Answer.{Answer}
 use Rattle.client_work.specs.declared.answer.Answer.TheVariants as answer
 use Rattle.client_work.specs.declared.answer.Begun.{Begun}
@@ -38,9 +39,9 @@ use Rattle.client_work.specs.declared.op.Op.{Op}
 use Rattle.client_work.specs.declared.op.Op.TheVariants as op
 use Rattle.client_work.specs.declared.shown.Shown.{Shown}
 use Rattle.client_work.specs.declared.work.Work.{Work}
-use Rattle.client_work.specs.declared.work.Work.TheVariants.{Closed, Idle, Opening, Committing, Reading, Scanning, Paging, Folding, Closing, Renewing, Settling, Broken}
+use Rattle.client_work.specs.declared.work.Work.TheVariants.{Closed, Idle, Opening, Committing, Reading, Scanning, Looking, Paging, Folding, Closing, Renewing, Settling, Broken}
 use Rattle.client_work.specs.BrokenOff.{broken_off, broken_work}
-use Rattle.client_work.specs.Session.{Acting, closed_session, Begins, BeginsWith, CommitsIn, CommitsNoted, CommitsOf, Follows, HasInHand, ReadsIn, ReadsOf, ScansIn, folding_begun_by, paging_begun_by, StepsAt, StepsSession, ask_of_work, committed_work, stopped_work}
+use Rattle.client_work.specs.Session.{Acting, closed_session, Begins, BeginsWith, CommitsIn, CommitsNoted, CommitsOf, Follows, HasInHand, LooksIn, LooksOf, ReadsIn, ReadsOf, ScansIn, folding_begun_by, paging_begun_by, StepsAt, StepsSession, ask_of_work, committed_work, stopped_work}
 use Rattle.session_facts.proofs.CallKinds.{HasCheckpoint}
 use Rattle.db_base.specs.declared.names.QueueName.{QueueName}
 use Rattle.ckpt_policy.specs.declared.role.Role.{Role}
@@ -100,6 +101,7 @@ broken_now (Opening m) ask e = refl
 broken_now (Committing m) ask e = (_, refl)
 broken_now (Reading home m) ask e = (home.lease, refl)
 broken_now (Scanning home m) ask e = (home.lease, refl)
+broken_now (Looking home m) ask e = (home.lease, refl)
 broken_now (Paging home m) ask e = (home.lease, refl)
 broken_now (Folding home m) ask e = (home.lease, refl)
 broken_now (Closing lease) ask e = refl
@@ -122,6 +124,7 @@ broken_more who before after (Opening m) v u p h = to_lease (Opening _) v u p.1.
 broken_more who before after (Committing m) v u p h = to_lease (Committing _) v u p.3.2 h
 broken_more who before after (Reading home m) v u p h = to_lease (Reading home _) v u p.2 h
 broken_more who before after (Scanning home m) v u (buffer, c, d, shown, p) h = followed_more home buffer (record { scan = p.scan; pairs = m.pairs }) d p.moved v u shown p.follows h
+broken_more who before after (Looking home m) v u (buffer, c, d, shown, p) h = to_lease (Looking home _) v u p.2 h
 broken_more who before after (Paging home m) v u p h = to_lease (Paging home _) v u p.2 h
 broken_more who before after (Folding home m) v u p h = to_lease (Folding home _) v u p.2 h
 broken_more who before after (Closing lease) v u p h = absurd p
@@ -152,6 +155,10 @@ broken_last who before after (Reading home m) v (Ended (answer.Trouble k)) not p
 broken_last who before after (Reading home m) v turn not p = absurd p
 broken_last who before after (Scanning home m) v turn not (buffer, c, d, shown, p) =
     followed_lease home buffer (record { scan = p.scan; pairs = m.pairs }) d p.moved v shown turn p.follows
+broken_last who before after (Looking home m) v More not (buffer, c, d, shown, p) = with_lease v (Looking home p.0) home.lease p.2 refl
+broken_last who before after (Looking home m) v (Ended answer.Scan) not (buffer, c, d, shown, p) = with_lease v (Idle home) home.lease p.2 refl
+broken_last who before after (Looking home m) v (Ended (answer.Trouble k)) not (buffer, c, d, shown, p) = stopped_lease v k home p.2
+broken_last who before after (Looking home m) v turn not (buffer, c, d, shown, never) = absurd never
 broken_last who before after (Paging home m) v More not p = with_lease v (Paging home p.0) home.lease p.2 refl
 broken_last who before after (Paging home m) v (Ended (answer.Done n)) not p = with_lease v (Idle home) home.lease p.2 refl
 broken_last who before after (Paging home m) v (Ended (answer.Trouble k)) not p = stopped_lease v k home p.2
@@ -213,6 +220,7 @@ opened_no_put who before after (Committing m) v epoch p = absurd p.3
 opened_no_put who before after (Reading home m) v epoch p = absurd p
 opened_no_put who before after (Scanning home m) v epoch (buffer, c, d, shown, p) =
     absurd (not_followed home buffer (record { scan = p.scan; pairs = m.pairs }) d p.moved v shown epoch p.follows)
+opened_no_put who before after (Looking home m) v epoch (buffer, c, d, shown, never) = absurd never
 opened_no_put who before after (Paging home m) v epoch p = absurd p
 opened_no_put who before after (Folding home m) v epoch p = absurd p
 opened_no_put who before after (Closing lease) v epoch p = absurd p
@@ -445,6 +453,10 @@ reads_lease home walk c d w shown answer.Value p = with_lease w (Idle home) home
 reads_lease home walk c d w shown (answer.Trouble t) p = stopped_lease w t home p.2
 reads_lease home walk c d w shown a p = absurd p
 
+looks_lease : (home : Home) (q : Query) (c d : Cache) (w : Work) (shown : Shown) (a : Answer) → LooksOf home q c d w shown (Answered a) → HasLease (broken_work w)
+looks_lease home q c d w shown (answer.Trouble t) (leads, is, none) = stopped_lease w t home is
+looks_lease home q c d w shown a never = absurd never
+
 -- a begin that was answered at once, and whose reply found no memory
 in_client : (Effect : Home → Acting → Begun → Type 0) (a left : Acting) (result : Result Begun Refused) (why : WorldFault) → BeginsWith Effect a left result → RepliesBegun result left (Err why)
     → ((home : Home) (x : Answer) → Effect home left (Answered x) → HasLease (broken_work left.work)) → IsBroken a.work (broken_work left.work)
@@ -452,6 +464,15 @@ in_client Effect a left (Ok Working) why p replies has = absurd (cc (replies))
 in_client Effect a left (Ok (Answered x)) why p replies has = subst (λ w. IsBroken w (broken_work left.work)) (sym p.1) (has p.0 x p.2)
 in_client Effect a left (Err (refused.Rule r)) why p replies has = absurd (cc (replies))
 in_client Effect a left (Err refused.Memory) why p replies has = absurd p
+
+look_short : (tree : ℕ) (attr : List ℕ) (a left : Acting) (result : Result Begun Refused) (why : WorldFault) → Begins (op.Lookup tree attr) a left result → RepliesBegun result left (Err why)
+    → IsBroken a.work (broken_work left.work)
+look_short tree attr a left (Ok begun) why (few, begins) replies =
+    in_client (LooksIn tree attr a) a left (Ok begun) why begins replies
+    (λ home x has. looks_lease home (record { tree = tree; attr = attr }) a.cache left.cache left.work left.shown x has.1)
+look_short tree attr a left (Err (refused.Rule r)) why begins replies = absurd (cc (replies))
+look_short tree attr a left (Err refused.Memory) why (inl (bad, above, same)) replies = absurd (cc (bad))
+look_short tree attr a left (Err refused.Memory) why (inr (few, never)) replies = absurd never
 
 begun_short : (o : Op) (a left : Acting) (result : Result Begun Refused) (why : WorldFault) → Begins o a left result → RepliesBegun result left (Err why) → IsBroken a.work (broken_work left.work)
 begun_short (op.Open client) a left (Ok Working) why p replies = absurd (cc (replies))
@@ -467,6 +488,7 @@ begun_short (op.Read tree key) a left result why p replies =
 begun_short (op.Scan tree low high) a left result why p replies =
     in_client (ScansIn tree low high a) a left result why p replies
     (λ home x has. followed_lease home a.buffer (record { scan = has.1.scan; pairs = [] }) left.cache has.1.moved left.work left.shown has.1.turn has.1.follows)
+begun_short (op.Lookup tree attr) a left result why p replies = look_short tree attr a left result why p replies
 begun_short (op.Page tree page) a left result why p replies = in_client (λ home. HasInHand a (paging_begun_by tree page home)) a left result why p replies (λ home x has. absurd (cc (has.0)))
 begun_short (op.Tree tree) a left result why p replies = in_client (λ home. HasInHand a (folding_begun_by tree home)) a left result why p replies (λ home x has. absurd (cc (has.0)))
 

@@ -45,7 +45,7 @@ use Rattle.world_core.proofs.MeteredWork.{works_down_few}
 use Rattle.world_core.proofs.StandsLemmas.{changed_at, changed_was, no_memory, refused_is}
 use Rattle.world_core.proofs.Unsent.{NoCommits, none_waits, unbound_none}
 use Rattle.world_core.proofs.Workers.{HoldsWithin, IsBetween, open_rests, worker_begins, worker_rows}
-use Rattle.world_core.specs.Asked.{Asks, IsNoted, IsReading, IsScanning, IsStep, OfSession, bound_of, noting_of}
+use Rattle.world_core.specs.Asked.{Asks, IsNoted, IsReading, IsScanning, IsLookingUp, IsStep, OfSession, bound_of, noting_of}
 use Rattle.world_core.specs.EachStep.{EachAsked, EachDone, EachThrough}
 use Rattle.world_core.specs.Handled.{Answers, BeginsOp, BeginsBook, BookBegins, Declines, Does, DropsChanges, GivesLedger, MakesNoCall, MakesStep, NotesChange, Policies, Runs, WorksThrough, book_begun}
 use Rattle.world_core.specs.Metered.{HasLedger, KeepsMeter, LeavesFewAt, Meters, MetersAt, StepGoesThrough}
@@ -90,6 +90,7 @@ more_sends a b work.Closed more sends = tt
 more_sends a b (work.Idle home) more sends = tt
 more_sends a b (work.Reading home m) more sends = tt
 more_sends a b (work.Scanning home m) more sends = tt
+more_sends a b (work.Looking home m) more sends = tt
 more_sends a b (work.Closing lease) more sends = tt
 more_sends a b (work.Renewing home) more sends = tt
 more_sends a b (work.Broken lease) more sends = tt
@@ -151,6 +152,7 @@ module _ (lines : List Line) (n session k : ℕ) (before after : Seen) (old new 
       ledger_same op.Commit w a z e = ap (λ (x : Notebook). x.ledger) e
       ledger_same (op.Read tree key) w a z e = ap (λ (x : Notebook). x.ledger) e
       ledger_same (op.Scan tree from to) w a z e = ap (λ (x : Notebook). x.ledger) e
+      ledger_same (op.Lookup tree attr) w a z e = ap (λ (x : Notebook). x.ledger) e
       ledger_same own w a z e = absurd w
 
       on : (result : Result ℕ Refusal) → BookBegins session o result old.notes new.notes → HasLedger session k notes new.notes
@@ -465,6 +467,12 @@ module _ (lines : List Line) (n session k : ℕ) (before after : Seen) (old new 
   same_scan s tree from to Owing = refl
   same_scan s tree from to Astray = refl
 
+  same_lookup : (s tree : ℕ) (attr : List ℕ) (stage : Stage) → own_line k (event.Lookup s tree attr) r stage ≡ stage
+  same_lookup s tree attr Unbound = refl
+  same_lookup s tree attr Even = refl
+  same_lookup s tree attr Owing = refl
+  same_lookup s tree attr Astray = refl
+
   same_step : (s : ℕ) (wish : Wish) (stage : Stage) → own_line k (event.Step s wish) r stage ≡ stage
   same_step s wish Unbound = refl
   same_step s wish Even = refl
@@ -598,6 +606,9 @@ module _ (lines : List Line) (n session k : ℕ) (before after : Seen) (old new 
   line_keeps (event.Scan s tree from to) asked asks h each stage is m =
       quiet s (own_line k (event.Scan s tree from to) r) (same_scan s tree from to)
       (λ e. begin_line (op.Scan tree (bound_of from) (bound_of to)) tt (λ left buffer. tt) (IsScanning tree from to) (λ request so. so.3) asked (of_session s _ asked e asks) h each) stage m
+  line_keeps (event.Lookup s tree attr) asked asks h each stage is m =
+      quiet s (own_line k (event.Lookup s tree attr) r) (same_lookup s tree attr)
+      (λ e. begin_line (op.Lookup tree attr) tt (λ left buffer. tt) (IsLookingUp tree attr) (λ request so. so.2) asked (of_session s _ asked e asks) h each) stage m
   line_keeps (event.Abort s) asked asks h each stage is m =
       quiet s (own_line k (event.Abort s) r) (same_abort s) (λ e. abort_line asked (of_session s _ asked e asks) h each) stage m
   line_keeps (event.Step s wish) asked asks h each stage is m =

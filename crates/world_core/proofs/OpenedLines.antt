@@ -1,5 +1,5 @@
 -- Lines that open no client twice open no transaction twice, whatever was in the cloud before, and whatever their results.
-use Rattle.std.proofs.Common.{◌≡◌, ◌+◌, ℕ, List, [], ◌∷◌, ◌++◌, length, Some, Ok, Err, Result, refl, sym, ap, subst, ◌∙◌, ◌⊎◌, inl, inr, Bool, true, false, arith}
+use Rattle.std.proofs.Common.{◌≡◌, ◌+◌, ◌≤◌, ℕ, List, [], ◌∷◌, ◌++◌, length, Some, Ok, Err, Result, refl, sym, ap, subst, ◌∙◌, ◌⊎◌, inl, inr, Bool, true, false, arith}
 use Rattle.db_base.specs.declared.refusal.Refused.{Refused}
 use Rattle.db_base.specs.declared.refusal.Refused.TheVariants as refused
 use Rattle.db_base.specs.declared.wish.Wish.{Wish}
@@ -18,6 +18,7 @@ use Rattle.cloud_trait.specs.declared.turn.Turn.{Turn}
 use Rattle.cloud_trait.specs.declared.turn.Turn.TheVariants.{More, Ended}
 use Rattle.recover_run.specs.declared.home.Home.{Home}
 use Rattle.tree_walk.specs.Walk.{new_walk}
+use Rattle.attr_index.specs.Look.{Query}
 use Rattle.commit_run.specs.Run.{home_of}
 use Rattle.client_work.specs.declared.answer.Answer.{Answer}
 use Rattle.client_work.specs.declared.answer.Answer.TheVariants as answer
@@ -29,7 +30,7 @@ use Rattle.client_work.specs.declared.shown.Shown.{Shown}
 use Rattle.client_work.specs.declared.work.Work.{Work}
 use Rattle.client_work.specs.declared.work.Work.TheVariants as work
 use Rattle.client_work.specs.BrokenOff.{broken_off}
-use Rattle.client_work.specs.Session.{Acting, closed_session, StepsSession, Begins, BeginsWith, BeginsOpening, HasInHand, CommitsIn, CommitsOf, CommitsNoted, ReadsOf, ReadsIn, ScansIn, old_lease, stopped_work, paging_begun_by, folding_begun_by}
+use Rattle.client_work.specs.Session.{Acting, closed_session, StepsSession, Begins, BeginsWith, BeginsOpening, HasInHand, CommitsIn, CommitsOf, CommitsNoted, LooksIn, LooksOf, ReadsOf, ReadsIn, ScansIn, old_lease, stopped_work, paging_begun_by, folding_begun_by}
 use Rattle.replay_meaning.specs.Standing.{Line, Closed, standing}
 use Rattle.session_facts.specs.Facts.{session_at, ActsAs}
 use Rattle.session_facts.specs.Sessions.Sessions.{Sessions}
@@ -39,6 +40,7 @@ use Rattle.session_facts.proofs.LineLemmas.{line_of}
 use Rattle.session_facts.proofs.OpenedCalls.{Leads, LeadsHome, scan_leads, stopped_leads, away_leads, closed_leads, apart_changes, apart_more, apart_same, apart_rows, apart_none_twice, opening_apart, session_apart, settler_apart, worker_apart}
 use Rattle.session_facts.proofs.OpenedRuns.{RunsFrom, run_begins_from}
 use Rattle.session_facts.proofs.RunSteps.{RunsFor, IsRefusal, run_begins}
+use Rattle.session_facts.proofs.Sessions.Indexed.{indexed_or}
 use Rattle.session_facts.proofs.SettlerLemmas.{settler_row}
 use Rattle.world_audit.specs.Look.{Looked}
 use Rattle.db_base.specs.declared.names.QueueName.TheVariants.{Atomic, PagePu, TreePu}
@@ -99,6 +101,7 @@ begins_opening (event.Commit session) k client asks = absurd (cc (asks.1))
 begins_opening (event.Abort session) k client asks = absurd (cc (asks.1))
 begins_opening (event.Read session tree key) k client asks = absurd (cc (asks.1.2))
 begins_opening (event.Scan session tree from to) k client asks = absurd (cc (asks.1.3))
+begins_opening (event.Lookup session tree attr) k client asks = absurd (cc (asks.1.2))
 begins_opening (event.Page session tree page) k client asks = absurd (cc (asks.1.2))
 begins_opening (event.Tree session tree) k client asks = absurd (cc (asks.1.1))
 begins_opening (event.Run session) k client asks = absurd (cc (asks.1))
@@ -161,6 +164,11 @@ reads_so home tree key c d w shown (Answered answer.Value) reads = to_work home 
 reads_so home tree key c d w shown (Answered (answer.Trouble t)) reads = to_work home w (stopped_work t home) reads.2 (stopped_leads t home)
 reads_so home tree key c d w shown (Answered a) reads = absurd reads
 
+looks_so : (home : Home) (q : Query) (c d : Cache) (w : Work) (shown : Shown) (begun : Begun) → LooksOf home q c d w shown begun → LeadsHome home w
+looks_so home q c d w shown Working (m, ready, is, none) = to_work home w (work.Looking home m) is (λ head h. h, tt, λ client h. h)
+looks_so home q c d w shown (Answered (answer.Trouble t)) (stopped, is, none) = to_work home w (stopped_work t home) is (stopped_leads t home)
+looks_so home q c d w shown (Answered a) never = absurd never
+
 -- what works for the same client as before may have opened no less, and puts no head but of the number that it took
 abbrev LeadsOn : Acting → Acting → Type 0
 LeadsOn a b = Leads (λ client. WorksFor client a.work) (MayHaveOpened a.work) b.work
@@ -169,6 +177,15 @@ LeadsOn a b = Leads (λ client. WorksFor client a.work) (MayHaveOpened a.work) b
 abbrev IsWithin : Op → Type 0
 IsWithin (op.Open client) = ⊥
 IsWithin o = Unit {0}
+
+look_so : (tree : ℕ) (attr : List ℕ) (a b : Acting) (result : Result Begun Refused) → Begins (op.Lookup tree attr) a b result → TakesNumber a.work → LeadsOn a b
+look_so tree attr a b result begins takes = on (indexed_or tree (LooksIn tree attr a) a b result begins)
+  where
+    on : (b ≡ a) ⊎ ((tree ≤ 8) × BeginsWith (LooksIn tree attr a) a b result) → LeadsOn a b
+    on (inl same) = same_session a b same takes
+    on (inr (few, begun)) =
+        with_home (LooksIn tree attr a) a b result
+        (λ home done looks. looks_so home (record { tree = tree; attr = attr }) a.cache b.cache b.work b.shown done looks.1) begun takes
 
 begins_so : (o : Op) (a b : Acting) (result : Result Begun Refused) → IsWithin o → Begins o a b result → TakesNumber a.work → LeadsOn a b
 begins_so (op.Open client) a b result within begins takes = absurd within
@@ -181,6 +198,7 @@ begins_so (op.Read tree key) a b result within begins takes =
 begins_so (op.Scan tree low high) a b result within begins takes =
     with_home (ScansIn tree low high a) a b result
     (λ home begun scans. scan_leads home a.buffer (record { scan = scans.1.scan; pairs = [] }) b.cache scans.1.moved b.work b.shown scans.1.turn scans.1.follows) begins takes
+begins_so (op.Lookup tree attr) a b result within begins takes = look_so tree attr a b result begins takes
 begins_so (op.Page tree page) a b result within begins takes = hands (paging_begun_by tree page) a b result (λ home. (λ head h. h, tt, λ client h. h)) begins takes
 begins_so (op.Tree tree) a b result within begins takes = hands (folding_begun_by tree) a b result (λ home. (λ head h. h, tt, λ client h. h)) begins takes
 
@@ -554,6 +572,7 @@ module _ (events : List Event) (first : CloudState) (n : ℕ) (before after : Se
     does_so k (Begin op.Commit) own done = with_more (does_within k op.Commit tt done)
     does_so k (Begin (op.Read tree key)) own done = with_more (does_within k (op.Read tree key) tt done)
     does_so k (Begin (op.Scan tree low high)) own done = with_more (does_within k (op.Scan tree low high) tt done)
+    does_so k (Begin (op.Lookup tree attr)) own done = with_more (does_within k (op.Lookup tree attr) tt done)
     does_so k (Begin (op.Page tree page)) own done = with_more (does_within k (op.Page tree page) tt done)
     does_so k (Begin (op.Tree tree)) own done = with_more (does_within k (op.Tree tree) tt done)
     does_so k (Note noting) own done =

@@ -27,7 +27,7 @@ use Rattle.world_core.proofs.Landed.{HasSentSeen, comes_sent, step_sent, works_s
 use Rattle.world_core.proofs.Ledgers.{book_after, ledger_changed, writer_same}
 use Rattle.world_core.proofs.StandsLemmas.{no_memory, refused_is}
 use Rattle.world_core.specs.Alone.{StepIsUndisturbed}
-use Rattle.world_core.specs.Asked.{Asks, IsNoted, IsReading, IsScanning, IsStep, OfSession, noting_of}
+use Rattle.world_core.specs.Asked.{Asks, IsNoted, IsReading, IsScanning, IsLookingUp, IsStep, OfSession, noting_of}
 use Rattle.world_core.specs.EachStep.{EachAsked, EachDone, EachMade, EachRun, EachThrough}
 use Rattle.world_core.specs.Handled.{Answers, BeginsBook, BookBegins, Declines, Does, GivesLedger, MakesStep, Policies, Runs, WorksThrough, book_begun}
 use Rattle.world_core.specs.Metered.{HasLedger}
@@ -95,6 +95,7 @@ module _ (n session k : ℕ) (before after : Seen) (old new : World) (r : Reply)
       same op.Commit w a z e = ap (λ (x : Notebook). x.ledger) e
       same (op.Read tree key) w a z e = ap (λ (x : Notebook). x.ledger) e
       same (op.Scan tree from to) w a z e = ap (λ (x : Notebook). x.ledger) e
+      same (op.Lookup tree attr) w a z e = ap (λ (x : Notebook). x.ledger) e
       same (op.Page tree page) w a z e = ap (λ (x : Notebook). x.ledger) e
       same (op.Tree tree) w a z e = ap (λ (x : Notebook). x.ledger) e
 
@@ -335,6 +336,9 @@ module _ (n session k : ℕ) (before after : Seen) (old new : World) (r : Reply)
     line_sent (event.Scan s tree from to) asked asks h each stage m =
         quiet s (own_line k (event.Scan s tree from to) r) refl refl refl refl
         (λ e. keeps_by (IsScanning tree from to) (λ request is. subst KeepsLedger (sym is.3) tt) asked (of_session s _ asked asks e) h each) stage m
+    line_sent (event.Lookup s tree attr) asked asks h each stage m =
+        quiet s (own_line k (event.Lookup s tree attr) r) refl refl refl refl
+        (λ e. keeps_by (IsLookingUp tree attr) (λ request is. subst KeepsLedger (sym is.2) tt) asked (of_session s _ asked asks e) h each) stage m
     line_sent (event.Abort s) asked asks h each stage m =
         quiet s (own_line k (event.Abort s) r) refl refl refl refl
         (λ e. keeps_by (λ request. request ≡ Ok Abort) (λ request is. asked_so Abort request tt is) asked (of_session s _ asked asks e) h each) stage m

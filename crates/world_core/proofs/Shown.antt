@@ -1,4 +1,4 @@
--- What each step of a line shows where it ends a read or a scan, as its session says it.
+-- What each step of a line shows where it ends a read, a scan or a look-up, as its session says it.
 use Rattle.std.proofs.Common.{ℕ, Result}
 use Rattle.client_work.specs.declared.answer.Answer.{Answer}
 use Rattle.cloud_trait.specs.Caller.{Caller}

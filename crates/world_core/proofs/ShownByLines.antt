@@ -1,4 +1,4 @@
--- What each step of a line shows where it ends a read or a scan is what the lines before it say.
+-- What each step of a line shows where it ends a read, a scan or a look-up is what the lines before it say.
 use Rattle.std.proofs.Common.{inl, inr, ◌≡◌, ◌+◌, ℕ, List, length, Some, Result, refl, sym, subst, ◌∙◌}
 use Rattle.client_work.specs.Session.{Acting, settling_session}
 use Rattle.client_work.specs.declared.answer.Answer.{Answer}

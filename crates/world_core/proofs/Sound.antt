@@ -54,7 +54,7 @@ use Rattle.world_core.specs.declared.asked.Request.{Request}
 use Rattle.world_core.specs.declared.asked.Request.TheVariants.{Begin, Note, Abort, Policy, Work as WorksDue, Step, Run, Crash}
 use Rattle.world_core.specs.World.{World}
 use Rattle.world_core.specs.declared.world.WorldFault.{WorldFault}
-use Rattle.world_core.specs.Asked.{Asks, OfSession, IsOpening, IsReading, IsScanning, IsPaging, IsFolding, IsNoted, IsStep, bound_of, noting_of}
+use Rattle.world_core.specs.Asked.{Asks, OfSession, IsOpening, IsReading, IsScanning, IsLookingUp, IsPaging, IsFolding, IsNoted, IsStep, bound_of, noting_of}
 use Rattle.world_core.specs.Handled.{Declines, BeginsOp, MakesNoCall, StepsLooked, MakesStep, Runs, SettlesOn, Settles, Crashes, Reports, Does, Answers, Handled, Policies, WorksThrough}
 use Rattle.world_core.specs.Replying.{declined, done_reply, unsettled_reply, value_reply, RepliesTo, RepliesSettled, RepliesBegun, RepliesTurn}
 use Rattle.world_core.specs.Sessions.{Changes}
@@ -356,6 +356,9 @@ asked_sound n (event.Read k tree key) asked before after old new r lines t asks 
 asked_sound n (event.Scan k tree from to) asked before after old new r lines t asks answers at told stands =
     request_sound lines n k before after old new r t at told stands (IsScanning tree from to) asked asks answers
     (λ request is. same_right lines n k before after old new r t at told stands request (Begin (op.Scan tree (bound_of from) (bound_of to))) (ap (λ q. Ok q) is.3) is.0)
+asked_sound n (event.Lookup k tree attr) asked before after old new r lines t asks answers at told stands =
+    request_sound lines n k before after old new r t at told stands (IsLookingUp tree attr) asked asks answers
+    (λ request is. same_right lines n k before after old new r t at told stands request (Begin (op.Lookup tree attr)) (ap (λ q. Ok q) is.2) is.0.0)
 asked_sound n (event.Page k tree page) asked before after old new r lines t asks answers at told stands =
     request_sound lines n k before after old new r t at told stands (IsPaging tree page) asked asks answers
     (λ request is. same_right lines n k before after old new r t at told stands request (Begin (op.Page tree page)) (ap (λ q. Ok q) is.2) (is.0, is.1))

@@ -53,6 +53,7 @@ settles_by u (work.Paging home p) what may is = inr (p.tree, pages_in_tree p.tre
 settles_by u (work.Settling m) what may is = is
 settles_by u (work.Reading home m) what may is = absurd is
 settles_by u (work.Scanning home m) what may is = absurd is
+settles_by u (work.Looking home m) what may is = absurd is
 settles_by u (work.Closing l) what may is = absurd is
 settles_by u (work.Renewing home) what may is = absurd is
 settles_by u work.Closed what may is = absurd is

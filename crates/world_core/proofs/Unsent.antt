@@ -20,7 +20,7 @@ use Rattle.head_codec.specs.declared.head.Phase.TheVariants as phase
 use Rattle.head_codec.specs.Spelling.{head_of}
 use Rattle.log_codec.specs.declared.record.AtomicRec.{AtomicRec}
 use Rattle.replay_meaning.specs.Committed.{Versions, changes_at, task_changes, entries_of_bytes, entries_of_head, entries_of_phase, site_entries, row_entries, committed_by}
-use Rattle.replay_meaning.specs.Standing.{Line, Task, Opening, Closing, Renewing, Committing, Reading, Scanning, Paging, Folding, Posture, Closed, Idle, Broken, Working, Standing, aborts, after_line, after_own, answered, begins, begins_opening, commit_answered, crashes, joins, opening_answered, session_of, standing, standing_from, steps, task_answered, unnamed}
+use Rattle.replay_meaning.specs.Standing.{Line, Task, Opening, Closing, Renewing, Committing, Reading, Scanning, LookingUp, Paging, Folding, Posture, Closed, Idle, Broken, Working, Standing, aborts, after_line, after_own, answered, begins, begins_opening, commit_answered, crashes, joins, opening_answered, session_of, standing, standing_from, steps, task_answered, unnamed}
 use Rattle.reply_text.specs.declared.reply.Reply.{Reply}
 use Rattle.reply_text.specs.declared.reply.Reply.TheVariants as reply
 use Rattle.report_types.specs.declared.entry.Entry.{Entry}
@@ -150,6 +150,7 @@ task_quiet (Committing changes) r s = committed_quiet r s
 task_quiet Renewing r s = refl
 task_quiet (Reading tree key) r s = refl
 task_quiet (Scanning tree from to) r s = refl
+task_quiet (LookingUp tree attr) r s = refl
 task_quiet (Paging tree page) r s = refl
 task_quiet (Folding tree) r s = refl
 
@@ -177,6 +178,7 @@ own_quiet (event.Commit session) r s none quiet = absurd none
 own_quiet (event.Abort session) r s none quiet = aborts_quiet r s quiet
 own_quiet (event.Read session tree key) r s none quiet = begins_quiet (Reading tree key) r s refl quiet
 own_quiet (event.Scan session tree from to) r s none quiet = begins_quiet (Scanning tree from to) r s refl quiet
+own_quiet (event.Lookup session tree attr) r s none quiet = begins_quiet (LookingUp tree attr) r s refl quiet
 own_quiet (event.Page session tree page) r s none quiet = begins_quiet (Paging tree page) r s refl quiet
 own_quiet (event.Tree session tree) r s none quiet = begins_quiet (Folding tree) r s refl quiet
 own_quiet (event.Policy session role k) r s none quiet = quiet

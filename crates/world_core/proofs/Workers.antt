@@ -10,7 +10,7 @@ use Rattle.client_work.specs.declared.answer.Answer.{Answer}
 use Rattle.client_work.specs.declared.answer.Answer.TheVariants as answer
 use Rattle.client_work.specs.declared.answer.Begun.TheVariants.{Working}
 use Rattle.client_work.specs.declared.work.Work.{Work}
-use Rattle.client_work.specs.declared.work.Work.TheVariants.{Closed, Idle, Opening, Committing, Reading, Scanning, Paging, Folding, Closing, Renewing, Settling, Broken}
+use Rattle.client_work.specs.declared.work.Work.TheVariants.{Closed, Idle, Opening, Committing, Reading, Scanning, Looking, Paging, Folding, Closing, Renewing, Settling, Broken}
 use Rattle.client_work.specs.Session.{Acting, Begins, StepsSession, noted_behind, open_client}
 use Rattle.cloud_facts.specs.Book.Tally.{at}
 use Rattle.cloud_facts.proofs.Book.Names.{at_same, at_other}
@@ -56,6 +56,7 @@ open_home (Opening m) client e = absurd (cc)
 open_home (Committing m) client e = absurd (cc)
 open_home (Reading h m) client e = absurd (cc)
 open_home (Scanning h m) client e = absurd (cc)
+open_home (Looking h m) client e = absurd (cc)
 open_home (Paging h m) client e = absurd (cc)
 open_home (Folding h m) client e = absurd (cc)
 open_home (Closing lease) client e = absurd (cc)

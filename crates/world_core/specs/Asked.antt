@@ -62,6 +62,25 @@ abbrev pub IsScanning : ℕ → List ℕ → List ℕ → Result Request Refused
 IsScanning tree from to (Ok request) = IsTree tree × (length from ≤ 64) × (length to ≤ 64) × (request ≡ Begin (op.Scan tree (bound_of from) (bound_of to)))
 IsScanning tree from to (Err why) = ((why ≡ refused.Rule rule.BadNumber) × (IsTree tree → ⊥)) ⊎ (IsTree tree × AreNoBounds from to why)
 
+-- a tree that has an index by attribute
+abbrev pub HasIndex : ℕ → Type 0
+HasIndex tree = IsTree tree × (tree ≤ 8)
+
+-- the tree of a number, where it has an index; else the number is bad
+abbrev pub IsTreeWithIndex : ℕ → Result ℕ Refused → Type 0
+IsTreeWithIndex number (Ok tree) = (tree ≡ number) × HasIndex number
+IsTreeWithIndex number (Err why) = (why ≡ refused.Rule rule.BadNumber) × (HasIndex number → ⊥)
+
+-- why bytes are refused as an attribute: they are none, or there is no memory for a copy of them
+abbrev pub IsBadAttr : List ℕ → Refused → Type 0
+IsBadAttr attr (refused.Rule r) = (r ≡ rule.BadAttr) × (IsAttr attr → ⊥)
+IsBadAttr attr refused.Memory = Unit {0}
+
+-- the look-up of an attribute in a tree, or its number is not that of a tree with an index, or else the attribute is refused
+abbrev pub IsLookingUp : ℕ → List ℕ → Result Request Refused → Type 0
+IsLookingUp tree attr (Ok request) = HasIndex tree × IsAttr attr × (request ≡ Begin (op.Lookup tree attr))
+IsLookingUp tree attr (Err why) = ((why ≡ refused.Rule rule.BadNumber) × (HasIndex tree → ⊥)) ⊎ (HasIndex tree × IsBadAttr attr why)
+
 -- the checkpoint of a page of a tree, or one of the two numbers is none
 abbrev pub IsPaging : ℕ → ℕ → Result Request Refused → Type 0
 IsPaging tree page (Ok request) = IsTree tree × IsPage page × (request ≡ Begin (op.Page tree page))
@@ -120,7 +139,7 @@ noting_of e = Single 0 (Delete [])
 -- the tree of what is noted is one, and one with an index where an entry is noted too
 abbrev pub IsPlace : Noting → Type 0
 IsPlace (Single tree change) = IsTree tree
-IsPlace (Indexed tree key payload attr) = IsTree tree × (tree ≤ 8)
+IsPlace (Indexed tree key payload attr) = HasIndex tree
 
 -- the change of a record that is noted
 abbrev pub change_in : Noting → Change
@@ -154,6 +173,7 @@ Asks (event.Commit session) asked = OfSession session (λ request. request ≡ O
 Asks (event.Abort session) asked = OfSession session (λ request. request ≡ Ok Abort) asked
 Asks (event.Read session tree key) asked = OfSession session (IsReading tree key) asked
 Asks (event.Scan session tree from to) asked = OfSession session (IsScanning tree from to) asked
+Asks (event.Lookup session tree attr) asked = OfSession session (IsLookingUp tree attr) asked
 Asks (event.Page session tree page) asked = OfSession session (IsPaging tree page) asked
 Asks (event.Tree session tree) asked = OfSession session (IsFolding tree) asked
 Asks (event.Policy session role k) asked = OfSession session (λ request. request ≡ Ok (Policy role k)) asked

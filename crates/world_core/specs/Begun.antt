@@ -13,6 +13,7 @@ use Rattle.page_cache.specs.Cache.{Cache}
 use Rattle.tree_walk.specs.Causing.{LinkShows}
 use Rattle.tree_walk.specs.Walk.{Walk, new_walk}
 use Rattle.range_scan.specs.Scan.{new_scan}
+use Rattle.attr_index.specs.Look.{new_look}
 use Rattle.recover_run.specs.declared.home.Home.{Home}
 use Rattle.commit_run.specs.Causing.{CausesReady}
 use Rattle.commit_run.specs.Exact.{ExactReady}
@@ -42,7 +43,7 @@ CommitShows home changes c a =
     ((changes ≡ []) × (a ≡ Committed 0))
     ⊎ ((m : Run) × CausesReady (new_run home changes, c) m (Ended a) × MeansReady home changes c (home_of m) (Ended a) × ExactReady home (Ended a))
 
--- the trouble of a read or a scan is one that the links of kept objects show
+-- the trouble of a read, a scan or a look-up is one that the links of kept objects show
 abbrev pub KeptShows : Walk → Cache → Trouble → Type 0
 KeptShows start c t = t ≢ trouble.Memory → (left : Walk) × LinkShows c start left t
 
@@ -51,6 +52,7 @@ abbrev pub BeginShows : Op → Acting → Begun → Type 0
 BeginShows op.Commit old begun = (a : CommitAnswer) → begun ≡ Answered (answer.Commit a) → (home : Home) × (old.work ≡ Idle home) × CommitShows home old.buffer old.cache a
 BeginShows (op.Read tree key) old begun = (t : Trouble) → begun ≡ Answered (answer.Trouble t) → KeptShows (new_walk tree (Some key) false) old.cache t
 BeginShows (op.Scan tree from to) old begun = (t : Trouble) → begun ≡ Answered (answer.Trouble t) → KeptShows (new_scan tree from to).walk old.cache t
+BeginShows (op.Lookup tree attr) old begun = (t : Trouble) → begun ≡ Answered (answer.Trouble t) → KeptShows (new_look (record { tree = tree; attr = attr })).walk old.cache t
 BeginShows (op.Open client) old begun = Unit {0}
 BeginShows op.Close old begun = Unit {0}
 BeginShows op.Renew old begun = Unit {0}

@@ -6,7 +6,7 @@ use Rattle.cloud_trait.specs.State.{CloudState}
 use Rattle.db_base.specs.declared.trouble.Counter.{Counter}
 use Rattle.event_text.specs.declared.event.Event.{Event}
 use Rattle.event_text.specs.declared.event.Event.TheVariants as event
-use Rattle.replay_meaning.specs.Standing.{Line, Task, Opening, Closing, Renewing, Committing, Reading, Scanning, Paging, Folding, Posture, Working, session_of, standing}
+use Rattle.replay_meaning.specs.Standing.{Line, Task, Opening, Closing, Renewing, Committing, Reading, Scanning, LookingUp, Paging, Folding, Posture, Working, session_of, standing}
 use Rattle.session_facts.specs.Facts.{session_at}
 use Rattle.reply_text.specs.declared.reply.Reply.{Reply}
 use Rattle.reply_text.specs.declared.reply.Reply.TheVariants as reply
@@ -49,6 +49,7 @@ DoesWell u (Committing changes) (reply.Trouble k) = IsSpent (spent_by (Committin
 DoesWell u (Reading tree key) (reply.Value payload) = Unit {0}
 DoesWell u (Reading tree key) reply.NoValue = Unit {0}
 DoesWell u (Scanning tree from to) (reply.Scan pairs) = Unit {0}
+DoesWell u (LookingUp tree attr) (reply.Scan pairs) = Unit {0}
 DoesWell u (Paging tree page) (reply.Done n) = n.left ≡ 0
 DoesWell u (Paging tree page) (reply.Trouble k) = IsSpentOrOf tree page u k
 DoesWell u (Folding tree) (reply.Done n) = n.left ≡ 0
@@ -92,6 +93,7 @@ RepliesWell u (event.Renew session) posture reply = BeginsWell u Renewing reply
 RepliesWell u (event.Commit session) posture reply = BeginsWell u (Committing []) reply
 RepliesWell u (event.Read session tree key) posture reply = BeginsWell u (Reading tree key) reply
 RepliesWell u (event.Scan session tree from to) posture reply = BeginsWell u (Scanning tree from to) reply
+RepliesWell u (event.Lookup session tree attr) posture reply = BeginsWell u (LookingUp tree attr) reply
 RepliesWell u (event.Page session tree page) posture reply = BeginsWell u (Paging tree page) reply
 RepliesWell u (event.Tree session tree) posture reply = BeginsWell u (Folding tree) reply
 RepliesWell u (event.Step session wish) posture reply = StepsWell u posture reply

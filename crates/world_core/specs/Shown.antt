@@ -1,4 +1,4 @@
--- What each step of a line shows where it ends a read or a scan.
+-- What each step of a line shows where it ends a read, a scan or a look-up.
 use Rattle.std.specs.Prelude.{ℕ, Result, Ok}
 use Rattle.client_work.specs.Session.{ShowsWhole}
 use Rattle.cloud_trait.specs.Seen.{Seen}

@@ -1,4 +1,4 @@
--- What each step of a line shows where it ends a read or a scan, by the lines before it.
+-- What each step of a line shows where it ends a read, a scan or a look-up, by the lines before it.
 use Rattle.std.specs.Prelude.{ℕ, ◌≡◌, ◌+◌, List, length, Some, Result}
 use Rattle.cloud_trait.specs.Seen.{Seen}
 use Rattle.cloud_trait.specs.State.{CloudState}
@@ -12,7 +12,8 @@ use Rattle.world_core.specs.EachStep.{StepFact, EachStep}
 use Rattle.world_core.specs.Handled.{Handled}
 use Rattle.world_core.specs.Stands.{WorldStands}
 
--- a step that ends a read or a scan shows what its client sees, by what these lines say of the client, over the state that the cloud told before the call
+-- a step that ends a read, a scan or a look-up shows what its client sees, by what these lines say of the client, over the state that the cloud told
+-- before the call
 abbrev pub StepShowsBy : List Line → StepFact
 StepShowsBy lines who wish before after old new turn p =
     (s : CloudState) → p.under.state ≡ Some s → ShowsByLines lines s who p.under p.to p.session.before p.session.after turn

@@ -1,7 +1,7 @@
 //! What a line asks, and of which session.
 
 ghost use Rattle.std.specs.Prelude.{◌≡◌};
-ghost use Rattle.world_core.specs.Asked.{Asks, IsBound, IsMade, IsMaybeAttr, IsOpening, IsReading, IsScanning, IsPaging, IsFolding, IsNoted, IsStep};
+ghost use Rattle.world_core.specs.Asked.{Asks, IsBound, IsMade, IsMaybeAttr, IsOpening, IsReading, IsScanning, IsTreeWithIndex, IsLookingUp, IsPaging, IsFolding, IsNoted, IsStep};
 ghost use Rattle.world_core.specs.declared.asked.Noting.TheVariants.{Single, Indexed};
 ghost use Rattle.db_base.specs.declared.change.Change.TheVariants.{Insert, Update, Delete, Add};
 
@@ -109,6 +109,11 @@ impl Asked {
                 from,
                 to,
             } => Asked::Session(*session, scanning_of(alloc, *tree, from, to)),
+            Event::Lookup {
+                session,
+                tree,
+                attr,
+            } => Asked::Session(*session, lookup_of(alloc, *tree, attr)),
             Event::Page {
                 session,
                 tree,
@@ -184,6 +189,31 @@ fn bound_of(alloc: Global, bytes: &Blob) -> Result<Option<Key>, Refused>
     }
 }
 
+/// The tree of this number, which has an index by attribute.
+fn tree_with_index(number: u64) -> Result<TreeId, Refused>
+    ensures { IsTreeWithIndex number result }
+{
+    let tree = match TreeId::new(number) {
+        Ok(tree) => tree,
+        Err(rule) => return Err(Refused::Rule(rule)),
+    };
+    if tree.index().is_none() {
+        return Err(Refused::Rule(Refusal::BadNumber));
+    }
+    Ok(tree)
+}
+
+/// The look-up of the records with an attribute in the tree of this number, which has an index.
+fn lookup_of(alloc: Global, tree: u64, attr: &Blob) -> Result<Request, Refused>
+    ensures { IsLookingUp tree attr.now result }
+{
+    let tree = tree_with_index(tree)?;
+    match Attr::new(alloc, attr.as_slice()) {
+        Ok(attr) => Ok(Request::Begin(Op::Lookup(tree, attr))),
+        Err(why) => Err(why),
+    }
+}
+
 /// The checkpoint of the page of this number, of the tree of this number.
 fn paging_of(tree: u64, page: u64) -> Result<Request, Refused>
     ensures { IsPaging tree page result }
@@ -255,13 +285,7 @@ fn put_noted(
 ) -> Result<Request, Refused>
     ensures { IsNoted (Indexed tree key.now payload.now attr.now) result }
 {
-    let tree = match TreeId::new(tree) {
-        Ok(tree) => tree,
-        Err(rule) => return Err(Refused::Rule(rule)),
-    };
-    if tree.index().is_none() {
-        return Err(Refused::Rule(Refusal::BadNumber));
-    }
+    let tree = tree_with_index(tree)?;
     let key = Key::new(alloc, key.as_slice())?;
     let payload = Payload::new(alloc, payload.as_slice())?;
     let attr = Attr::new(alloc, attr.as_slice())?;

@@ -39,6 +39,7 @@ pub(crate) fn begin_notes(notes: &mut Notebooks, number: SessionNo, op: &Op)
         Op::Commit => notes.begin(number, None),
         Op::Read(_, _) => notes.begin(number, None),
         Op::Scan(_, _, _) => notes.begin(number, None),
+        Op::Lookup(_, _) => notes.begin(number, None),
     }
 }
 

@@ -9,8 +9,9 @@ use Rattle.client_work.specs.declared.op.Op.{Op}
 use Rattle.client_work.specs.declared.op.Op.TheVariants as op
 use Rattle.client_work.specs.declared.shown.Shown.{Shown}
 use Rattle.client_work.specs.declared.work.Work.{Work}
-use Rattle.client_work.specs.declared.work.Work.TheVariants.{Closed, Idle, Opening, Committing, Reading, Scanning, Paging, Folding, Closing, Renewing, Settling, Broken}
-use Rattle.client_work.specs.Session.{Acting, Begins, CommitsNoted, CommitsOf, Follows, ListsLeaf, ReadsOf, StepsAt, StepsCommit, ask_of_work, committed_work, stopped_work}
+use Rattle.client_work.specs.declared.work.Work.TheVariants.{Closed, Idle, Opening, Committing, Reading, Scanning, Looking, Paging, Folding, Closing, Renewing, Settling, Broken}
+use Rattle.attr_index.specs.Look.{Query}
+use Rattle.client_work.specs.Session.{LooksOf, Acting, Begins, CommitsNoted, CommitsOf, Follows, ListsLeaf, ReadsOf, StepsAt, StepsCommit, ask_of_work, committed_work, stopped_work}
 use Rattle.cloud_trait.specs.Caller.{Caller}
 use Rattle.cloud_trait.specs.Seen.{Seen}
 use Rattle.cloud_trait.specs.declared.turn.Turn.{Turn}
@@ -106,6 +107,13 @@ step_spends n who before after (Reading home m) new turn never few = absurd neve
 step_spends n who before after (Scanning home m) new turn (buffer, c, d, shown, p) few =
     let s = scan_sends n home buffer (record { scan = p.scan; pairs = m.pairs }) d p.moved new shown turn p.follows in
     same_left n (Scanning home m) new turn (get_none (scan_object m.scan)) s.0 s.1
+step_spends n who before after (Looking home m) new More (buffer, c, d, shown, (k, steps, is, none, less)) few =
+    same_left n (Looking home m) new More (get_none (object_of m.walk)) (is_as n new (Looking home k) is tt) tt
+step_spends n who before after (Looking home m) new (Ended answer.Scan) (buffer, c, d, shown, (k, steps, is, some)) few =
+    same_left n (Looking home m) new (Ended answer.Scan) (get_none (object_of m.walk)) (is_as n new (Idle home) is tt) tt
+step_spends n who before after (Looking home m) new (Ended (answer.Trouble t)) (buffer, c, d, shown, (k, steps, is, none)) few =
+    same_left n (Looking home m) new (Ended (answer.Trouble t)) (get_none (object_of m.walk)) (is_as n new (stopped_work t home) is (stopped_none n t home)) tt
+step_spends n who before after (Looking home m) new turn (buffer, c, d, shown, never) few = absurd never
 step_spends n who before after (Closing lease) new (Ended answer.Closed) p few = same_left n (Closing lease) new (Ended answer.Closed) refl (is_as n new Closed p.1 tt) tt
 step_spends n who before after (Closing lease) new (Ended (answer.Trouble t)) p few =
     same_left n (Closing lease) new (Ended (answer.Trouble t)) refl (is_as n new Closed p.1 tt) tt
@@ -131,6 +139,7 @@ IsWritersOp op.Renew = Unit {0}
 IsWritersOp op.Commit = Unit {0}
 IsWritersOp (op.Read tree key) = Unit {0}
 IsWritersOp (op.Scan tree from to) = Unit {0}
+IsWritersOp (op.Lookup tree attr) = Unit {0}
 IsWritersOp (op.Open client) = ⊥
 IsWritersOp op.Close = ⊥
 IsWritersOp (op.Page tree page) = ⊥
@@ -144,6 +153,7 @@ MaySend op.Close n buffer = Unit {0}
 MaySend (op.Open client) n buffer = Unit {0}
 MaySend (op.Read tree key) n buffer = Unit {0}
 MaySend (op.Scan tree from to) n buffer = Unit {0}
+MaySend (op.Lookup tree attr) n buffer = Unit {0}
 MaySend (op.Page tree page) n buffer = Unit {0}
 MaySend (op.Tree tree) n buffer = Unit {0}
 
@@ -162,6 +172,11 @@ reads_of n home start old c new shown Working (m, ready, is, none) = is_as n new
 reads_of n home start old c new shown (Answered answer.Value) (m, page, ready, is, none) = is_as n new (Idle home) is tt
 reads_of n home start old c new shown (Answered (answer.Trouble t)) (m, ready, is, none) = is_as n new (stopped_work t home) is (stopped_none n t home)
 reads_of n home start old c new shown (Answered a) never = absurd never
+
+looks_of : (n : ℕ) (home : Home) (q : Query) (old c : Cache) (new : Work) (shown : Shown) (begun : Begun) → LooksOf home q old c new shown begun → SendsAtMost n new
+looks_of n home q old c new shown Working (m, ready, is, none) = is_as n new (Looking home m) is tt
+looks_of n home q old c new shown (Answered (answer.Trouble t)) (ready, is, none) = is_as n new (stopped_work t home) is (stopped_none n t home)
+looks_of n home q old c new shown (Answered a) never = absurd never
 
 unchanged : (n : ℕ) (old new : Acting) → new ≡ old → SendsAtMost n old.work → SendsAtMost n new.work
 unchanged n old new e sends = subst (λ (a : Acting). SendsAtMost n a.work) (sym e) sends
@@ -182,4 +197,10 @@ begin_sends n (op.Scan tree from to) old new (Ok begun) is may (home, idle, does
     (scan_sends n home old.buffer (record { scan = scans.scan; pairs = [] }) new.cache scans.moved new.work new.shown scans.turn scans.follows).0
 begin_sends n (op.Scan tree from to) old new (Err (refused.Rule r)) is may (rule, same) sends = unchanged n old new same sends
 begin_sends n (op.Scan tree from to) old new (Err refused.Memory) is may never sends = absurd never
+begin_sends n (op.Lookup tree attr) old new (Ok begun) is may (has, (home, idle, does)) sends =
+    looks_of n home (record { tree = tree; attr = attr }) old.cache new.cache new.work new.shown begun does.1
+begin_sends n (op.Lookup tree attr) old new (Err (refused.Rule r)) is may (inl (bad, above, same)) sends = unchanged n old new same sends
+begin_sends n (op.Lookup tree attr) old new (Err (refused.Rule r)) is may (inr (has, (rule, same))) sends = unchanged n old new same sends
+begin_sends n (op.Lookup tree attr) old new (Err refused.Memory) is may (inl (bad, above, same)) sends = unchanged n old new same sends
+begin_sends n (op.Lookup tree attr) old new (Err refused.Memory) is may (inr (has, never)) sends = absurd never
 begin_sends n o old new result is may begins sends = absurd is

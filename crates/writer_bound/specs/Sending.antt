@@ -1,7 +1,7 @@
 -- How many messages what a session has in hand may still send to the pending update queues.
 use Rattle.std.specs.Prelude.{ℕ, ◌-◌, ◌≤◌, length, Option, Some, None}
 use Rattle.client_work.specs.declared.work.Work.{Work}
-use Rattle.client_work.specs.declared.work.Work.TheVariants.{Closed, Idle, Opening, Committing, Reading, Scanning, Paging, Folding, Closing, Renewing, Settling, Broken}
+use Rattle.client_work.specs.declared.work.Work.TheVariants.{Closed, Idle, Opening, Committing, Reading, Scanning, Looking, Paging, Folding, Closing, Renewing, Settling, Broken}
 use Rattle.cloud_trait.specs.Ask.{Ask}
 use Rattle.commit_run.specs.declared.hand.Hand.{Hand}
 use Rattle.commit_run.specs.declared.hand.Hand.TheVariants.{Writes, First, Change}
@@ -38,6 +38,7 @@ SendsAtMost n Closed = Unit {0}
 SendsAtMost n (Idle home) = Unit {0}
 SendsAtMost n (Reading home m) = Unit {0}
 SendsAtMost n (Scanning home m) = Unit {0}
+SendsAtMost n (Looking home m) = Unit {0}
 SendsAtMost n (Closing lease) = Unit {0}
 SendsAtMost n (Renewing home) = Unit {0}
 SendsAtMost n (Broken lease) = Unit {0}

@@ -2,13 +2,14 @@
 use Rattle.std.proofs.Common.{◌≡◌, ◌≢◌, ◌≤◌, inl, inr, ℕ, List, [], ◌∷◌, ◌++◌, Some, Result, Ok, Err, refl, sym, ap, subst, ◌∙◌, arith}
 use Rattle.cloud_trait.specs.Calm.{TakesFree}
 use Rattle.ckpt_parts.specs.Leasing.{outstanding_after}
-use Rattle.client_work.specs.Session.{Acting, ReadsBy, RenewsHome, ShowsAt, StepsAt, StepsClosing, StepsCommit, StepsFolding, StepsOpening, StepsPaging, StepsRenewing, StepsScanning, StepsSession, StepsSettling, ask_of_work}
+use Rattle.attr_index.specs.Look.{Look, look_ask}
+use Rattle.client_work.specs.Session.{Acting, LooksBy, ReadsBy, RenewsHome, ShowsAt, StepsAt, StepsClosing, StepsCommit, StepsFolding, StepsOpening, StepsPaging, StepsRenewing, StepsScanning, StepsSession, StepsSettling, ask_of_work}
 use Rattle.client_work.specs.declared.answer.Answer.{Answer}
 use Rattle.client_work.specs.declared.answer.Answer.TheVariants as answer
 use Rattle.client_work.specs.declared.listing.Listing.{Listing}
 use Rattle.client_work.specs.declared.shown.Shown.{Shown}
 use Rattle.client_work.specs.declared.work.Work.{Work}
-use Rattle.client_work.specs.declared.work.Work.TheVariants.{Closed, Idle, Opening, Committing, Reading, Scanning, Folding, Paging, Closing, Renewing, Settling, Broken}
+use Rattle.client_work.specs.declared.work.Work.TheVariants.{Closed, Idle, Opening, Committing, Reading, Scanning, Looking, Folding, Paging, Closing, Renewing, Settling, Broken}
 use Rattle.cloud_facts.proofs.Calls.Calls.{call_of}
 use Rattle.cloud_facts.specs.Book.Book.{Book}
 use Rattle.cloud_facts.specs.Book.Tally.{Store}
@@ -52,7 +53,7 @@ use Rattle.session_facts.proofs.Settled.TreeLeases.{making_holds, making_uses}
 use Rattle.session_facts.specs.Openings.Opening.{KnowsOpening, leases_of_recovery}
 use Rattle.session_facts.specs.PageCheckpoints.Checkpoint.{KnowsPaging, leases_of_paging}
 use Rattle.session_facts.specs.Sessions.Alone.{IsAlone, StepsUndisturbed}
-use Rattle.session_facts.specs.Sessions.Calls.{closing_reply, commit_reply, folding_reply, opening_reply, paging_reply, reading_reply, reply_at, reply_of, settling_reply}
+use Rattle.session_facts.specs.Sessions.Calls.{closing_reply, commit_reply, folding_reply, looking_reply, opening_reply, paging_reply, reading_reply, reply_at, reply_of, settling_reply}
 use Rattle.session_facts.specs.Sessions.Sessions.{KnowsWork, Sessions, SessionsStand, leases_of}
 use Rattle.session_facts.specs.Sessions.Untroubled.{StepsCalmly}
 use Rattle.session_facts.specs.Settled.Locks.{HoldsAlone, UsesOwn}
@@ -157,7 +158,7 @@ module _ (who : Caller) (before after : Seen) (s t : CloudState) (told : before.
         commits steps.answer steps.made found (Stops (m, d) q) new (steps.took.0 (no_want q fair)) (is, refl)
     commit_alone new turn p found fair = absurd p
 
-  -- ---- a read and a scan
+  -- ---- a read, a scan and a look-up
 
   module _ (home : Home) (alone : HoldsAlone (home.lease ∷ []) s) where
     gets : (name : ObjName) (a : Reply) → Makes who (Get name) a before after → a ≢ Memory → (new : Work) → leases_of new ≡ home.lease ∷ [] → Goes_on (Get name) new
@@ -175,6 +176,14 @@ module _ (who : Caller) (before after : Seen) (s t : CloudState) (told : before.
         → p.steps.answer ≢ Memory → Goes_on (scan_ask l.scan) new
     scanning_alone buffer l c d new shown turn p found =
         gets (scan_object l.scan) p.steps.answer p.steps.made found new (follows_leases home buffer (record { scan = p.scan; pairs = l.pairs }) d p.moved new shown turn p.follows)
+
+    looking_alone : (buffer : List Noted) (l : Look) (c d : Cache) (new : Work) (shown : Shown) (turn : Turn Answer) → (p : LooksBy home buffer who before after l c d new shown turn)
+        → looking_reply home buffer who before after l c d new shown turn p ≢ Memory → Goes_on (look_ask l) new
+    looking_alone buffer l c d new shown More (m, steps, is, none, less) found = gets (object_of l.walk) steps.walked.answer steps.walked.made found new (ap leases_of is)
+    looking_alone buffer l c d new shown (Ended answer.Scan) (m, steps, is, some) found = gets (object_of l.walk) steps.walked.answer steps.walked.made found new (ap leases_of is)
+    looking_alone buffer l c d new shown (Ended (answer.Trouble q)) (m, steps, is, none) found =
+        gets (object_of l.walk) steps.walked.answer steps.walked.made found new (ap leases_of is ∙ stopped_leases q home)
+    looking_alone buffer l c d new shown turn p found = absurd p
 
   -- ---- checkpoints
 
@@ -298,6 +307,8 @@ module _ (who : Caller) (before after : Seen) (s t : CloudState) (book : Book) (
       found_so (Reading home w) new (walk_ask w) refl (reading_alone who before after s t told told_after counts home alone w kept d new shown turn q found)
   by_work buffer (Scanning home l) new d shown turn is alone p q found fair =
       found_so (Scanning home l) new (scan_ask l.scan) refl (scanning_alone who before after s t told told_after counts home alone buffer l kept d new shown turn q found)
+  by_work buffer (Looking home l) new d shown turn is alone p q found fair =
+      found_so (Looking home l) new (look_ask l) refl (looking_alone who before after s t told told_after counts home alone buffer l kept d new shown turn q found)
   by_work buffer (Paging home m) new d shown turn is alone p q found fair =
       let k = known (Paging home m) is in
       found_so (Paging home m) new (paging_ask m) refl (paging_alone who before after s t told told_after counts st s.now home home.client k.0.at.lock_is m k.1 alone new turn p found fair)

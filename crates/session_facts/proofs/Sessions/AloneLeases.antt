@@ -1,8 +1,8 @@
 -- The leases of a session beside those of its checkpoint: it takes no lock of one of them, and an operation that begins has those that it had.
-use Rattle.std.proofs.Common.{◌≡◌, ◌≢◌, ◌⊎◌, inl, inr, ℕ, List, [], ◌∷◌, ◌++◌, Option, Some, None, Result, Ok, Err, refl, sym, ap, subst, ◌∙◌}
+use Rattle.std.proofs.Common.{◌≡◌, ◌≢◌, ◌≤◌, ◌⊎◌, inl, inr, ℕ, List, [], ◌∷◌, ◌++◌, Option, Some, None, Result, Ok, Err, refl, sym, ap, subst, ◌∙◌}
 use Rattle.ckpt_parts.specs.Deleting.{next_id}
 use Rattle.ckpt_parts.specs.Leasing.{newest_lease, outstanding_after}
-use Rattle.client_work.specs.Session.{Acting, Begins, BeginsOpening, BeginsWith, CommitsIn, CommitsNoted, CommitsOf, Follows, HasInHand, ListsLeaf, ReadsIn, ScansIn, folding_begun_by, old_lease, opening_rule_of, paging_begun_by, stopped_work}
+use Rattle.client_work.specs.Session.{Acting, Begins, BeginsIndexed, BeginsOpening, BeginsWith, CommitsIn, CommitsNoted, CommitsOf, Follows, HasInHand, ListsLeaf, LooksIn, ReadsIn, ScansIn, folding_begun_by, old_lease, opening_rule_of, paging_begun_by, stopped_work}
 use Rattle.client_work.specs.declared.answer.Answer.{Answer}
 use Rattle.client_work.specs.declared.answer.Answer.TheVariants as answer
 use Rattle.client_work.specs.declared.answer.Begun.{Begun}
@@ -12,7 +12,7 @@ use Rattle.client_work.specs.declared.op.Op.{Op}
 use Rattle.client_work.specs.declared.op.Op.TheVariants as op
 use Rattle.client_work.specs.declared.shown.Shown.{Shown}
 use Rattle.client_work.specs.declared.work.Work.{Work}
-use Rattle.client_work.specs.declared.work.Work.TheVariants.{Closed, Idle, Opening, Committing, Reading, Scanning, Folding, Paging, Closing, Renewing, Settling, Broken}
+use Rattle.client_work.specs.declared.work.Work.TheVariants.{Closed, Idle, Opening, Committing, Reading, Scanning, Looking, Folding, Paging, Closing, Renewing, Settling, Broken}
 use Rattle.cloud_facts.proofs.Book.Places.{get_single, in_either, in_front, in_behind}
 use Rattle.cloud_facts.specs.Book.Records.{IsIn}
 use Rattle.cloud_facts.specs.Calls.Acting.{of_option}
@@ -43,6 +43,7 @@ use Rattle.page_ckpt.specs.declared.stage.Stage.TheVariants as stage
 use Rattle.page_ckpt.specs.Paging.{Paging as Page, ask_at, delete_next, home_name, paging_ask, right_name, under}
 use Rattle.recover_run.specs.declared.home.Home.{Home}
 use Rattle.session_facts.proofs.CommitRuns.RunLeases.{RunLeaseStays, ready_lease}
+use Rattle.session_facts.proofs.Sessions.Indexed.{indexed_or}
 use Rattle.session_facts.specs.Sessions.Sessions.{leases_of}
 use Rattle.session_facts.specs.Settled.Locks.{IsOwn, HoldsAlone, UsesOwn}
 use Rattle.std.specs.Prelude.{slice_get, unwrap_or}
@@ -272,6 +273,7 @@ module _ (old new : Acting) where
   broken_lease (Committing m) e = absurd (cc)
   broken_lease (Reading home m) e = absurd (cc)
   broken_lease (Scanning home m) e = absurd (cc)
+  broken_lease (Looking home m) e = absurd (cc)
   broken_lease (Paging home m) e = absurd (cc)
   broken_lease (Folding home m) e = absurd (cc)
   broken_lease (Closing l) e = absurd (cc)
@@ -305,6 +307,19 @@ module _ (old new : Acting) where
   read_leases tree key home (Answered (answer.Trouble t)) (same, (m, leads, is, none)) = ap leases_of is ∙ stopped_leases t home
   read_leases tree key home (Answered a) (same, never) = absurd never
 
+  look_leases : (tree : ℕ) (attr : List ℕ) (home : Home) (begun : Begun) → LooksIn tree attr old home new begun → leases_of new.work ≡ home.lease ∷ []
+  look_leases tree attr home Working (same, (m, leads, is, none)) = ap leases_of is
+  look_leases tree attr home (Answered (answer.Trouble t)) (same, (stops, is, none)) = ap leases_of is ∙ stopped_leases t home
+  look_leases tree attr home (Answered a) (same, never) = absurd never
+
+  -- a look-up of a tree without an index is refused
+  indexed_leases : (tree : ℕ) (attr : List ℕ) (result : Result Begun Refused) → BeginsIndexed tree (LooksIn tree attr old) old new result → Same
+  indexed_leases tree attr result b = on (indexed_or tree (LooksIn tree attr old) old new result b)
+    where
+      on : (new ≡ old) ⊎ ((tree ≤ 8) × BeginsWith (LooksIn tree attr old) old new result) → Same
+      on (inl same) = unchanged same
+      on (inr (few, begins)) = with_home (LooksIn tree attr old) result (look_leases tree attr) begins
+
   pub begun_leases : (o : Op) (result : Result Begun Refused) → Begins o old new result → Same
   begun_leases (op.Open client) result b = opening_leases client result b
   begun_leases op.Close result b = with_home (λ home. HasInHand old (Closing home.lease)) result (λ home begun d. ap (λ (a : Acting). leases_of a.work) d.1) b
@@ -313,6 +328,7 @@ module _ (old new : Acting) where
   begun_leases (op.Read tree key) result b = with_home (ReadsIn tree key old) result (read_leases tree key) b
   begun_leases (op.Scan tree from to) result b =
       with_home (ScansIn tree from to old) result (λ home begun d. follows_leases home old.buffer _ new.cache d.1.moved new.work new.shown d.1.turn d.1.follows) b
+  begun_leases (op.Lookup tree attr) result b = indexed_leases tree attr result b
   begun_leases (op.Page tree page) result b =
       with_home (λ home. HasInHand old (paging_begun_by tree page home)) result (λ home begun d. ap (λ (a : Acting). leases_of a.work) d.1) b
   begun_leases (op.Tree tree) result b = with_home (λ home. HasInHand old (folding_begun_by tree home)) result (λ home begun d. ap (λ (a : Acting). leases_of a.work) d.1) b

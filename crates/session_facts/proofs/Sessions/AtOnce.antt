@@ -1,6 +1,6 @@
 -- An operation that begins is untroubled, and one that is answered at once is answered well.
-use Rattle.std.proofs.Common.{◌≡◌, inl, inr, ℕ, List, [], Option, Some, None, Result, Ok, Err, refl, sym, ap, subst}
-use Rattle.client_work.specs.Session.{Acting, Begins, BeginsOpening, BeginsWith, HasInHand, CommitsIn, CommitsOf, CommitsNoted, ReadsIn, ScansIn, ListsLeaf, Follows, begins_by, opening_of, old_lease, stopped_work, paging_begun_by, folding_begun_by}
+use Rattle.std.proofs.Common.{◌≡◌, ◌≤◌, ◌⊎◌, inl, inr, ℕ, List, [], Option, Some, None, Result, Ok, Err, refl, sym, ap, subst}
+use Rattle.client_work.specs.Session.{Acting, Begins, BeginsOpening, BeginsWith, BeginsIndexed, HasInHand, CommitsIn, CommitsOf, CommitsNoted, ReadsIn, ScansIn, LooksIn, ListsLeaf, Follows, begins_by, opening_of, old_lease, stopped_work, paging_begun_by, folding_begun_by}
 use Rattle.client_work.specs.declared.answer.Answer.{Answer}
 use Rattle.client_work.specs.declared.answer.Answer.TheVariants as answer
 use Rattle.client_work.specs.declared.answer.Begun.{Begun}
@@ -10,7 +10,7 @@ use Rattle.client_work.specs.declared.op.Op.{Op}
 use Rattle.client_work.specs.declared.op.Op.TheVariants as op
 use Rattle.client_work.specs.declared.shown.Shown.{Shown}
 use Rattle.client_work.specs.declared.work.Work.{Work}
-use Rattle.client_work.specs.declared.work.Work.TheVariants.{Idle, Committing, Reading, Scanning, Closing, Renewing, Broken}
+use Rattle.client_work.specs.declared.work.Work.TheVariants.{Idle, Committing, Reading, Scanning, Looking, Closing, Renewing, Broken}
 use Rattle.cloud_facts.specs.Book.Book.{Book}
 use Rattle.cloud_trait.specs.declared.turn.Turn.{Turn}
 use Rattle.cloud_trait.specs.declared.turn.Turn.TheVariants.{More, Ended, Stopped}
@@ -33,6 +33,7 @@ use Rattle.session_facts.specs.Sessions.Sessions.{Sessions, SessionsStand, IsRig
 use Rattle.session_facts.specs.Sessions.Untroubled.{IsUntroubled, CommitsWell}
 use Rattle.session_facts.proofs.CommitRuns.Telling.{EndsTold, IsTold, ready_tells}
 use Rattle.session_facts.proofs.Sessions.BeginStops.{begin_stops, begin_spent}
+use Rattle.session_facts.proofs.Sessions.Indexed.{indexed_or}
 use Rattle.session_facts.proofs.Sessions.Untroubled.{IsAtRest, rested, at_rest, rests_as, idle_rests, stopped_rests}
 use Rattle.txn_buffer.specs.Noted.{Noted}
 
@@ -62,6 +63,11 @@ read_rests home tree key old new (Answered answer.Value) (same, r) = rests_as ne
 read_rests home tree key old new (Answered (answer.Trouble t)) (same, r) = rests_as new.work (stopped_work t home) r.2 (stopped_rests t home)
 read_rests home tree key old new (Answered a) (same, never) = absurd never
 
+looked_rests : (home : Home) (tree : ℕ) (attr : List ℕ) (old new : Acting) (begun : Begun) → LooksIn tree attr old home new begun → IsAtRest new.work
+looked_rests home tree attr old new Working (same, r) = rests_as new.work (Looking home r.0) r.2 (at_rest (Looking home r.0) refl refl)
+looked_rests home tree attr old new (Answered (answer.Trouble t)) (same, r) = rests_as new.work (stopped_work t home) r.1 (stopped_rests t home)
+looked_rests home tree attr old new (Answered a) (same, never) = absurd never
+
 committing_rests : (home : Home) (changes : List Noted) (c d : Cache) (new : Work) (begun : Begun) → CommitsOf home changes c d new begun → IsAtRest new
 committing_rests home changes c d new Working r = rests_as new (Committing r.0) r.2 (at_rest (Committing r.0) refl refl)
 committing_rests home changes c d new (Answered (answer.Commit a)) r = rests_as new (Idle (home_of r.0)) r.2 (idle_rests (home_of r.0))
@@ -79,6 +85,15 @@ begun_rests : (t : CloudState) (Does : Home → Acting → Begun → Type 0) (ol
 begun_rests t Does old new (Ok begun) rests (home, idle, does) well = rested t new.work (rests home begun does)
 begun_rests t Does old new (Err (refused.Rule r)) rests (rule, same) well = subst (λ (a : Acting). IsUntroubled t a.work) (sym same) well
 begun_rests t Does old new (Err refused.Memory) rests never well = absurd never
+
+-- a look-up, which is refused where its tree has no index
+looks_rest : (t : CloudState) (tree : ℕ) (attr : List ℕ) (old new : Acting) (result : Result Begun Refused) → BeginsIndexed tree (LooksIn tree attr old) old new result → IsUntroubled t old.work
+    → IsUntroubled t new.work
+looks_rest t tree attr old new result b well = on (indexed_or tree (LooksIn tree attr old) old new result b)
+  where
+    on : (new ≡ old) ⊎ ((tree ≤ 8) × BeginsWith (LooksIn tree attr old) old new result) → IsUntroubled t new.work
+    on (inl same) = subst (λ (a : Acting). IsUntroubled t a.work) (sym same) well
+    on (inr (few, begins)) = begun_rests t (LooksIn tree attr old) old new result (λ home begun. looked_rests home tree attr old new begun) begins well
 
 opened_rests : (t : CloudState) (client : ℕ) (old new : Acting) (result : Result Begun Refused) → BeginsOpening client old new result → IsUntroubled t old.work → IsUntroubled t new.work
 opened_rests t client old new (Ok Working) (rule, is) well =
@@ -102,6 +117,7 @@ begins_untroubled t (op.Read tree key) old new result b well = begun_rests t (Re
 begins_untroubled t (op.Scan tree from to) old new result b well =
     begun_rests t (ScansIn tree from to old) old new result
     (λ home begun does. scan_rests home old.buffer (record { scan = does.1.scan; pairs = [] }) new.cache does.1.moved new.work new.shown does.1.turn does.1.follows) b well
+begins_untroubled t (op.Lookup tree attr) old new result b well = looks_rest t tree attr old new result b well
 begins_untroubled t (op.Page tree page) old new result b well =
     begun_rests t (λ home. HasInHand old (paging_begun_by tree page home)) old new result
     (λ home begun. in_hand old new (paging_begun_by tree page home) begun (at_rest (paging_begun_by tree page home) refl refl)) b well
@@ -111,7 +127,7 @@ begins_untroubled t (op.Tree tree) old new result b well =
 
 -- ---- what is answered at once
 
--- a read its value, a scan its records, and a commit is committed or a counter stands at its last value; or memory ran out
+-- a read its value, a scan its records, a look-up nothing, and a commit is committed or a counter stands at its last value; or memory ran out
 abbrev pub IsAtOnce : CloudState → Op → Answer → Type 0
 IsAtOnce s op.Commit (answer.Commit c) = CommitsWell s c
 IsAtOnce s (op.Read tree key) answer.Value = Unit {0}
@@ -160,6 +176,12 @@ module _ (book : Book) (order : List Entry) (s : CloudState) (sessions : Session
   reads_at_once tree key home (answer.Trouble t) is idle does = begin_stops book order s sessions session new stand (op.Read tree key) t is (home, idle, does)
   reads_at_once tree key home a is idle (same, never) = absurd never
 
+  -- a look-up
+  looks_at_once : (tree : ℕ) (attr : List ℕ) (home : Home) (a : Answer) → IsTree tree → tree ≤ 8 → old.work ≡ Idle home → LooksIn tree attr old home new (Answered a)
+      → IsAtOnce s (op.Lookup tree attr) a
+  looks_at_once tree attr home (answer.Trouble t) is few idle does = begin_stops book order s sessions session new stand (op.Lookup tree attr) t is (few, (home, idle, does))
+  looks_at_once tree attr home a is few idle (same, never) = absurd never
+
   -- a scan
   scans_at_once : (tree : ℕ) (from to : Option (List ℕ)) (home : Home) (a : Answer) → IsTree tree → old.work ≡ Idle home → ScansIn tree from to old home new (Answered a)
       → IsAtOnce s (op.Scan tree from to) a
@@ -196,5 +218,6 @@ module _ (book : Book) (order : List Entry) (s : CloudState) (sessions : Session
   begins_at_once op.Commit a is (home, idle, does) = commits_at_once home a idle does
   begins_at_once (op.Read tree key) a is (home, idle, does) = reads_at_once tree key home a is idle does
   begins_at_once (op.Scan tree from to) a is (home, idle, does) = scans_at_once tree from to home a is idle does
+  begins_at_once (op.Lookup tree attr) a is (few, (home, idle, does)) = looks_at_once tree attr home a is few idle does
   begins_at_once (op.Page tree page) a is (home, idle, does) = absurd (no_work old new (paging_begun_by tree page home) a does)
   begins_at_once (op.Tree tree) a is (home, idle, does) = absurd (no_work old new (folding_begun_by tree home) a does)

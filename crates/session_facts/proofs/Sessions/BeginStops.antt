@@ -1,6 +1,7 @@
 -- The begin of an operation that is answered at once stops for want of memory alone, and a commit ends so with no damage.
 use Rattle.std.proofs.Common.{◌≡◌, ◌≢◌, ◌⊎◌, inl, inr, ℕ, false, List, [], Option, Some, Ok, sym, subst, ◌∙◌}
-use Rattle.client_work.specs.Session.{Acting, Begins, HasInHand, CommitsNoted, ReadsIn, ScansIn, ListsLeaf, Follows, begins_by, paging_begun_by, folding_begun_by}
+use Rattle.attr_index.specs.Look.{look_ready}
+use Rattle.client_work.specs.Session.{Acting, Begins, HasInHand, CommitsNoted, ReadsIn, LooksIn, ScansIn, ListsLeaf, Follows, begins_by, paging_begun_by, folding_begun_by}
 use Rattle.client_work.specs.declared.answer.Answer.{Answer}
 use Rattle.client_work.specs.declared.answer.Answer.TheVariants as answer
 use Rattle.client_work.specs.declared.answer.Begun.{Begun}
@@ -26,6 +27,8 @@ use Rattle.page_cache.specs.Cache.{Cache}
 use Rattle.range_scan.specs.Scan.{Scan, new_scan, scan_ready}
 use Rattle.recover_run.specs.declared.home.Home.{Home}
 use Rattle.report_types.specs.declared.entry.Entry.{Entry}
+use Rattle.session_facts.specs.Looks.Looks.{IsIndexed}
+use Rattle.session_facts.proofs.Looks.Looks.{look_begins}
 use Rattle.session_facts.proofs.Scans.Scans.{scan_begins}
 use Rattle.session_facts.specs.Sessions.Sessions.{IsHome, KnowsWork, KnowsKept, Sessions, SessionsStand, IsRightOp}
 use Rattle.cloud_facts.specs.Book.Book.{Book}
@@ -94,6 +97,12 @@ module _ (book : Book) (order : List Entry) (s : CloudState) (sessions : Session
       let begins = walk_begins st stand.cloud.holds.chains tree (Some key) false old.cache is (cache_known home idle) in
       by_memory t (λ other. goes_not (walk_ready (new_walk tree (Some key) false, old.cache)) begins.0 (m, new.cache) t begins.1 (leads other))
 
+  look_stops : (tree : ℕ) (attr : List ℕ) (home : Home) (t : Trouble) → IsIndexed tree → old.work ≡ Idle home → LooksIn tree attr old home new (Answered (answer.Trouble t)) → t ≡ trouble.Memory
+  look_stops tree attr home t is idle (same, (leads, e, none)) =
+      let begins = look_begins st stand.cloud.holds.chains (record { tree = tree; attr = attr }) old.cache is (cache_known home idle) in
+      by_memory t
+      (λ other. let stops = leads other in goes_not (look_ready (record { tree = tree; attr = attr }) old.cache) begins.0 (stops.0, new.cache) t begins.1 stops.1)
+
   scan_stops : (tree : ℕ) (from to : Option (List ℕ)) (home : Home) (t : Trouble) → IsTree tree → old.work ≡ Idle home → ScansIn tree from to old home new (Answered (answer.Trouble t))
       → t ≡ trouble.Memory
   scan_stops tree from to home t is idle (same, p) = on p.moved p.turn p.moves p.follows p.begins
@@ -140,6 +149,7 @@ module _ (book : Book) (order : List Entry) (s : CloudState) (sessions : Session
   begin_stops op.Commit t is (home, idle, does) = commit_stops home t does.1
   begin_stops (op.Read tree key) t is (home, idle, does) = read_stops tree key home t is idle does
   begin_stops (op.Scan tree from to) t is (home, idle, does) = scan_stops tree from to home t is idle does
+  begin_stops (op.Lookup tree attr) t is (few, (home, idle, does)) = look_stops tree attr home t (record { some = is.some; most = few }) idle does
   begin_stops (op.Page tree page) t is (home, idle, does) = absurd (no_work home old new (paging_begun_by tree page home) (answer.Trouble t) does)
   begin_stops (op.Tree tree) t is (home, idle, does) = absurd (no_work home old new (folding_begun_by tree home) (answer.Trouble t) does)
 
@@ -189,6 +199,7 @@ module _ (book : Book) (order : List Entry) (s : CloudState) (sessions : Session
   begin_spent op.Commit a (home, idle, does) = commit_ends home a idle does.1
   begin_spent (op.Read tree key) a (home, idle, does) = absurd does.1
   begin_spent (op.Scan tree from to) a (home, idle, does) = absurd (scan_no_end tree from to home a does)
+  begin_spent (op.Lookup tree attr) a (few, (home, idle, does)) = absurd does.1
   begin_spent (op.Page tree page) a (home, idle, does) = absurd (no_work home old new (paging_begun_by tree page home) (answer.Commit a) does)
   begin_spent (op.Tree tree) a (home, idle, does) = absurd (no_work home old new (folding_begun_by tree home) (answer.Commit a) does)
 

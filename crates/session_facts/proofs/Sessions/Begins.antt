@@ -1,7 +1,8 @@
 -- What an operation that begins leaves.
 use Rattle.std.specs.Prelude.{false}
 use Rattle.std.proofs.Common.{◌≡◌, ◌≢◌, ◌≤◌, ◌⊎◌, inl, inr, ℕ, List, [], ◌∷◌, length, Option, Some, None, Result, Ok, Err, refl, sym, ap, subst, ◌∙◌}
-use Rattle.client_work.specs.Session.{Acting, closed_session, settling_session, ReadsIn, ReadsOf, ScansIn, ScansOf, Follows, ListsLeaf, stopped_work, Begins, BeginsOpening, BeginsWith, HasInHand, folding_begun_by, paging_begun_by, opening_rule_of, opening_of, old_lease, CommitsOf, CommitsNoted, CommitsIn}
+use Rattle.attr_index.specs.Look.{Query, look_ready}
+use Rattle.client_work.specs.Session.{Acting, closed_session, settling_session, ReadsIn, ReadsOf, LooksIn, LooksOf, ScansIn, ScansOf, Follows, ListsLeaf, stopped_work, Begins, BeginsOpening, BeginsWith, BeginsIndexed, HasInHand, folding_begun_by, paging_begun_by, opening_rule_of, opening_of, old_lease, CommitsOf, CommitsNoted, CommitsIn}
 use Rattle.client_work.specs.declared.answer.Answer.{Answer}
 use Rattle.client_work.specs.declared.answer.Answer.TheVariants as answer
 use Rattle.client_work.specs.declared.answer.Begun.{Begun}
@@ -10,7 +11,7 @@ use Rattle.client_work.specs.declared.listing.Listing.{Listing}
 use Rattle.client_work.specs.declared.op.Op.{Op}
 use Rattle.client_work.specs.declared.op.Op.TheVariants as op
 use Rattle.client_work.specs.declared.work.Work.{Work}
-use Rattle.client_work.specs.declared.work.Work.TheVariants.{Closed, Idle, Opening, Committing, Reading, Scanning, Folding, Paging, Closing, Renewing, Settling, Broken}
+use Rattle.client_work.specs.declared.work.Work.TheVariants.{Closed, Idle, Opening, Committing, Reading, Scanning, Looking, Folding, Paging, Closing, Renewing, Settling, Broken}
 use Rattle.cloud_trait.specs.declared.turn.Turn.{Turn}
 use Rattle.cloud_trait.specs.declared.turn.Turn.TheVariants.{More, Ended, Stopped}
 use Rattle.cloud_trait.specs.Claim.{Claim}
@@ -37,10 +38,13 @@ use Rattle.session_facts.proofs.PageCheckpoints.Begins.{paging_begins}
 use Rattle.range_scan.specs.Scan.{Scan, new_scan, scan_ready, moved_on}
 use Rattle.recover_run.specs.Recovery.{new_recovery}
 use Rattle.report_types.specs.declared.entry.Entry.{Entry}
+use Rattle.session_facts.specs.Looks.Looks.{IsIndexed, KnowsLooking, LookLeads}
+use Rattle.session_facts.proofs.Looks.Looks.{look_begins}
 use Rattle.session_facts.specs.Scans.Scans.{KnowsScan, KnowsScanning, IsAtScannedLeaf, ScanLeads}
 use Rattle.session_facts.proofs.Scans.Scans.{scan_begins, scan_moves_on}
 use Rattle.session_facts.specs.Sessions.Sessions.{leases_of, IsHome, KnowsWork, KnowsKept, Knows, Sessions, SessionsStand, IsRightOp}
 use Rattle.page_cache.specs.Cache.{Cache}
+use Rattle.session_facts.proofs.Sessions.Indexed.{indexed_or}
 use Rattle.session_facts.proofs.Sessions.Troubles.{stays_open}
 use Rattle.session_facts.proofs.Sessions.Kept.{KnowsBoth}
 use Rattle.tree_walk.specs.Moves.{Moves}
@@ -92,6 +96,7 @@ module _ (book : Book) (order : List Entry) (s : CloudState) (sessions : Session
   no_part c (Committing w) part e k = absurd (cc)
   no_part c (Reading home m) part e k = absurd (cc)
   no_part c (Scanning home m) part e k = absurd (cc)
+  no_part c (Looking home m) part e k = absurd (cc)
   no_part c (Folding home f) part e k = absurd (cc)
   no_part c (Paging home p) part e k = absurd (cc)
   no_part c (Closing l) part e k = absurd (cc)
@@ -107,6 +112,7 @@ module _ (book : Book) (order : List Entry) (s : CloudState) (sessions : Session
   old_within (Committing w) client x is = absurd (in_none [] x refl is)
   old_within (Reading home m) client x is = absurd (in_none [] x refl is)
   old_within (Scanning home m) client x is = absurd (in_none [] x refl is)
+  old_within (Looking home m) client x is = absurd (in_none [] x refl is)
   old_within (Folding home f) client x is = absurd (in_none [] x refl is)
   old_within (Paging home p) client x is = absurd (in_none [] x refl is)
   old_within (Closing l) client x is = absurd (in_none [] x refl is)
@@ -333,6 +339,43 @@ module _ (book : Book) (order : List Entry) (s : CloudState) (sessions : Session
   begins_scan : (tree : ℕ) (from to : Option (List ℕ)) (new : Acting) (result : Result Begun Refused) → IsTree tree → BeginsWith (ScansIn tree from to old) old new result → After new
   begins_scan tree from to new result is = begins_with (ScansIn tree from to old) new result (λ home begun idle d. scans_of tree from to home new is idle d.0 begun d.1)
 
+  -- ---- a look-up
+
+  module _ (tree : ℕ) (attr : List ℕ) (home : Home) (new : Acting) (is : IsIndexed tree) (idle : old.work ≡ Idle home) (same : new.buffer ≡ old.buffer) where
+    abbrev query : Query
+    query = record { tree = tree; attr = attr }
+
+    -- what is known where the look-up leads without a call
+    looks : LookLeads st MayStop (look_ready query old.cache)
+    looks =
+        let begins = look_begins st stand.cloud.holds.chains query old.cache is (cache_known home idle) in
+        subst (LookLeads st MayStop) (sym begins.1) begins.2
+
+    looks_of : (begun : Begun) → LooksOf home query old.cache new.cache new.work new.shown begun → After new
+    looks_of Working (m, leads, e, none) =
+        let k : KnowsLooking st m new.cache = subst (LookLeads st MayStop) leads looks in
+        hands_on new (Looking home m) (same_buffer new same) e (mine home idle) ((home_known home idle, k.look), k.cache)
+    looks_of (Answered (answer.Trouble t)) (stops, e, none) =
+        stops_well home t new idle same e
+        (λ other. let k : KnowsCache st new.cache × MayStop t = subst (LookLeads st MayStop) (stops other).1 looks in k.0)
+    looks_of (Answered (answer.Opened epoch)) never = absurd never
+    looks_of (Answered answer.Closed) never = absurd never
+    looks_of (Answered (answer.Renewed end)) never = absurd never
+    looks_of (Answered (answer.Commit a)) never = absurd never
+    looks_of (Answered (answer.Done n)) never = absurd never
+    looks_of (Answered answer.Value) never = absurd never
+    looks_of (Answered answer.Scan) never = absurd never
+    looks_of (Answered (answer.Settled n)) never = absurd never
+
+  begins_look : (tree : ℕ) (attr : List ℕ) (new : Acting) (result : Result Begun Refused) → IsTree tree → BeginsIndexed tree (LooksIn tree attr old) old new result → After new
+  begins_look tree attr new result is b = on (indexed_or tree (LooksIn tree attr old) old new result b)
+    where
+      on : (new ≡ old) ⊎ ((tree ≤ 8) × BeginsWith (LooksIn tree attr old) old new result) → After new
+      on (inl same) = same_after new same
+      on (inr (few, begins)) =
+          begins_with (LooksIn tree attr old) new result
+          (λ home begun idle d. looks_of tree attr home new (record { some = is.some; most = few }) idle d.0 begun d.1) begins
+
   begins_all : (o : Op) (new : Acting) (result : Result Begun Refused) → IsRightOp o → Begins o old new result → After new
   begins_all (op.Open client) new result right b = begins_opening client new result right b
   begins_all op.Close new result right b = begins_close new result b
@@ -340,6 +383,7 @@ module _ (book : Book) (order : List Entry) (s : CloudState) (sessions : Session
   begins_all op.Commit new result right b = begins_commit new result b
   begins_all (op.Read tree key) new result right b = begins_read tree key new result right b
   begins_all (op.Scan tree from to) new result right b = begins_scan tree from to new result right b
+  begins_all (op.Lookup tree attr) new result right b = begins_look tree attr new result right b
   begins_all (op.Tree tree) new result right b = begins_tree tree new result right b
   begins_all (op.Page tree page) new result right b = begins_page tree page new result right.0 right.1 b
 

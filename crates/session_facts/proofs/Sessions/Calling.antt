@@ -3,10 +3,11 @@ use Rattle.std.proofs.Common.{◌≡◌, ◌≢◌, ◌≤◌, ◌⊎◌, inl, i
 use Rattle.std.specs.Prelude.{map}
 use Rattle.std.proofs.lemmas.Bool.{cases_eq}
 use Rattle.std.proofs.lemmas.List.{append-nil}
+use Rattle.attr_index.specs.Look.{look_ask}
 use Rattle.client_work.specs.Session.{Acting, StepsSession, StepsWork, StepsAt, Shows, ShowsAt, ask_of_work, opens_of, committing_of, applying_of, is_working, noted_behind, shown_behind}
 use Rattle.client_work.specs.declared.answer.Answer.{Answer}
 use Rattle.client_work.specs.declared.work.Work.{Work}
-use Rattle.client_work.specs.declared.work.Work.TheVariants.{Closed, Idle, Opening, Committing, Reading, Scanning, Folding, Paging, Closing, Renewing, Settling, Broken}
+use Rattle.client_work.specs.declared.work.Work.TheVariants.{Closed, Idle, Opening, Committing, Reading, Scanning, Looking, Folding, Paging, Closing, Renewing, Settling, Broken}
 use Rattle.cloud_facts.specs.Calls.Acting.{Setting, Outcome}
 use Rattle.cloud_facts.specs.Calls.Looks.{has_landed, audit_of}
 use Rattle.cloud_facts.proofs.Calls.Outcomes.{none_lands, weaker}
@@ -42,6 +43,7 @@ use Rattle.session_facts.proofs.Sessions.LeaseSteps.{IsStepOf, closing_step, ren
 use Rattle.session_facts.proofs.Sessions.OpeningSteps.{opening_step}
 use Rattle.session_facts.proofs.Sessions.ReadingSteps.{reading_step}
 use Rattle.session_facts.proofs.Sessions.ScanningSteps.{scanning_step}
+use Rattle.session_facts.proofs.Sessions.LookingSteps.{looking_step}
 use Rattle.session_facts.proofs.Sessions.SettlingSteps.{settling_step, settling_noted}
 use Rattle.tree_walk.specs.Walk.{walk_ask}
 use Rattle.session_facts.proofs.Sessions.PagingSteps.{paging_step, paging_noted}
@@ -183,6 +185,12 @@ module _ (who : Caller) (before after : Seen) (s t : CloudState) (book : Book) (
       (subst (Stepped (scan_ask m.scan) (λ a. a) c) (sym is)
       (scanning_step who before after book order s t stand.parts home m new.buffer (setting_at (Scanning home m) is) (λ later. (known_in (Scanning home m) is later).0)
       (known_now (Scanning home m) is).1 kept c (cache_now (Scanning home m) is) told told_after new.work new.shown turn shown))
+  works (Looking home m) turn c is steps shown left =
+      goes_by (look_ask m) (λ a. a) c (ap ask_of_work is)
+      (sym (ap (λ q. noted_at q (look_ask m) (audit_of book order)) is ∙ nothing_noted (Looking home m) (look_ask m) (audit_of book order) refl refl)) left
+      (subst (Stepped (look_ask m) (λ a. a) c) (sym is)
+      (looking_step who before after book order s t stand.parts home m new.buffer (setting_at (Looking home m) is) (λ later. (known_in (Looking home m) is later).0)
+      (known_now (Looking home m) is).1 kept c (cache_now (Looking home m) is) told told_after new.work new.shown turn shown))
   works (Folding home m) turn c is steps shown left =
       goes_by (making_ask m) (making_note m (making_ask m)) c (ap ask_of_work is)
       (sym (ap (λ q. noted_at q (making_ask m) (audit_of book order)) is ∙ making_noted home m (making_ask m) (audit_of book order))) left
@@ -234,6 +242,7 @@ module _ (who : Caller) (before after : Seen) (s t : CloudState) (book : Book) (
       stays (Renewing home) e = refl
       stays (Reading home m) e = refl
       stays (Scanning home m) e = refl
+      stays (Looking home m) e = refl
       stays (Settling m) e = refl
       stays (Closing l) e = absurd (cc)
   steps_keep (Err refused.Memory) buffer shown never = absurd never
@@ -251,6 +260,7 @@ noted_may (Paging home p) buffer may = may
 noted_may (Renewing home) buffer may = may
 noted_may (Reading home m) buffer may = may
 noted_may (Scanning home m) buffer may = may
+noted_may (Looking home m) buffer may = may
 noted_may (Settling m) buffer may = may
 
 -- a call of a session: any answer, landed or not

@@ -7,7 +7,7 @@ use Rattle.client_work.specs.declared.answer.Answer.TheVariants as answer
 use Rattle.client_work.specs.declared.listing.Listing.{Listing}
 use Rattle.client_work.specs.declared.shown.Shown.{Shown}
 use Rattle.client_work.specs.declared.work.Work.{Work}
-use Rattle.client_work.specs.declared.work.Work.TheVariants.{Closed, Idle, Opening, Committing, Reading, Scanning, Paging, Folding, Closing, Renewing, Settling, Broken}
+use Rattle.client_work.specs.declared.work.Work.TheVariants.{Closed, Idle, Opening, Committing, Reading, Scanning, Looking, Paging, Folding, Closing, Renewing, Settling, Broken}
 use Rattle.cloud_facts.proofs.Book.Names.{at_same, at_other}
 use Rattle.cloud_facts.proofs.Calls.Calls.{call_of}
 use Rattle.cloud_facts.specs.Book.Book.{Book}
@@ -93,6 +93,7 @@ counts_beside calls s t (Opening m) grows k = tt
 counts_beside calls s t (Committing m) grows k = tt
 counts_beside calls s t (Reading home m) grows k = tt
 counts_beside calls s t (Scanning home m) grows k = tt
+counts_beside calls s t (Looking home m) grows k = tt
 counts_beside calls s t (Closing l) grows k = tt
 counts_beside calls s t (Renewing home) grows k = tt
 counts_beside calls s t (Settling m) grows k = tt
@@ -137,6 +138,7 @@ other_goes who before after (Opening m) new is p = other_by new (Opening p.1.0) 
 other_goes who before after (Committing m) new is (sound, c, d, p) = other_by new (Committing p.0) p.2 tt
 other_goes who before after (Reading home m) new is p = other_by new (Reading home p.0) p.2 tt
 other_goes who before after (Scanning home m) new is (buffer, c, d, shown, p) = scans_other _ new (p.less refl)
+other_goes who before after (Looking home m) new is (buffer, c, d, shown, (n, steps, same, none, less)) = other_by new (Looking home n) same tt
 other_goes who before after (Paging home m) new is p = absurd is
 other_goes who before after (Folding home m) new is p = absurd is
 other_goes who before after (Closing l) new is p = absurd p
@@ -167,6 +169,10 @@ ended_other who before after (Reading home m) new (answer.Trouble t) p = other_b
 ended_other who before after (Reading home m) new a p = absurd p
 ended_other who before after (Scanning home m) new a (buffer, c, d, shown, p) =
     scan_ended home buffer (record { scan = p.scan; pairs = m.pairs }) d p.moved new shown a p.follows
+ended_other who before after (Looking home m) new answer.Scan (buffer, c, d, shown, (n, steps, same, some)) = other_by new (Idle home) same tt
+ended_other who before after (Looking home m) new (answer.Trouble t) (buffer, c, d, shown, (n, steps, same, none)) =
+    other_by new (stopped_work t home) same (stopped_other t home)
+ended_other who before after (Looking home m) new a (buffer, c, d, shown, never) = absurd never
 ended_other who before after (Paging home m) new (answer.Done n) p = other_by new (Idle home) p.2 tt
 ended_other who before after (Paging home m) new (answer.Trouble t) p = other_by new (stopped_work t home) p.2 (stopped_other t home)
 ended_other who before after (Paging home m) new a p = absurd p

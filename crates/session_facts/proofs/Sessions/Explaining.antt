@@ -1,10 +1,11 @@
 -- A step of a session explains what it brought.
 use Rattle.std.proofs.Common.{◌≡◌, ◌≢◌, ◌≤◌, ◌⊎◌, ℕ, List, Some, None, Ok, refl, sym, subst, ◌∙◌}
+use Rattle.attr_index.specs.Look.{look_ask}
 use Rattle.client_work.specs.Session.{Acting, StepsSession, StepsAt, ShowsAt, ask_of_work}
 use Rattle.client_work.specs.declared.answer.Answer.{Answer}
 use Rattle.client_work.specs.declared.shown.Shown.{Shown}
 use Rattle.client_work.specs.declared.work.Work.{Work}
-use Rattle.client_work.specs.declared.work.Work.TheVariants.{Closed, Idle, Opening, Committing, Reading, Scanning, Folding, Paging, Closing, Renewing, Settling, Broken}
+use Rattle.client_work.specs.declared.work.Work.TheVariants.{Closed, Idle, Opening, Committing, Reading, Scanning, Looking, Folding, Paging, Closing, Renewing, Settling, Broken}
 use Rattle.cloud_trait.specs.declared.answer.Answer.{Answer as Reply}
 use Rattle.cloud_trait.specs.declared.answer.Answer.TheVariants.{Memory}
 use Rattle.cloud_trait.specs.declared.turn.Turn.{Turn}
@@ -39,8 +40,10 @@ use Rattle.session_facts.proofs.Steps.{MadeCall, made_call}
 use Rattle.session_facts.proofs.Sessions.FoldingExplaining.{folding_explains}
 use Rattle.session_facts.proofs.Sessions.LeaseExplaining.{closing_explains, renewing_explains}
 use Rattle.session_facts.proofs.Sessions.PagingExplaining.{paging_explains}
+use Rattle.session_facts.proofs.Sessions.LookingExplaining.{looking_explains}
 use Rattle.session_facts.proofs.Sessions.ReadingExplaining.{reading_explains, scanning_explains, committing_explains}
 use Rattle.session_facts.proofs.Sessions.SettlingExplaining.{settling_explains}
+use Rattle.session_facts.specs.Looks.Looks.{KnowsLooking}
 use Rattle.session_facts.specs.Scans.Scans.{KnowsScanning}
 use Rattle.session_facts.specs.Walks.Walks.{KnowsWalking}
 use Rattle.settle_run.specs.Settling.{settle_ask}
@@ -109,6 +112,9 @@ module _ (who : Caller) (before after : Seen) (s t : CloudState) (book : Book) (
   by_work buffer (Scanning home l) new c shown turn is steps shows =
       let knows : KnowsScanning st l.scan kept = record { scan = (known_now (Scanning home l) is).1; cache = cache_now (Scanning home l) is } in
       (scan_ask l.scan, refl, λ found. scanning_explains who before after s t book order told told_after stand.cloud home l kept knows buffer c new shown turn shows)
+  by_work buffer (Looking home l) new c shown turn is steps shows =
+      let knows : KnowsLooking st l kept = record { look = (known_now (Looking home l) is).1; cache = cache_now (Looking home l) is } in
+      (look_ask l, refl, λ found. looking_explains who before after s t book order told told_after stand.cloud home l kept knows buffer c new shown turn shows)
   by_work buffer (Folding home m) new c shown turn is steps shows =
       (making_ask m, refl, folding_explains who before after s t book order sessions told told_after stand home m is (grown_all s t (grown_at (Folding home m) new turn steps)) new turn steps)
   by_work buffer (Paging home p) new c shown turn is steps shows = (
@@ -151,6 +157,9 @@ module _ (who : Caller) (before after : Seen) (s t : CloudState) (book : Book) (
   waits_at (Scanning home l) new turn is steps ask hand x =
       quiet_waits ask before.counts after.counts s t (Scanning home l) new turn
       (λ late. let same : ask ≡ scan_ask l.scan = cc (hand) in subst (λ a. ReceivesLate a (leases_of (Scanning home l)) t.now) same late) x
+  waits_at (Looking home l) new turn is steps ask hand x =
+      quiet_waits ask before.counts after.counts s t (Looking home l) new turn
+      (λ late. let same : ask ≡ look_ask l = cc (hand) in subst (λ a. ReceivesLate a (leases_of (Looking home l)) t.now) same late) x
   waits_at (Closing l) new turn is steps ask hand x =
       quiet_waits ask before.counts after.counts s t (Closing l) new turn
       (λ late. let same : ask ≡ Release l = cc (hand) in subst (λ a. ReceivesLate a (leases_of (Closing l)) t.now) same late) x

@@ -4,7 +4,7 @@ use Rattle.cloud_trait.specs.Ask.{Ask, PutHeld, Renew, Release}
 use Rattle.cloud_trait.specs.Claim.{Claim}
 use Rattle.client_work.specs.Session.{ask_of_work, opens_of}
 use Rattle.client_work.specs.declared.work.Work.{Work}
-use Rattle.client_work.specs.declared.work.Work.TheVariants.{Closed, Idle, Opening, Committing, Reading, Scanning, Folding, Paging, Closing, Renewing, Settling, Broken}
+use Rattle.client_work.specs.declared.work.Work.TheVariants.{Closed, Idle, Opening, Committing, Reading, Scanning, Looking, Folding, Paging, Closing, Renewing, Settling, Broken}
 use Rattle.commit_run.specs.Run.{Run, run_opens}
 use Rattle.session_facts.specs.CommitRuns.Puts.{OpensRun, PutsRun}
 use Rattle.session_facts.proofs.CommitRuns.HeadPuts.{run_puts}
@@ -15,6 +15,7 @@ use Rattle.cloud_facts.specs.Homes.Homes.{Part}
 use Rattle.session_facts.proofs.Openings.HeadPuts.{opening_puts}
 use Rattle.page_cache.specs.Cache.{Cache}
 use Rattle.session_facts.proofs.PageCheckpoints.HeadPuts.{paging_puts_none}
+use Rattle.attr_index.specs.Look.{look_ask}
 use Rattle.range_scan.specs.Scan.{scan_ask}
 use Rattle.session_facts.specs.Sessions.Puts.{IsSoundWork, Commits, PutsHead}
 use Rattle.session_facts.specs.Sessions.Sessions.{KnowsWork}
@@ -60,6 +61,7 @@ head_put st now c (Folding home m) part k sound client bytes one two e = absurd 
 head_put st now c (Paging home p) part k sound client bytes one two e = absurd (paging_puts_none p client bytes one two (same_Some _ _ e))
 head_put st now c (Reading home m) part k sound client bytes one two e = no_put (walk_ask m) client bytes one two refl (same_Some _ _ e)
 head_put st now c (Scanning home m) part k sound client bytes one two e = no_put (scan_ask m.scan) client bytes one two refl (same_Some _ _ e)
+head_put st now c (Looking home m) part k sound client bytes one two e = no_put (look_ask m) client bytes one two refl (same_Some _ _ e)
 head_put st now c (Settling m) part k sound client bytes one two e =
     let p = settling_puts st now m part client bytes one two k sound (same_Some _ _ e) in
     record { head = p.head; spells = p.spells; client_is = p.client_is; how = inr (refl, p.settled) }

@@ -2,7 +2,7 @@
 use Rattle.std.proofs.Common.{◌≡◌, ◌≤◌, ℕ, List, [], ◌∷◌, refl, sym, ap, subst, ◌∙◌}
 use Rattle.client_work.specs.Session.{Acting}
 use Rattle.client_work.specs.declared.work.Work.{Work}
-use Rattle.client_work.specs.declared.work.Work.TheVariants.{Closed, Idle, Opening, Committing, Reading, Scanning, Folding, Paging, Closing, Renewing, Settling, Broken}
+use Rattle.client_work.specs.declared.work.Work.TheVariants.{Closed, Idle, Opening, Committing, Reading, Scanning, Looking, Folding, Paging, Closing, Renewing, Settling, Broken}
 use Rattle.cloud_facts.specs.Calls.Acting.{HasLeaseOf}
 use Rattle.cloud_facts.specs.Calls.Others.{NoneJoins, Others}
 use Rattle.cloud_facts.proofs.Calls.Guarding.{others_itself, fewer_others}
@@ -16,6 +16,7 @@ use Rattle.page_cache.specs.Cache.{Cache}
 use Rattle.session_facts.specs.PageCheckpoints.Checkpoint.{leases_of_paging}
 use Rattle.session_facts.proofs.PageCheckpoints.PagingOthers.{paging_others}
 use Rattle.recover_run.specs.declared.home.Home.{Home}
+use Rattle.session_facts.proofs.Looks.Looks.{look_grows}
 use Rattle.session_facts.proofs.Scans.Scans.{scan_grows}
 use Rattle.session_facts.specs.Sessions.Sessions.{leases_of, IsHome, KnowsWork, Knows}
 use Rattle.session_facts.proofs.Sessions.Kept.{kept_grows}
@@ -51,6 +52,8 @@ work_others st su now later c (Reading home w) part after o j k =
     (home_stays st su now later home part (home.lease ∷ []) after (0, refl) o k.0, walk_grows st su o.passes.grows w k.1)
 work_others st su now later c (Scanning home m) part after o j k =
     (home_stays st su now later home part (home.lease ∷ []) after (0, refl) o k.0, scan_grows st su o.passes.grows m.scan k.1)
+work_others st su now later c (Looking home m) part after o j k =
+    (home_stays st su now later home part (home.lease ∷ []) after (0, refl) o k.0, look_grows st su o.passes.grows m k.1)
 work_others st su now later c (Folding home m) part after o j k = (
   home_stays st su now later home part (leases_of (Folding home m)) after (0, refl) o k.0,
   making_others st su now later m after
@@ -95,6 +98,7 @@ part_lease st now c (Opening r) part k = opening_lease st now r part k
 part_lease st now c (Committing r) part k = run_part st now (r, c) part k
 part_lease st now c (Reading home w) part k = home_lease st now home part (home.lease ∷ []) (0, refl) k.0
 part_lease st now c (Scanning home m) part k = home_lease st now home part (home.lease ∷ []) (0, refl) k.0
+part_lease st now c (Looking home m) part k = home_lease st now home part (home.lease ∷ []) (0, refl) k.0
 part_lease st now c (Folding home f) part k = home_lease st now home part (leases_of (Folding home f)) (0, refl) k.0
 part_lease st now c (Paging home p) part k = home_lease st now home part (leases_of (Paging home p)) (0, refl) k.0
 part_lease st now c (Closing l) part k = away_lease (l ∷ []) part k

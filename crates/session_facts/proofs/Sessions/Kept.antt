@@ -2,7 +2,7 @@
 use Rattle.std.proofs.Common.{ℕ, List}
 use Rattle.client_work.specs.Session.{shown_behind}
 use Rattle.client_work.specs.declared.work.Work.{Work}
-use Rattle.client_work.specs.declared.work.Work.TheVariants.{Closed, Idle, Opening, Committing, Reading, Scanning, Folding, Paging, Closing, Renewing, Settling, Broken}
+use Rattle.client_work.specs.declared.work.Work.TheVariants.{Closed, Idle, Opening, Committing, Reading, Scanning, Looking, Folding, Paging, Closing, Renewing, Settling, Broken}
 use Rattle.cloud_facts.specs.Calls.Acting.{Outcome}
 use Rattle.cloud_trait.specs.Ask.{Ask}
 use Rattle.cloud_trait.specs.Caller.{Caller}
@@ -28,6 +28,7 @@ kept_from st c (Opening r) k = k
 kept_from st c (Committing r) k = k
 kept_from st c (Reading home w) k = k
 kept_from st c (Scanning home m) k = k
+kept_from st c (Looking home m) k = k
 kept_from st c (Folding home m) k = k
 kept_from st c (Paging home p) k = k
 kept_from st c (Closing l) k = k
@@ -42,6 +43,7 @@ kept_grows st su c (Opening r) grows k = cache_grows st su grows c k
 kept_grows st su c (Committing r) grows k = cache_grows st su grows c k
 kept_grows st su c (Reading home w) grows k = cache_grows st su grows c k
 kept_grows st su c (Scanning home m) grows k = cache_grows st su grows c k
+kept_grows st su c (Looking home m) grows k = cache_grows st su grows c k
 kept_grows st su c (Folding home m) grows k = cache_grows st su grows c k
 kept_grows st su c (Paging home p) grows k = cache_grows st su grows c k
 kept_grows st su c (Closing l) grows k = cache_grows st su grows c k
@@ -60,6 +62,7 @@ both_shown c (Opening r) st now part k = k
 both_shown c (Committing r) st now part k = k
 both_shown c (Reading home w) st now part k = k
 both_shown c (Scanning home m) st now part k = k
+both_shown c (Looking home m) st now part k = k
 both_shown c (Folding home m) st now part k = k
 both_shown c (Paging home p) st now part k = k
 both_shown c (Closing l) st now part k = k

@@ -49,7 +49,7 @@ use Rattle.txn_buffer.specs.Noted.{Noted}
 use Rattle.std.proofs.lemmas.Option.{same_Some}
 use Rattle.session_facts.proofs.Sessions.Answered.{stopped_none}
 
-no_trouble : (o : Option Trouble) (k : Trouble) → o ≡ None → o ≡ Some k → ⊥
+pub no_trouble : (o : Option Trouble) (k : Trouble) → o ≡ None → o ≡ Some k → ⊥
 no_trouble o k none some = cc
 
 -- ---- operations that keep no trouble and delete nothing
@@ -62,7 +62,7 @@ committed_plain (NotCommitted t) home = refl
 
 module _ (ask : Ask) (c d : Counts) (s t : CloudState) (old new : Work) (before : trouble_in old ≡ None) (behind : trouble_in new ≡ None) where
   -- one that goes on
-  goes_explains : left_in new ≡ 0 → Explains ask c d s t old new More
+  pub goes_explains : left_in new ≡ 0 → Explains ask c d s t old new More
   goes_explains none = record {
     shown = λ plain clean k other meets. absurd (on k meets);
     kept = λ k e. absurd (no_trouble (trouble_in old) k before e);
@@ -74,7 +74,7 @@ module _ (ask : Ask) (c d : Counts) (s t : CloudState) (old new : Work) (before 
       on k (inr e) = no_trouble None k refl e
 
   -- and one that ends: the trouble of its answer is shown
-  ends_explains : (a : Answer) → left_told new (Ended a) ≡ 0 → ((k : Trouble) → trouble_of_answer a ≡ Some k → k ≢ trouble.Memory → IsShown ask (leases_of old) (spent_for old) c d s t k)
+  pub ends_explains : (a : Answer) → left_told new (Ended a) ≡ 0 → ((k : Trouble) → trouble_of_answer a ≡ Some k → k ≢ trouble.Memory → IsShown ask (leases_of old) (spent_for old) c d s t k)
       → Explains ask c d s t old new (Ended a)
   ends_explains a none shows = record {
     shown = λ plain clean k other meets. on k other meets;

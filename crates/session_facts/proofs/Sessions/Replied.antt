@@ -5,7 +5,7 @@ use Rattle.client_work.specs.declared.answer.Answer.{Answer}
 use Rattle.client_work.specs.declared.answer.Answer.TheVariants as answer
 use Rattle.client_work.specs.declared.shown.Shown.{Shown}
 use Rattle.client_work.specs.declared.work.Work.{Work}
-use Rattle.client_work.specs.declared.work.Work.TheVariants.{Closed, Idle, Opening, Committing, Reading, Scanning, Folding, Paging, Closing, Renewing, Settling, Broken}
+use Rattle.client_work.specs.declared.work.Work.TheVariants.{Closed, Idle, Opening, Committing, Reading, Scanning, Looking, Folding, Paging, Closing, Renewing, Settling, Broken}
 use Rattle.cloud_trait.specs.declared.answer.Answer.{Answer as Reply}
 use Rattle.cloud_trait.specs.declared.turn.Turn.{Turn}
 use Rattle.cloud_trait.specs.declared.turn.Turn.TheVariants.{More, Ended}
@@ -16,6 +16,7 @@ use Rattle.cloud_trait.specs.Weather.{Makes}
 use Rattle.commit_run.specs.Run.{run_ask}
 use Rattle.page_cache.specs.Cache.{Cache}
 use Rattle.page_ckpt.specs.Paging.{paging_ask}
+use Rattle.attr_index.specs.Look.{look_ask}
 use Rattle.range_scan.specs.Scan.{scan_ask}
 use Rattle.recover_run.specs.Recovery.{recovery_ask}
 use Rattle.session_facts.specs.Sessions.Calls.{reply_at, reply_of}
@@ -45,6 +46,10 @@ replied_at who before after buffer (Reading home m) c d new shown (Ended answer.
 replied_at who before after buffer (Reading home m) c d new shown (Ended (answer.Trouble k)) p q = record { ask = walk_ask m; hand = refl; made = q.1.made }
 replied_at who before after buffer (Reading home m) c d new shown turn p q = absurd p
 replied_at who before after buffer (Scanning home m) c d new shown turn p q = record { ask = scan_ask m.scan; hand = refl; made = q.steps.made }
+replied_at who before after buffer (Looking home m) c d new shown More p q = record { ask = look_ask m; hand = refl; made = q.1.walked.made }
+replied_at who before after buffer (Looking home m) c d new shown (Ended answer.Scan) p q = record { ask = look_ask m; hand = refl; made = q.1.walked.made }
+replied_at who before after buffer (Looking home m) c d new shown (Ended (answer.Trouble k)) p q = record { ask = look_ask m; hand = refl; made = q.1.walked.made }
+replied_at who before after buffer (Looking home m) c d new shown turn p q = absurd q
 replied_at who before after buffer (Paging home m) c d new shown More p q = record { ask = paging_ask m; hand = refl; made = p.1.made }
 replied_at who before after buffer (Paging home m) c d new shown (Ended (answer.Done n)) p q = record { ask = paging_ask m; hand = refl; made = p.1.made }
 replied_at who before after buffer (Paging home m) c d new shown (Ended (answer.Trouble k)) p q = record { ask = paging_ask m; hand = refl; made = p.1.made }

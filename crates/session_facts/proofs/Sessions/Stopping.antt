@@ -1,12 +1,14 @@
 -- A session is answered with no trouble that only damage could cause, and a commit ends with none.
 use Rattle.std.proofs.Common.{◌≡◌, ◌≢◌, ◌≤◌, ◌⊎◌, inl, inr, ℕ, List, [], ◌∷◌, Some, Result, Ok, Err, refl, sym, subst}
-use Rattle.client_work.specs.Session.{Acting, StepsSession, StepsAt, ShowsAt, StepsOpening, StepsCommit, ReadsBy, Follows, StepsScanning, StepsPaging, StepsFolding, StepsSettling}
+use Rattle.attr_index.specs.Look.{Look, look_ask}
+use Rattle.client_work.specs.Session.{Acting, StepsSession, StepsAt, ShowsAt, StepsOpening, StepsCommit, ReadsBy, LooksBy, Follows, StepsScanning, StepsPaging, StepsFolding, StepsSettling}
+use Rattle.client_work.specs.Showing.{own_of}
 use Rattle.client_work.specs.declared.answer.Answer.{Answer}
 use Rattle.client_work.specs.declared.answer.Answer.TheVariants as answer
 use Rattle.client_work.specs.declared.listing.Listing.{Listing}
 use Rattle.client_work.specs.declared.shown.Shown.{Shown}
 use Rattle.client_work.specs.declared.work.Work.{Work}
-use Rattle.client_work.specs.declared.work.Work.TheVariants.{Closed, Idle, Opening, Committing, Reading, Scanning, Folding, Paging, Closing, Renewing, Settling, Broken}
+use Rattle.client_work.specs.declared.work.Work.TheVariants.{Closed, Idle, Opening, Committing, Reading, Scanning, Looking, Folding, Paging, Closing, Renewing, Settling, Broken}
 use Rattle.cloud_facts.specs.Calls.Acting.{Setting}
 use Rattle.cloud_facts.specs.Calls.Call.{IsCall}
 use Rattle.cloud_facts.proofs.Calls.Calls.{call_of}
@@ -37,6 +39,7 @@ use Rattle.range_scan.specs.Scan.{scan_ask, scan_next, KeepsServed}
 use Rattle.recover_run.specs.declared.home.Home.{Home}
 use Rattle.recover_run.specs.Recovery.{Recovery, recovery_ask}
 use Rattle.report_types.specs.declared.entry.Entry.{Entry}
+use Rattle.session_facts.proofs.Looks.Looks.{look_stops}
 use Rattle.session_facts.proofs.Scans.Scans.{scan_stops}
 use Rattle.session_facts.specs.Sessions.Answering.{MayRefuse, MayAnswer}
 use Rattle.session_facts.specs.Sessions.Sessions.{leases_of, KnowsWork, KnowsKept, Sessions, SessionsStand}
@@ -161,6 +164,14 @@ module _ (who : Caller) (before after : Seen) (s t : CloudState) (book : Book) (
           (λ other. (scan_stops book order s stand.cloud who l.scan kept p.steps.answer t (p.scan, d) q call
           (record { scan = (known_now (Scanning home l) is).1; cache = cache_now (Scanning home l) is }) (took.0 other)).1))
 
+  looking_may : (home : Home) (l : Look) → old ≡ Looking home l → (buffer : List Noted) (d : Cache) (work : Work) (shown : Shown) (k : Trouble)
+      → LooksBy home buffer who before after l kept d work shown (Ended (answer.Trouble k)) → MayStopWalk k
+  looking_may home l is buffer d work shown k (m, steps, left, none) =
+      let call = called (look_ask l) steps.walked.answer steps.walked.made in
+      or_memory MayStopWalk k tt
+      (λ other. look_stops book order s stand.cloud who (own_of home buffer) l kept steps.walked.answer t (m, d) k call
+      (record { look = (known_now (Looking home l) is).1; cache = cache_now (Looking home l) is }) (steps.took.0 other))
+
   folding_may : (home : Home) (m : Making) → old ≡ Folding home m → (work : Work) (k : Trouble) → StepsFolding home who before after m work (Ended (answer.Trouble k)) → MayStopTree k
   folding_may home m is work k (n, steps, left) =
       let call = called (making_ask m) steps.answer steps.made in
@@ -189,6 +200,7 @@ module _ (who : Caller) (before after : Seen) (s t : CloudState) (book : Book) (
   by_work buffer (Committing r) new c shown k is steps shows = commit_may r is c new k shows.0
   by_work buffer (Reading home w) new c shown k is steps shows = reading_may home w is c new shown k shows
   by_work buffer (Scanning home l) new c shown k is steps shows = scanning_may home l is buffer c new shown k shows
+  by_work buffer (Looking home l) new c shown k is steps shows = looking_may home l is buffer c new shown k shows
   by_work buffer (Folding home m) new c shown k is steps shows = folding_may home m is new k steps
   by_work buffer (Paging home p) new c shown k is steps shows = paging_may home p is new k steps
   by_work buffer (Closing l) new c shown k is steps shows = done_may steps.0.answer k steps.0.took
@@ -221,6 +233,7 @@ module _ (who : Caller) (before after : Seen) (s t : CloudState) (book : Book) (
       lists More (work_is, none, more) = cc
       lists (Ended page) never = never
       lists (Stopped q) (work_is, none, stopped) = cc
+  by_commit buffer (Looking home l) new c shown a is steps shows = absurd shows
   by_commit buffer (Folding home m) new c shown a is never shows = absurd never
   by_commit buffer (Paging home p) new c shown a is never shows = absurd never
   by_commit buffer (Closing l) new c shown a is never shows = absurd never

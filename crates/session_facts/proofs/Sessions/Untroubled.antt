@@ -7,7 +7,7 @@ use Rattle.client_work.specs.declared.answer.Answer.TheVariants as answer
 use Rattle.client_work.specs.declared.listing.Listing.{Listing}
 use Rattle.client_work.specs.declared.shown.Shown.{Shown}
 use Rattle.client_work.specs.declared.work.Work.{Work}
-use Rattle.client_work.specs.declared.work.Work.TheVariants.{Closed, Idle, Opening, Committing, Reading, Scanning, Folding, Paging, Closing, Renewing, Settling, Broken}
+use Rattle.client_work.specs.declared.work.Work.TheVariants.{Closed, Idle, Opening, Committing, Reading, Scanning, Looking, Folding, Paging, Closing, Renewing, Settling, Broken}
 use Rattle.cloud_trait.specs.declared.answer.Answer.TheVariants.{Memory}
 use Rattle.cloud_trait.specs.declared.turn.Turn.{Turn}
 use Rattle.cloud_trait.specs.declared.turn.Turn.TheVariants.{More, Ended, Stopped}
@@ -57,6 +57,7 @@ spent_later s t (Paging home p) grown what is = pages_later s t grown p.tree wha
 spent_later s t (Settling m) grown what is = settle_later s t grown what is
 spent_later s t (Reading home m) grown what is = is
 spent_later s t (Scanning home m) grown what is = is
+spent_later s t (Looking home m) grown what is = is
 spent_later s t (Closing l) grown what is = is
 spent_later s t (Renewing home) grown what is = is
 spent_later s t Closed grown what is = is
@@ -75,6 +76,7 @@ spent_stays who before after t (Paging home m) new p k kept what is =
 spent_stays who before after t (Settling m) new p k kept what is = subst (λ (w : Work). spent_for w t what) (sym p.1.2) is
 spent_stays who before after t (Reading home m) new p k kept what is = absurd is
 spent_stays who before after t (Scanning home m) new p k kept what is = absurd is
+spent_stays who before after t (Looking home m) new p k kept what is = absurd is
 spent_stays who before after t (Closing l) new p k kept what is = absurd is
 spent_stays who before after t (Renewing home) new p k kept what is = absurd is
 spent_stays who before after t Closed new p k kept what is = absurd is
@@ -365,6 +367,9 @@ answered_rests who before after (Reading home m) new answer.Value p = rests_as n
 answered_rests who before after (Reading home m) new (answer.Trouble k) p = rests_as new (stopped_work k home) p.1 (stopped_rests k home)
 answered_rests who before after (Reading home m) new a p = absurd p
 answered_rests who before after (Scanning home m) new a (buffer, c, d, shown, p) = follows_rests home buffer (record { scan = p.scan; pairs = m.pairs }) d p.moved new shown a p.follows
+answered_rests who before after (Looking home m) new answer.Scan (buffer, c, d, shown, p) = rests_as new (Idle home) p.2 (idle_rests home)
+answered_rests who before after (Looking home m) new (answer.Trouble k) (buffer, c, d, shown, p) = rests_as new (stopped_work k home) p.2 (stopped_rests k home)
+answered_rests who before after (Looking home m) new a (buffer, c, d, shown, p) = absurd p
 answered_rests who before after (Paging home m) new (answer.Done n) p = rests_as new (Idle home) p.2 (idle_rests home)
 answered_rests who before after (Paging home m) new (answer.Trouble k) p = rests_as new (stopped_work k home) p.2 (stopped_rests k home)
 answered_rests who before after (Paging home m) new a p = absurd p
@@ -400,6 +405,7 @@ tells_at who before after buffer (Opening m) c d new shown a p q found = absurd 
 tells_at who before after buffer (Reading home m) c d new shown a p q found = absurd p
 tells_at who before after buffer (Scanning home m) c d new shown a p q found =
     absurd (scan_no_commit home buffer (record { scan = q.scan; pairs = m.pairs }) d q.moved new shown a q.follows)
+tells_at who before after buffer (Looking home m) c d new shown a p q found = absurd q
 tells_at who before after buffer (Paging home m) c d new shown a p q found = absurd p
 tells_at who before after buffer (Folding home m) c d new shown a p q found = absurd p
 tells_at who before after buffer (Closing lease) c d new shown a p q found = absurd p

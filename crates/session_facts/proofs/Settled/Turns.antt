@@ -70,6 +70,7 @@ stepped who before after buffer (work.Opening r) c d new shown turn p q m e = ab
 stepped who before after buffer (work.Committing r) c d new shown turn p q m e = absurd (cc (e))
 stepped who before after buffer (work.Reading home r) c d new shown turn p q m e = absurd (cc (e))
 stepped who before after buffer (work.Scanning home r) c d new shown turn p q m e = absurd (cc (e))
+stepped who before after buffer (work.Looking home r) c d new shown turn p q m e = absurd (cc (e))
 stepped who before after buffer (work.Paging home r) c d new shown turn p q m e = absurd (cc (e))
 stepped who before after buffer (work.Folding home r) c d new shown turn p q m e = absurd (cc (e))
 stepped who before after buffer (work.Closing l) c d new shown turn p q m e = absurd (cc (e))

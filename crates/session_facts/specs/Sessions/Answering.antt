@@ -1,6 +1,6 @@
 -- With which troubles a session may be answered, by what it has in hand: none that only damage could cause.
 use Rattle.client_work.specs.declared.work.Work.{Work}
-use Rattle.client_work.specs.declared.work.Work.TheVariants.{Closed, Idle, Opening, Committing, Reading, Scanning, Folding, Paging, Closing, Renewing, Settling, Broken}
+use Rattle.client_work.specs.declared.work.Work.TheVariants.{Closed, Idle, Opening, Committing, Reading, Scanning, Looking, Folding, Paging, Closing, Renewing, Settling, Broken}
 use Rattle.session_facts.specs.CommitRuns.Stopping.{MayStop as MayStopCommit}
 use Rattle.db_base.specs.declared.trouble.Trouble.{Trouble}
 use Rattle.db_base.specs.declared.trouble.Trouble.TheVariants as trouble
@@ -34,6 +34,7 @@ MayAnswer (Opening r) t = MayStopOpening t
 MayAnswer (Committing r) t = MayStopCommit t
 MayAnswer (Reading home w) t = MayStopWalk t
 MayAnswer (Scanning home m) t = MayStopWalk t
+MayAnswer (Looking home m) t = MayStopWalk t
 MayAnswer (Folding home m) t = MayStopTree t
 MayAnswer (Paging home p) t = MayStopPage p.page t
 MayAnswer (Closing l) t = MayRefuse t

@@ -1,11 +1,12 @@
 -- The one service call of a step of a session, and what the step explains of it.
 use Rattle.std.specs.Prelude.{ℕ, ◌≡◌, ◌≢◌, ◌⊎◌, List, Some, None, Ok}
-use Rattle.client_work.specs.Session.{Acting, StepsSession, StepsAt, ShowsAt, StepsOpening, StepsCommit, ReadsBy, StepsPaging, StepsFolding, StepsClosing, StepsRenewing, StepsSettling, ask_of_work}
+use Rattle.attr_index.specs.Look.{Look}
+use Rattle.client_work.specs.Session.{Acting, StepsSession, StepsAt, ShowsAt, StepsOpening, StepsCommit, ReadsBy, LooksBy, StepsPaging, StepsFolding, StepsClosing, StepsRenewing, StepsSettling, ask_of_work}
 use Rattle.client_work.specs.declared.answer.Answer.{Answer}
 use Rattle.client_work.specs.declared.answer.Answer.TheVariants as answer
 use Rattle.client_work.specs.declared.shown.Shown.{Shown}
 use Rattle.client_work.specs.declared.work.Work.{Work}
-use Rattle.client_work.specs.declared.work.Work.TheVariants.{Closed, Idle, Opening, Committing, Reading, Scanning, Folding, Paging, Closing, Renewing, Settling, Broken}
+use Rattle.client_work.specs.declared.work.Work.TheVariants.{Closed, Idle, Opening, Committing, Reading, Scanning, Looking, Folding, Paging, Closing, Renewing, Settling, Broken}
 use Rattle.cloud_trait.specs.declared.answer.Answer.{Answer as Reply}
 use Rattle.cloud_trait.specs.declared.answer.Answer.TheVariants.{Memory}
 use Rattle.cloud_trait.specs.declared.turn.Turn.{Turn}
@@ -50,6 +51,13 @@ reading_reply home who before after w kept c work shown (Ended answer.Value) p =
 reading_reply home who before after w kept c work shown (Ended (answer.Trouble k)) p = p.1.answer
 reading_reply home who before after w kept c work shown turn p = absurd p
 
+abbrev pub looking_reply : (home : Home) (buffer : List Noted) (who : Caller) (before after : Seen) (l : Look) (kept c : Cache) (work : Work) (shown : Shown) (turn : Turn Answer)
+    → LooksBy home buffer who before after l kept c work shown turn → Reply
+looking_reply home buffer who before after l kept c work shown More p = p.1.walked.answer
+looking_reply home buffer who before after l kept c work shown (Ended answer.Scan) p = p.1.walked.answer
+looking_reply home buffer who before after l kept c work shown (Ended (answer.Trouble k)) p = p.1.walked.answer
+looking_reply home buffer who before after l kept c work shown turn p = absurd p
+
 abbrev pub paging_reply : (home : Home) (who : Caller) (before after : Seen) (p : Page) (work : Work) (turn : Turn Answer) → StepsPaging home who before after p work turn → Reply
 paging_reply home who before after p work More steps = steps.1.answer
 paging_reply home who before after p work (Ended (answer.Done n)) steps = steps.1.answer
@@ -85,6 +93,7 @@ reply_at who before after buffer (Opening m) c d new shown turn p q = opening_re
 reply_at who before after buffer (Committing m) c d new shown turn p q = commit_reply who before after m c d new turn q.0
 reply_at who before after buffer (Reading home m) c d new shown turn p q = reading_reply home who before after m c d new shown turn q
 reply_at who before after buffer (Scanning home m) c d new shown turn p q = q.steps.answer
+reply_at who before after buffer (Looking home m) c d new shown turn p q = looking_reply home buffer who before after m c d new shown turn q
 reply_at who before after buffer (Paging home m) c d new shown turn p q = paging_reply home who before after m new turn p
 reply_at who before after buffer (Folding home m) c d new shown turn p q = folding_reply home who before after m new turn p
 reply_at who before after buffer (Closing lease) c d new shown turn p q = closing_reply lease who before after new turn p

@@ -4,7 +4,7 @@ use Rattle.cloud_trait.specs.Calm.{NamesLasting, TakesFree}
 use Rattle.client_work.specs.declared.answer.Answer.{Answer}
 use Rattle.client_work.specs.declared.answer.Answer.TheVariants as answer
 use Rattle.client_work.specs.declared.work.Work.{Work}
-use Rattle.client_work.specs.declared.work.Work.TheVariants.{Closed, Idle, Opening, Committing, Reading, Scanning, Folding, Paging, Closing, Renewing, Settling, Broken}
+use Rattle.client_work.specs.declared.work.Work.TheVariants.{Closed, Idle, Opening, Committing, Reading, Scanning, Looking, Folding, Paging, Closing, Renewing, Settling, Broken}
 use Rattle.cloud_facts.specs.Book.Records.{IsIn}
 use Rattle.cloud_trait.specs.declared.turn.CkptAnswer.{CkptAnswer}
 use Rattle.cloud_trait.specs.declared.turn.Turn.{Turn}
@@ -77,6 +77,7 @@ trouble_in (Opening r) = trouble_of_recovery r
 trouble_in (Committing r) = None
 trouble_in (Reading home m) = None
 trouble_in (Scanning home m) = None
+trouble_in (Looking home m) = None
 trouble_in (Folding home m) = trouble_of_making m
 trouble_in (Paging home p) = p.trouble
 trouble_in (Closing l) = None
@@ -119,6 +120,7 @@ left_in (Opening r) = 0
 left_in (Committing r) = 0
 left_in (Reading home m) = 0
 left_in (Scanning home m) = 0
+left_in (Looking home m) = 0
 left_in (Folding home m) = left_in_tree m.work
 left_in (Paging home p) = p.deletions.left
 left_in (Closing l) = 0
@@ -181,6 +183,7 @@ spent_for (Paging home p) = IsSpentInPages p.tree
 spent_for (Settling m) = IsSpentToSettle
 spent_for (Reading home m) = λ t what. ⊥
 spent_for (Scanning home m) = λ t what. ⊥
+spent_for (Looking home m) = λ t what. ⊥
 spent_for (Closing l) = λ t what. ⊥
 spent_for (Renewing home) = λ t what. ⊥
 spent_for Closed = λ t what. ⊥

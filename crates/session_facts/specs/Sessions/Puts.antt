@@ -2,7 +2,7 @@
 use Rattle.std.specs.Prelude.{ℕ, ◌≡◌, ◌⊎◌, List, Some, None}
 use Rattle.client_work.specs.Session.{opens_of, committing_of}
 use Rattle.client_work.specs.declared.work.Work.{Work}
-use Rattle.client_work.specs.declared.work.Work.TheVariants.{Closed, Idle, Opening, Committing, Reading, Scanning, Folding, Paging, Closing, Renewing, Settling, Broken}
+use Rattle.client_work.specs.declared.work.Work.TheVariants.{Closed, Idle, Opening, Committing, Reading, Scanning, Looking, Folding, Paging, Closing, Renewing, Settling, Broken}
 use Rattle.commit_run.specs.Run.{home_of as home_of_run}
 use Rattle.commit_run.specs.Sound.{IsSoundRun}
 use Rattle.head_codec.specs.Spelling.{head_of}
@@ -19,6 +19,7 @@ IsSoundWork (Opening r) = IsSoundOpening r
 IsSoundWork (Committing r) = IsSoundRun r
 IsSoundWork (Reading home m) = Unit {0}
 IsSoundWork (Scanning home m) = Unit {0}
+IsSoundWork (Looking home m) = Unit {0}
 IsSoundWork (Folding home f) = Unit {0}
 IsSoundWork (Paging home p) = Unit {0}
 IsSoundWork Closed = Unit {0}
@@ -34,6 +35,7 @@ IsClientOf (Opening r) client = r.client ≡ client
 IsClientOf (Committing r) client = (home_of_run r).client ≡ client
 IsClientOf (Reading home m) client = home.client ≡ client
 IsClientOf (Scanning home m) client = home.client ≡ client
+IsClientOf (Looking home m) client = home.client ≡ client
 IsClientOf (Folding home f) client = home.client ≡ client
 IsClientOf (Paging home p) client = home.client ≡ client
 IsClientOf Closed client = ⊥

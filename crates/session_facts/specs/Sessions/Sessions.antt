@@ -4,7 +4,7 @@ use Rattle.client_work.specs.Session.{Acting}
 use Rattle.client_work.specs.declared.op.Op.{Op}
 use Rattle.client_work.specs.declared.op.Op.TheVariants as op
 use Rattle.client_work.specs.declared.work.Work.{Work}
-use Rattle.client_work.specs.declared.work.Work.TheVariants.{Closed, Idle, Opening, Committing, Reading, Scanning, Folding, Paging, Closing, Renewing, Settling, Broken}
+use Rattle.client_work.specs.declared.work.Work.TheVariants.{Closed, Idle, Opening, Committing, Reading, Scanning, Looking, Folding, Paging, Closing, Renewing, Settling, Broken}
 use Rattle.cloud_facts.specs.Calls.Looks.{audit_of}
 use Rattle.cloud_facts.specs.Calls.Standing.{StandsUnder}
 use Rattle.cloud_trait.specs.Claim.{Claim}
@@ -22,6 +22,7 @@ use Rattle.page_cache.specs.Cache.{Cache}
 use Rattle.session_facts.specs.PageCheckpoints.Checkpoint.{KnowsPaging, leases_of_paging}
 use Rattle.recover_run.specs.declared.home.Home.{Home}
 use Rattle.report_types.specs.declared.entry.Entry.{Entry}
+use Rattle.session_facts.specs.Looks.Looks.{KnowsLook}
 use Rattle.session_facts.specs.Scans.Scans.{KnowsScan}
 use Rattle.session_facts.specs.Sessions.Noting.{audited}
 use Rattle.session_facts.specs.Settlings.Settling.{KnowsSettling, leases_of_settling}
@@ -41,6 +42,7 @@ leases_of (Opening r) = leases_of_recovery r
 leases_of (Committing r) = (home_of_run r).lease ∷ []
 leases_of (Reading home m) = home.lease ∷ []
 leases_of (Scanning home m) = home.lease ∷ []
+leases_of (Looking home m) = home.lease ∷ []
 leases_of (Folding home m) = home.lease ∷ leases_of_making m
 leases_of (Paging home p) = home.lease ∷ leases_of_paging p
 leases_of (Closing l) = l ∷ []
@@ -60,6 +62,7 @@ KnowsWork st now c (Opening r) part = KnowsOpening st now r part
 KnowsWork st now c (Committing r) part = KnowsRun st now (r, c) part
 KnowsWork st now c (Reading home w) part = IsHome st now home part × KnowsWalk st w
 KnowsWork st now c (Scanning home m) part = IsHome st now home part × KnowsScan st m.scan
+KnowsWork st now c (Looking home m) part = IsHome st now home part × KnowsLook st m
 KnowsWork st now c (Folding home m) part = IsHome st now home part × KnowsMaking st now m
 KnowsWork st now c (Paging home p) part = IsHome st now home part × KnowsPaging st now p
 KnowsWork st now c (Closing l) part = part ≡ Away
@@ -103,6 +106,7 @@ IsRightOp op.Renew = Unit {0}
 IsRightOp op.Commit = Unit {0}
 IsRightOp (op.Read tree key) = IsTree tree
 IsRightOp (op.Scan tree from to) = IsTree tree
+IsRightOp (op.Lookup tree attr) = IsTree tree
 IsRightOp (op.Tree tree) = IsTree tree
 IsRightOp (op.Page tree page) = IsTree tree × IsPage page
 

@@ -3,3 +3,4 @@ pub mod Reading
 pub mod Landing
 pub mod Newest
 pub mod Values
+pub mod Counting

@@ -20,3 +20,4 @@ pub mod Records
 pub mod Sent
 pub mod Behind
 pub mod Commits
+pub mod Unspent

@@ -1,5 +1,5 @@
 -- A session's client has begun as many transactions as the lines of a load tell.
-use Rattle.std.proofs.Common.{◌≡◌, ◌≢◌, ◌+◌, inl, inr, ℕ, List, Option, Some, None, Result, Ok, Err, refl, sym, ap, subst, ◌∙◌, arith}
+use Rattle.std.proofs.Common.{◌≡◌, ◌≢◌, ◌+◌, ◌≤◌, ◌⊎◌, inl, inr, ℕ, List, Option, Some, None, Result, Ok, Err, refl, sym, ap, subst, ◌∙◌, arith}
 use Rattle.client_work.specs.Session.{Acting, Begins, BeginsWith, CommitsNoted, Follows, HasInHand, StepsAt, StepsSession, committed_work, opened_work, stopped_work, value_of}
 use Rattle.client_work.specs.declared.listing.Listing.{Listing}
 use Rattle.client_work.specs.declared.answer.Answer.{Answer}
@@ -34,7 +34,7 @@ use Rattle.recover_run.specs.declared.stage.Stage.{Stage}
 use Rattle.recover_run.specs.declared.stage.Stage.TheVariants as stage
 use Rattle.reply_text.specs.declared.reply.Reply.{Reply}
 use Rattle.reply_text.specs.declared.reply.Reply.TheVariants as reply
-use Rattle.session_facts.proofs.CommitNumbers.{BeginsAt, RunsAt, run_begins_at, run_goes_at}
+use Rattle.session_facts.proofs.CommitNumbers.{BeginsAt, RunsAt, run_begins_at, run_ends_within, run_goes_at}
 use Rattle.session_facts.specs.Facts.{session_at}
 use Rattle.world_core.proofs.EveryLine.{does_own, asked_is}
 use Rattle.world_core.proofs.StandsLemmas.{changed_at, changed_was, has_at, no_memory}
@@ -67,6 +67,10 @@ Numbered n Closed = Unit {0}
 Numbered n (Closing lease) = Unit {0}
 Numbered n (Settling m) = Unit {0}
 Numbered n (Broken lease) = Unit {0}
+
+-- .. so many at most
+abbrev pub AtMost : ℕ → Work → Type 0
+AtMost n w = (k : ℕ) × (k ≤ n) × Numbered k w
 
 -- ---- one step
 
@@ -181,7 +185,7 @@ abbrev pub own_work : World → Work
 own_work world = (session_at world.sessions 1).work
 
 -- a session that changes is session 1
-changes_work : (Does : Acting → Acting → Type 0) (old new : World) → (c : Changes 1 Does old.sessions new.sessions) → (own_work old ≡ c.before.work) × (own_work new ≡ c.after.work)
+pub changes_work : (Does : Acting → Acting → Type 0) (old new : World) → (c : Changes 1 Does old.sessions new.sessions) → (own_work old ≡ c.before.work) × (own_work new ≡ c.after.work)
 changes_work Does old new c = (
   ap (λ (a : Acting). a.work) (changed_was 1 Does old.sessions new.sessions c),
   ap (λ (a : Acting). a.work) (changed_at 1 Does old.sessions new.sessions c 1 ∙ at_same 1 c.after (session_at old.sessions) 1 refl),
@@ -311,6 +315,51 @@ module _ (m n : ℕ) (before after : Seen) (old new : World) (r : Reply) (h : Nu
   committing_so session (Report tree) one is asks p = absurd asks
   committing_so session Settle one is asks p = absurd asks
 
+  -- an opening that does not begin leaves it so
+  opens_else : (client : ℕ) → (r ≡ reply.Begun → ⊥) → (a b : Acting) (begun : Result Begun Refused) → Begins (op.Open client) a b begun → RepliesBegun begun b (Ok r) → Numbered n a.work → Numbered n b.work
+  opens_else client never a b (Ok Working) begins e k = let is : r ≡ reply.Begun = cc in absurd (never is)
+  opens_else client never a b (Ok (Answered x)) begins e k = absurd begins
+  opens_else client never a b (Err (refused.Rule rule)) begins e k = subst (Numbered n) (sym (ap (λ (z : Acting). z.work) begins.1)) k
+  opens_else client never a b (Err refused.Memory) begins e k = absurd begins
+
+  opening_else : (session client : ℕ) (asked : Asked) → session ≡ 1 → (r ≡ reply.Begun → ⊥) → Asks (event.Open session client) asked → Answers m asked before after old new (Ok r)
+      → Numbered n (own_work new)
+  opening_else session client (Session k (Ok request)) one never asks (inl p) =
+      begins_so n (op.Open client) (of_one k request (Begin (op.Open client)) (asks.0 ∙ one) asks.1.1 p.1) (opens_else client never)
+  opening_else session client (Session k (Err why)) one never asks (inl p) = declined_stays why p.1
+  opening_else session client (Session k request) one never asks (inr none) = declined_stays _ none.declines
+  opening_else session client (Wait ticks) one never asks p = absurd asks
+  opening_else session client (Report tree) one never asks p = absurd asks
+  opening_else session client Settle one never asks p = absurd asks
+
+  -- a commit that is answered at once has taken one at most
+  answers_else : (x : Answer) (home : Home) (a b : Acting) → home.attempt ≡ n → CommitsNoted home a.buffer a.cache b.cache b.work (Answered x) → AtMost (n + 1) b.work
+  answers_else x home a b was (inl nothing) = (n, omega arith, subst (Numbered n) (sym nothing.work_is) was)
+  answers_else (answer.Commit y) home a b was (inr (some, c)) =
+      let few = run_ends_within home a.buffer a.cache (c.0, b.cache) y c.1 in
+      let within : (home_of c.0).attempt ≤ n + 1 = omega (arith, few, was) in
+      ((home_of c.0).attempt, within, subst (Numbered (home_of c.0).attempt) (sym c.2) refl)
+  answers_else (answer.Trouble t) home a b was (inr (some, c)) = (n, omega arith, subst (Numbered n) (sym c.1) tt)
+  answers_else x home a b was (inr (some, c)) = absurd c
+
+  commits_else : (r ≡ reply.Begun → ⊥) → (a b : Acting) (begun : Result Begun Refused) → Begins op.Commit a b begun → RepliesBegun begun b (Ok r) → Numbered n a.work → AtMost (n + 1) b.work
+  commits_else never a b (Ok Working) begins e k = let is : r ≡ reply.Begun = cc in absurd (never is)
+  commits_else never a b (Ok (Answered x)) begins e k = let was : begins.0.attempt ≡ n = subst (Numbered n) begins.1 k in answers_else x begins.0 a b was begins.2.1
+  commits_else never a b (Err (refused.Rule rule)) begins e k = (n, omega arith, subst (Numbered n) (sym (ap (λ (z : Acting). z.work) begins.1)) k)
+  commits_else never a b (Err refused.Memory) begins e k = absurd begins
+
+  committing_else : (session : ℕ) (asked : Asked) → session ≡ 1 → (r ≡ reply.Begun → ⊥) → Asks (event.Commit session) asked → Answers m asked before after old new (Ok r) → AtMost (n + 1) (own_work new)
+  committing_else session (Session k (Ok request)) one never asks (inl p) =
+      let d = of_one k request (Begin op.Commit) (asks.0 ∙ one) (asked_is request (Begin op.Commit) asks.1) p.1 in
+      let c = d.1 in
+      let w = changes_work _ old new c in
+      subst (AtMost (n + 1)) (sym w.1) (commits_else never c.before c.after c.does.begun c.does.begins c.does.replies (subst (Numbered n) w.0 h))
+  committing_else session (Session k (Err why)) one never asks (inl p) = (n, omega arith, declined_stays why p.1)
+  committing_else session (Session k request) one never asks (inr none) = (n, omega arith, declined_stays _ none.declines)
+  committing_else session (Wait ticks) one never asks p = absurd asks
+  committing_else session (Report tree) one never asks p = absurd asks
+  committing_else session Settle one never asks p = absurd asks
+
   -- a note
   noted_so : (noting : Noting) → Does m 1 (Note noting) before after old new (Ok r) → Numbered n (own_work new)
   noted_so noting does =
@@ -391,3 +440,46 @@ module _ (m n : ℕ) (before after : Seen) (old new : World) (r : Reply) (h : Nu
 pub line_numbered : (m n : ℕ) (e : Event) (before after : Seen) (old new : World) (r : Reply) → LoadLine e r → Handled m e before after old new (Ok r) → Numbered n (own_work old)
     → Numbered (number_by e r n) (own_work new)
 line_numbered m n e before after old new r l handled h = line_so m n before after old new r h e l handled.asked handled.asks handled.answers
+
+-- ---- a line, whatever is replied
+
+-- a load has such a line
+abbrev pub IsLoadEvent : Event → Type 0
+IsLoadEvent (event.Open session client) = session ≡ 1
+IsLoadEvent (event.Commit session) = session ≡ 1
+IsLoadEvent e = LoadLine e reply.Noted
+
+is_begun : (r : Reply) → (r ≡ reply.Begun) ⊎ (r ≡ reply.Begun → ⊥)
+is_begun reply.Begun = inl refl
+is_begun r = inr (λ e. absurd (cc))
+
+-- it begins one transaction at most
+module _ (m n : ℕ) (before after : Seen) (old new : World) (r : Reply) (k : ℕ) (within : k ≤ n) (h : Numbered k (own_work old)) where
+  of_load : (e : Event) → Handled m e before after old new (Ok r) → LoadLine e r → number_by e r k ≤ k + 1 → AtMost (n + 1) (own_work new)
+  of_load e handled line few = (number_by e r k, omega (arith, within, few), line_numbered m k e before after old new r line handled h)
+
+  more : AtMost (k + 1) (own_work new) → AtMost (n + 1) (own_work new)
+  more x = let few = x.1 in (x.0, omega (arith, within, few), x.2)
+
+  line_by : (e : Event) → IsLoadEvent e → Handled m e before after old new (Ok r) → AtMost (n + 1) (own_work new)
+  line_by (event.Open session client) is handled = on (is_begun r)
+    where
+      on : (r ≡ reply.Begun) ⊎ (r ≡ reply.Begun → ⊥) → AtMost (n + 1) (own_work new)
+      on (inl e) = of_load (event.Open session client) handled (is, e) (subst (λ q. number_by (event.Open session client) q k ≤ k + 1) (sym e) (omega arith))
+      on (inr never) = more (k, omega arith, opening_else m k before after old new r h session client handled.asked is never handled.asks handled.answers)
+  line_by (event.Commit session) is handled = on (is_begun r)
+    where
+      on : (r ≡ reply.Begun) ⊎ (r ≡ reply.Begun → ⊥) → AtMost (n + 1) (own_work new)
+      on (inl e) = of_load (event.Commit session) handled (is, e) (subst (λ q. number_by (event.Commit session) q k ≤ k + 1) (sym e) (omega arith))
+      on (inr never) = more (committing_else m k before after old new r h session handled.asked is never handled.asks handled.answers)
+  line_by (event.Renew session) is handled = of_load (event.Renew session) handled is (omega arith)
+  line_by (event.Close session) is handled = of_load (event.Close session) handled is (omega arith)
+  line_by (event.Tree session tree) is handled = of_load (event.Tree session tree) handled is (omega arith)
+  line_by (event.Insert session tree key payload attr) is handled = of_load (event.Insert session tree key payload attr) handled is (omega arith)
+  line_by (event.Run session) is handled = of_load (event.Run session) handled is (omega arith)
+  line_by event.Settle is handled = of_load event.Settle handled is (omega arith)
+  line_by e is handled = absurd is
+
+pub line_at_most : (m n : ℕ) (e : Event) (before after : Seen) (old new : World) (r : Reply) → IsLoadEvent e → Handled m e before after old new (Ok r) → AtMost n (own_work old)
+    → AtMost (n + 1) (own_work new)
+line_at_most m n e before after old new r is handled (k, within, h) = line_by m n before after old new r k within h e is handled

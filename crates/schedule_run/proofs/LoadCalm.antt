@@ -1,5 +1,5 @@
 -- A load whose steps were all calm stops for a spent counter or for want of memory alone.
-use Rattle.std.proofs.Common.{suc, ◌≡◌, ◌+◌, ◌==◌, ◌⊎◌, ℕ, List, [], ◌∷◌, ◌++◌, length, map, Some, Ok, Bool, true, false, if◌then◌else◌, refl, sym, ap, subst, ◌∙◌, append_assoc, inl, inr, arith, length-append}
+use Rattle.std.proofs.Common.{suc, ◌≡◌, ◌≢◌, ◌+◌, ◌<◌, ◌^◌, ◌==◌, ◌⊎◌, ℕ, List, [], ◌∷◌, ◌++◌, length, map, Some, Ok, Bool, true, false, if◌then◌else◌, refl, sym, ap, subst, ◌∙◌, append_assoc, inl, inr, arith, length-append}
 use Rattle.std.specs.Prelude.{replicate}
 use Rattle.std.proofs.lemmas.Bool.{eq-eqb}
 use Rattle.client_work.specs.Session.{Acting, closed_session}
@@ -7,6 +7,9 @@ use Rattle.cloud_trait.specs.Seen.{Seen}
 use Rattle.cloud_trait.specs.State.{CloudState, IsEmptyCloud}
 use Rattle.db_base.specs.declared.trouble.CommitAnswer.{CommitAnswer}
 use Rattle.db_base.specs.declared.trouble.CommitAnswer.TheVariants.{Committed, NotCommitted, InDoubt, CommittedOpen}
+use Rattle.db_base.specs.declared.trouble.Counter.TheVariants as counter
+use Rattle.db_base.specs.declared.trouble.Trouble.{Trouble}
+use Rattle.db_base.specs.declared.trouble.Trouble.TheVariants as trouble
 use Rattle.dump_text.specs.declared.dump.DumpedTree.{DumpedTree}
 use Rattle.event_text.specs.declared.event.Event.{Event}
 use Rattle.event_text.specs.declared.event.Event.TheVariants as event
@@ -15,10 +18,16 @@ use Rattle.load_plan.proofs.EventLemmas.{Each, each_first, each_last, before_set
 use Rattle.reply_text.specs.declared.reply.Reply.{Reply}
 use Rattle.reply_text.specs.declared.reply.Reply.TheVariants as reply
 use Rattle.replay_meaning.specs.Standing.{Line, Standing, Posture, session_of, standing, after_line, after_own}
+use Rattle.load_facts.proofs.Numbered.{AtMost, IsLoadEvent, own_work, line_at_most}
+use Rattle.load_facts.proofs.Unspent.{commit_spent, run_unspent}
+use Rattle.session_facts.proofs.Attempts.{no_attempt}
 use Rattle.session_facts.proofs.CommittedLemmas.{standing_line}
 use Rattle.session_facts.proofs.StartLemmas.{closed_at}
+use Rattle.session_facts.proofs.SpentRows.{spends_late, late_trouble}
 use Rattle.session_facts.specs.Facts.{session_at}
-use Rattle.session_facts.specs.Sessions.Untroubled.{IsUntroubled}
+use Rattle.session_facts.specs.Late.{SpendsLate}
+use Rattle.session_facts.specs.Sessions.Spent.{IsSpentToOpen, IsSpentToCommit, IsSpentToSettle}
+use Rattle.session_facts.specs.Sessions.Untroubled.{IsUntroubled, IsSpent}
 use Rattle.world_core.specs.Calm.{StepIsCalm, RepliesWell, RunsWell, work_at}
 use Rattle.world_core.specs.EachStep.{EachStep}
 use Rattle.world_core.specs.Handled.{Handled}
@@ -26,10 +35,13 @@ use Rattle.world_core.specs.World.{World}
 use Rattle.schedule_run.specs.Answered.{IsNew, WentOn, start, further, AreExplained, IsExplained}
 use Rattle.schedule_run.specs.InPlay.{Play}
 use Rattle.schedule_run.specs.Load.{goes_on, stop_of}
-use Rattle.schedule_run.specs.LoadCalm.{AreCalm, IsSpentStop}
+use Rattle.schedule_run.specs.LoadCalm.{AreCalm, IsLateNumber, IsSpentStop}
 use Rattle.schedule_run.specs.Shell.{IsWhole, alone, with_run, AreWhole, no_events, more_events, WereRun}
 use Rattle.schedule_run.proofs.BehindLemmas.{lines_left}
+use Rattle.schedule_run.proofs.LoadFronts.{last_of}
+use Rattle.schedule_run.proofs.LoadLogged.{fresh_numbered}
 use Rattle.schedule_run.proofs.OnceLemmas.{went_adds}
+use Rattle.schedule_run.proofs.SoundLemmas.{same_some}
 
 -- ---- lists
 
@@ -63,42 +75,49 @@ load_one trees = load_each IsOne (record { opens = refl; inserts = λ p. refl; c
 abbrev IsOfLoad : Event → Type 0
 IsOfLoad e = (session_of e ≡ 1) ⊎ (e ≡ event.Settle)
 
-ones_upto : (front earlier later : List Event) (e : Event) → front ++ event.Settle ∷ [] ≡ earlier ++ e ∷ later → Ones front → Ones earlier × IsOfLoad e
-ones_upto [] [] later e at ones = let same : e ≡ event.Settle = cc in (tt, inr same)
-ones_upto (f ∷ front) [] later e at ones = let same : f ≡ e = cc in (tt, inl (subst (λ (x : Event). session_of x ≡ 1) same ones.0))
-ones_upto [] (x ∷ earlier) later e at ones = let rest : [] ≡ earlier ++ e ∷ later = cc in never earlier e later rest
-ones_upto (f ∷ front) (x ∷ earlier) later e at ones =
+-- of those before the settling a first part, and the one behind it
+each_upto : (P : Event → Type 0) (front earlier later : List Event) (e : Event) → front ++ event.Settle ∷ [] ≡ earlier ++ e ∷ later → Each P front
+    → Each P earlier × (P e ⊎ (e ≡ event.Settle))
+each_upto P [] [] later e at each = let same : e ≡ event.Settle = cc in (tt, inr same)
+each_upto P (f ∷ front) [] later e at each = let same : f ≡ e = cc in (tt, inl (subst P same each.0))
+each_upto P [] (x ∷ earlier) later e at each = let rest : [] ≡ earlier ++ e ∷ later = cc in never earlier e later rest
+each_upto P (f ∷ front) (x ∷ earlier) later e at each =
     let same : f ≡ x = cc in
     let rest : front ++ event.Settle ∷ [] ≡ earlier ++ e ∷ later = cc in
-    let behind = ones_upto front earlier later e rest ones.1 in
-    ((subst (λ (y : Event). session_of y ≡ 1) same ones.0, behind.0), behind.1)
+    let behind = each_upto P front earlier later e rest each.1 in
+    ((subst P same each.0, behind.0), behind.1)
 
--- ---- lines of session 1
+-- ---- lines of such events
+
+abbrev LinesOf : (Event → Type 0) → List Line → Type 0
+LinesOf P [] = Unit {0}
+LinesOf P (line ∷ lines) = P line.event × LinesOf P lines
 
 abbrev LinesOne : List Line → Type 0
-LinesOne [] = Unit {0}
-LinesOne (line ∷ lines) = (session_of line.event ≡ 1) × LinesOne lines
+LinesOne lines = LinesOf IsOne lines
 
-lines_both : (xs ys : List Line) → LinesOne xs → LinesOne ys → LinesOne (xs ++ ys)
-lines_both [] ys first second = second
-lines_both (x ∷ xs) ys first second = (first.0, lines_both xs ys first.1 second)
+module _ (P : Event → Type 0) where
+  lines_both : (xs ys : List Line) → LinesOf P xs → LinesOf P ys → LinesOf P (xs ++ ys)
+  lines_both [] ys first second = second
+  lines_both (x ∷ xs) ys first second = (first.0, lines_both xs ys first.1 second)
 
-lines_first : (xs ys : List Line) → LinesOne (xs ++ ys) → LinesOne xs
-lines_first [] ys ones = tt
-lines_first (x ∷ xs) ys ones = (ones.0, lines_first xs ys ones.1)
+  lines_first : (xs ys : List Line) → LinesOf P (xs ++ ys) → LinesOf P xs
+  lines_first [] ys each = tt
+  lines_first (x ∷ xs) ys each = (each.0, lines_first xs ys each.1)
 
-lines_last : (xs : List Line) (y : Line) → LinesOne (xs ++ y ∷ []) → session_of y.event ≡ 1
-lines_last [] y ones = ones.0
-lines_last (x ∷ xs) y ones = lines_last xs y ones.1
+  lines_last : (xs : List Line) (y : Line) → LinesOf P (xs ++ y ∷ []) → P y.event
+  lines_last [] y each = each.0
+  lines_last (x ∷ xs) y each = lines_last xs y each.1
 
-it_one : (e : Event) (of_it : List Line) (r : Reply) → IsWhole e of_it r → session_of e ≡ 1 → LinesOne of_it
-it_one e _ r (alone _ other) one = (one, tt)
-it_one e _ r (with_run _) one = (one, (refl, tt))
+  module _ (run : P (event.Run 1)) where
+    lines_of_it : (e : Event) (of_it : List Line) (r : Reply) → IsWhole e of_it r → P e → LinesOf P of_it
+    lines_of_it e _ r (alone _ other) own = (own, tt)
+    lines_of_it e _ r (with_run _) own = (own, (run, tt))
 
-whole_one : (events : List Event) (lines : List Line) (replies : List Reply) → AreWhole events lines replies → Ones events → LinesOne lines
-whole_one _ _ _ no_events ones = tt
-whole_one _ _ _ (more_events events e lines of_it replies r whole it) ones =
-    lines_both lines of_it (whole_one events lines replies whole (each_first IsOne events (e ∷ []) ones)) (it_one e of_it r it (each_last IsOne events e [] ones))
+    lines_whole : (events : List Event) (lines : List Line) (replies : List Reply) → AreWhole events lines replies → Each P events → LinesOf P lines
+    lines_whole _ _ _ no_events each = tt
+    lines_whole _ _ _ (more_events events e lines of_it replies r whole it) each =
+        lines_both lines of_it (lines_whole events lines replies whole (each_first P events (e ∷ []) each)) (lines_of_it e of_it r it (each_last P events e [] each))
 
 -- the lines of the last event
 record LastWhole (earlier : List Event) (e : Event) (r : Reply) (lines : List Line) : Type 0 where
@@ -153,9 +172,9 @@ module _ (s : Seen) (first : World) (x : CloudState) (fresh : IsNew true first) 
       → LinesOne lines → (u : CloudState) → t.state ≡ Some u → IsUntroubled u (work_at world 1)
   untroubled _ t world start explained calm ones u seen = rests_well u (session_at first.sessions 1) (closed 1)
   untroubled _ t new (further lines line mid _ world _ went handled) explained calm ones u seen =
-      let one : session_of line.event ≡ 1 = lines_last lines line ones in
+      let one : session_of line.event ≡ 1 = lines_last IsOne lines line ones in
       let before = left_told lines mid world went in
-      let earlier = untroubled lines mid world went explained.0 calm.0 (lines_first lines (line ∷ []) ones) before.0 before.1 in
+      let earlier = untroubled lines mid world went explained.0 calm.0 (lines_first IsOne lines (line ∷ []) ones) before.0 before.1 in
       let own = subst (λ n. IsUntroubled before.0 (work_at world n)) (sym one) earlier in
       subst (λ n. IsUntroubled u (work_at new n)) one (explained.1.calm calm.1 before.0 u before.1 seen own).0
 
@@ -208,43 +227,81 @@ module _ (s : Seen) (first : World) (x : CloudState) (fresh : IsNew true first) 
 
 -- ---- the stop
 
+-- a commit that does not stop for an attempt stops for a number
+late_number : (u : CloudState) → SpendsLate u → (k : Trouble) → k ≢ no_attempt → IsSpent IsSpentToCommit u k → IsSpent IsLateNumber u k
+late_number u late (trouble.Exhausted counter.Number) other is = (is, late.commit counter.Number is)
+late_number u late (trouble.Exhausted counter.Txn) other is = absurd (other refl)
+late_number u late (trouble.Exhausted what) other is = absurd is
+late_number u late k other is = absurd is
+
+-- a reply that no attempt is left
+abbrev TellsNoAttempt : Reply → Type 0
+TellsNoAttempt r = r ≡ reply.Commit (NotCommitted no_attempt)
+
 -- a reply to an event alone, where it is a good one
-alone_stop : (u : CloudState) (e : Event) (posture : Posture) (r : Reply) → goes_on e r ≡ false → RepliesWell u e posture r → IsSpentStop u (stop_of e r)
-alone_stop u (event.Open session client) posture (reply.Opened epoch) ends well = absurd (cc)
-alone_stop u (event.Open session client) posture (reply.Trouble k) ends well = well
-alone_stop u (event.Commit session) posture (reply.Commit (Committed txn)) ends well = absurd (cc)
-alone_stop u (event.Commit session) posture (reply.Commit (NotCommitted k)) ends well = well
-alone_stop u (event.Commit session) posture (reply.Commit InDoubt) ends well = absurd well
-alone_stop u (event.Commit session) posture (reply.Commit (CommittedOpen k)) ends well = absurd well
-alone_stop u event.Settle posture (reply.Settled calls) ends well = absurd (cc)
-alone_stop u event.Settle posture (reply.NotSettled k) ends well = well
-alone_stop u e posture r ends well = tt
+alone_stop : (u : CloudState) → SpendsLate u → (e : Event) (posture : Posture) (r : Reply) → ((session : ℕ) → e ≡ event.Commit session → TellsNoAttempt r → ⊥) → goes_on e r ≡ false → RepliesWell u e posture r → IsSpentStop u (stop_of e r)
+alone_stop u late (event.Open session client) posture (reply.Opened epoch) other ends well = absurd (cc)
+alone_stop u late (event.Open session client) posture (reply.Trouble k) other ends well = late_trouble IsSpentToOpen u late.opening k well
+alone_stop u late (event.Commit session) posture (reply.Commit (Committed txn)) other ends well = absurd (cc)
+alone_stop u late (event.Commit session) posture (reply.Commit (NotCommitted k)) other ends well =
+    late_number u late k (λ is. other session refl (ap (λ (t : Trouble). reply.Commit (NotCommitted t)) is)) well
+alone_stop u late (event.Commit session) posture (reply.Commit InDoubt) other ends well = absurd well
+alone_stop u late (event.Commit session) posture (reply.Commit (CommittedOpen k)) other ends well = absurd well
+alone_stop u late event.Settle posture (reply.Settled calls) other ends well = absurd (cc)
+alone_stop u late event.Settle posture (reply.NotSettled k) other ends well = late_trouble IsSpentToSettle u late.settling k well
+alone_stop u late e posture r other ends well = tt
 
 -- a reply to the run of what it began
-run_stop : (u : CloudState) (e : Event) (r : Reply) (before : Standing) → session_of e ≡ 1 → goes_on e r ≡ false → RunsWell u (after_own e reply.Begun before).posture r → IsSpentStop u (stop_of e r)
-run_stop u (event.Open session client) (reply.Opened epoch) before one ends well = absurd (cc)
-run_stop u (event.Open session client) (reply.Trouble k) before one ends well = well
-run_stop u (event.Commit session) (reply.Commit (Committed txn)) before one ends well = absurd (cc)
-run_stop u (event.Commit session) (reply.Commit (NotCommitted k)) before one ends well = well
-run_stop u (event.Commit session) (reply.Commit InDoubt) before one ends well = absurd well
-run_stop u (event.Commit session) (reply.Commit (CommittedOpen k)) before one ends well = absurd well
-run_stop u event.Settle r before one ends well = absurd (omega (arith, one))
-run_stop u e r before one ends well = tt
+run_stop : (u : CloudState) → SpendsLate u → (e : Event) (r : Reply) (before : Standing) → (TellsNoAttempt r → ⊥) → session_of e ≡ 1 → goes_on e r ≡ false → RunsWell u (after_own e reply.Begun before).posture r → IsSpentStop u (stop_of e r)
+run_stop u late (event.Open session client) (reply.Opened epoch) before other one ends well = absurd (cc)
+run_stop u late (event.Open session client) (reply.Trouble k) before other one ends well = late_trouble IsSpentToOpen u late.opening k well
+run_stop u late (event.Commit session) (reply.Commit (Committed txn)) before other one ends well = absurd (cc)
+run_stop u late (event.Commit session) (reply.Commit (NotCommitted k)) before other one ends well =
+    late_number u late k (λ is. other (ap (λ (t : Trouble). reply.Commit (NotCommitted t)) is)) well
+run_stop u late (event.Commit session) (reply.Commit InDoubt) before other one ends well = absurd well
+run_stop u late (event.Commit session) (reply.Commit (CommittedOpen k)) before other one ends well = absurd well
+run_stop u late event.Settle r before other one ends well = absurd (omega (arith, one))
+run_stop u late e r before other one ends well = tt
+
+-- a commit of a load is of session 1
+session_one : {e : Event} → IsOfLoad e → (session : ℕ) → e ≡ event.Commit session → session ≡ 1
+session_one (inl one) session is = ap session_of (sym is) ∙ one
+session_one (inr settles) session is = absurd (cc)
 
 own_line : (lines : List Line) (e : Event) → session_of e ≡ 1 → standing (lines ++ record { event = e; reply = reply.Begun } ∷ []) 1 ≡ after_own e reply.Begun (standing lines 1)
 own_line lines e one =
     standing_line lines (record { event = e; reply = reply.Begun }) 1
     ∙ ap (λ b. if b then after_own e reply.Begun (standing lines 1) else standing lines 1) (eq-eqb (session_of e) 1 one)
 
+-- the attempts of session 1 are no more than the lines
+at_most : (before : Seen) (old : World) (lines : List Line) (after : Seen) (new : World) → WentOn before old lines after new → LinesOf IsLoadEvent lines → AtMost 0 (own_work old)
+    → AtMost (length lines) (own_work new)
+at_most before old _ after new start kinds h = h
+at_most before old _ after new (further lines line mid _ world _ went handled) kinds h =
+    subst (λ n. AtMost n (own_work new)) (sym (length-append lines (line ∷ [])))
+    (line_at_most (length lines + 1) (length lines) line.event mid after world new line.reply (lines_last IsLoadEvent lines line kinds) handled
+    (at_most before old lines mid world went (lines_first IsLoadEvent lines (line ∷ []) kinds) h))
+
 pub stops_spent : (trees : List DumpedTree) (earlier later : List Event) (e : Event) (replies : List Reply) (r : Reply) (mid now : Seen) (play : Play)
-    → load_events trees ≡ earlier ++ e ∷ later → (run : WereRun (earlier ++ e ∷ []) (replies ++ r ∷ []) mid now play) → goes_on e r ≡ false
+    → load_events trees ≡ earlier ++ e ∷ later → (run : WereRun (earlier ++ e ∷ []) (replies ++ r ∷ []) mid now play) → play.handled < 2 ^ 64 → goes_on e r ≡ false
     → (t : CloudState) → mid.state ≡ Some t → IsEmptyCloud t → (u : CloudState) → now.state ≡ Some u
     → AreCalm mid run.played.first run.lines now play.world run.played.went → IsSpentStop u (stop_of e r)
-stops_spent trees earlier later e replies r mid now play at run ends t told empty u seen calm =
+stops_spent trees earlier later e replies r mid now play at run within ends t told empty u seen calm =
     on (last_whole (earlier ++ e ∷ []) run.lines (replies ++ r ∷ []) run.whole earlier e replies r refl refl)
   where
     own : Ones earlier × IsOfLoad e
-    own = ones_upto (before_settling trees) earlier later e (load_split trees ∙ at) (load_one trees)
+    own = each_upto IsOne (before_settling trees) earlier later e (load_split trees ∙ at) (load_one trees)
+
+    kinds : Each IsLoadEvent earlier
+    kinds =
+        (each_upto IsLoadEvent (before_settling trees) earlier later e (load_split trees ∙ at)
+        (load_each IsLoadEvent (record { opens = refl; inserts = λ p. refl; commits = refl; folds = λ tree. refl; renews = refl; closes = refl }) trees)).0
+
+    late : SpendsLate u
+    late =
+        let o = run.played.stands t told empty in
+        let one : o.0 ≡ u = same_some o.0 u (sym o.1 ∙ seen) in
+        subst SpendsLate one (spends_late run.lines (session_at play.world.sessions) play.world.audit play.world.blind o.0 o.2.by_lines o.4)
 
     all : Behind mid run.played.first run.lines now
     all = record { world = play.world; went = run.played.went; explained = run.played.explained t told empty; calm = calm }
@@ -253,10 +310,28 @@ stops_spent trees earlier later e replies r mid now play at run ends t told empt
         → (v : CloudState) → z.state ≡ Some v → RepliesWell v line.event (standing lines (session_of line.event)).posture line.reply
     well = last_well mid run.played.first t run.played.fresh told empty
 
-    in_it : (front of_it : List Line) → LinesOne front → run.lines ≡ front ++ of_it → IsWhole e of_it r → IsSpentStop u (stop_of e r)
-    in_it front _ ones is (alone _ other) =
-        alone_stop u e (standing front (session_of e)).posture r ends (well run.lines now all front (record { event = e; reply = r }) is ones own.1 u seen)
-    in_it front _ ones is (with_run _) = in_run own.1
+    -- no commit was begun so often
+    unspent_alone : (front : List Line) → LinesOf IsLoadEvent front → run.lines ≡ front ++ record { event = e; reply = r } ∷ [] → (session : ℕ) → e ≡ event.Commit session → TellsNoAttempt r → ⊥
+    unspent_alone front kinds is session commits tells =
+        let l = last_of mid run.played.first run.lines now play.world run.played.went front (record { event = e; reply = r }) is in
+        let one : session ≡ 1 = session_one own.1 session commits in
+        let few = at_most mid run.played.first front l.mid l.world l.went kinds (0, omega arith, fresh_numbered run.played.first run.played.fresh) in
+        let handled = subst (λ (f : Event). Handled (length front + 1) f l.mid now l.world play.world (Ok r)) commits l.handled in
+        let many = commit_spent (NotCommitted no_attempt) refl (length front + 1) l.mid now l.world play.world r tells (length front) session one few handled in
+        let count = run.played.count in
+        let lines = ap length is in
+        let longer = length-append front (record { event = e; reply = r } ∷ []) in
+        omega (arith, many, count, lines, longer, within)
+
+    unspent_run : (front : List Line) → run.lines ≡ front ++ record { event = event.Run 1; reply = r } ∷ [] → TellsNoAttempt r → ⊥
+    unspent_run front is tells =
+        let l = last_of mid run.played.first run.lines now play.world run.played.went front (record { event = event.Run 1; reply = r }) is in
+        run_unspent (NotCommitted no_attempt) refl (length front + 1) l.mid now l.world play.world r tells 1 l.handled
+
+    in_it : (front of_it : List Line) → LinesOf IsLoadEvent front → LinesOne front → run.lines ≡ front ++ of_it → IsWhole e of_it r → IsSpentStop u (stop_of e r)
+    in_it front _ kinds ones is (alone _ other) =
+        alone_stop u late e (standing front (session_of e)).posture r (unspent_alone front kinds is) ends (well run.lines now all front (record { event = e; reply = r }) is ones own.1 u seen)
+    in_it front _ kinds ones is (with_run _) = in_run own.1
       where
         began : Line
         began = record { event = e; reply = reply.Begun }
@@ -266,9 +341,9 @@ stops_spent trees earlier later e replies r mid now play at run ends t told empt
 
         in_run : IsOfLoad e → IsSpentStop u (stop_of e r)
         in_run (inl one) =
-            run_stop u e r (standing front 1) one ends
+            run_stop u late e r (standing front 1) (unspent_run (front ++ began ∷ []) parted) one ends
             (subst (λ (p : Standing). RunsWell u p.posture r) (own_line front e one)
-            (well run.lines now all (front ++ began ∷ []) (record { event = event.Run 1; reply = r }) parted (lines_both front (began ∷ []) ones (one, tt)) (inl refl) u seen))
+            (well run.lines now all (front ++ began ∷ []) (record { event = event.Run 1; reply = r }) parted (lines_both IsOne front (began ∷ []) ones (one, tt)) (inl refl) u seen))
         in_run (inr settles) =
             let so_far = front_of mid run.played.first t run.played.fresh told empty run.lines now all (front ++ began ∷ []) (record { event = event.Run 1; reply = r }) parted in
             let left = left_told mid run.played.first t run.played.fresh told empty (front ++ began ∷ []) so_far.0 so_far.1.world so_far.1.went in
@@ -276,4 +351,4 @@ stops_spent trees earlier later e replies r mid now play at run ends t told empt
             absurd (subst (λ (x : Event). RepliesWell left.0 x (standing front (session_of x)).posture reply.Begun) settles answered)
 
     on : LastWhole earlier e r run.lines → IsSpentStop u (stop_of e r)
-    on last = in_it last.front last.of_it (whole_one earlier last.front last.replies last.whole own.0) last.at last.it
+    on last = in_it last.front last.of_it (lines_whole IsLoadEvent refl earlier last.front last.replies last.whole kinds) (lines_whole IsOne refl earlier last.front last.replies last.whole own.0) last.at last.it

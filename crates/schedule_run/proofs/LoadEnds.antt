@@ -1,5 +1,5 @@
 -- How a load ended, by how its events did.
-use Rattle.std.proofs.Common.{◌≡◌, ◌++◌, ◌∷◌, [], List, Result, Ok, Err, true, refl, sym, subst}
+use Rattle.std.proofs.Common.{◌≡◌, ◌<◌, ◌^◌, ◌++◌, ◌∷◌, [], List, Result, Ok, Err, true, refl, sym, subst}
 use Rattle.cloud_trait.specs.Seen.{Seen}
 use Rattle.dump_text.specs.declared.dump.DumpedTree.{DumpedTree}
 use Rattle.event_text.specs.declared.event.Event.{Event}
@@ -13,7 +13,7 @@ use Rattle.reply_text.specs.declared.reply.Reply.TheVariants as reply
 use Rattle.schedule_run.specs.InPlay.{Play}
 use Rattle.schedule_run.specs.Load.{stop_of, stop_of_look, ran_more, StopsAt, stops_behind, stops_at, stops_before, StoppedBehind, LoadRanOut, out_looking, out_between, out_event, out_behind, LoadEnded, Loads}
 use Rattle.schedule_run.specs.LoadCalm.{IsSpentStop}
-use Rattle.schedule_run.specs.Play.{IsFresh}
+use Rattle.schedule_run.specs.Play.{IsFresh, IsRun, answered, answered_run}
 use Rattle.schedule_run.specs.Shell.{WereRun}
 use Rattle.schedule_run.specs.declared.load.LoadStop.{LoadStop}
 use Rattle.schedule_run.specs.declared.load.LoadStop.TheVariants.{NotEmpty, Stopped, Opening, Commit, Settling, Memory}
@@ -50,6 +50,11 @@ stopped_so Memory trees start now of behind = out_behind behind
 ran_out : (stop : LoadStop) (trees : List DumpedTree) (start now : Seen) → stop ≡ Memory → LoadRanOut trees start now → LoadEnded (Err stop) trees start now
 ran_out stop trees start now is out = subst (λ (x : LoadStop). LoadEnded (Err x) trees start now) (sym is) out
 
+-- what was run has a number of 64 bits
+run_within : (e : Event) (r : Reply) (before after : Seen) (old new : Play) → IsRun e r before after old new → new.handled < 2 ^ 64
+run_within e r before after old new (answered never next) = next.within
+run_within e r before after old new (answered_run mid play begun next) = next.within
+
 stopped_by : (trees : List DumpedTree) (stop : LoadStop) (start mid now : Seen) (old : Play) → LookedAtAll first_names start mid → IsFresh true old
     → StopsAt (load_events trees) stop mid now old → LoadEnded (Err stop) trees start now
 stopped_by trees stop start mid now old empty fresh (stops_behind earlier later e r y play new at went none run ends is) =
@@ -72,7 +77,7 @@ stopped_by trees stop start mid now old empty fresh (stops_behind earlier later 
       stops = is;
       calm = λ t told nothing u seen calm.
           subst (λ (x : LoadStop). IsSpentStop u x) (sym is)
-          (stops_spent trees earlier later e went.replies r mid now new at run_so ends t (empty.looked.looked.stays t told) nothing u seen calm);
+          (stops_spent trees earlier later e went.replies r mid now new at run_so (run_within e r y now play new run) ends t (empty.looked.looked.stays t told) nothing u seen calm);
     })
 stopped_by trees stop start mid now old empty fresh (stops_at earlier later e y play new at went none stops is) =
     ran_out stop trees start now is

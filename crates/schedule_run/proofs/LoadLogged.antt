@@ -104,7 +104,7 @@ went_numbered before old lines after new (further earlier line mid _ world _ wen
     (went_numbered before old earlier mid world went (all_load_front earlier (line ∷ []) all) h))
 
 -- a new world has opened none
-fresh_numbered : {blind : Bool} → (world : World) → IsNew blind world → Numbered 0 (own_work world)
+pub fresh_numbered : {blind : Bool} → (world : World) → IsNew blind world → Numbered 0 (own_work world)
 fresh_numbered world fresh = subst (λ (sessions : List Acting). Numbered 0 (session_at sessions 1).work) (sym fresh.sessions) tt
 
 -- ---- what each transaction sent

@@ -1,5 +1,5 @@
 -- A world that handles one event behind another.
-use Rattle.std.proofs.Common.{◌≡◌, ◌<◌, ◌+◌, ℕ, Bool, true, false, refl, List, [], ◌∷◌, ◌++◌, length, take, Some, Result, Ok, Err, sym, subst, arith, length-append}
+use Rattle.std.proofs.Common.{◌≡◌, ◌<◌, ◌+◌, ◌^◌, ℕ, Bool, true, false, refl, List, [], ◌∷◌, ◌++◌, length, take, Some, Result, Ok, Err, sym, subst, arith, length-append}
 use Rattle.std.proofs.lemmas.Option.{slice_get_within}
 use Rattle.cloud_trait.proofs.TracedLemmas.{empty_traced}
 use Rattle.cloud_trait.specs.Seen.{Seen}
@@ -156,10 +156,10 @@ found_no_memory event m t z old new world.Memory next handled grows =
     no_answer (subst (λ j. Handled j event t z old.world new.world (Err world.Memory)) next handled) (subst (λ j. Grows j t z) next grows)
 
 -- whatever its result, the next event was taken
-pub takes_next : (event : Event) (result : Result Reply WorldFault) (t z : Seen) (old new : Play) → new.handled ≡ old.handled + 1
+pub takes_next : (event : Event) (result : Result Reply WorldFault) (t z : Seen) (old new : Play) → new.handled ≡ old.handled + 1 → new.handled < 2 ^ 64
     → Handled new.handled event t z old.world new.world result → StandsOn new.handled event t z old.world new.world result → Grows new.handled t z → Takes event result t z old new
-takes_next event (Ok reply) t z old new next handled stands grows = record { count = next; handled = handled; stands = stands; grows = grows }
-takes_next event (Err fault) t z old new next handled stands grows = found_no_memory event new.handled t z old new fault next handled grows
+takes_next event (Ok reply) t z old new next within handled stands grows = record { count = next; within = within; handled = handled; stands = stands; grows = grows }
+takes_next event (Err fault) t z old new next within handled stands grows = found_no_memory event new.handled t z old new fault next handled grows
 
 -- an operation that an event began is run behind it
 pub run_behind : (event : Event) (result : Result Reply WorldFault) (s t z : Seen) (old mid new : Play) → IsNext event Begun s t old mid → Takes (Run 1) result t z mid new

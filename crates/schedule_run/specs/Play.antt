@@ -1,5 +1,5 @@
 -- A world that handles one event behind another, from a new one on.
-use Rattle.std.specs.Prelude.{◌≡◌, ◌+◌, Bool, true, List, length, Some, Result, Ok, Err}
+use Rattle.std.specs.Prelude.{◌≡◌, ◌+◌, ◌<◌, ◌^◌, Bool, true, List, length, Some, Result, Ok, Err}
 use Rattle.cloud_trait.specs.State.{CloudState, IsEmptyCloud}
 use Rattle.cloud_trait.specs.Seen.{Seen}
 use Rattle.cloud_trait.specs.Traced.{IsTraced}
@@ -25,9 +25,10 @@ pub record IsFresh (blind : Bool) (play : Play) : Type 0 where
 
 -- ---- the next event
 
--- it was handled under the next number and has this reply, and what stood stands with it
+-- it was handled under the next number, of 64 bits, and has this reply, and what stood stands with it
 pub record IsNext (event : Event) (reply : Reply) (before after : Seen) (old new : Play) : Type 0 where
   pub count : new.handled ≡ old.handled + 1
+  pub within : new.handled < 2 ^ 64
   pub handled : Handled new.handled event before after old.world new.world (Ok reply)
   pub stands : StandsOn new.handled event before after old.world new.world (Ok reply)
   pub grows : Grows new.handled before after

@@ -58,7 +58,8 @@ pub enum LoadStop {
 pub fn load<C: Bench>(alloc: Global, cloud: &mut C, dump: &Dump) -> Result<Loaded, LoadStop>
     requires { IsDumpable dump.now.trees }
     ensures went { LoadEnded result dump.now.trees (C.seen cloud.old) (C.seen cloud.new) }
-    // Over a cloud that was empty, where no count rose and each step was calm: it is done, or a counter is spent, or memory ran out.
+    // Over a cloud that was empty, where no count rose and each step was calm: it is done, or the pages of a tree are spent, or 2^56 puts and sends
+    // landed and another counter is; or memory ran out.
     ensures complete { Completes result dump.now.trees (C.seen cloud.old) (C.seen cloud.new) }
     // Done, over a cloud that was empty: what is logged, what each tree has, and that a dump of it writes the same text.
     ensures leaves { IfOk result (λ loaded. LeavesLoaded dump.now.trees (C.seen cloud.old) (C.seen cloud.new)) }

@@ -1,5 +1,5 @@
 -- A commit is of its home's epoch and of the number that it took, from its begin to its end.
-use Rattle.std.proofs.Common.{◌≡◌, ◌+◌, ℕ, List, Option, Some, None, refl, sym, subst, ◌∙◌, inl, inr, true, false}
+use Rattle.std.proofs.Common.{◌≡◌, ◌+◌, ◌≤◌, ℕ, List, Option, Some, None, refl, sym, subst, ◌∙◌, inl, inr, true, false, arith}
 use Rattle.std.specs.Prelude.{slice_get}
 use Rattle.cloud_trait.specs.declared.answer.Answer.{Answer}
 use Rattle.cloud_trait.specs.Machine.{Next, Goes, Ends, Stops}
@@ -105,3 +105,21 @@ run_begins_at home changes c = on (ready_leads home changes c) where
 -- and keeps it
 pub run_goes_at : (m : Run × Cache) (a : Answer) → RunsAt (home_of m.0).head.epoch (home_of m.0).attempt (run_next m a)
 run_goes_at m a = turns_on (home_of m.0).head.epoch (home_of m.0).attempt m.0.hand m.0.draft m.1 a (record { epoch_is = refl; number_is = refl })
+
+-- a commit that is answered at its begin has taken that number at most
+abbrev EndsWithin : ℕ → Next (Run × Cache) CommitAnswer → Type 0
+EndsWithin number (Ends m a) = (home_of m.0).attempt ≤ number
+EndsWithin number next = Unit {0}
+
+within_so : (epoch number : ℕ) (next : Next (Run × Cache) CommitAnswer) → RunsAt epoch number next → EndsWithin number next
+within_so epoch number (Goes m) h = tt
+within_so epoch number (Ends m a) h = let is = h.1 in omega (arith, is)
+within_so epoch number (Stops m t) h = tt
+
+pub run_ends_within : (home : Home) (changes : List Noted) (c : Cache) (n : Run × Cache) (a : CommitAnswer) → run_ready (new_run home changes, c) ≡ Ends n a → (home_of n.0).attempt ≤ home.attempt + 1
+run_ends_within home changes c n a e = subst (EndsWithin (home.attempt + 1)) e (on (ready_leads home changes c)) where
+  on : BeginsWith home changes c (run_ready (new_run home changes, c)) → EndsWithin (home.attempt + 1) (run_ready (new_run home changes, c))
+  on (inl spent) = subst (EndsWithin (home.attempt + 1)) (sym spent.1) (omega arith)
+  on (inr so) =
+      within_so home.head.epoch (home.attempt + 1) _
+      (leads home.head.epoch (home.attempt + 1) (taken home changes).writes (run_ready (new_run home changes, c)) (record { epoch_is = refl; number_is = refl }) so.1)

@@ -48,3 +48,5 @@ pub mod Answering
 pub mod Acknowledged
 pub mod LeftNone
 pub mod ShownByLines
+pub mod SpentRows
+pub mod Attempts

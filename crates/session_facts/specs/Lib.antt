@@ -22,3 +22,4 @@ pub mod Added
 pub mod Opened
 pub mod LeftNone
 pub mod ShownByLines
+pub mod Late

@@ -1,5 +1,5 @@
 -- Every call that lands keeps what holds of a cloud.
-use Rattle.std.proofs.Common.{◌≡◌, ℕ, List, [], sym, subst}
+use Rattle.std.proofs.Common.{◌≡◌, ℕ, List, [], length, sym, subst}
 use Rattle.db_base.specs.Ids.{IsTree}
 use Rattle.db_base.specs.declared.names.ObjName.TheVariants as object
 use Rattle.cloud_trait.specs.Ask.{Ask, Get, GetHeld, PutHeld, Send, Receive, Delete, Take, Renew, Release, effect, PutsNothing, TouchesNoMessage}
@@ -9,6 +9,7 @@ use Rattle.cloud_facts.specs.Chains.Chain.{ChainHolds}
 use Rattle.cloud_facts.specs.Calls.Standing.{StandsUnder, IsTaken, Follows}
 use Rattle.cloud_facts.specs.Decoding.Decodes.{Decodes, IsNext, Spells}
 use Rattle.cloud_facts.specs.Decoding.Kinds.{IsNode}
+use Rattle.cloud_facts.proofs.Decoding.Counting.{newest_counts, opens_counts, settles_counts}
 use Rattle.cloud_facts.proofs.Decoding.Landing.{empty_decodes, effect_decodes, same_decodes}
 use Rattle.cloud_facts.proofs.Decoding.Values.{head_next, inner_next, root_next, atomic_message, pu_message}
 use Rattle.cloud_facts.specs.Landings.Holding.{Holds}
@@ -95,8 +96,10 @@ pub landing_spells : (who : Caller) (book : Book) (order : List Entry) (s : Clou
     → (l : Landing who (store_of book order s) ask su) → Follows who (store_of book order s) ask su l → Spells s ask
 landing_spells who book order s ask su h d (opens client head records bytes one two e o) f =
     head_next s client bytes head e (opens_later (store_of book order s) client head records o)
+    (opens_counts (store_of book order s) client head records bytes (length (s.versions (object.Head client))) e o (newest_counts s client d))
 landing_spells who book order s ask su h d (settles client head bytes one two e o) f =
     head_next s client bytes head e (settles_later ((store_of book order s).tally.head client) head o.behind o.phase)
+    (settles_counts (store_of book order s) client head (length (s.versions (object.Head client))) o (newest_counts s client d))
 landing_spells who book order s ask su h d (logs client bytes r o) f = atomic_message client bytes r o.reads o.client_is
 landing_spells who book order s ask su h d (posts tree page bytes r o) f = pu_message tree page bytes _ o.reads
 landing_spells who book order s ask su h d (marks_log client id o) f = tt

@@ -25,13 +25,13 @@ use Rattle.cloud_facts.specs.Book.Tally.{Node, Leafy, Branch, version_of}
 use Rattle.cloud_facts.specs.Book.Telling.{last_or, head_in, root_in, node_in, nodes_of, roots_of, newest_root, queue_of}
 use Rattle.cloud_facts.proofs.Book.Places.{get_map}
 use Rattle.cloud_facts.specs.Decoding.Decodes.{Decodes, IsNext}
-use Rattle.cloud_facts.specs.Decoding.Kinds.{IsNode, IsNth, IsSameMoment, MovesOn, IsMessageOf}
+use Rattle.cloud_facts.specs.Decoding.Kinds.{IsNode, IsNth, CountsWithin, IsSameMoment, MovesOn, IsMessageOf}
 use Rattle.cloud_facts.proofs.Decoding.Newest.{IsLast, last_cases, last_map, newest_last, version_there, message_there}
 use Rattle.cloud_facts.proofs.Decoding.Reading.{head_reads, root_reads, node_reads}
 
 -- ---- numbers of versions
 
-some_length : {A : Type 0} (xs : List A) (x : A) → IsLast xs x → (length xs - 1) + 1 ≡ length xs
+pub some_length : {A : Type 0} (xs : List A) (x : A) → IsLast xs x → (length xs - 1) + 1 ≡ length xs
 some_length [] x e = absurd (cc)
 some_length (y ∷ xs) x e = omega arith
 
@@ -91,12 +91,12 @@ later_differs g h (inl less) same = omega (arith, less, same.epoch)
 later_differs g h (inr (e, inl less)) same = omega (arith, less, same.txn)
 later_differs g h (inr (e, inr (f, rises))) same = no_phase g.phase h.phase same.phase rises
 
--- a head that is later than the newest
+-- a head that is later than the newest, and counts within the number of heads
 pub head_next : (s : CloudState) (client : ℕ) (bytes : List ℕ) (h : Head) → head_of bytes ≡ Some h
-    → IsLater (last_or empty_head (map head_in (s.versions (object.Head client)))) h
+    → IsLater (last_or empty_head (map head_in (s.versions (object.Head client)))) h → CountsWithin (length (s.versions (object.Head client)) + 1) h
     → IsNext s (object.Head client) bytes
-head_next s client bytes h is later = record {
-  kind = (h, is);
+head_next s client bytes h is later counts = record {
+  kind = (h, is, counts);
   moves = λ v last g k reads puts same.
       let newest : last_or empty_head (map head_in (s.versions (object.Head client))) ≡ g =
       last_map head_in empty_head (s.versions (object.Head client)) v last ∙ head_reads v g reads in

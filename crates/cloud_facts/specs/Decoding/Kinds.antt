@@ -1,5 +1,5 @@
 -- What the bytes of each object and of each queue spell.
-use Rattle.std.specs.Prelude.{ℕ, ◌≡◌, ◌+◌, ◌-◌, List, length, Some}
+use Rattle.std.specs.Prelude.{ℕ, ◌≡◌, ◌+◌, ◌-◌, ◌*◌, ◌≤◌, List, length, Some}
 use Rattle.db_base.specs.declared.names.ObjName.{ObjName}
 use Rattle.db_base.specs.declared.names.ObjName.TheVariants as object
 use Rattle.db_base.specs.declared.names.QueueName.{QueueName}
@@ -15,6 +15,7 @@ use Rattle.log_codec.specs.declared.record.AtomicRec.{AtomicRec}
 use Rattle.log_codec.specs.declared.record.PuRec.{PuRec}
 use Rattle.node_codec.specs.Inner.{IsInner}
 use Rattle.node_codec.specs.Tree.{Tree, IsTree}
+use Rattle.route_plan.specs.Queue.{number_of_queue}
 use Rattle.cloud_facts.specs.Book.Records.{StandsAt}
 use Rattle.cloud_facts.specs.Book.Tally.{Node, Leafy, Branch, version_of}
 
@@ -25,13 +26,18 @@ abbrev pub IsNode : List ℕ → Node → Type 0
 IsNode bytes (Leafy l) = IsLeaf bytes l
 IsNode bytes (Branch n) = IsInner bytes n
 
--- bytes are the version of this number of an object; heads have no numbers
+-- a head counts no further than so many heads do: each raises the epoch by at most one, and the counter of a queue by at most 200
+pub record CountsWithin (n : ℕ) (h : Head) : Type 0 where
+  pub epoch : h.epoch ≤ n
+  pub numbers : (tree page : ℕ) → number_of_queue h.counters tree page ≤ 200 * n
+
+-- bytes are the version of this number of an object; a head has no number, and counts within it
 abbrev pub IsNth : ObjName → ℕ → List ℕ → Type 0
-IsNth (object.Head client) n bytes = (h : Head) × (head_of bytes ≡ Some h)
+IsNth (object.Head client) n bytes = (h : Head) × (head_of bytes ≡ Some h) × CountsWithin n h
 IsNth (object.Tree tree) n bytes = (t : Tree) × IsTree bytes t × (t.version ≡ n)
 IsNth (object.Page tree page) n bytes = (node : Node) × IsNode bytes node × (version_of node ≡ n)
 
--- the n-th version of an object is one of its kind, and has the number n
+-- the n-th version of an object is one of its kind, and has the number n, or counts within it
 abbrev pub AreOfKind : ObjName → List Version → Type 0
 AreOfKind name vs = (place : ℕ) (v : Version) → StandsAt vs place v → IsNth name (place + 1) v.bytes
 

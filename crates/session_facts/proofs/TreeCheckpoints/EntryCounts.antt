@@ -71,7 +71,7 @@ module _ (low : List ℕ) (high : Option (List ℕ)) (last : ℕ) where
 
 -- ---- pages that differ
 
-image : {X Y : Type 0} (f : X → Y) (xs : List X) (y : Y) → IsIn (map f xs) y → (x : X) × IsIn xs x × (f x ≡ y)
+pub image : {X Y : Type 0} (f : X → Y) (xs : List X) (y : Y) → IsIn (map f xs) y → (x : X) × IsIn xs x × (f x ≡ y)
 image f [] y is = absurd (none_in y is)
 image {X} {Y} f (x ∷ xs) y is = on (in_cases (f x) (map f xs) y is) (image f xs y)
   where

@@ -1,0 +1,128 @@
+-- A counter of versions, epochs or numbers is spent behind 2^56 puts and sends, each of which raises it by at most 200.
+use Rattle.std.proofs.Common.{◌≡◌, ◌+◌, ◌*◌, ◌^◌, ◌<◌, ◌≤◌, ◌⊎◌, inl, inr, ℕ, Bool, List, [], ◌∷◌, length, Some, refl, sym, ap, subst, ◌∙◌, arith}
+use Rattle.std.proofs.lemmas.List.Sums.{length-filter, count_by-le-length}
+use Rattle.cloud_facts.proofs.Book.Places.{get_within}
+use Rattle.cloud_facts.proofs.Decoding.Reading.{head_reads, node_reads, root_reads}
+use Rattle.cloud_facts.specs.Book.Records.{StandsAt}
+use Rattle.cloud_facts.specs.Book.Tally.{Node, version_of}
+use Rattle.cloud_facts.specs.Book.Telling.{node_in, root_in}
+use Rattle.cloud_facts.specs.Decoding.Decodes.{Decodes}
+use Rattle.cloud_facts.specs.Decoding.Kinds.{CountsWithin}
+use Rattle.cloud_trait.specs.State.{CloudState}
+use Rattle.cloud_trait.specs.Traced.{IsTraced, is_object, version_rows}
+use Rattle.cloud_trait.specs.declared.state.Landing.{Landing}
+use Rattle.cloud_trait.specs.declared.state.Version.{Version}
+use Rattle.db_base.specs.declared.names.ObjName.{ObjName}
+use Rattle.db_base.specs.declared.names.ObjName.TheVariants as object
+use Rattle.db_base.specs.declared.trouble.Counter.{Counter}
+use Rattle.db_base.specs.declared.trouble.Counter.TheVariants as counter
+use Rattle.db_base.specs.declared.trouble.Trouble.{Trouble}
+use Rattle.db_base.specs.declared.trouble.Trouble.TheVariants as trouble
+use Rattle.head_codec.specs.Spelling.{head_of}
+use Rattle.head_codec.specs.declared.head.Head.{Head}
+use Rattle.history.specs.Audited.{Audited}
+use Rattle.node_codec.specs.Tree.{Tree}
+use Rattle.replay_meaning.specs.Standing.{Line}
+use Rattle.session_facts.proofs.TreeCheckpoints.EntryCounts.{image}
+use Rattle.session_facts.specs.Facts.{Stands}
+use Rattle.session_facts.specs.Late.{TakesMany, IsLate, SpendsLate}
+use Rattle.session_facts.specs.Sessions.Sessions.{Sessions}
+use Rattle.session_facts.specs.Sessions.Spent.{HasLastEpoch, HasLastNumber, HasLastPage, HasLastRoot, IsSpentToOpen, IsSpentToCommit, IsSpentToSettle, IsSpentInTree}
+use Rattle.session_facts.specs.Sessions.Untroubled.{IsSpent}
+
+-- ---- versions are rows of the trace
+
+rows_of : (name : ObjName) (n : ℕ) (vs : List Version) → length (version_rows name n vs) ≡ length vs
+rows_of name n [] = refl
+rows_of name n (v ∷ vs) = let more = rows_of name (n + 1) vs in omega (arith, more)
+
+versions_within : (t : CloudState) → IsTraced t → (name : ObjName) → length (t.versions name) ≤ length t.trace
+versions_within t traced name =
+    let rows = ap length (traced.versions name) in
+    let so_many = rows_of name 1 (t.versions name) in
+    let kept = length-filter (λ (r : Landing). is_object name r.site) t.trace in
+    let few = count_by-le-length (λ (r : Landing). is_object name r.site) t.trace in
+    omega (arith, rows, so_many, kept, few)
+
+module _ (t : CloudState) (decodes : Decodes t) (traced : IsTraced t) where
+  -- the place of a version is below the number of rows
+  place_within : (name : ObjName) (place : ℕ) (v : Version) → StandsAt (t.versions name) place v → place + 1 ≤ length t.trace
+  place_within name place v there =
+      let below = get_within (t.versions name) place v there in
+      let within = versions_within t traced name in
+      omega (arith, below, within)
+
+  -- a landed head counts within the rows
+  head_within : (client place : ℕ) (v : Version) (h : Head) → StandsAt (t.versions (object.Head client)) place v → head_of v.bytes ≡ Some h → CountsWithin (place + 1) h
+  head_within client place v h there reads =
+      let k = decodes.versions (object.Head client) place v there in
+      subst (λ (g : Head). CountsWithin (place + 1) g) (sym (head_reads v k.0 k.1) ∙ head_reads v h reads) k.2
+
+  epoch_rows : HasLastEpoch t → 2 ^ 56 ≤ length t.trace
+  epoch_rows it =
+      let few = (head_within it.client it.landed.0 it.version it.head it.landed.1 it.reads).epoch in
+      let within = place_within (object.Head it.client) it.landed.0 it.version it.landed.1 in
+      let last = it.last in
+      omega (arith, few, within, last)
+
+  number_rows : HasLastNumber t → 2 ^ 56 ≤ length t.trace
+  number_rows it =
+      let few = (head_within it.client it.landed.0 it.version it.head it.landed.1 it.reads).numbers it.tree it.page in
+      let within = place_within (object.Head it.client) it.landed.0 it.version it.landed.1 in
+      let last = it.last in
+      omega (arith, few, within, last)
+
+  page_rows : (tree : ℕ) → HasLastPage t tree → 2 ^ 56 ≤ length t.trace
+  page_rows tree it =
+      let name = object.Page tree it.page in
+      let v = image node_in (t.versions name) it.node it.landed in
+      let k = decodes.versions name v.1.0 v.0 v.1.1 in
+      let same : it.node ≡ k.0 = sym v.2 ∙ node_reads v.0 k.0 k.1 in
+      let number : version_of it.node ≡ v.1.0 + 1 = ap version_of same ∙ k.2 in
+      let within = place_within name v.1.0 v.0 v.1.1 in
+      let last = it.last in
+      omega (arith, number, within, last)
+
+  root_rows : (tree : ℕ) → HasLastRoot t tree → 2 ^ 56 ≤ length t.trace
+  root_rows tree it =
+      let name = object.Tree tree in
+      let v = image root_in (t.versions name) it.root it.landed in
+      let k = decodes.versions name v.1.0 v.0 v.1.1 in
+      let same : it.root ≡ k.0 = sym v.2 ∙ root_reads v.0 k.0 k.1 in
+      let number : it.root.version ≡ v.1.0 + 1 = ap (λ (r : Tree). r.version) same ∙ k.2 in
+      let within = place_within name v.1.0 v.0 v.1.1 in
+      let last = it.last in
+      omega (arith, number, within, last)
+
+  -- ---- each counter
+
+  opens_late : (what : Counter) → IsSpentToOpen t what → TakesMany t what
+  opens_late counter.Epoch is = epoch_rows is
+  opens_late what is = absurd is
+
+  commits_late : (what : Counter) → IsSpentToCommit t what → TakesMany t what
+  commits_late counter.Txn is = tt
+  commits_late counter.Number is = number_rows is
+  commits_late what is = absurd is
+
+  folds_late : (tree : ℕ) (what : Counter) → IsSpentInTree tree t what → TakesMany t what
+  folds_late tree counter.Version (inl is) = root_rows tree is
+  folds_late tree counter.Version (inr is) = page_rows tree is
+  folds_late tree counter.Pages is = tt
+  folds_late tree what is = absurd is
+
+  settles_late : (what : Counter) → IsSpentToSettle t what → TakesMany t what
+  settles_late what (inl is) = opens_late what is
+  settles_late what (inr is) = folds_late is.0 what is.1
+
+-- so they are over a cloud that stands for lines
+pub spends_late : (lines : List Line) (sessions : Sessions) (audit : Audited) (blind : Bool) (t : CloudState) → Stands lines sessions audit blind t → IsTraced t → SpendsLate t
+spends_late lines sessions audit blind t stands traced =
+    let decodes : Decodes t = stands.holds.stand.cloud.decodes in
+    record { opening = opens_late t decodes traced; commit = commits_late t decodes traced; settling = settles_late t decodes traced }
+
+-- a trouble that tells a spent counter tells a late one
+pub late_trouble : (Spent : CloudState → Counter → Type 0) (t : CloudState) → ((what : Counter) → Spent t what → TakesMany t what) → (k : Trouble) → IsSpent Spent t k
+    → IsSpent (IsLate Spent) t k
+late_trouble Spent t late (trouble.Exhausted what) is = (is, late what is)
+late_trouble Spent t late k is = absurd is

@@ -1,6 +1,6 @@
 #!/usr/bin/env bash
 # What a look-up costs: in a tree of 10,101 records with an index, of which one has one attribute, 100 have another and 10,000 a third, the service calls and the
-# milliseconds of a look-up of each, beside a scan of the whole tree. Of ten such lines, less the time of the schedule without them.
+# milliseconds of a processor that a look-up of each takes, beside a scan of the whole tree: of many such lines, less the time of the schedule without them.
 # Calls are counted by the program of the crate call_trace (TRACE=PATH; made by `rt build` there), times are those of the proved program.
 # Usage: TRACE=PATH bench/lookup.sh
 set -u
@@ -26,26 +26,26 @@ lines() {
     }' >"$schedule"
 }
 
-nanoseconds() {
-    local start end
-    start=$(date +%s%N)
-    "$program" replay <"$schedule" >/dev/null || { echo "status $?" >&2; exit 1; }
-    end=$(date +%s%N)
-    echo $((end - start))
+# Milliseconds of a processor.
+milliseconds() {
+    local TIMEFORMAT='%3U'
+    { time "$program" replay <"$schedule" >/dev/null || { echo "status $?" >&2; exit 1; }; } 2>&1 | awk '{ print 1000 * $1 }'
 }
 
-# The least of three runs.
-least() { for _ in 1 2 3; do nanoseconds; done | sort -n | head -1; }
+# The least of five runs.
+least() { for _ in 1 2 3 4 5; do milliseconds; done | sort -n | head -1; }
 
 lines '' 0
 none=$(least)
 echo "| what | records | calls | milliseconds |"
 echo "|---|---|---|---|"
-for line in 'lookup 1 1 61' 'lookup 1 1 62' 'lookup 1 1 63' 'scan 1 1 - -'; do
+for what in '2000 lookup 1 1 61' '500 lookup 1 1 62' '10 lookup 1 1 63' '100 scan 1 1 - -'; do
+    times=${what%% *} line=${what#* }
     lines "$line" 1
     records=$("$program" replay <"$schedule" | tail -1 | awk '{ print $3 }')
     calls=$("$trace" replay <"$schedule" | tail -100000 | awk '/ -> / { calls++; next } $2 == "begun" { calls = 0 } END { print calls }')
-    lines "$line" 10
+    lines "$line" "$times"
     some=$(least)
-    awk -v line="$line" -v records="$records" -v calls="$calls" -v ns=$((some - none)) 'BEGIN { printf "| `%s` | %d | %d | %.2f |\n", line, records, calls, ns / 1e7 }'
+    awk -v line="$line" -v records="$records" -v calls="$calls" -v times="$times" -v some="$some" -v none="$none" \
+        'BEGIN { printf "| `%s` | %d | %d | %.1f |\n", line, records, calls, (some - none) / times }'
 done

@@ -1,10 +1,10 @@
 //! What the cloud answers: mostly what fits, and at its rate a lie or a fault.
 
-use crate::objects::{HEADS, LIES};
+use crate::objects::{HEADS, INDEX_1, INDEX_2, INDEX_ROOT, LIES};
 use crate::witness::Witness;
 use cloud_trait::message::Message;
 use db_base::blob::Blob;
-use db_base::ids::MsgId;
+use db_base::ids::{MsgId, PageId, TreeId};
 use db_base::names::{ObjName, QueueName};
 use sched_gen::draws::Draws;
 use std::alloc::{AllocError, Global};
@@ -62,8 +62,36 @@ fn fill(bytes: &mut Vec<u8>, from: usize, count: usize, value: u8) {
     }
 }
 
+/// Whether a tree is an index.
+fn is_index(tree: TreeId) -> bool {
+    tree.get() > 8
+}
+
+/// The tree object of the tree or of its index.
+fn root_bytes(tree: TreeId) -> &'static [u8] {
+    if is_index(tree) { INDEX_ROOT } else { ROOT }
+}
+
+/// The object of a page of the tree or of its index.
+fn page_bytes(tree: TreeId, page: PageId) -> &'static [u8] {
+    if is_index(tree) {
+        index_page(page.get())
+    } else {
+        tree_page(page.get())
+    }
+}
+
+/// The object of a page of the index.
+fn index_page(page: u64) -> &'static [u8] {
+    match page {
+        1 => INDEX_1,
+        2 => INDEX_2,
+        _ => b"",
+    }
+}
+
 /// The object of a page of the tree.
-fn page_bytes(page: u64) -> &'static [u8] {
+fn tree_page(page: u64) -> &'static [u8] {
     match page {
         1 => LEAF_1,
         2 => LEAF_2,
@@ -145,8 +173,8 @@ impl Liar {
     fn truth(&mut self, name: ObjName) -> &'static [u8] {
         match name {
             ObjName::Head(_) => self.head(),
-            ObjName::Tree(_) => ROOT,
-            ObjName::Page(_, page) => page_bytes(page.get()),
+            ObjName::Tree(tree) => root_bytes(tree),
+            ObjName::Page(tree, page) => page_bytes(tree, page),
         }
     }
 

@@ -18,8 +18,8 @@ use std::alloc::Global;
 use tree_ckpt::TreeCkpt;
 use tree_walk::Walk;
 
-/// The most calls of a machine whose bound the cloud's state gives.
-const MOST_CALLS: u64 = 10_000;
+/// The most calls of a machine whose bound what it was answered does not give.
+pub(crate) const MOST_CALLS: u64 = 10_000;
 
 /// A machine.
 pub(crate) trait Machine {
@@ -100,7 +100,7 @@ fn is_given_back<H: Hostile>(cloud: &H, owed: u64, trouble: &Trouble) -> bool {
 }
 
 /// The turn of a machine that keeps so many leases at its end.
-fn keeping<A: Drop>(turn: Turn<A>, kept: u64) -> Turn<u64> {
+pub(crate) fn keeping<A: Drop>(turn: Turn<A>, kept: u64) -> Turn<u64> {
     match turn {
         Turn::More => Turn::More,
         Turn::Ended(_) => Turn::Ended(kept),

@@ -3,6 +3,7 @@
 
 mod hostile_cloud;
 mod liar;
+mod looking;
 mod machine;
 mod objects;
 mod runs;

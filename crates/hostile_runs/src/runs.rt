@@ -1,6 +1,7 @@
 //! The machines, one after the other under one cloud.
 
 use crate::hostile_cloud::{Hostile, HostileCloud};
+use crate::looking::Looking;
 use crate::machine::{Bench, ends};
 use crate::tally::Tally;
 use cloud_trait::who::Who;
@@ -8,6 +9,7 @@ use commit_run::CommitRun;
 use db_base::change::Change;
 use db_base::ids::{ClientId, PageId, SessionNo, TreeId};
 use db_base::key::{Key, Payload};
+use head_codec::head::Head;
 use page_cache::PageCache;
 use page_ckpt::PageCkpt;
 use range_scan::RangeScan;
@@ -90,6 +92,22 @@ fn scans<H: Hostile>(
 ) -> bool {
     let mut scan = RangeScan::new(bench.alloc, bench.tree, None, None);
     ends(&mut scan, bench, cloud, cache, tally)
+}
+
+/// Whether a look-up is right, of a client without changes of its own.
+fn looks_up<H: Hostile>(
+    bench: &Bench,
+    cloud: &mut H,
+    cache: &mut PageCache,
+    tally: &mut Tally,
+) -> bool {
+    match TxnBuffer::new(bench.alloc) {
+        Ok(buffer) => {
+            let mut looking = Looking::new(bench.client, Head::empty(bench.alloc), buffer);
+            ends(&mut looking, bench, cloud, cache, tally)
+        }
+        Err(_) => false,
+    }
 }
 
 /// Whether an opening is right, and where it opens the client a commit.
@@ -192,6 +210,7 @@ fn all_end<H: Hostile>(
 ) -> bool {
     walks(bench, cloud, cache, number, tally)
         && scans(bench, cloud, cache, tally)
+        && looks_up(bench, cloud, cache, tally)
         && opens(bench, cloud, cache, tally)
         && folds(bench, cloud, cache, number, tally)
         && folds_all(bench, cloud, cache, tally)

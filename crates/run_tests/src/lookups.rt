@@ -66,6 +66,12 @@ const LOOKUPS: [(&[u8], Status, &[u8]); 13] = [
     (b"lookup 1 61\n", Status::BadLine, b"bad line 1\n"),
 ];
 
+/// A commit, and the checkpoints of both trees.
+const FOLDS: &[u8] = b"commit 1\nrun 1\ntree 1 1\nrun 1\ntree 1 9\nrun 1\n";
+
+/// A commit, a look-up by another session, and between its first two calls the checkpoint that cuts the leaf of the index.
+const CUTS: &[u8] = b"commit 1\nrun 1\nlookup 2 1 61\nstep 2 plain\ntree 1 9\nrun 1\nrun 2\n";
+
 #[test]
 fn replays_look_ups(rt: HostRuntime) {
     assert!(rt; all_write(rt.alloc(), &LOOKUPS));
@@ -79,18 +85,14 @@ fn add_put(alloc: Global, input: &mut Vec<u8>, key: u64) -> bool {
     }
 }
 
-/// Adds puts from one key on and below another, their commit, and the checkpoints of both trees.
-fn add_puts(alloc: Global, input: &mut Vec<u8>, first: u64, bound: u64) -> bool {
+/// Adds puts from one key on and below another, and the lines behind them.
+fn add_puts(alloc: Global, input: &mut Vec<u8>, first: u64, bound: u64, behind: &[u8]) -> bool {
     for key in first..bound {
         if !add_put(alloc, input, key) {
             return false;
         }
     }
-    add_times(
-        input,
-        b"commit 1\nrun 1\ntree 1 1\nrun 1\ntree 1 9\nrun 1\n",
-        1,
-    )
+    add_times(input, behind, 1)
 }
 
 /// Adds a record as it is found.
@@ -116,9 +118,9 @@ fn finds_over_leaves(alloc: Global) -> bool {
     let mut input = Vec::new(alloc);
     let mut end = Vec::new(alloc);
     add_times(&mut input, b"open 1 1\nrun 1\n", 1)
-        && add_puts(alloc, &mut input, 1_100, 1_200)
-        && add_puts(alloc, &mut input, 1_000, 1_100)
-        && add_puts(alloc, &mut input, 1_200, 1_300)
+        && add_puts(alloc, &mut input, 1_100, 1_200, FOLDS)
+        && add_puts(alloc, &mut input, 1_000, 1_100, FOLDS)
+        && add_puts(alloc, &mut input, 1_200, 1_300, FOLDS)
         && add_times(&mut input, b"lookup 1 1 61\nrun 1\n", 1)
         && add_times(&mut end, b"321 begun\n322 scan 300", 1)
         && add_all_found(alloc, &mut end, 1_300)
@@ -128,4 +130,25 @@ fn finds_over_leaves(alloc: Global) -> bool {
 #[test]
 fn looks_up_over_leaves(rt: HostRuntime) {
     assert!(rt; finds_over_leaves(rt.alloc()));
+}
+
+/// Whether a look-up finds each record once while a checkpoint cuts the leaf that it gets next; of the ten new entries it sees no record yet.
+fn finds_beside_a_cut(alloc: Global) -> bool {
+    let mut input = Vec::new(alloc);
+    let mut end = Vec::new(alloc);
+    add_times(&mut input, b"open 1 1\nrun 1\nopen 2 2\nrun 2\n", 1)
+        && add_puts(alloc, &mut input, 1_000, 1_060, FOLDS)
+        && add_puts(alloc, &mut input, 1_060, 1_070, CUTS)
+        && add_times(
+            &mut end,
+            b"83 begun\n84 called\n85 begun\n86 done 10 10 0\n87 scan 60",
+            1,
+        )
+        && add_all_found(alloc, &mut end, 1_060)
+        && ends(alloc, input.as_slice(), Status::Done, end.as_slice())
+}
+
+#[test]
+fn looks_up_beside_a_cut(rt: HostRuntime) {
+    assert!(rt; finds_beside_a_cut(rt.alloc()));
 }

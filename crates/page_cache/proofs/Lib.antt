@@ -2,7 +2,6 @@ pub mod NameLemmas
 pub mod EntryLemmas
 pub mod ObjectLemmas
 pub mod ReadingLemmas
-pub mod KnownLemmas
 pub mod CacheLemmas
 pub mod RefusalLemmas
 pub mod ViewLemmas

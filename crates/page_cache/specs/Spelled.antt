@@ -1,7 +1,6 @@
 -- What the bytes of an object are read as: a page as a leaf or as an inner node, all else as a root.
-use Rattle.std.specs.Prelude.{◌≡◌, ℕ, Bool, true, false, if◌then◌else◌, List, drop, Option, Some, None, Result, Ok, Err, ◌⊎◌}
-use Rattle.std.specs.Int.{w64}
-use Rattle.byte_format.specs.Format.{◌>>=◌, greatest, number_at, mark_at}
+use Rattle.std.specs.Prelude.{◌≡◌, ℕ, Bool, true, false, if◌then◌else◌, List, Option, Some, None, Result, Ok, Err, ◌⊎◌}
+use Rattle.byte_format.specs.Format.{mark_at}
 use Rattle.byte_format.specs.Whole.{whole, offset}
 use Rattle.db_base.specs.declared.names.ObjName.{ObjName}
 use Rattle.db_base.specs.declared.names.ObjName.TheVariants.{Head, Tree, Page}
@@ -23,19 +22,11 @@ inner_version bytes = version_or (λ (n : Inner). n.version) (offset inner_forma
 unfoldable pub root_version : List ℕ → Result ℕ ℕ
 root_version bytes = version_or (λ (t : Root). t.version) (offset tree_format bytes) (whole tree_format bytes)
 
--- the version in the bytes of a page, read as a leaf or as an inner node
-abbrev pub page_version : Bool → List ℕ → Result ℕ ℕ
-page_version as_leaf bytes = if as_leaf then leaf_version bytes else inner_version bytes
-
 -- the version in the bytes of an object, or the offset of their first fault
 abbrev pub version_read : ObjName → Bool → List ℕ → Result ℕ ℕ
 version_read (Head client) as_leaf bytes = root_version bytes
 version_read (Tree tree) as_leaf bytes = root_version bytes
-version_read (Page tree page) as_leaf bytes = page_version as_leaf bytes
-
--- the version behind a mark and the number of a format, which the bytes of every kind begin with
-unfoldable pub version_at : List ℕ → Result ℕ ℕ
-version_at bytes = number_at w64 1 greatest (drop 2 bytes) >>= λ x. Ok x.0
+version_read (Page tree page) as_leaf bytes = if as_leaf then leaf_version bytes else inner_version bytes
 
 -- bytes of a page spell a leaf or an inner node
 abbrev pub IsPageSpelled : List ℕ → Type 0

@@ -5,7 +5,7 @@ ghost use Rattle.page_cache.specs.Spelled.{IsSpelled, version_read};
 ghost use Rattle.page_cache.specs.Fetched.{Fetched, Gets};
 
 use crate::objects::Objects;
-use crate::reading::{inner_of, known_version_of, leaf_of, root_of, version_of};
+use crate::reading::{inner_of, leaf_of, root_of, version_of};
 use crate::versions::Versions;
 use cloud_trait::call::Call;
 use cloud_trait::cloud::Cloud;
@@ -190,23 +190,11 @@ impl PageCache {
         }
     }
 
-    // The version in the bytes of an object, or the offset of their first fault. Bytes that are kept were checked when they were accepted.
-    fn version_of(&self, name: &ObjName, leaf: bool, bytes: &[u8]) -> Result<u64, u64>
-        ensures version { result ≡ version_read name.now leaf bytes.now }
-        ensures spelled { IfOk result (λ _. IsSpelled name.now (Some bytes.now)) }
-    {
-        if self.objects.keeps(name, bytes) {
-            known_version_of(name, leaf, bytes)
-        } else {
-            version_of(name, leaf, bytes)
-        }
-    }
-
     // Takes the bytes of an object.
     fn take_bytes(&mut self, name: &ObjName, bytes: Blob, leaf: bool) -> Result<u64, Trouble>
         ensures { Did (accepts_read self.old name.now leaf bytes (version_read name.now leaf bytes)) self.old self.new result }
     {
-        match self.version_of(name, leaf, bytes.as_slice()) {
+        match version_of(name, leaf, bytes.as_slice()) {
             Ok(version) => self.take_version(name, leaf, bytes, version),
             Err(offset) => Err(Trouble::Damaged {
                 place: Place::Object(*name),

@@ -1,4 +1,4 @@
-ghost use Rattle.std.specs.Prelude.{◌≡◌, ◌↔◌, ℕ, ◌≤◌, List, [], length, IfOk, IfErr, IfSome, IsTrue, Some, OnOk, OnErr};
+ghost use Rattle.std.specs.Prelude.{◌≡◌, ℕ, ◌≤◌, List, [], length, IfOk, IfErr, IfSome, OnOk, OnErr};
 ghost use Rattle.std.specs.Option.{option_copied};
 ghost use Rattle.std.specs.Map.{lookup, remove_entry};
 ghost use Rattle.page_cache.specs.Cache.{AreObjects, placed_in};
@@ -60,17 +60,6 @@ impl Objects {
         ensures spelled { IfSome (option_copied result) (λ bytes. IsSpelled name.now bytes) }
     {
         self.kept.peek(name)
-    }
-
-    /// Whether just these bytes are kept of an object.
-    pub fn keeps(&self, name: &ObjName, bytes: &[u8]) -> bool
-        ensures kept { IsTrue result ↔ (lookup (same_name name.now) self.now ≡ Some (Some bytes.now)) }
-        ensures spelled { IsTrue result → IsSpelled name.now (Some bytes.now) }
-    {
-        match self.get(name) {
-            Some(Some(kept)) => kept.as_slice() == bytes,
-            _ => false,
-        }
     }
 
     /// Puts an object first; of 65 the last goes. Memory alone is refused, and then nothing changes.

@@ -1,12 +1,11 @@
 -- That no attempt is left is answered to a commit that begins alone, by a home whose last attempt has the greatest number.
-use Rattle.std.proofs.Common.{◌≡◌, ◌≢◌, ◌-◌, ◌^◌, inl, inr, ℕ, List, Some, true, false, refl, sym, ap, subst, ◌∙◌, eqb-true}
+use Rattle.std.proofs.Common.{◌≡◌, ◌≢◌, ◌-◌, ◌^◌, inl, inr, List, Some, true, false, refl, sym, ap, subst, ◌∙◌, eqb-true}
 use Rattle.client_work.specs.Session.{CommitsOf, StepsCommit}
 use Rattle.client_work.specs.declared.answer.Answer.TheVariants as answer
 use Rattle.client_work.specs.declared.answer.Begun.TheVariants.{Answered}
 use Rattle.client_work.specs.declared.work.Work.{Work}
-use Rattle.cloud_trait.specs.Ask.{Get}
 use Rattle.cloud_trait.specs.Caller.{Caller}
-use Rattle.cloud_trait.specs.Machine.{Next, Ends, LeadsBy, Took}
+use Rattle.cloud_trait.specs.Machine.{Ends, LeadsBy, Took}
 use Rattle.cloud_trait.specs.Seen.{Seen}
 use Rattle.cloud_trait.specs.Views.{trouble_of}
 use Rattle.cloud_trait.specs.Weather.{Fits}

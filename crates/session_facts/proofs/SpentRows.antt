@@ -1,10 +1,10 @@
 -- A counter of versions, epochs or numbers is spent behind 2^56 puts and sends, each of which raises it by at most 200.
-use Rattle.std.proofs.Common.{◌≡◌, ◌+◌, ◌*◌, ◌^◌, ◌<◌, ◌≤◌, ◌⊎◌, inl, inr, ℕ, Bool, List, [], ◌∷◌, length, Some, refl, sym, ap, subst, ◌∙◌, arith}
+use Rattle.std.proofs.Common.{◌≡◌, ◌+◌, ◌^◌, ◌≤◌, inl, inr, ℕ, Bool, List, [], ◌∷◌, length, Some, refl, sym, ap, subst, ◌∙◌, arith}
 use Rattle.std.proofs.lemmas.List.Sums.{length-filter, count_by-le-length}
 use Rattle.cloud_facts.proofs.Book.Places.{get_within}
 use Rattle.cloud_facts.proofs.Decoding.Reading.{head_reads, node_reads, root_reads}
 use Rattle.cloud_facts.specs.Book.Records.{StandsAt}
-use Rattle.cloud_facts.specs.Book.Tally.{Node, version_of}
+use Rattle.cloud_facts.specs.Book.Tally.{version_of}
 use Rattle.cloud_facts.specs.Book.Telling.{node_in, root_in}
 use Rattle.cloud_facts.specs.Decoding.Decodes.{Decodes}
 use Rattle.cloud_facts.specs.Decoding.Kinds.{CountsWithin}

@@ -16,14 +16,11 @@ use Rattle.head_codec.specs.declared.lists.Pending.{Pending}
 use Rattle.cloud_facts.specs.Homes.Homes.{Part}
 use Rattle.cloud_facts.specs.Landings.Holding.{Holds}
 use Rattle.leaf_view.specs.Leaf.{Leaf}
-use Rattle.log_codec.specs.declared.record.AtomicRec.{AtomicRec}
 use Rattle.node_codec.specs.Tree.{Tree}
 use Rattle.page_cache.specs.Cache.{Cache}
 use Rattle.page_cache.specs.Held.{leaf_at, root_at}
-use Rattle.cloud_facts.specs.Pendings.Pending.{IsOwn}
 use Rattle.recover_run.specs.declared.home.Home.{Home as Held}
 use Rattle.route_plan.specs.Prune.{is_applied_in, pruned_by_leaf, is_covered_by, pruned_by_tree}
-use Rattle.route_plan.specs.Record.{pending_of}
 use Rattle.cloud_facts.specs.Book.Premises.{IsLeafAtMost}
 use Rattle.cloud_facts.specs.Book.Records.{IsIn}
 use Rattle.cloud_facts.specs.Book.Tally.{Store}

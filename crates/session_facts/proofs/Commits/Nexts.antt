@@ -6,7 +6,7 @@ use Rattle.session_facts.specs.Openings.Client.{AreOfTrees, AreOfRecords, AreCou
 use Rattle.cloud_facts.proofs.Calls.OthersLemmas.{pruned_itself}
 use Rattle.cloud_trait.specs.Claim.{Lasts}
 use Rattle.cloud_trait.specs.Machine.{Next, Goes, Ends, Stops}
-use Rattle.session_facts.specs.Commits.Committing.{MayCommit, Attempt, attempt_of, AreMessagesOf, Routes, HasSent, HasOpened, HasCommitted, AreSentOn, Deletes, IsHomeOf, KnowsCommitAt, KnowsCommit, KnowsNext}
+use Rattle.session_facts.specs.Commits.Committing.{MayCommit, Attempt, attempt_of, AreMessagesOf, Routes, HasSent, HasOpened, HasCommitted, AreSentOn, Deletes, IsHomeOf, KnowsCommit, KnowsNext}
 use Rattle.session_facts.proofs.Commits.Attempts.{take_all}
 use Rattle.commit_writes.specs.Writing.{Writing, before_of, restored, log_or_open, log_at, send_or_settle, send_at, delete_or_end, delete_at, not_opened, logged_by, opened_by, sent_by, settled_by, deleted_by}
 use Rattle.db_base.specs.Ids.{IsClient}

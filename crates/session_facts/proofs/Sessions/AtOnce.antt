@@ -16,7 +16,7 @@ use Rattle.cloud_trait.specs.declared.turn.Turn.{Turn}
 use Rattle.cloud_trait.specs.declared.turn.Turn.TheVariants.{More, Ended, Stopped}
 use Rattle.cloud_trait.specs.Claim.{Claim}
 use Rattle.cloud_trait.specs.State.{CloudState}
-use Rattle.commit_run.specs.Run.{new_run, home_of}
+use Rattle.commit_run.specs.Run.{home_of}
 use Rattle.db_base.specs.Ids.{IsTree}
 use Rattle.db_base.specs.declared.refusal.Refused.{Refused}
 use Rattle.db_base.specs.declared.refusal.Refused.TheVariants as refused

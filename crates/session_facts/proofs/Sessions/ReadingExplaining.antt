@@ -1,6 +1,6 @@
 -- Why a read, a scan or a commit is answered with a trouble: its call shows it.
 use Rattle.std.proofs.Common.{◌≡◌, ◌≢◌, ◌≤◌, inl, inr, ℕ, List, Option, Some, None, refl, sym, ap, subst, ◌∙◌, arith}
-use Rattle.client_work.specs.Session.{StepsCommit, ReadsBy, ListsLeaf, Follows, StepsScanning, stopped_work, committed_work}
+use Rattle.client_work.specs.Session.{StepsCommit, ReadsBy, ListsLeaf, Follows, StepsScanning, committed_work}
 use Rattle.client_work.specs.declared.answer.Answer.{Answer}
 use Rattle.client_work.specs.declared.answer.Answer.TheVariants as answer
 use Rattle.client_work.specs.declared.listing.Listing.{Listing}

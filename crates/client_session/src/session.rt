@@ -261,7 +261,7 @@ impl<H: Hand> Session<H> {
         self.work.value(&self.shown, &self.cache, &self.buffer)
     }
 
-    /// The records that the newest operation listed, in the order of their keys; none where it was no scan.
+    /// The records that the newest operation listed, in the order of their keys; none where it was neither a scan nor a look-up.
     pub fn items(&self) -> &[Pair]
         ensures { result.now ≡ items_of self.now }
     {

@@ -114,7 +114,7 @@ pub trait SessionCalls: Drop {
     fn value(&self) -> Option<Value<'_>>
         ensures { result ≡ value_of (acting self.now) };
 
-    /// The records that the newest operation listed, in the order of their keys; none where it was no scan.
+    /// The records that the newest operation listed, in the order of their keys; none where it was neither a scan nor a look-up.
     fn items(&self) -> &[Pair]
         ensures { result.now ≡ items_of (acting self.now) };
 }

@@ -175,13 +175,13 @@ impl Draft {
     }
 
     /// The pages of the next changes are known, up to the first that needs a walk.
-    fn advance(&mut self) -> Result<(), AllocError>
+    fn advance(&mut self, alloc: Global) -> Result<(), AllocError>
         ensures ok { OnOk result (self.new ≡ planned self.old) }
         ensures writes { self.new.writes ≡ self.old.writes }
         ensures within { IsWithin self.old → IsWithin self.new }
     {
         let pending = self.writes.home().head.pending.as_slice();
-        self.plan.advance(pending, self.writes.changes())
+        self.plan.advance(alloc, pending, self.writes.changes())
     }
 
     /// A trouble of a walk ends the commit; want of memory stops it.
@@ -290,7 +290,7 @@ impl Draft {
         ensures home { self.new.writes.home ≡ with_head self.old.writes.home self.new.writes.home.head }
         ensures held { IsHeld self.new result.0 }
     {
-        if self.advance().is_err() {
+        if self.advance(alloc).is_err() {
             return (Hand::Writes, Turn::Stopped(Trouble::Memory));
         }
         match self.next_target(alloc) {

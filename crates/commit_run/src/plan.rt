@@ -1,12 +1,13 @@
 ghost use Rattle.std.specs.Prelude.{◌≡◌, ◌≤◌, ◌++◌, IfOk, OnOk, OnErr, Some, length, drop, slice_get};
 ghost use Rattle.db_base.specs.Change.{key_of};
-ghost use Rattle.commit_run.specs.Plan.{has_pending, seeks, page_without, page_next, pages_of};
+ghost use Rattle.commit_run.specs.Plan.{seeks, page_without, page_next, pages_of};
 
 use crate::ended::{EndedLeaf, ended_of, page_at};
 use db_base::change::Change;
 use db_base::ids::{PageId, TreeId};
 use head_codec::entry::Entry;
 use leaf_view::LeafView;
+use route_plan::index::PendingIndex;
 use std::alloc::{AllocError, Global};
 use std::marker::Model;
 use txn_buffer::buffer::TxnBuffer;
@@ -26,19 +27,9 @@ impl Model for LeafPlan {
     ghost view = { λ p. record { pages = p.pages.items; ended = p.ended.items } };
 }
 
-/// Whether an entry is pending of a tree and key.
-fn has_pending(pending: &[Entry], tree: TreeId, key: &[u8]) -> bool
-    ensures { result ≡ has_pending pending.now tree key.now }
-{
-    pending.iter().any(|entry| {
-        let entry = entry.get();
-        entry.tree.get() == tree.get() && entry.change.key().as_slice() == key
-    })
-}
-
 /// The page of a change that needs no walk, and None where it needs one.
 fn page_without(
-    pending: &[Entry],
+    pending: &PendingIndex<'_>,
     ended: &[EndedLeaf],
     tree: TreeId,
     change: &Change,
@@ -46,7 +37,7 @@ fn page_without(
     ensures { result ≡ page_without pending.now ended.now (record { tree = tree; change = change.now }) }
 {
     let key = change.key().as_slice();
-    if change.goes_to_leaf() || has_pending(pending, tree, key) {
+    if change.goes_to_leaf() || pending.has(tree, key) {
         page_at(ended, tree, key)
     } else {
         Some(PageId::first())
@@ -75,12 +66,24 @@ impl LeafPlan {
     }
 
     /// Adds the pages of the next changes, up to the first that needs a walk. An `Err` comes for memory alone.
-    pub fn advance(&mut self, pending: &[Entry], changes: &TxnBuffer) -> Result<(), AllocError>
+    pub fn advance(
+        &mut self,
+        alloc: Global,
+        pending: &[Entry],
+        changes: &TxnBuffer,
+    ) -> Result<(), AllocError>
         ensures ok { OnOk result (self.new ≡ advanced self.old pending.now changes.now) }
         ensures ended { self.new.ended ≡ self.old.ended }
         ensures within { length self.old.pages ≤ length changes.now → length self.new.pages ≤ length changes.now }
     {
-        advance(&mut self.pages, self.ended.as_slice(), pending, changes)
+        // Once pages are known a plan mostly ends at the next walk, too soon to pay for a table.
+        let searches = if self.pages.is_empty() {
+            changes.len()
+        } else {
+            0
+        };
+        let pending = PendingIndex::of(alloc, pending, searches)?;
+        advance(&mut self.pages, self.ended.as_slice(), &pending, changes)
     }
 
     /// Notes that a walk ended at a leaf. An `Err` comes for memory alone and changes nothing.
@@ -110,7 +113,7 @@ impl LeafPlan {
 
 /// The page of the change at a place, where one is there and needs no walk.
 fn page_next(
-    pending: &[Entry],
+    pending: &PendingIndex<'_>,
     ended: &[EndedLeaf],
     changes: &TxnBuffer,
     place: usize,
@@ -128,7 +131,7 @@ fn page_next(
 fn advance(
     pages: &mut Vec<PageId>,
     ended: &[EndedLeaf],
-    pending: &[Entry],
+    pending: &PendingIndex<'_>,
     changes: &TxnBuffer,
 ) -> Result<(), AllocError>
     ensures ok { OnOk result (pages.new.items ≡ pages.old.items ++ pages_of pending.now ended.now (drop (length pages.old.items) changes.now)) }

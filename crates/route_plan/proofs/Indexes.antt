@@ -1,10 +1,12 @@
 -- An index of pending entries leads to the last one of a tree and key.
 use Rattle.std.proofs.Common.{◌≡◌, ◌≢◌, ℕ, zero, suc, ◌+◌, ◌-◌, ◌<◌, ◌≤◌, Bool, true, false, cond, List, [], ◌∷◌, ◌++◌, length, take, Some, None, refl, sym, ap, subst, ◌∙◌, arith, ⊎_elim}
-use Rattle.std.specs.Prelude.{◌==◌, ◌&&◌, if◌then◌else◌, replicate, slice_get, slice_index, find}
+use Rattle.std.specs.Prelude.{◌==◌, ◌&&◌, ◌||◌, if◌then◌else◌, replicate, slice_get, slice_index, find, reverse}
+use Rattle.std.specs.List.{list_any}
 use Rattle.std.specs.Str.{bytes_eq}
 use Rattle.std.proofs.Math.Seq.{take-length}
 use Rattle.std.proofs.lemmas.Bool.{cases_eq, cases_lt, eq-eqb, ne_eqb}
 use Rattle.std.proofs.lemmas.List.{get_or-replicate, get_or_past, length-replicate, reverse-append}
+use Rattle.std.proofs.lemmas.List.Sorted.{IsPermutation-reverse, list_any-IsPermutation}
 use Rattle.std.proofs.lemmas.Option.{slice_get_cases, slice_get_within}
 use Rattle.std.proofs.lemmas.Slice.Eq.{bytes_eq-Decides}
 use Rattle.db_base.specs.Change.{key_of}
@@ -221,3 +223,30 @@ way-end pending tree key (suc i) h none = absurd (⊎_elim (λ some. missing som
   where
     missing : (x : Pending) → None ≡ Some x → ⊥
     missing x e = cc
+
+-- ---- whether there is one
+
+found-any : {X : Type 0} (p : X → Bool) (xs : List X) (x : X) → find p xs ≡ Some x → list_any p xs ≡ true
+found-any p [] x e = absurd cc
+found-any p (y ∷ ys) x e = on (p y) e (found-any p ys x)
+  where
+    on : (b : Bool) → cond b (Some y) (find p ys) ≡ Some x → (find p ys ≡ Some x → list_any p ys ≡ true) → (b || list_any p ys) ≡ true
+    on true here rest = refl
+    on false here rest = rest here
+
+missing-any : {X : Type 0} (p : X → Bool) (xs : List X) → find p xs ≡ None → list_any p xs ≡ false
+missing-any p [] e = refl
+missing-any p (y ∷ ys) e = on (p y) e (missing-any p ys)
+  where
+    on : (b : Bool) → cond b (Some y) (find p ys) ≡ None → (find p ys ≡ None → list_any p ys ≡ false) → (b || list_any p ys) ≡ false
+    on true none rest = absurd cc
+    on false none rest = rest none
+
+any-reverse : {X : Type 0} (p : X → Bool) (xs : List X) → list_any p xs ≡ list_any p (reverse xs)
+any-reverse p xs = list_any-IsPermutation p xs (reverse xs) (IsPermutation-reverse xs)
+
+pub any_found : (pending : List Pending) (tree : ℕ) (key : List ℕ) (e : Pending) → last_pending pending tree key ≡ Some e → list_any (is_pending_of tree key) pending ≡ true
+any_found pending tree key e here = any-reverse (is_pending_of tree key) pending ∙ found-any (is_pending_of tree key) (reverse pending) e here
+
+pub any_missing : (pending : List Pending) (tree : ℕ) (key : List ℕ) → last_pending pending tree key ≡ None → list_any (is_pending_of tree key) pending ≡ false
+any_missing pending tree key none = any-reverse (is_pending_of tree key) pending ∙ missing-any (is_pending_of tree key) (reverse pending) none

@@ -17,7 +17,7 @@ const FEW_SEARCHES: usize = 8;
 
 /// Pending entries, to be searched by key: by a table, where there are searches enough to pay for it.
 #[derive(Drop)]
-pub(crate) struct PendingIndex<'a> {
+pub struct PendingIndex<'a> {
     pending: &'a [Entry],
     table: Option<SlotTable>,
 }
@@ -34,7 +34,7 @@ impl<'a> Model for PendingIndex<'a> {
     ghost invariant = { λ x. IfSome x.table (λ t. IsTable x.pending.now t.newest.items t.before.items) };
 }
 
-/// The table of entries, for more than a few searches. Fails for memory alone.
+/// The table of entries, where there are any, for more than a few searches. Fails for memory alone.
 fn table_of(
     alloc: Global,
     pending: &[Entry],
@@ -42,7 +42,7 @@ fn table_of(
 ) -> Result<Option<SlotTable>, AllocError>
     ensures { IfOk result (λ table. IfSome table (λ t. IsTable pending.now t.newest.items t.before.items)) }
 {
-    if searches <= FEW_SEARCHES {
+    if searches <= FEW_SEARCHES || pending.is_empty() {
         return Ok(None);
     }
     Ok(Some(SlotTable::of(alloc, pending)?))
@@ -50,16 +50,17 @@ fn table_of(
 
 impl<'a> PendingIndex<'a> {
     ghost use Rattle.std.specs.Prelude.{◌≡◌, IfOk};
+    ghost use Rattle.std.specs.List.{list_any};
     ghost use Rattle.std.specs.Option.{option_copied};
-    ghost use Rattle.route_plan.specs.Queue.{last_pending};
+    ghost use Rattle.route_plan.specs.Queue.{is_pending_of, last_pending};
 
     /// The index of entries for so many searches. Fails for memory alone.
-    pub(crate) fn of(
+    pub fn of(
         alloc: Global,
         pending: &'a [Entry],
         searches: usize,
     ) -> Result<PendingIndex<'a>, AllocError>
-        ensures { IfOk result (λ x. x ≡ pending.now) }
+        ensures ok { IfOk result (λ x. x ≡ pending.now) }
     {
         let table = table_of(alloc, pending, searches)?;
         Ok(PendingIndex { pending, table })
@@ -72,6 +73,16 @@ impl<'a> PendingIndex<'a> {
         match &self.table {
             Some(table) => table.last(self.pending, tree, key),
             None => last_pending(self.pending, tree, key),
+        }
+    }
+
+    /// Whether an entry is of a tree and key.
+    pub fn has(&self, tree: TreeId, key: &[u8]) -> bool
+        ensures has { result ≡ list_any (is_pending_of tree key.now) self.now }
+    {
+        match self.last(tree, key) {
+            Some(_) => true,
+            None => false,
         }
     }
 }

@@ -3,7 +3,7 @@
 #![tactic(auto)]
 
 pub mod heads;
-mod index;
+pub mod index;
 pub mod laws;
 pub mod prune;
 pub mod queue;

@@ -18,10 +18,10 @@ use Rattle.page_cache.specs.Held.{leaf_in, as_leaf, leaf_at}
 
 -- ---- what was read, at the front of some bytes
 
-WasRead : {A : Type 0} → Format A → A → Type 0
+unfoldable pub WasRead : {A : Type 0} → Format A → A → Type 0
 WasRead f v = (bytes : List ℕ) × (rest : List ℕ) × (f.reading bytes ≡ Ok (v, rest))
 
-first_read : {A B : Type 0} (f : Format A) (g : A → Format B) (v : A × B) → WasRead (f then g) v → WasRead f v.0
+pub first_read : {A B : Type 0} (f : Format A) (g : A → Format B) (v : A × B) → WasRead (f then g) v → WasRead f v.0
 unfolding WasRead
 first_read {A} {B} f g v (bytes, rest, is) =
     let a = bind_ok (f.reading bytes) (λ a. (g a.0).reading a.1 >>= λ b. Ok ((a.0, b.0), b.1)) (v, rest) is in
@@ -29,7 +29,7 @@ first_read {A} {B} f g v (bytes, rest, is) =
     let same : a.0.0 ≡ v.0 = ap (λ (x : (A × B) × List ℕ). x.0.0) (ok_is ((a.0.0, b.0.0), b.0.1) (v, rest) b.2) in
     (bytes, a.0.1, subst (λ (x : A). f.reading bytes ≡ Ok (x, a.0.1)) same a.1)
 
-second_read : {A B : Type 0} (f : Format A) (g : A → Format B) (v : A × B) → WasRead (f then g) v → WasRead (g v.0) v.1
+pub second_read : {A B : Type 0} (f : Format A) (g : A → Format B) (v : A × B) → WasRead (f then g) v → WasRead (g v.0) v.1
 unfolding WasRead
 second_read {A} {B} f g v (bytes, rest, is) =
     let a = bind_ok (f.reading bytes) (λ a. (g a.0).reading a.1 >>= λ b. Ok ((a.0, b.0), b.1)) (v, rest) is in
@@ -37,7 +37,7 @@ second_read {A} {B} f g v (bytes, rest, is) =
     let same : ◌≡◌ {A = A × B} (a.0.0, b.0.0) v = ap (λ (x : (A × B) × List ℕ). x.0) (ok_is ((a.0.0, b.0.0), b.0.1) (v, rest) b.2) in
     (a.0.1, b.0.1, subst (λ (x : A × B). (g x.0).reading a.0.1 ≡ Ok (x.1, b.0.1)) same b.1)
 
-seen_read : {A B : Type 0} (view : A → B) (back : B → A) (f : Format A) (v : B) → WasRead (seen_as view back f) v
+pub seen_read : {A B : Type 0} (view : A → B) (back : B → A) (f : Format A) (v : B) → WasRead (seen_as view back f) v
     → (x : A) × WasRead f x × (view x ≡ v)
 unfolding WasRead
 seen_read {A} {B} view back f v (bytes, rest, is) =
@@ -115,7 +115,7 @@ head_most head read =
     let x = seen_read head_of head_parts (behind 76 behind_mark) head read in
     subst (λ (k : Head). IfSome k.high (λ h. length h ≤ 64)) x.2 (mark_most x.0 (marked_read 76 behind_mark x.0 x.1))
 
-abbrev behind_head : Head → Format (List Done × List Entry)
+abbrev pub behind_head : Head → Format (List Done × List Entry)
 behind_head head = list_of true done_item None then λ done. list_of true (record_item head.format head.low head.high) None
 
 leaf_most : (l : Leaf) → WasRead leaf l → IfSome l.high (λ h. length h ≤ 64)
@@ -124,7 +124,7 @@ leaf_most l read =
     let x = seen_read leaf_of leaf_parts (leaf_head then behind_head) l read in
     subst (λ (k : Leaf). IfSome k.high (λ h. length h ≤ 64)) x.2 (head_most x.0.0 (first_read leaf_head behind_head x.0 x.1))
 
-whole_read : (bytes : List ℕ) (l : Leaf) → leaf_in bytes ≡ Some l → WasRead leaf l
+pub whole_read : (bytes : List ℕ) (l : Leaf) → leaf_in bytes ≡ Some l → WasRead leaf l
 unfolding leaf_in WasRead
 whole_read bytes l e = on (leaf.reading bytes) refl e where
   ended : (x : Leaf × List ℕ) (b : Bool) → leaf.reading bytes ≡ Ok x → result_ok (if b then Ok x.0 else Err (length x.1)) ≡ Some l → WasRead leaf l

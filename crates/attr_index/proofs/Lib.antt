@@ -8,3 +8,8 @@ pub mod Entries
 pub mod Listings
 pub mod Meaning
 pub mod Turns
+pub mod Within
+pub mod Ordered
+pub mod Members
+pub mod Covering
+pub mod Tagged

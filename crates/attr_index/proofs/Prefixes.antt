@@ -12,12 +12,12 @@ use Rattle.attr_index.proofs.Firsts.{first_below, first_above, first_same, none_
 
 -- ---- what begins with a prefix
 
-never_below : (prefix rest : List ℕ) → bytes_below (prefix ++ rest) prefix ≡ false
+pub never_below : (prefix rest : List ℕ) → bytes_below (prefix ++ rest) prefix ≡ false
 never_below [] [] = refl
 never_below [] (b ∷ rest) = refl
 never_below (p ∷ ps) rest = first_same p p (ps ++ rest) ps refl ∙ never_below ps rest
 
-below_next : (prefix rest : List ℕ) → below_bound (prefix ++ rest) (next_of prefix) ≡ true
+pub below_next : (prefix rest : List ℕ) → below_bound (prefix ++ rest) (next_of prefix) ≡ true
 below_next [] rest = refl
 below_next (p ∷ ps) rest = by (next_of ps) (below_next ps rest) where
   below_raised : (b : Bool) → below_bound (p ∷ ps ++ rest) (if b then Some ((p + 1) ∷ []) else None) ≡ true
@@ -68,7 +68,7 @@ begins_between prefix bytes fits = (λ h. subst Stands (sym h.1) (never_below pr
 
 -- ---- the record's key of an entry
 
-behind_prefix : (prefix key : List ℕ) → 0 < length key → behind prefix (prefix ++ key) ≡ Some key
+pub behind_prefix : (prefix key : List ℕ) → 0 < length key → behind prefix (prefix ++ key) ≡ Some key
 behind_prefix [] [] some = absurd (omega (arith, some))
 behind_prefix [] (b ∷ bs) some = refl
 behind_prefix (p ∷ ps) key some = ap (λ (same : Bool). if same then behind ps (ps ++ key) else None) (eq-eqb p p refl) ∙ behind_prefix ps key some

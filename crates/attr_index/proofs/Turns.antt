@@ -9,7 +9,8 @@ use Rattle.cloud_trait.specs.declared.turn.Turn.{Turn}
 use Rattle.cloud_trait.specs.declared.turn.Turn.TheVariants.{More, Ended, Stopped}
 use Rattle.cloud_trait.specs.Caller.{Caller}
 use Rattle.cloud_trait.specs.Seen.{Seen}
-use Rattle.cloud_trait.specs.Machine.{Next, Goes, Ends, Stops, LeadsBy, Took}
+use Rattle.cloud_trait.specs.Machine.{Next, Goes, Ends, Stops, LeadsBy, Took, Deed}
+use Rattle.txn_buffer.specs.Noted.{AreDistinct}
 use Rattle.page_cache.specs.Cache.{Cache}
 use Rattle.tree_walk.specs.Moves.{Moves}
 use Rattle.tree_walk.specs.Stepped.{Stepped as StepsWalk}
@@ -19,9 +20,11 @@ use Rattle.tree_walk.specs.Walk.{KeepsServed as KeepsWalked}
 use Rattle.attr_index.specs.declared.stage.Stage.TheVariants.{Records}
 use Rattle.attr_index.specs.Prefix.{next_behind, next_of}
 use Rattle.attr_index.specs.Look.{Own, Look, record_walk, walks, to_record, walked, walked_by, look_next}
-use Rattle.attr_index.specs.Stepped.{KeepsServed, Stepped}
+use Rattle.attr_index.specs.Found.{leaf_by, visited}
+use Rattle.attr_index.specs.Stepped.{deed_of, KeepsServed, Means, Stepped}
 use Rattle.attr_index.specs.Ending.{calls_left}
 use Rattle.attr_index.proofs.Meaning.{meant}
+use Rattle.attr_index.proofs.Tagged.{finds_tagged}
 use Rattle.attr_index.proofs.Ending.{fewer}
 
 -- ---- a bound
@@ -94,8 +97,9 @@ on_trans c d e one other = λ name. omega (arith, one name, other name)
 -- a step of the walk, and what it went on to
 pub look_stepped : (own : Own) (who : Caller) (before after : Seen) (old new : Look × Cache) (w : Walk × Cache) (moved : Turn ℕ) (turn : Turn (Unit {0}))
     → StepsWalk who before after (old.0.walk, old.1) w moved → ((page : ℕ) → moved ≡ Ended page → IsAtLeaf w.0 w.1 page) → Moves (walked_by old.0 own w moved) new turn
-    → ServesOn w.1 new.1 → Stepped own who before after old new turn
-look_stepped own who before after old new w moved turn walked at goes on =
+    → ServesOn w.1 new.1 → AreDistinct own.buffer → Stepped own who before after old new turn
+look_stepped own who before after old new w moved turn walked at goes on apart =
+    let d : Deed = deed_of who old walked.answer before after in
     let served : ServesOn old.1 new.1 = on_trans old.1 w.1 new.1 walked.served on in
     record {
       walk = w;
@@ -106,6 +110,9 @@ look_stepped own who before after old new w moved turn walked at goes on =
       took = look_took own old new walked.answer w moved turn walked.took goes served;
       served = served;
       means = meant own who before after old new turn w moved walked goes;
+      tagged = λ ended q h vs came.
+          finds_tagged q own (visited old.0 d (leaf_by old d) vs) new.0.pairs apart
+          (subst (Means q own d old new vs) ended (meant own who before after old new turn w moved walked goes q h vs came));
     }
 
 -- .. from which it goes on with fewer calls left

@@ -12,6 +12,7 @@ use Rattle.tree_walk.specs.Stepped.{Stepped as StepsWalk}
 use Rattle.tree_walk.specs.Walk.{Walk, IsAtLeaf, ServesOn}
 use Rattle.attr_index.specs.Look.{Query, Own, Look, look_ask, look_next, walked_by}
 use Rattle.attr_index.specs.Found.{Visit, Looked, IsFound, leaf_by, visited}
+use Rattle.attr_index.specs.Tagged.{FindsTagged}
 
 -- want of memory keeps the versions that were served; a look-up has no lease to keep
 abbrev pub KeepsServed : Look × Cache → Answer → Look × Cache → Type 0
@@ -41,3 +42,6 @@ pub record Stepped (own : Own) (who : Caller) (before after : Seen) (old new : L
   pub served : ServesOn old.1 new.1
   -- by the whole run
   pub means : (q : Query) (h : List Deed) (vs : List Visit) → Looked q own h vs old → Means q own (deed_of who old walked.answer before after) old new vs turn
+  -- .. and at its end the records found are all that have the attribute, where everything is still
+  pub tagged : turn ≡ Ended tt → (q : Query) (h : List Deed) (vs : List Visit) → Looked q own h vs old
+      → (let d : Deed = deed_of who old walked.answer before after in FindsTagged q own (visited old.0 d (leaf_by old d) vs) new.0.pairs)

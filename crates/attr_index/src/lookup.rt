@@ -1,8 +1,8 @@
-ghost use Rattle.std.specs.Prelude.{◌≡◌, ◌≢◌, ◌<◌, ◌≤◌, IfOk, OnOk, MatchResult};
+ghost use Rattle.std.specs.Prelude.{◌≡◌, ◌≢◌, ◌<◌, ◌≤◌, ◌+◌, List, length, IfOk, OnOk, MatchResult};
 ghost use Rattle.std.specs.Option.{option_copied};
 ghost use Rattle.db_base.specs.Ids.{index_of};
 ghost use Rattle.cloud_trait.specs.Call.{ask_of};
-ghost use Rattle.cloud_trait.specs.Machine.{Goes, Stops};
+ghost use Rattle.cloud_trait.specs.Machine.{Goes, Stops, Deed};
 ghost use Rattle.page_cache.specs.Held.{leaf_at};
 ghost use Rattle.tree_walk.specs.Moves.{Moves};
 ghost use Rattle.tree_walk.specs.Walk.{ServesOn, object_of};
@@ -71,8 +71,10 @@ impl Model for Lookup {
 
 impl Lookup {
     ghost use Rattle.attr_index.specs.Ending.{calls_left};
-    ghost use Rattle.attr_index.specs.Look.{Look, behind_leaf, bound_of, has_attr, leaf_read, look_ask, look_ready, new_look, to_record, walked_by, walks, with_found, with_keys};
+    ghost use Rattle.attr_index.specs.Found.{Visit, Looked};
+    ghost use Rattle.attr_index.specs.Look.{Query, Look, behind_leaf, bound_of, has_attr, leaf_read, look_ask, look_ready, new_look, to_record, walked_by, walks, with_found, with_keys};
     ghost use Rattle.attr_index.specs.Stepped.{Stepped};
+    ghost use Rattle.attr_index.specs.Within.{IsWithin};
 
     /// Begins the look-up of the records of a tree, of which the trees 1 to 8 have an index, that have an attribute: does the local work before
     /// the first call. Want of memory beside the troubles of a walk.
@@ -333,12 +335,16 @@ impl Lookup {
         ensures stepped { Stepped own.now who (C.seen cloud.old) (C.seen cloud.new) (self.old, cache.old) (self.new, cache.new) result }
         // Each call comes to one more page of a walk, each walk to a key above those before it, or to one listed record less.
         ensures less { result ≡ Turn.More → calls_left self.new < calls_left self.old }
+        // By the whole run its calls are those of one walk for each leaf that it came to and of the walk in hand, each of which comes to a page once.
+        ensures within { (q : Query) (h : List Deed) (vs : List Visit) → Looked q own.now h vs (self.old, cache.old) → IsWithin q h vs (self.old, cache.old) (length h + 1) }
     {
         let moved = self.walk.step(alloc, cloud, who, cache);
         let turn = self.walked(alloc, cache, own, moved);
         // Read for the clause `less`.
         let _ = &self.listed;
         are_bytes(self.walk.sought());
+        // Each change of the buffer is of a tree and key of its own.
+        let _ = own.buffer.len();
         turn
     }
 

@@ -1,10 +1,6 @@
 -- A settling ends: each step leaves fewer calls than were left before it.
-use Rattle.std.proofs.Common.{◌≡◌, ◌<◌, ◌≤◌, ◌+◌, ◌-◌, ◌*◌, ◌^◌, ℕ, List, [], ◌∷◌, ◌++◌, length, Option, Some, None, refl, sym, subst, ap, ◌∙◌, Bool, true, false, cond, arith, length-append}
-use Rattle.std.specs.Prelude.{◌==◌, nat_lt}
+use Rattle.std.proofs.Common.{◌≡◌, ◌<◌, ◌≤◌, ◌+◌, ◌-◌, ◌*◌, ◌^◌, ℕ, List, [], ◌∷◌, ◌++◌, length, refl, sym, subst, ap, ◌∙◌, arith, length-append}
 use Rattle.std.proofs.lemmas.Nat.{mul-add-lt}
-use Rattle.std.proofs.lemmas.Bool.Decides.{nat_tests}
-use Rattle.leaf_view.specs.Lookup.{page_at}
-use Rattle.db_base.specs.declared.trouble.Trouble.TheVariants as trouble
 use Rattle.cloud_trait.specs.declared.answer.Answer.{Answer}
 use Rattle.cloud_trait.specs.declared.answer.Answer.TheVariants.{Failed}
 use Rattle.cloud_trait.specs.declared.turn.Turn.{Turn}
@@ -12,7 +8,6 @@ use Rattle.cloud_trait.specs.declared.turn.Turn.TheVariants.{More, Ended, Stoppe
 use Rattle.cloud_trait.specs.declared.turn.CkptAnswer.{CkptAnswer}
 use Rattle.cloud_trait.specs.Machine.{Next, Goes, Ends, Stops, Took}
 use Rattle.recover_run.specs.declared.stage.RecoverAnswer.{RecoverAnswer}
-use Rattle.recover_run.specs.Ids.{new_ids}
 use Rattle.recover_run.specs.Recovery.{Recovery}
 use Rattle.page_ckpt.specs.Paging.{Paging}
 use Rattle.tree_ckpt.specs.Making.{Making}
@@ -22,9 +17,10 @@ use Rattle.tree_ckpt.specs.Ending.{calls_in}
 use Rattle.settle_run.specs.declared.part.Part.{Part}
 use Rattle.settle_run.specs.declared.part.Part.TheVariants.{Client, Tree, Page}
 use Rattle.settle_run.specs.declared.settled.Settled.{Settled}
-use Rattle.settle_run.specs.Parts.{recovered_turn, left_turn, KeepsPart, part_of_client, part_of_tree, part_of_page, part_again, part_received, recovers, makes, pages, PartLeads}
-use Rattle.settle_run.specs.Settling.{Settling, Step, begins, behind_client, to_page, behind_tree, is_visited, goes_right, goes_on, passed_with, passed, ended_by, counted, with_part, after_turn, moved, SamePart}
+use Rattle.settle_run.specs.Parts.{recovered_turn, left_turn, KeepsPart, part_of_client, part_of_tree, part_of_page, part_again, recovers, makes, pages, PartLeads}
+use Rattle.settle_run.specs.Settling.{Settling, Step, counted, with_part, after_turn, SamePart}
 use Rattle.settle_run.specs.Ending.{part_left, places_left, parts_left, calls_left}
+use Rattle.settle_run.proofs.Outcomes.{Passes, again, next_client, first_tree, first_page, right_page, round, next_tree, all_done, passes_by, Comes, goes, stops, leaves, ends, came_after}
 
 -- ---- numbers
 
@@ -37,9 +33,6 @@ digit w a b x y less small =
 -- the same number before a smaller digit
 last_digit : (w a b x y : ℕ) → a ≡ b → x < y → a * w + x < b * w + y
 last_digit w a b x y e less = subst (λ (k : ℕ). k * w + x < b * w + y) (sym e) (omega (arith, less))
-
-below_true : (a b : ℕ) → nat_lt a b ≡ true → a < b
-below_true a b e = grind (arith, nat_tests)
 
 -- ---- places
 
@@ -82,108 +75,87 @@ again_small (Page tree page m) = omega arith
 
 -- ---- steps
 
--- where the settling goes on, fewer calls are left than before, if no list is longer than memory
+-- a new part has fewer behind it, if no list is longer than memory, and is itself within the bound
+abbrev Fewer : Settling → Step → Type 0
+Fewer s (Goes n) = length n.known ≤ 2 ^ 64 → length n.visited ≤ 2 ^ 64 → (parts_left n < parts_left s) × (part_left n.part < 2 ^ 130)
+Fewer s (Ends n x) = Unit {0}
+Fewer s (Stops n t) = Unit {0}
+
+-- a new place is one place less
+less_place : (s n : Settling) → places_left n.part (length n.visited) < places_left s.part (length s.visited) → parts_left n < parts_left s
+less_place s n less =
+    digit (2 ^ 64 + 1) (places_left n.part (length n.visited)) (places_left s.part (length s.visited)) (2 ^ 64 - length n.known) (2 ^ 64 - length s.known)
+    less (omega arith)
+
+one_longer : (xs : List ℕ) (x : ℕ) → length (xs ++ x ∷ []) ≡ length xs + 1
+one_longer xs x = rw (length-append xs (x ∷ [])) refl
+
+fewer : (s : Settling) (next : Step) → Passes s next → Fewer s next
+fewer _ _ (again s id ids news) = λ known visited.
+    let more : length (s.known ++ id ∷ ids) ≡ length s.known + length (id ∷ ids) = rw (length-append s.known (id ∷ ids)) refl in (
+      last_digit (2 ^ 64 + 1) (places_left (part_again s.part) (length s.visited)) (places_left s.part (length s.visited))
+          (2 ^ 64 - length (s.known ++ id ∷ ids)) (2 ^ 64 - length s.known) (again_places s.part (length s.visited)) (omega (arith, more, known)),
+      again_small s.part,
+    )
+fewer _ _ (next_client s client m less) = λ known visited.
+    (less_place (with_part s (Client client m)) (record s { part = part_of_client (client + 1); known = [] }) (omega (arith, less)), omega arith)
+fewer _ _ (first_tree s client m most) = λ known visited.
+    (less_place (with_part s (Client client m)) (record s { part = part_of_tree 1; known = [] }) (omega arith), omega arith)
+fewer _ _ (first_page s tree m none) = λ known visited.
+    (less_place (with_part s (Tree tree m)) (record s { part = part_of_page tree 1; known = []; visited = 1 ∷ [] }) (omega arith), omega arith)
+fewer _ _ (right_page s tree page m right none link new) = λ known visited.
+    let more = one_longer s.visited right in
+    let on : Settling = record s { part = part_of_page tree right; known = []; visited = s.visited ++ right ∷ [] } in
+    (less_place (with_part s (Page tree page m)) on (omega (arith, more, visited)), omega arith)
+fewer _ _ (round s tree page m right none link seen) = tt
+fewer _ _ (next_tree s tree page m none last less) = λ known visited.
+    (less_place (with_part s (Page tree page m)) (record s { part = part_of_tree (tree + 1); known = []; visited = [] }) (omega (arith, less)), omega arith)
+fewer _ _ (all_done s tree page m none last most) = tt
+
+-- where the settling goes on, fewer calls are left than before
 abbrev Below : Settling → Step → Type 0
 Below s (Goes n) = length n.known ≤ 2 ^ 64 → length n.visited ≤ 2 ^ 64 → calls_left n < calls_left s
 Below s (Ends n x) = Unit {0}
 Below s (Stops n t) = Unit {0}
 
--- a new place is one place less
-below_place : (s n : Settling) → places_left n.part (length n.visited) < places_left s.part (length s.visited) → part_left n.part < 2 ^ 130 → calls_left n < calls_left s
-below_place s n place small =
-    let parts : parts_left n < parts_left s = digit (2 ^ 64 + 1) (places_left n.part (length n.visited)) (places_left s.part (length s.visited))
-    (2 ^ 64 - length n.known) (2 ^ 64 - length s.known) place (omega arith) in
-    digit (2 ^ 130) (parts_left n) (parts_left s) (part_left n.part) (part_left s.part) parts small
+-- .. behind a part that ended at the same place
+below : (s : Settling) (p : Part) (next : Step) → places_left p (length s.visited) ≡ places_left s.part (length s.visited)
+    → Fewer (counted (with_part s p)) next → Below s next
+below s p (Ends n x) place less = tt
+below s p (Stops n t) place less = tt
+below s p (Goes n) place less = λ known visited.
+    let (parts, small) = less known visited in
+    let same : parts_left (counted (with_part s p)) ≡ parts_left s = ap (λ (k : ℕ). k * (2 ^ 64 + 1) + (2 ^ 64 - length s.known)) place in
+    digit (2 ^ 130) (parts_left n) (parts_left s) (part_left n.part) (part_left s.part) (subst (λ (k : ℕ). parts_left n < k) same parts) small
 
-below_client : (s mid : Settling) (client : ℕ) → places_left s.part (length s.visited) ≡ (64 - client) + 16 * (2 ^ 64 + 2)
-    → Below s (begins mid (behind_client client))
-below_client s mid client e = on (nat_lt client 64) refl where
-  on : (b : Bool) → nat_lt client 64 ≡ b → Below s (begins mid (cond b (part_of_client (client + 1)) (part_of_tree 1)))
-  on true less = λ known visited.
-      let under : client < 64 = below_true client 64 less in
-      below_place s (record mid { part = part_of_client (client + 1); known = [] }) (omega (arith, e, under)) (omega arith)
-  on false more = λ known visited. below_place s (record mid { part = part_of_tree 1; known = [] }) (omega (arith, e)) (omega arith)
+-- a part that goes on has fewer calls left
+abbrev PartBelow : Settling → Next Part ℕ → Type 0
+PartBelow s (Goes p) = part_left p < part_left s.part
+PartBelow s (Ends p left) = Unit {0}
+PartBelow s (Stops p t) = Unit {0}
 
-below_page : (s mid : Settling) (tree page : ℕ)
-    → (length mid.visited + 1 ≤ 2 ^ 64 → (16 - tree) * (2 ^ 64 + 2) + (2 ^ 64 - (length mid.visited + 1)) < places_left s.part (length s.visited))
-    → Below s (to_page mid tree page)
-below_page s mid tree page less = λ known visited.
-    let more : length (mid.visited ++ page ∷ []) ≡ length mid.visited + 1 = longer in
-    below_place s (record mid { part = part_of_page tree page; known = []; visited = mid.visited ++ page ∷ [] })
-    (rw more (less (omega (arith, more, visited)))) (omega arith)
-  where
-    longer : length (mid.visited ++ page ∷ []) ≡ length mid.visited + 1
-    longer = rw (length-append mid.visited (page ∷ [])) refl
-
-below_tree : (s mid : Settling) (tree : ℕ) (v : ℕ) → places_left s.part (length s.visited) ≡ (16 - tree) * (2 ^ 64 + 2) + (2 ^ 64 - v) → Below s (behind_tree mid tree)
-below_tree s mid tree v e = on (nat_lt tree 16) refl where
-  on : (b : Bool) → nat_lt tree 16 ≡ b
-      → Below s (cond b (begins (record mid { visited = [] }) (part_of_tree (tree + 1))) (Ends mid (record { calls = mid.calls })))
-  on true less = λ known visited.
-      let under : tree < 16 = below_true tree 16 less in
-      below_place s (record mid { part = part_of_tree (tree + 1); known = []; visited = [] }) (omega (arith, e, under)) (omega arith)
-  on false more = tt
-
-below_right : (s mid : Settling) (tree : ℕ) (right : Option ℕ) → mid.visited ≡ s.visited
-    → places_left s.part (length s.visited) ≡ (16 - tree) * (2 ^ 64 + 2) + (2 ^ 64 - length s.visited) → Below s (goes_right mid tree right)
-below_right s mid tree None same e = below_tree s mid tree (length s.visited) e
-below_right s mid tree (Some page) same e = on (is_visited mid page) where
-  on : (b : Bool) → Below s (cond b (Stops mid (trouble.Loop page)) (to_page mid tree page))
-  on true = tt
-  on false = below_page s mid tree page (λ few. let long : length mid.visited ≡ length s.visited = ap length same in omega (arith, e, few, long))
-
--- behind a part that ended at the same place
-below_on : (s mid : Settling) (p : Part) → mid.visited ≡ s.visited → ((visited : ℕ) → places_left s.part visited ≡ places_left p visited) → Below s (goes_on mid p)
-below_on s mid (Client client m) same place = below_client s mid client (place (length s.visited))
-below_on s mid (Tree tree m) same place =
-    below_page s (record mid { visited = [] }) tree 1 (λ few. let e = place (length s.visited) in omega (arith, e))
-below_on s mid (Page tree page m) same place = below_right s mid tree (page_at m.home.right) same (place (length s.visited))
-
--- the same again knows more
-below_again : (s : Settling) (p : Part) (id : ℕ) (ids : List ℕ) (calls : ℕ) → part_again p ≡ part_again s.part
-    → Below s (Goes (record { part = part_again p; known = s.known ++ id ∷ ids; visited = s.visited; calls = calls }))
-below_again s p id ids calls same = λ known visited.
-    let more : length (s.known ++ id ∷ ids) ≡ length s.known + length (id ∷ ids) = rw (length-append s.known (id ∷ ids)) refl in
-    let place : places_left (part_again p) (length s.visited) ≡ places_left s.part (length s.visited) =
-    again_places p (length s.visited) ∙ same_places s.part p (length s.visited) same in
-    let parts : places_left (part_again p) (length s.visited) * (2 ^ 64 + 1) + (2 ^ 64 - length (s.known ++ id ∷ ids)) < parts_left s =
-    last_digit (2 ^ 64 + 1) (places_left (part_again p) (length s.visited)) (places_left s.part (length s.visited))
-    (2 ^ 64 - length (s.known ++ id ∷ ids)) (2 ^ 64 - length s.known) place (omega (arith, more, known)) in
-    digit (2 ^ 130) (places_left (part_again p) (length s.visited) * (2 ^ 64 + 1) + (2 ^ 64 - length (s.known ++ id ∷ ids))) (parts_left s)
-    (part_left (part_again p)) (part_left s.part) parts (again_small p)
-
-below_passed : (s : Settling) (p : Part) (ids : List ℕ) → part_again p ≡ part_again s.part → Below s (passed_with (counted (with_part s p)) ids)
-below_passed s p [] same = below_on s (counted (with_part s p)) p refl (λ visited. sym (same_places s.part p visited same))
-below_passed s p (id ∷ ids) same = below_again s p id ids (s.calls + 1) same
-
-below_ended : (s : Settling) (p : Part) (left : ℕ) → part_again p ≡ part_again s.part → Below s (ended_by (counted (with_part s p)) left)
-below_ended s p left same = on (left == 0) where
-  mid : Settling
-  mid = counted (with_part s p)
-
-  on : (b : Bool) → Below s (cond b (passed mid) (Stops mid trouble.Failed))
-  on true = below_passed s p (new_ids s.known (part_received p)) same
-  on false = tt
-
--- the same part goes on with fewer calls left
-below_goes : (s : Settling) (p : Part) → part_again p ≡ part_again s.part → part_left p < part_left s.part → Below s (moved s (Goes p))
-below_goes s p same less = λ known visited.
-    let place : places_left p (length s.visited) ≡ places_left s.part (length s.visited) = same_places s.part p (length s.visited) same in
-    last_digit (2 ^ 130) (places_left p (length s.visited) * (2 ^ 64 + 1) + (2 ^ 64 - length s.known)) (parts_left s) (part_left p) (part_left s.part)
-    (ap (λ (n : ℕ). n * (2 ^ 64 + 1) + (2 ^ 64 - length s.known)) place) less
+below_after : (s : Settling) (x : Next Part ℕ) (next : Step) → Stays s.part x → PartBelow s x → Comes s x next → Below s next
+below_after s _ _ stays less (goes p) = λ known visited.
+    last_digit (2 ^ 130) (parts_left (counted (with_part s p))) (parts_left s) (part_left p) (part_left s.part)
+    (ap (λ (n : ℕ). n * (2 ^ 64 + 1) + (2 ^ 64 - length s.known)) (same_places s.part p (length s.visited) stays)) less
+below_after s _ _ stays less (stops p t) = tt
+below_after s _ _ stays less (leaves p left some) = tt
+below_after s _ _ stays less (ends p next is) =
+    below s p next (same_places s.part p (length s.visited) stays) (fewer (counted (with_part s p)) next (passes_by (counted (with_part s p)) next is))
 
 -- by what the step of the part came to
-below_after : (s : Settling) (p : Part) (a : Answer) (turn : Turn ℕ) → Took PartLeads KeepsPart s.part a p turn
-    → (turn ≡ More → part_left p < part_left s.part) → Below s (after_turn (with_part s p) turn)
-below_after s p a More took less = below_goes s p (part_stays s.part a (Goes p) took) (less refl)
-below_after s p a (Ended left) took less = below_ended s p left (part_stays s.part a (Ends p left) took)
-below_after s p a (Stopped t) took less = tt
+below_turn : (s : Settling) (p : Part) (a : Answer) (turn : Turn ℕ) (next : Step) → Took PartLeads KeepsPart s.part a p turn
+    → (turn ≡ More → part_left p < part_left s.part) → after_turn (with_part s p) turn ≡ next → Below s next
+below_turn s p a More next took less e = below_after s (Goes p) next (part_stays s.part a (Goes p) took) (less refl) (came_after s p More next e)
+below_turn s p a (Ended left) next took less e =
+    below_after s (Ends p left) next (part_stays s.part a (Ends p left) took) tt (came_after s p (Ended left) next e)
+below_turn s p a (Stopped t) next took less e = subst (Below s) e tt
 
 -- a step that goes on leaves fewer calls, if that of a part does
 pub turn_less : (s n : Settling) (p : Part) (a : Answer) (turn : Turn ℕ) (result : Turn Settled) → Took PartLeads KeepsPart s.part a p turn
     → Took (λ m x next. after_turn m turn ≡ next) SamePart (with_part s p) Failed n result
     → length n.known ≤ 2 ^ 64 → length n.visited ≤ 2 ^ 64 → (turn ≡ More → part_left p < part_left s.part) → result ≡ More → calls_left n < calls_left s
-turn_less s n p a turn More took follow known visited less e = subst (Below s) follow (below_after s p a turn took less) known visited
+turn_less s n p a turn More took follow known visited less e = below_turn s p a turn (Goes n) took less follow known visited
 turn_less s n p a turn (Ended x) took follow known visited less e = absurd (cc (e))
 turn_less s n p a turn (Stopped t) took follow known visited less e = absurd (cc (e))
 

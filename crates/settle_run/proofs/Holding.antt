@@ -1,7 +1,5 @@
 -- What the part at work holds, and that it gives it back.
-use Rattle.std.proofs.Common.{◌≡◌, ◌≢◌, ◌+◌, ℕ, List, [], ◌∷◌, ◌++◌, Option, Some, None, refl, sym, subst, ap, ◌∙◌, Bool, true, false, cond}
-use Rattle.std.specs.Prelude.{◌==◌, nat_lt}
-use Rattle.leaf_view.specs.Lookup.{page_at}
+use Rattle.std.proofs.Common.{◌≡◌, ◌≢◌, ℕ, List, [], ◌∷◌, ◌++◌, None, refl, sym, subst, ap, ◌∙◌}
 use Rattle.db_base.specs.declared.trouble.Trouble.TheVariants as trouble
 use Rattle.cloud_trait.specs.declared.answer.Answer.{Answer}
 use Rattle.cloud_trait.specs.declared.answer.Answer.TheVariants.{Failed, Given}
@@ -15,7 +13,6 @@ use Rattle.cloud_trait.specs.Weather.{Fits}
 use Rattle.recover_run.specs.declared.stage.Aim.TheVariants as aim
 use Rattle.recover_run.specs.declared.stage.RecoverAnswer.{RecoverAnswer}
 use Rattle.recover_run.specs.declared.stage.RecoverAnswer.TheVariants.{Opened, Nothing}
-use Rattle.recover_run.specs.Ids.{new_ids}
 use Rattle.recover_run.specs.Recovery.{Recovery, recovery_next}
 use Rattle.recover_run.specs.Standing.{outstanding as recovery_outstanding, outstanding_after as recovery_after}
 use Rattle.ckpt_parts.specs.Leasing.{outstanding, outstanding_after}
@@ -29,11 +26,12 @@ use Rattle.tree_ckpt.proofs.Leases.{came_stands as tree_stands, stands_names as 
 use Rattle.settle_run.specs.declared.part.Part.{Part}
 use Rattle.settle_run.specs.declared.part.Part.TheVariants.{Client, Tree, Page}
 use Rattle.settle_run.specs.declared.settled.Settled.{Settled}
-use Rattle.settle_run.specs.Parts.{part_of_tree, part_ask, part_received, recovers, makes, pages, PartLeads, KeepsPart, PartWent}
-use Rattle.settle_run.specs.Settling.{Settling, Step, begins, to_page, behind_tree, is_visited, goes_right, goes_on, passed_with, passed, ended_by, counted, with_part, after_turn, settle_ask, moved, SettleLeads, KeepsSettling, SamePart}
+use Rattle.settle_run.specs.Parts.{part_ask, recovers, makes, pages, PartLeads, KeepsPart, PartWent}
+use Rattle.settle_run.specs.Settling.{Settling, Step, ended_by, counted, with_part, after_turn, settle_ask, moved, SettleLeads, KeepsSettling, SamePart}
 use Rattle.settle_run.specs.Standing.{PartHolds, Holds, IsFree, GivesBack, AreReturned}
 use Rattle.settle_run.specs.Meaning.{Went, Run, Ran, deeds_of}
-use Rattle.settle_run.proofs.Ranging.{Stands, went_stands}
+use Rattle.settle_run.proofs.Outcomes.{Comes, goes, stops, leaves, ends, came_after}
+use Rattle.settle_run.proofs.Ranging.{Begins, begins_passed, Stands, went_stands}
 
 part_holds : (p : Part) (h : List Deed) → PartWent h p → PartHolds p h
 part_holds (Client client m) h went = (recovery_leases client aim.Settling None h m went, recovery_names client aim.Settling None h m went)
@@ -76,63 +74,37 @@ part_frees (Page tree page m) own a next went fits leads = subst Frees (sym lead
 
 -- ---- an end of the settling
 
--- at an end the part is the one that ended
-abbrev Keeps : Part → Step → Type 0
-Keeps p (Goes n) = Unit {0}
-Keeps p (Ends n x) = n.part ≡ p
-Keeps p (Stops n t) = n.part ≡ p
-
-keeps_tree : (s : Settling) (tree : ℕ) → Keeps s.part (behind_tree s tree)
-keeps_tree s tree = on (nat_lt tree 16) where
-  on : (b : Bool) → Keeps s.part (cond b (begins (record s { visited = [] }) (part_of_tree (tree + 1))) (Ends s (record { calls = s.calls })))
-  on true = tt
-  on false = refl
-
-keeps_on : (s : Settling) (p : Part) → Keeps s.part (goes_on s p)
-keeps_on s (Client client m) = tt
-keeps_on s (Tree tree m) = tt
-keeps_on s (Page tree page m) = right (page_at m.home.right) where
-  right : (found : Option ℕ) → Keeps s.part (goes_right s tree found)
-  right None = keeps_tree s tree
-  right (Some next) = on (is_visited s next) where
-    on : (b : Bool) → Keeps s.part (cond b (Stops s (trouble.Loop next)) (to_page s tree next))
-    on true = refl
-    on false = tt
-
-keeps_passed : (s : Settling) (ids : List ℕ) → Keeps s.part (passed_with s ids)
-keeps_passed s [] = keeps_on s s.part
-keeps_passed s (id ∷ ids) = tt
-
-keeps_ended : (s : Settling) (left : ℕ) → Keeps s.part (ended_by s left)
-keeps_ended s left = on (left == 0) where
-  on : (b : Bool) → Keeps s.part (cond b (passed s) (Stops s trouble.Failed))
-  on true = keeps_passed s (new_ids s.known (part_received s.part))
-  on false = refl
-
 -- what is free where a step ends or stops
 abbrev Freed : Step → Type 0
 Freed (Goes n) = Unit {0}
 Freed (Ends n x) = IsFree n.part
 Freed (Stops n t) = t ≢ trouble.Memory → IsFree n.part
 
-freed_with : (p : Part) (next : Step) → IsFree p → Keeps p next → Freed next
-freed_with p (Goes n) free e = tt
-freed_with p (Ends n x) free e = subst IsFree (sym e) free
-freed_with p (Stops n t) free e = λ k. subst IsFree (sym e) free
+freed_passed : (s : Settling) (next : Step) → IsFree s.part → Begins s next → Freed next
+freed_passed s (Goes n) free begun = tt
+freed_passed s (Ends n x) free (same, calls) = subst (λ (k : Settling). IsFree k.part) (sym same) free
+freed_passed s (Stops n t) free same = λ k. subst (λ (k : Settling). IsFree k.part) (sym same) free
 
-freed_after : (s : Settling) (p : Part) (own : List Deed) (a : Answer) (turn : Turn ℕ) → PartWent own s.part → Fits (part_ask s.part) a
-    → Took PartLeads KeepsPart s.part a p turn → Freed (after_turn (with_part s p) turn)
-freed_after s p own a More went fits took = tt
-freed_after s p own a (Ended left) went fits took =
-    freed_with p (ended_by (counted (with_part s p)) left) (part_frees s.part own a (Ends p left) went fits took) (keeps_ended (counted (with_part s p)) left)
-freed_after s p own a (Stopped t) went fits took = λ k. part_frees s.part own a (Stops p t) went fits (took.0 k) k
+freed : (s : Settling) (x : Next Part ℕ) (next : Step) → Comes s x next → Frees x → Freed next
+freed s _ _ (goes p) free = tt
+freed s _ _ (stops p t) free = free
+freed s _ _ (leaves p left some) free = λ k. free
+freed s _ _ (ends p next is) free = freed_passed (counted (with_part s p)) next free (begins_passed (counted (with_part s p)) next is)
+
+freed_after : (s : Settling) (p : Part) (own : List Deed) (a : Answer) (turn : Turn ℕ) (next : Step) → PartWent own s.part → Fits (part_ask s.part) a
+    → Took PartLeads KeepsPart s.part a p turn → after_turn (with_part s p) turn ≡ next → Freed next
+freed_after s p own a More next went fits took e = freed s (Goes p) next (came_after s p More next e) tt
+freed_after s p own a (Ended left) next went fits took e =
+    freed s (Ends p left) next (came_after s p (Ended left) next e) (part_frees s.part own a (Ends p left) went fits took)
+freed_after s p own a (Stopped t) next went fits took e =
+    freed s (Stops p t) next (came_after s p (Stopped t) next e) (λ k. part_frees s.part own a (Stops p t) went fits (took.0 k) k)
 
 pub took_gives : (s n : Settling) (p : Part) (own : List Deed) (a : Answer) (turn : Turn ℕ) (result : Turn Settled) → PartWent own s.part
     → Fits (part_ask s.part) a → Took PartLeads KeepsPart s.part a p turn
     → Took (λ m x next. after_turn m turn ≡ next) SamePart (with_part s p) Failed n result → GivesBack n result
 took_gives s n p own a turn More went fits took follow = tt
-took_gives s n p own a turn (Ended x) went fits took follow = subst Freed follow (freed_after s p own a turn went fits took)
-took_gives s n p own a turn (Stopped t) went fits took follow = λ k. subst Freed (follow.0 k) (freed_after s p own a turn went fits took) k
+took_gives s n p own a turn (Ended x) went fits took follow = freed_after s p own a turn (Ends n x) went fits took follow
+took_gives s n p own a turn (Stopped t) went fits took follow = λ k. freed_after s p own a turn (Stops n t) went fits took (follow.0 k) k
 
 -- ---- .. by its calls
 

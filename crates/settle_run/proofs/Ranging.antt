@@ -1,86 +1,48 @@
 -- The parts that ran, and the calls of the part at work, along the calls of a settling.
-use Rattle.std.proofs.Common.{◌≡◌, ◌+◌, ℕ, List, [], ◌∷◌, ◌++◌, length, Option, Some, None, refl, sym, subst, ap, ◌∙◌, Bool, true, false, cond, arith, length-append}
-use Rattle.std.specs.Prelude.{◌==◌, nat_lt}
-use Rattle.std.proofs.lemmas.Bool.Decides.{nat_tests}
-use Rattle.leaf_view.specs.Lookup.{page_at}
-use Rattle.db_base.specs.declared.trouble.Trouble.TheVariants as trouble
+use Rattle.std.proofs.Common.{◌≡◌, ◌+◌, ℕ, List, [], ◌∷◌, ◌++◌, length, refl, sym, subst, ap, ◌∙◌, arith, length-append}
 use Rattle.cloud_trait.specs.declared.turn.CkptAnswer.{CkptAnswer}
 use Rattle.cloud_trait.specs.declared.turn.Turn.{Turn}
 use Rattle.cloud_trait.specs.declared.turn.Turn.TheVariants.{More, Ended, Stopped}
 use Rattle.cloud_trait.specs.Machine.{Next, Goes, Ends, Stops, LeadsBy, Took, Deed, IsMade, Follows}
 use Rattle.recover_run.specs.declared.stage.RecoverAnswer.{RecoverAnswer}
-use Rattle.recover_run.specs.Ids.{new_ids}
 use Rattle.recover_run.specs.Recovery.{Recovery, recovery_next}
 use Rattle.page_ckpt.specs.Paging.{Paging, PagingLeads}
 use Rattle.tree_ckpt.specs.Making.{Making, MakingLeads}
 use Rattle.settle_run.specs.declared.part.Part.{Part}
 use Rattle.settle_run.specs.declared.part.Part.TheVariants.{Client, Tree, Page}
 use Rattle.settle_run.specs.declared.settled.Settled.{Settled}
-use Rattle.settle_run.specs.Parts.{part_of_client, part_of_tree, part_ask, part_again, part_received, recovers, makes, pages, PartLeads, PartWent}
-use Rattle.settle_run.specs.Settling.{Settling, Step, new_settling, settle_ask, begins, behind_client, to_page, behind_tree, is_visited, goes_right, goes_on, passed_with, passed, ended_by, counted, with_part, moved, SettleLeads, KeepsSettling}
+use Rattle.settle_run.specs.Parts.{part_ask, part_again, recovers, makes, pages, PartLeads, PartWent}
+use Rattle.settle_run.specs.Settling.{Settling, Step, new_settling, settle_ask, passed, counted, with_part, SettleLeads, KeepsSettling}
 use Rattle.settle_run.specs.Meaning.{Went, Run, IsRun, behind, Ran, deeds_of, IsSettled, MeansTurn}
 use Rattle.settle_run.proofs.Ending.{part_stays}
+use Rattle.settle_run.proofs.Outcomes.{Passes, again, next_client, first_tree, first_page, right_page, round, next_tree, all_done, passes_by, Comes, goes, stops, leaves, ends, came_by}
 use Rattle.settle_run.proofs.Wholes.{ran_whole}
 
 -- ---- what comes next
 
--- what comes next has made no call, and passing on makes none
-abbrev Begins : ℕ → Step → Type 0
-Begins calls (Goes n) = PartWent [] n.part × (part_again n.part ≡ n.part) × (n.calls ≡ calls)
-Begins calls (Ends n x) = x.calls ≡ calls
-Begins calls (Stops n t) = Unit {0}
+-- what comes next has made no call, and passing on makes none; before an end or a stop the settling stays as it is
+abbrev pub Begins : Settling → Step → Type 0
+Begins s (Goes n) = PartWent [] n.part × (part_again n.part ≡ n.part) × (n.calls ≡ s.calls)
+Begins s (Ends n x) = (n ≡ s) × (x.calls ≡ s.calls)
+Begins s (Stops n t) = n ≡ s
 
-begins_client : (s : Settling) (client : ℕ) → Begins s.calls (begins s (behind_client client))
-begins_client s client = on (nat_lt client 64) where
-  on : (b : Bool) → Begins s.calls (begins s (cond b (part_of_client (client + 1)) (part_of_tree 1)))
-  on true = (refl, refl, refl)
-  on false = (refl, refl, refl)
+begins_again : (s : Settling) (ids : List ℕ) (p : Part) → Begins s (Goes (record s { part = part_again p; known = s.known ++ ids }))
+begins_again s ids (Client client m) = (refl, refl, refl)
+begins_again s ids (Tree tree m) = (refl, refl, refl)
+begins_again s ids (Page tree page m) = (refl, refl, refl)
 
-begins_tree : (s : Settling) (tree : ℕ) → Begins s.calls (behind_tree s tree)
-begins_tree s tree = on (nat_lt tree 16) where
-  on : (b : Bool) → Begins s.calls (cond b (begins (record s { visited = [] }) (part_of_tree (tree + 1))) (Ends s (record { calls = s.calls })))
-  on true = (refl, refl, refl)
-  on false = refl
+begins_by : (s : Settling) (next : Step) → Passes s next → Begins s next
+begins_by _ _ (again s id ids news) = begins_again s (id ∷ ids) s.part
+begins_by _ _ (next_client s client m less) = (refl, refl, refl)
+begins_by _ _ (first_tree s client m most) = (refl, refl, refl)
+begins_by _ _ (first_page s tree m none) = (refl, refl, refl)
+begins_by _ _ (right_page s tree page m right none link new) = (refl, refl, refl)
+begins_by _ _ (round s tree page m right none link seen) = refl
+begins_by _ _ (next_tree s tree page m none last less) = (refl, refl, refl)
+begins_by _ _ (all_done s tree page m none last most) = (refl, refl)
 
-begins_right : (s : Settling) (tree : ℕ) (right : Option ℕ) → Begins s.calls (goes_right s tree right)
-begins_right s tree None = begins_tree s tree
-begins_right s tree (Some page) = on (is_visited s page) where
-  on : (b : Bool) → Begins s.calls (cond b (Stops s (trouble.Loop page)) (to_page s tree page))
-  on true = tt
-  on false = (refl, refl, refl)
-
-begins_on : (s : Settling) (p : Part) → Begins s.calls (goes_on s p)
-begins_on s (Client client m) = begins_client s client
-begins_on s (Tree tree m) = (refl, refl, refl)
-begins_on s (Page tree page m) = begins_right s tree (page_at m.home.right)
-
-begins_passed : (s : Settling) (ids : List ℕ) → Begins s.calls (passed_with s ids)
-begins_passed s [] = begins_on s s.part
-begins_passed s (id ∷ ids) = again s.part where
-  again : (p : Part) → Begins s.calls (Goes (record s { part = part_again p; known = s.known ++ id ∷ ids }))
-  again (Client client m) = (refl, refl, refl)
-  again (Tree tree m) = (refl, refl, refl)
-  again (Page tree page m) = (refl, refl, refl)
-
--- where an end of a part does not stop the settling, no deletion failed
-abbrev Passes : Settling → ℕ → Step → Type 0
-Passes mid left (Goes n) = (left ≡ 0) × (passed mid ≡ Goes n)
-Passes mid left (Ends n x) = (left ≡ 0) × (passed mid ≡ Ends n x)
-Passes mid left (Stops n t) = Unit {0}
-
-zero_is : (n : ℕ) → (n == 0) ≡ true → n ≡ 0
-zero_is n e = grind (arith, nat_tests)
-
-ended_passes : (mid : Settling) (left : ℕ) → Passes mid left (ended_by mid left)
-ended_passes mid left = on (left == 0) refl where
-  passing : (next : Step) → passed mid ≡ next → left ≡ 0 → Passes mid left next
-  passing (Goes n) e zero_left = (zero_left, e)
-  passing (Ends n x) e zero_left = (zero_left, e)
-  passing (Stops n t) e zero_left = tt
-
-  on : (b : Bool) → (left == 0) ≡ b → Passes mid left (cond b (passed mid) (Stops mid trouble.Failed))
-  on true e = passing (passed mid) refl (zero_is left e)
-  on false e = tt
+pub begins_passed : (s : Settling) (next : Step) → passed s ≡ next → Begins s next
+begins_passed s next e = begins_by s next (passes_by s next e)
 
 -- ---- the calls of a part
 
@@ -131,15 +93,9 @@ stands_new = record { runs = []; from = new_settling; ran = refl; own = []; went
 
 -- what a step leads to behind one more call
 abbrev Grown : List Deed → Deed → Step → Type 0
-Grown h d (Goes n) = Stands (d ∷ h) n
+Grown h d (Goes n) = Follows h d → Stands (d ∷ h) n
 Grown h d (Ends n x) = IsSettled (d ∷ h) n x
 Grown h d (Stops n t) = Unit {0}
-
--- .. where it ends
-abbrev Closes : List Deed → Deed → Step → Type 0
-Closes h d (Goes n) = Unit {0}
-Closes h d (Ends n x) = IsSettled (d ∷ h) n x
-Closes h d (Stops n t) = Unit {0}
 
 module _ (h : List Deed) (d : Deed) (s : Settling) (st : Stands h s) (asked : d.ask ≡ settle_ask s) (made : IsMade d) where
   one_more : length st.own + 1 ≡ length (d ∷ st.own)
@@ -188,15 +144,14 @@ module _ (h : List Deed) (d : Deed) (s : Settling) (st : Stands h s) (asked : d.
       let before : st.from.calls ≡ length (deeds_of st.runs) = st.counts in
       omega (arith, both, then, before, e, one_more)
 
-  ends_grown : (p : Part) (left : ℕ) (next : Step) → PartLeads s.part d.answer (Ends p left) → Passes (counted (with_part s p)) left next → Grown h d next
-  ends_grown p left (Goes n) leads z =
-      let begun : Begins (s.calls + 1) (Goes n) = subst (Begins (s.calls + 1)) z.1 (begins_passed (counted (with_part s p)) (new_ids s.known (part_received p))) in
+  ends_grown : (p : Part) (next : Step) → PartLeads s.part d.answer (Ends p 0) → passed (counted (with_part s p)) ≡ next → Grown h d next
+  ends_grown p (Goes n) leads e = λ follows.
+      let begun = begins_passed (counted (with_part s p)) (Goes n) e in
       let none : n.calls ≡ n.calls + 0 = omega arith in
-      let no_left : PartLeads s.part d.answer (Ends p 0) = subst (λ (l : ℕ). PartLeads s.part d.answer (Ends p l)) z.0 leads in
       record {
         runs = run_of p ∷ st.runs;
         from = n;
-        ran = (st.from, st.ran, run_is p no_left, part_stays s.part d.answer (Ends p 0) no_left ∙ st.place, passes_with p (Goes n) z.1);
+        ran = (st.from, st.ran, run_is p leads, part_stays s.part d.answer (Ends p 0) leads ∙ st.place, passes_with p (Goes n) e);
         own = [];
         went = begun.0;
         place = begun.1;
@@ -204,45 +159,34 @@ module _ (h : List Deed) (d : Deed) (s : Settling) (st : Stands h s) (asked : d.
         all = all_with;
         counts = counts_with n.calls begun.2;
       }
-  ends_grown p left (Ends n x) leads z =
-      let ended : Begins (s.calls + 1) (Ends n x) = subst (Begins (s.calls + 1)) z.1 (begins_passed (counted (with_part s p)) (new_ids s.known (part_received p))) in
-      let no_left : PartLeads s.part d.answer (Ends p 0) = subst (λ (l : ℕ). PartLeads s.part d.answer (Ends p l)) z.0 leads in
+  ends_grown p (Ends n x) leads e =
+      let place : part_again p ≡ st.from.part = part_stays s.part d.answer (Ends p 0) leads ∙ st.place in
       record {
         runs = st.runs;
         from = st.from;
         ran = st.ran;
         last = run_of p;
-        ends = run_is p no_left;
-        place = part_stays s.part d.answer (Ends p 0) no_left ∙ st.place;
-        passes = passes_with p (Ends n x) z.1;
-        whole = ran_whole (run_of p) st.runs st.from n x st.ran (part_stays s.part d.answer (Ends p 0) no_left ∙ st.place) (passes_with p (Ends n x) z.1);
+        ends = run_is p leads;
+        place = place;
+        passes = passes_with p (Ends n x) e;
+        whole = ran_whole (run_of p) st.runs st.from n x st.ran place (passes_with p (Ends n x) e);
         all = all_with;
-        counts = counts_with x.calls ended ∙ sym (ap length all_with);
+        counts = counts_with x.calls (begins_passed (counted (with_part s p)) (Ends n x) e).1 ∙ sym (ap length all_with);
       }
-  ends_grown p left (Stops n t) leads z = tt
+  ends_grown p (Stops n t) leads e = tt
 
-  pub grown : (next : Next Part ℕ) → Follows h d → PartLeads s.part d.answer next → Grown h d (moved s next)
-  grown (Goes p) follows leads = goes_stands p follows leads
-  grown (Ends p left) follows leads = ends_grown p left (ended_by (counted (with_part s p)) left) leads (ended_passes (counted (with_part s p)) left)
-  grown (Stops p t) follows leads = tt
+  grown : (x : Next Part ℕ) (next : Step) → Comes s x next → PartLeads s.part d.answer x → Grown h d next
+  grown _ _ (goes p) leads = λ follows. goes_stands p follows leads
+  grown _ _ (stops p t) leads = tt
+  grown _ _ (leaves p left some) leads = tt
+  grown _ _ (ends p next is) leads = ends_grown p next leads is
 
-  close : (next : Step) → Grown h d next → Closes h d next
-  close (Goes n) g = tt
-  close (Ends n x) g = g
-  close (Stops n t) g = tt
-
-  pub closed : (next : Next Part ℕ) → PartLeads s.part d.answer next → Closes h d (moved s next)
-  closed (Goes p) leads = tt
-  closed (Ends p left) leads =
-      let next : Step = ended_by (counted (with_part s p)) left in
-      close next (ends_grown p left next leads (ended_passes (counted (with_part s p)) left))
-  closed (Stops p t) leads = tt
+  pub grown_by : (next : Step) → SettleLeads s d.answer next → Grown h d next
+  grown_by next (x, leads, is) = grown x next (came_by s x next is) leads
 
 pub went_stands : (h : List Deed) (s : Settling) → Went h s → Stands h s
 went_stands [] s e = subst (Stands []) (sym e) stands_new
-went_stands (d ∷ h) s w =
-    let leads = w.4 in
-    subst (Grown h d) (sym leads.2) (grown h d w.0 (went_stands h w.0 w.1) w.2 w.3 leads.0 w.5 leads.1)
+went_stands (d ∷ h) s w = grown_by h d w.0 (went_stands h w.0 w.1) w.2 w.3 (Goes s) w.4 w.5
 
 -- the newest calls are those of the part at work
 pub own_calls : (h : List Deed) (s : Settling) → Went h s → (own : List Deed) × PartWent own s.part
@@ -252,5 +196,5 @@ own_calls h s w = let st = went_stands h s w in (st.own, st.went)
 pub took_means : (h : List Deed) (d : Deed) (s n : Settling) (turn : Turn Settled) → Stands h s → d.ask ≡ settle_ask s → IsMade d
     → Took SettleLeads KeepsSettling s d.answer n turn → MeansTurn (d ∷ h) n turn
 took_means h d s n More st asked made took = tt
-took_means h d s n (Ended x) st asked made took = subst (Closes h d) (sym took.2) (closed h d s st asked made took.0 took.1)
+took_means h d s n (Ended x) st asked made took = grown_by h d s st asked made (Ends n x) took
 took_means h d s n (Stopped t) st asked made took = tt

@@ -1,12 +1,9 @@
 -- The parts of a settling that came to its end recovered every client and emptied every tree.
-use Rattle.std.proofs.Common.{◌≡◌, ◌≢◌, ◌<◌, ◌≤◌, ◌+◌, ◌⊎◌, inl, inr, ℕ, zero, suc, List, [], ◌∷◌, ◌++◌, Option, Some, None, refl, sym, ap, subst, ◌∙◌, Bool, true, false, cond, arith}
+use Rattle.std.proofs.Common.{◌≡◌, ◌≢◌, ◌<◌, ◌+◌, ◌⊎◌, inl, inr, ℕ, zero, suc, List, [], ◌∷◌, ◌++◌, Some, None, refl, sym, ap, subst, ◌∙◌, true, arith}
 use Rattle.std.specs.List.{AllByRecursion}
-use Rattle.std.specs.Prelude.{nat_lt}
 use Rattle.std.proofs.lemmas.Bool.{cases_eq}
-use Rattle.std.proofs.lemmas.Bool.Decides.{nat_tests}
 use Rattle.leaf_view.specs.Lookup.{page_at}
 use Rattle.db_base.specs.Ids.{IsClient, IsTree}
-use Rattle.db_base.specs.declared.trouble.Trouble.TheVariants as trouble
 use Rattle.cloud_trait.specs.Machine.{Goes, Ends, Stops}
 use Rattle.page_ckpt.specs.Paging.{Paging}
 use Rattle.recover_run.proofs.Keeping.{all_new}
@@ -14,13 +11,14 @@ use Rattle.recover_run.proofs.Sweeping.{all_has, none_new, each_has}
 use Rattle.recover_run.specs.Ids.{has_id, new_ids}
 use Rattle.recover_run.specs.Recovery.{Recovery}
 use Rattle.settle_run.specs.Meaning.{Run, behind, Ran, RanTo, Received, Empties, EmptiesPages, EmptiesTree, IsWhole}
-use Rattle.settle_run.specs.Parts.{part_of_client, part_of_tree, part_of_page, part_again, part_received}
-use Rattle.settle_run.specs.Settling.{Settling, Step, begins, behind_client, to_page, behind_tree, is_visited, goes_right, goes_on, passed_with, passed}
+use Rattle.settle_run.specs.Parts.{part_of_tree, part_of_page, part_again, part_received}
+use Rattle.settle_run.specs.Settling.{Settling, Step, passed}
 use Rattle.settle_run.specs.declared.part.Part.{Part}
 use Rattle.settle_run.specs.declared.part.Part.TheVariants.{Client, Tree, Page}
 use Rattle.settle_run.specs.declared.settled.Settled.{Settled}
 use Rattle.tree_ckpt.specs.Making.{Making}
 use Rattle.recover_run.proofs.Sifting.{all_ids}
+use Rattle.settle_run.proofs.Outcomes.{Passes, again, next_client, first_tree, first_page, right_page, round, next_tree, all_done, passes_by}
 
 -- ---- lists
 
@@ -135,102 +133,60 @@ module _ (r : Run) (rs : List Run) where
         ),
       )
 
-  -- behind the last client comes the first tree
-  client_on : (mid : Settling) (client : ℕ) (m : Recovery) → r.part ≡ Client client m → ClientsBelow rs client → After (r ∷ rs) (begins mid (behind_client client))
-  client_on mid client m e below = on (nat_lt client 64) refl
+  -- one client more was recovered
+  clients_on : (client : ℕ) (m : Recovery) → r.part ≡ Client client m → ClientsBelow rs client → ClientsBelow (r ∷ rs) (client + 1)
+  clients_on client m e below k is less = by (cases_eq k client)
     where
-      enough : nat_lt client 64 ≡ false → 64 ≤ client
-      enough f = grind (arith, nat_tests, f)
+      by : (k ≡ client) ⊎ (k ≢ client) → (x : Recovery) × RanTo (r ∷ rs) (Client k x)
+      by (inl same) = (m, inl (e ∙ ap (λ (n : ℕ). Client n m) (sym same)))
+      by (inr other) = clients_more client below k is (omega (arith, less, other))
 
-      one_more : ClientsBelow (r ∷ rs) (client + 1)
-      one_more k is less = by (cases_eq k client)
-        where
-          by : (k ≡ client) ⊎ (k ≢ client) → (x : Recovery) × RanTo (r ∷ rs) (Client k x)
-          by (inl same) = (m, inl (e ∙ ap (λ (n : ℕ). Client n m) (sym same)))
-          by (inr other) = clients_more client below k is (omega (arith, less, other))
+  -- the queue of one page more was emptied
+  pages_on : (tree page : ℕ) (m : Paging) (known : List ℕ) → r.part ≡ Page tree page m → new_ids known m.received ≡ [] → At rs (Page tree page m) known
+      → (pages : List ℕ) × EmptiesPages (r ∷ rs) tree 1 pages m.home.right
+  pages_on tree page m known e none (clients, (below, (own, ((pages, to), knows)))) =
+      (pages ++ page ∷ [], page_more (r ∷ rs) tree 1 pages page m (pages_more r rs tree 1 pages page to) (own_empties (Page tree page m) known e knows none))
 
-      on : (b : Bool) → nat_lt client 64 ≡ b → After (r ∷ rs) (begins mid (cond b (part_of_client (client + 1)) (part_of_tree 1)))
-      on true f = one_more
-      on false f =
-          let far : 64 ≤ client = enough f in
-          (λ k is less. let most = is.most in one_more k is (omega (arith, most, far)), (λ t is less. let some = is.some in absurd (omega (arith, some, less)), tt))
-
-  -- behind the last tree comes nothing
-  tree_on : (mid : Settling) (tree : ℕ) → ClientsBelow (r ∷ rs) 65 → TreesBelow (r ∷ rs) tree → EmptiesTree (r ∷ rs) tree → After (r ∷ rs) (behind_tree mid tree)
-  tree_on mid tree clients below own = on (nat_lt tree 16) refl
+  -- with the last page of a tree one tree more was
+  trees_on : (tree page : ℕ) (m : Paging) (known : List ℕ) → r.part ≡ Page tree page m → new_ids known m.received ≡ [] → page_at m.home.right ≡ None
+      → At rs (Page tree page m) known → TreesBelow (r ∷ rs) (tree + 1)
+  trees_on tree page m known e none last at t is less = by (cases_eq t tree)
     where
-      enough : nat_lt tree 16 ≡ false → 16 ≤ tree
-      enough f = grind (arith, nat_tests, f)
+      emptied : EmptiesTree (r ∷ rs) tree
+      emptied =
+          let on = pages_on tree page m known e none at in
+          record { making = at.1.1.0.0; own = inr at.1.1.0.1; pages = on.0; all = subst (EmptiesPages (r ∷ rs) tree 1 on.0) (page_zero m.home.right last) on.1 }
 
-      one_more : TreesBelow (r ∷ rs) (tree + 1)
-      one_more t is less = by (cases_eq t tree)
-        where
-          by : (t ≡ tree) ⊎ (t ≢ tree) → EmptiesTree (r ∷ rs) t
-          by (inl same) = subst (EmptiesTree (r ∷ rs)) (sym same) own
-          by (inr other) = below t is (omega (arith, less, other))
+      by : (t ≡ tree) ⊎ (t ≢ tree) → EmptiesTree (r ∷ rs) t
+      by (inl same) = subst (EmptiesTree (r ∷ rs)) (sym same) emptied
+      by (inr other) = trees_more tree at.1.0 t is (omega (arith, less, other))
 
-      on : (b : Bool) → nat_lt tree 16 ≡ b
-          → After (r ∷ rs) (cond b (begins (record mid { visited = [] }) (part_of_tree (tree + 1))) (Ends mid (record { calls = mid.calls })))
-      on true f = (clients, (one_more, tt))
-      on false f =
-          let far : 16 ≤ tree = enough f in
-          record {
-            clients = λ k is. let most = is.most in clients k is (omega (arith, most));
-            trees = λ t is. let most = is.most in one_more t is (omega (arith, most, far));
-          }
-
-  page_on : (mid : Settling) (tree page : ℕ) (m : Paging) (known : List ℕ) → r.part ≡ Page tree page m → new_ids known m.received ≡ [] → At rs (Page tree page m) known
-      → After (r ∷ rs) (goes_right mid tree (page_at m.home.right))
-  page_on mid tree page m known e none at = on (page_at m.home.right) refl
-    where
-      clients : ClientsBelow (r ∷ rs) 65
-      clients = clients_more 65 at.0
-
-      below : TreesBelow (r ∷ rs) tree
-      below = trees_more tree at.1.0
-
-      pages : List ℕ
-      pages = at.1.1.1.0.0 ++ page ∷ []
-
-      come : EmptiesPages (r ∷ rs) tree 1 pages m.home.right
-      come =
-          page_more (r ∷ rs) tree 1 at.1.1.1.0.0 page m (pages_more r rs tree 1 at.1.1.1.0.0 page at.1.1.1.0.1)
-          (own_empties (Page tree page m) known e at.1.1.1.1 none)
-
-      on : (right : Option ℕ) → page_at m.home.right ≡ right → After (r ∷ rs) (goes_right mid tree right)
-      on None f =
-          tree_on mid tree clients below
-          (record {
-            making = at.1.1.0.0;
-            own = inr at.1.1.0.1;
-            pages = pages;
-            all = subst (EmptiesPages (r ∷ rs) tree 1 pages) (page_zero m.home.right f) come;
-          })
-      on (Some next) f = further (is_visited mid next)
-        where
-          further : (b : Bool) → After (r ∷ rs) (cond b (Stops mid (trouble.Loop next)) (to_page mid tree next))
-          further true = tt
-          further false = (clients, (below, ((at.1.1.0.0, inr at.1.1.0.1), ((pages, subst (EmptiesPages (r ∷ rs) tree 1 pages) (page_some m.home.right next f) come), tt))))
-
-  part_on : (mid : Settling) (p : Part) (known : List ℕ) → r.part ≡ p → new_ids known (part_received p) ≡ [] → At rs p known → After (r ∷ rs) (goes_on mid p)
-  part_on mid (Client client m) known e none below = client_on mid client m e below
-  part_on mid (Tree tree m) known e none at =
-      (clients_more 65 at.0, (trees_more tree at.1.0, ((m, own_empties (Tree tree m) known e at.1.1 none), (([], refl), tt))))
-  part_on mid (Page tree page m) known e none at = page_on mid tree page m known e none at
-
-  behind_part : (from : Settling) → At rs r.part from.known → After (r ∷ rs) (passed (behind from r))
-  behind_part from at = on (new_ids from.known (part_received r.part)) refl
-    where
-      on : (ids : List ℕ) → new_ids from.known (part_received r.part) ≡ ids → After (r ∷ rs) (passed_with (behind from r) ids)
-      on [] e = part_on (behind from r) r.part from.known refl e at
-      on (id ∷ ids) e = at_again r.part from.known (id ∷ ids) refl e at
+  behind_part : (s : Settling) (next : Step) → Passes s next → r.part ≡ s.part → At rs s.part s.known → After (r ∷ rs) next
+  behind_part _ _ (again s id ids news) e at = at_again s.part s.known (id ∷ ids) e news at
+  behind_part _ _ (next_client s client m less) e below = clients_on client m e below
+  behind_part _ _ (first_tree s client m far) e below = (
+    λ k is less. let most = is.most in clients_on client m e below k is (omega (arith, most, far)),
+    (λ t is less. let some = is.some in absurd (omega (arith, some, less)), tt),
+  )
+  behind_part _ _ (first_page s tree m none) e (clients, (below, knows)) =
+      (clients_more 65 clients, (trees_more tree below, ((m, own_empties (Tree tree m) s.known e knows none), (([], refl), tt))))
+  behind_part _ _ (right_page s tree page m right none link new) e at =
+      let on = pages_on tree page m s.known e none at in
+      let to = subst (EmptiesPages (r ∷ rs) tree 1 on.0) (page_some m.home.right right link) on.1 in
+      (clients_more 65 at.0, (trees_more tree at.1.0, ((at.1.1.0.0, inr at.1.1.0.1), ((on.0, to), tt))))
+  behind_part _ _ (round s tree page m right none link seen) e at = tt
+  behind_part _ _ (next_tree s tree page m none last less) e at = (clients_more 65 at.0, (trees_on tree page m s.known e none last at, tt))
+  behind_part _ _ (all_done s tree page m none last far) e at = record {
+    clients = λ k is. let most = is.most in clients_more 65 at.0 k is (omega (arith, most));
+    trees = λ t is. let most = is.most in trees_on tree page m s.known e none last at t is (omega (arith, most, far));
+  }
 
 -- ---- all parts
 
 pub part_behind : (r : Run) (rs : List Run) (from : Settling) (next : Step) → At rs from.part from.known → part_again r.part ≡ from.part → passed (behind from r) ≡ next → After (r ∷ rs) next
 part_behind r rs from next at place passes =
-    subst (After (r ∷ rs)) passes
-    (behind_part r rs from (again_at rs r.part from.known (subst (λ (p : Part). At rs p from.known) (sym place) at)))
+    behind_part r rs (behind from r) next (passes_by (behind from r) next passes) refl
+    (again_at rs r.part from.known (subst (λ (p : Part). At rs p from.known) (sym place) at))
 
 pub ran_at : (rs : List Run) (s : Settling) → Ran rs s → At rs s.part s.known
 ran_at [] s e = subst (λ (x : Settling). At [] x.part x.known) (sym e) (λ k is less. let some = is.some in absurd (omega (arith, some, less)))

@@ -6,7 +6,7 @@ use Rattle.settle_run.specs.Meaning.{Went, Stepped, deed_of}
 use Rattle.settle_run.specs.Settling.{Settling}
 use Rattle.settle_run.specs.Standing.{GivesBack}
 use Rattle.settle_run.specs.contracts.settle.SettleRun.{the_view}
-use Rattle.settle_run.proofs.Causing.{took_tells, took_exact, took_follows}
+use Rattle.settle_run.proofs.Causing.{took_exact, took_follows, exact_tells}
 use Rattle.settle_run.proofs.Ending.{turn_less}
 use Rattle.settle_run.proofs.Holding.{went_holds, took_gives, took_returns}
 use Rattle.settle_run.proofs.Ranging.{went_stands, own_calls, took_means}
@@ -17,6 +17,7 @@ pub returns-clause-steps : goal.returns-clause-steps
 returns-clause-steps g c =
     let s = c.step-turn.ensures.steps.did in
     let goes = followed (the_view c.self.inside) c.follow-next.new.self c.step-turn.new.self s.answer c.step-turn.result c.follow-next.result s.took c.follow-next.ensures in
+    let exact = took_exact (the_view c.self.inside) c.follow-next.new.self s.answer c.follow-next.result goes in
     let before = g.C.Cloud.seen c.args.cloud.now in
     let after = g.C.Cloud.seen c.step-turn.new.cloud in
     subst
@@ -28,8 +29,8 @@ returns-clause-steps g c =
       part_turn = c.step-turn.result;
       stepped = c.step-turn.ensures.steps.stepped;
       follows = took_follows (the_view c.self.inside) c.follow-next.new.self c.step-turn.new.self c.step-turn.result c.follow-next.result c.follow-next.ensures;
-      tells = took_tells (the_view c.self.inside) c.follow-next.new.self s.answer c.follow-next.result goes;
-      exact = took_exact (the_view c.self.inside) c.follow-next.new.self s.answer c.follow-next.result goes;
+      tells = exact_tells (the_view c.self.inside) s.answer c.follow-next.result exact;
+      exact = exact;
       means = λ h went.
           took_means h (deed_of c.args.who (the_view c.self.inside) s.answer before after) (the_view c.self.inside) c.follow-next.new.self c.follow-next.result
           (went_stands h (the_view c.self.inside) went) refl s.made goes;

@@ -1,4 +1,6 @@
 -- Clouds: what holds of what a cloud tells under a book holds after every call that lands, under the book that the call leaves.
+pub mod Rows
+pub mod Making
 pub mod StandingLemmas
 pub mod Calls
 pub mod Passing

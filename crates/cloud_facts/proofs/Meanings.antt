@@ -10,3 +10,4 @@ pub mod Finding
 pub mod Reports
 pub mod Steps
 pub mod Got
+pub mod Keys

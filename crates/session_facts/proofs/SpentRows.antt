@@ -1,16 +1,20 @@
--- A counter of versions, epochs or numbers is spent behind 2^56 puts and sends, each of which raises it by at most 200.
-use Rattle.std.proofs.Common.{◌≡◌, ◌+◌, ◌^◌, ◌≤◌, inl, inr, ℕ, Bool, List, [], ◌∷◌, length, Some, refl, sym, ap, subst, ◌∙◌, arith}
-use Rattle.std.proofs.lemmas.List.Sums.{length-filter, count_by-le-length}
+-- A counter of versions, epochs or numbers is spent behind 2^56 puts and sends, each of which raises it by at most 200; one of pages behind 2^31, each of
+-- which raises it by at most four for each before it.
+use Rattle.std.proofs.Common.{◌≡◌, ◌+◌, ◌-◌, ◌*◌, ◌^◌, ◌<◌, ◌≤◌, ◌⊎◌, inl, inr, ℕ, Bool, List, length, Some, sym, ap, subst, ◌∙◌, arith}
+use Rattle.std.proofs.lemmas.Bool.{cases_lt}
+use Rattle.std.proofs.lemmas.Nat.{mul-le}
+use Rattle.cloud_facts.proofs.Book.Lengths.{image}
 use Rattle.cloud_facts.proofs.Book.Places.{get_within}
+use Rattle.cloud_facts.proofs.Calls.Rows.{versions_within}
 use Rattle.cloud_facts.proofs.Decoding.Reading.{head_reads, node_reads, root_reads}
-use Rattle.cloud_facts.specs.Book.Records.{StandsAt}
+use Rattle.cloud_facts.specs.Book.Book.{Book}
+use Rattle.cloud_facts.specs.Book.Records.{IsIn, StandsAt}
 use Rattle.cloud_facts.specs.Book.Tally.{version_of}
-use Rattle.cloud_facts.specs.Book.Telling.{node_in, root_in}
+use Rattle.cloud_facts.specs.Book.Telling.{node_in, root_in, roots_of}
+use Rattle.cloud_facts.specs.Calls.Standing.{StandsUnder}
 use Rattle.cloud_facts.specs.Decoding.Decodes.{Decodes}
 use Rattle.cloud_facts.specs.Decoding.Kinds.{CountsWithin}
 use Rattle.cloud_trait.specs.State.{CloudState}
-use Rattle.cloud_trait.specs.Traced.{IsTraced, is_object, version_rows}
-use Rattle.cloud_trait.specs.declared.state.Landing.{Landing}
 use Rattle.cloud_trait.specs.declared.state.Version.{Version}
 use Rattle.db_base.specs.declared.names.ObjName.{ObjName}
 use Rattle.db_base.specs.declared.names.ObjName.TheVariants as object
@@ -21,35 +25,39 @@ use Rattle.db_base.specs.declared.trouble.Trouble.TheVariants as trouble
 use Rattle.head_codec.specs.Spelling.{head_of}
 use Rattle.head_codec.specs.declared.head.Head.{Head}
 use Rattle.history.specs.Audited.{Audited}
-use Rattle.node_codec.specs.Tree.{Tree}
+use Rattle.node_codec.specs.Tree.{Tree, empty_tree}
 use Rattle.replay_meaning.specs.Standing.{Line}
-use Rattle.session_facts.proofs.TreeCheckpoints.EntryCounts.{image}
+use Rattle.report_types.specs.declared.entry.Entry.{Entry}
 use Rattle.session_facts.specs.Facts.{Stands}
 use Rattle.session_facts.specs.Late.{TakesMany, IsLate, SpendsLate}
 use Rattle.session_facts.specs.Sessions.Sessions.{Sessions}
-use Rattle.session_facts.specs.Sessions.Spent.{HasLastEpoch, HasLastNumber, HasLastPage, HasLastRoot, IsSpentToOpen, IsSpentToCommit, IsSpentToSettle, IsSpentInTree}
+use Rattle.session_facts.specs.Sessions.Spent.{HasLastEpoch, HasLastNumber, HasLastPage, HasLastPages, HasLastRoot, IsSpentToOpen, IsSpentToCommit, IsSpentToSettle, IsSpentInTree}
 use Rattle.session_facts.specs.Sessions.Untroubled.{IsSpent}
+
+-- ---- pages
+
+-- so many pages behind so many that were reserved
+pages_late : (rows next pages : ℕ) → next ≤ 2 + 4 * (rows * rows) → pages ≤ 4 * rows + 1 → 2 ^ 64 - 1 < next + pages → 2 ^ 31 ≤ rows
+pages_late rows next pages reserved few last = on (cases_lt rows (2 ^ 31))
+  where
+    on : (rows < 2 ^ 31) ⊎ (2 ^ 31 ≤ rows) → 2 ^ 31 ≤ rows
+    on (inr many) = many
+    on (inl early) =
+        let below : rows ≤ 2147483647 = omega (arith, early) in
+        let square : rows * rows ≤ 2147483647 * 2147483647 = mul-le rows rows 2147483647 2147483647 below below in
+        absurd (omega (arith, reserved, few, last, below, square))
 
 -- ---- versions are rows of the trace
 
-rows_of : (name : ObjName) (n : ℕ) (vs : List Version) → length (version_rows name n vs) ≡ length vs
-rows_of name n [] = refl
-rows_of name n (v ∷ vs) = let more = rows_of name (n + 1) vs in omega (arith, more)
+module _ (book : Book) (order : List Entry) (t : CloudState) (stands : StandsUnder book order t) where
+  decodes : Decodes t
+  decodes = stands.decodes
 
-versions_within : (t : CloudState) → IsTraced t → (name : ObjName) → length (t.versions name) ≤ length t.trace
-versions_within t traced name =
-    let rows = ap length (traced.versions name) in
-    let so_many = rows_of name 1 (t.versions name) in
-    let kept = length-filter (λ (r : Landing). is_object name r.site) t.trace in
-    let few = count_by-le-length (λ (r : Landing). is_object name r.site) t.trace in
-    omega (arith, rows, so_many, kept, few)
-
-module _ (t : CloudState) (decodes : Decodes t) (traced : IsTraced t) where
   -- the place of a version is below the number of rows
   place_within : (name : ObjName) (place : ℕ) (v : Version) → StandsAt (t.versions name) place v → place + 1 ≤ length t.trace
   place_within name place v there =
       let below = get_within (t.versions name) place v there in
-      let within = versions_within t traced name in
+      let within = versions_within t stands.traced name in
       omega (arith, below, within)
 
   -- a landed head counts within the rows
@@ -94,6 +102,13 @@ module _ (t : CloudState) (decodes : Decodes t) (traced : IsTraced t) where
       let last = it.last in
       omega (arith, number, within, last)
 
+  pages_rows : (tree : ℕ) → HasLastPages t tree → 2 ^ 31 ≤ length t.trace
+  pages_rows tree it = pages_late (length t.trace) it.root.next it.pages (reserved it.landed) it.needed.few it.last
+    where
+      reserved : (it.root ≡ empty_tree) ⊎ IsIn (roots_of t tree) it.root → it.root.next ≤ 2 + 4 * (length t.trace * length t.trace)
+      reserved (inl none) = let next : it.root.next ≡ 2 = ap (λ (r : Tree). r.next) none in omega (arith, next)
+      reserved (inr landed) = stands.made.next tree it.root landed
+
   -- ---- each counter
 
   opens_late : (what : Counter) → IsSpentToOpen t what → TakesMany t what
@@ -108,7 +123,7 @@ module _ (t : CloudState) (decodes : Decodes t) (traced : IsTraced t) where
   folds_late : (tree : ℕ) (what : Counter) → IsSpentInTree tree t what → TakesMany t what
   folds_late tree counter.Version (inl is) = root_rows tree is
   folds_late tree counter.Version (inr is) = page_rows tree is
-  folds_late tree counter.Pages is = tt
+  folds_late tree counter.Pages is = pages_rows tree is
   folds_late tree what is = absurd is
 
   settles_late : (what : Counter) → IsSpentToSettle t what → TakesMany t what
@@ -116,10 +131,14 @@ module _ (t : CloudState) (decodes : Decodes t) (traced : IsTraced t) where
   settles_late what (inr is) = folds_late is.0 what is.1
 
 -- so they are over a cloud that stands for lines
-pub spends_late : (lines : List Line) (sessions : Sessions) (audit : Audited) (blind : Bool) (t : CloudState) → Stands lines sessions audit blind t → IsTraced t → SpendsLate t
-spends_late lines sessions audit blind t stands traced =
-    let decodes : Decodes t = stands.holds.stand.cloud.decodes in
-    record { opening = opens_late t decodes traced; commit = commits_late t decodes traced; settling = settles_late t decodes traced }
+pub spends_late : (lines : List Line) (sessions : Sessions) (audit : Audited) (blind : Bool) (t : CloudState) → Stands lines sessions audit blind t → SpendsLate t
+spends_late lines sessions audit blind t stands =
+    let cloud = stands.holds.stand.cloud in
+    record {
+      opening = opens_late stands.holds.book stands.holds.order t cloud;
+      commit = commits_late stands.holds.book stands.holds.order t cloud;
+      settling = settles_late stands.holds.book stands.holds.order t cloud;
+    }
 
 -- a trouble that tells a spent counter tells a late one
 pub late_trouble : (Spent : CloudState → Counter → Type 0) (t : CloudState) → ((what : Counter) → Spent t what → TakesMany t what) → (k : Trouble) → IsSpent Spent t k

@@ -332,7 +332,7 @@ pub wish_holds : (n : ℕ) (lines : List Line) (sessions : Sessions) (a : Audite
 wish_holds n lines sessions a blind x wish h = record {
   book = h.book;
   order = h.order;
-  stand = rest_keeps h.book h.order x (record x { wish = wish }) sessions refl refl refl (omega arith) h.stand;
+  stand = rest_keeps h.book h.order x (record x { wish = wish }) sessions refl refl refl refl (omega arith) h.stand;
   cloud = record {
     placed = h.cloud.placed;
     upto = record { versions = h.cloud.upto.versions; messages = h.cloud.upto.messages; trace = h.cloud.upto.trace };
@@ -350,7 +350,7 @@ pub wait_holds : (n : ℕ) (lines : List Line) (sessions : Sessions) (a : Audite
 wait_holds n lines sessions a blind x now waits later h = record {
   book = h.book;
   order = h.order;
-  stand = rest_keeps h.book h.order x (record x { now = now; waits = waits }) sessions refl refl refl later h.stand;
+  stand = rest_keeps h.book h.order x (record x { now = now; waits = waits }) sessions refl refl refl refl later h.stand;
   cloud = record {
     placed = h.cloud.placed;
     upto = record { versions = h.cloud.upto.versions; messages = h.cloud.upto.messages; trace = h.cloud.upto.trace };

@@ -5,10 +5,11 @@ use Rattle.db_base.specs.declared.trouble.Counter.{Counter}
 use Rattle.db_base.specs.declared.trouble.Counter.TheVariants as counter
 use Rattle.session_facts.specs.Sessions.Spent.{IsSpentToOpen, IsSpentToCommit, IsSpentToSettle}
 
--- 2^56 puts and sends landed, unless it is a counter of attempts, of which no cloud tells, or of pages, many of which one put may reserve
+-- 2^56 puts and sends landed, unless it is a counter of attempts, of which no cloud tells, or of pages: one put may reserve as many as four for each put
+-- and send before it, and so 2^31 of them are needed
 abbrev pub TakesMany : CloudState → Counter → Type 0
 TakesMany u counter.Txn = Unit {0}
-TakesMany u counter.Pages = Unit {0}
+TakesMany u counter.Pages = 2 ^ 31 ≤ length u.trace
 TakesMany u what = 2 ^ 56 ≤ length u.trace
 
 -- a counter is spent, as the cloud tells, and so late

@@ -1,7 +1,6 @@
 -- What a line leaves of earlier ones, whatever its result.
-use Rattle.std.proofs.Common.{◌≡◌, ℕ, List, Some, Ok, refl, sym, ap, ◌∙◌}
-use Rattle.db_base.specs.declared.names.ObjName.{ObjName}
-use Rattle.db_base.specs.declared.names.QueueName.{QueueName}
+use Rattle.std.proofs.Common.{◌≡◌, ℕ, List, Some, Ok, refl, ap, ◌∙◌}
+use Rattle.cloud_facts.proofs.Calls.Rows.{same_traced}
 use Rattle.db_base.specs.declared.wish.Wish.{Wish}
 use Rattle.cloud_trait.specs.Bench.{Waits}
 use Rattle.cloud_trait.specs.declared.answer.Answer.{Answer as CallAnswer}
@@ -9,9 +8,6 @@ use Rattle.cloud_trait.specs.declared.turn.Turn.{Turn}
 use Rattle.cloud_trait.specs.Ask.{Ask}
 use Rattle.cloud_trait.specs.Caller.{Caller}
 use Rattle.cloud_trait.specs.State.{CloudState}
-use Rattle.cloud_trait.specs.Traced.{object_rows, queue_rows, version_rows, post_rows, IsTraced}
-use Rattle.cloud_trait.specs.declared.state.Posted.{Posted}
-use Rattle.cloud_trait.specs.declared.state.Version.{Version}
 use Rattle.cloud_trait.specs.Seen.{Seen}
 use Rattle.cloud_trait.specs.Weather.{Makes}
 use Rattle.cloud_trait.proofs.RowLemmas.{leaves_agree}
@@ -25,13 +21,6 @@ use Rattle.world_audit.specs.Look.{Looked}
 use Rattle.world_core.specs.Sessions.{Changes}
 use Rattle.world_core.specs.Handled.{SetsWish}
 use Rattle.world_core.specs.Stands.{Grows}
-
--- a state that differs in neither versions, messages nor rows
-same_traced : (s t : CloudState) → t.versions ≡ s.versions → t.messages ≡ s.messages → t.trace ≡ s.trace → IsTraced s → IsTraced t
-same_traced s t versions messages trace h = record {
-  versions = λ name. ap (object_rows name) trace ∙ h.versions name ∙ ap (λ (f : ObjName → List Version). version_rows name 1 (f name)) (sym versions);
-  messages = λ queue. ap (queue_rows queue) trace ∙ h.messages queue ∙ ap (λ (f : QueueName → List Posted). post_rows queue 1 (f queue)) (sym messages);
-}
 
 -- a told state that stays as it is
 pub grows_not : (n : ℕ) (before after : Seen) → ((x : CloudState) → before.state ≡ Some x → after.state ≡ Some x) → Grows n before after

@@ -242,7 +242,7 @@ step_on who wish before after old new turn on p =
     goes : SessionGoes on.book on.order s left.after f who.session p.session.after
     goes =
         session_keeps who p.under p.to s left.after on.book on.order f p.session.after (Ok turn) told left.told
-        (rest_keeps on.book on.order on.state s f refl refl refl (omega arith) on.stand) steps
+        (rest_keeps on.book on.order on.state s f refl refl refl refl (omega arith) on.stand) steps
 
 went_on : (who : Caller) (before : Seen) (old : World) (after : Seen) (new : World) → OnBook old before → Went who before old after new → OnBook new after
 went_on who before old after new on start = on
@@ -378,7 +378,7 @@ wait_still ticks before after old new r still (inl h) =
       told = w.told;
       book = still.0.book;
       order = still.0.order;
-      stand = subst S (sym w.rest) (rest_keeps still.0.book still.0.order still.0.state _ (session_at old.sessions) refl refl refl (omega (arith, within, later)) still.0.stand);
+      stand = subst S (sym w.rest) (rest_keeps still.0.book still.0.order still.0.state _ (session_at old.sessions) refl refl refl refl (omega (arith, within, later)) still.0.stand);
     }) still.1
 wait_still ticks before after old new r still (inr long) =
     declined_still _ before after old new (Ok r) still long.declines

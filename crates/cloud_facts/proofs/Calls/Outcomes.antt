@@ -102,7 +102,7 @@ module _ (who : Caller) (book : Book) (order : List Entry) (s t : CloudState) (p
   stays e stands part homes knows = record {
     book_after = book;
     order_after = order;
-    cloud = same_stands book order s t (ap (λ (x : CloudState). x.versions) e) (ap (λ (x : CloudState). x.messages) e) stands;
+    cloud = same_stands book order s t (ap (λ (x : CloudState). x.versions) e) (ap (λ (x : CloudState). x.messages) e) (ap (λ (x : CloudState). x.trace) e) stands;
     passes = subst (λ (st : Store). Passes (store_of book order s) st) (sym same) (passes_itself (store_of book order s));
     joins = λ r is. inl is;
     links = λ tree. inl (λ level. refl);
@@ -121,7 +121,7 @@ module _ (who : Caller) (book : Book) (order : List Entry) (s t : CloudState) (p
   module _ (su : Store) (lands : Lands who ask (called who t.now s) t) (stands : StandsUnder book order s) (l : Landing who (store_of book order s) ask su)
       (f : Follows who (store_of book order s) ask su l) (c : Commits who (store_of book order s) (parts who.session) ask su l) (owes : OwesLease mine t.now who (store_of book order s) ask su l) (part : Part) (homes : HomesHold su.tally t.now (at who.session part parts)) (knows : K su t.now part) where
     called_stands : StandsUnder book order (called who t.now s)
-    called_stands = same_stands book order s (called who t.now s) refl refl stands
+    called_stands = same_stands book order s (called who t.now s) refl refl refl stands
 
     told : store_of su.book su.order t ≡ su
     told =

@@ -1,12 +1,19 @@
 -- Every call that lands keeps what holds of a cloud.
-use Rattle.std.proofs.Common.{◌≡◌, ℕ, List, [], length, sym, subst}
+use Rattle.std.proofs.Common.{◌≡◌, ℕ, List, [], length, map, sym, ap, subst, arith}
 use Rattle.db_base.specs.Ids.{IsTree}
 use Rattle.db_base.specs.declared.names.ObjName.TheVariants as object
+use Rattle.db_base.specs.declared.names.QueueName.TheVariants.{TreePu}
+use Rattle.cloud_trait.proofs.TracedLemmas.{effect_traced, empty_traced}
 use Rattle.cloud_trait.specs.Ask.{Ask, Get, GetHeld, PutHeld, Send, Receive, Delete, Take, Renew, Release, effect, PutsNothing, TouchesNoMessage}
 use Rattle.cloud_trait.specs.Caller.{Caller}
 use Rattle.cloud_trait.specs.State.{CloudState, IsEmptyCloud, landed as put}
+use Rattle.cloud_trait.specs.declared.state.Landing.{Landing as Row}
 use Rattle.cloud_facts.specs.Chains.Chain.{ChainHolds}
+use Rattle.cloud_facts.specs.Calls.Made.{IsMadeBy}
 use Rattle.cloud_facts.specs.Calls.Standing.{StandsUnder, IsTaken, Follows}
+use Rattle.cloud_facts.proofs.Book.Places.{in_none}
+use Rattle.cloud_facts.proofs.Calls.Making.{IsWithin, landing_made, rows_many}
+use Rattle.cloud_facts.proofs.Calls.Rows.{links_within, messages_within, same_traced}
 use Rattle.cloud_facts.specs.Decoding.Decodes.{Decodes, IsNext, Spells}
 use Rattle.cloud_facts.specs.Decoding.Kinds.{IsNode}
 use Rattle.cloud_facts.proofs.Decoding.Counting.{newest_counts, opens_counts, settles_counts}
@@ -23,7 +30,7 @@ use Rattle.cloud_facts.specs.Book.Effects.{Taking, after_leaf, after_page}
 use Rattle.cloud_facts.specs.Book.Premises.{Takes, LandsFirst}
 use Rattle.cloud_facts.specs.Landings.Landing.{own_of}
 use Rattle.cloud_facts.specs.Book.Tally.{Node, Leafy, Branch, Store}
-use Rattle.cloud_facts.specs.Book.Telling.{tally_of}
+use Rattle.cloud_facts.specs.Book.Telling.{root_in, roots_of, tally_of}
 use Rattle.cloud_facts.specs.Tellings.Told.{store_of, Tells}
 use Rattle.cloud_facts.proofs.Tellings.Asks.{quiet_tells, told_by}
 use Rattle.cloud_facts.proofs.Tellings.Easy.{head_told, logged_told, posted_told, log_mark_told, post_mark_told, same_told}
@@ -114,6 +121,13 @@ landing_spells who book order s ask su h d (stays asked puts touches) f = quiet_
 
 -- ---- the whole
 
+-- its messages and links are within the rows
+pub within_rows : (book : Book) (order : List Entry) (s : CloudState) → StandsUnder book order s → IsWithin (length s.trace) (store_of book order s)
+within_rows book order s stands = record {
+  posts = λ tree. messages_within s stands.traced (TreePu tree);
+  links = λ tree is. links_within s stands.traced tree (book.chain tree) _ _ (stands.holds.chains tree is);
+}
+
 -- after a call that lands the cloud stands under the book that the call leaves
 pub effect_stands : (who : Caller) (book : Book) (order : List Entry) (s : CloudState) (ask : Ask) (su : Store) → StandsUnder book order s
     → (l : Landing who (store_of book order s) ask su) → Follows who (store_of book order s) ask su l → StandsUnder su.book su.order (effect who ask s)
@@ -122,6 +136,10 @@ effect_stands who book order s ask su stands l f = record {
       told_by Holds (effect who ask s) su (landing_tells who book order s ask su stands.holds.chains stands.decodes l f)
       (landing_keeps who (store_of book order s) ask su stands.holds l);
   decodes = effect_decodes who ask s stands.decodes (landing_spells who book order s ask su stands.holds.chains stands.decodes l f);
+  traced = effect_traced who ask s stands.traced;
+  made = told_by (IsMadeBy (length (effect who ask s).trace)) (effect who ask s) su (landing_tells who book order s ask su stands.holds.chains stands.decodes l f)
+      (subst (λ (n : ℕ). IsMadeBy n su) (sym (rows_many who ask s))
+      (landing_made (length s.trace) who (store_of book order s) ask su stands.made (within_rows book order s stands) l));
 }
 
 -- what is told of a cloud is of its versions and messages alone
@@ -130,12 +148,22 @@ same_store book order s t versions messages =
     let told : tally_of book t ≡ tally_of book s = same_told book s t versions messages in
     λ i. record { tally = told i; book = book; order = order }
 
-pub same_stands : (book : Book) (order : List Entry) (s t : CloudState) → t.versions ≡ s.versions → t.messages ≡ s.messages → StandsUnder book order s → StandsUnder book order t
-same_stands book order s t versions messages stands = record {
+pub same_stands : (book : Book) (order : List Entry) (s t : CloudState) → t.versions ≡ s.versions → t.messages ≡ s.messages → t.trace ≡ s.trace → StandsUnder book order s
+    → StandsUnder book order t
+same_stands book order s t versions messages trace stands = record {
   holds = subst Holds (sym (same_store book order s t versions messages)) stands.holds;
   decodes = same_decodes s t versions messages stands.decodes;
+  traced = same_traced s t versions messages trace stands.traced;
+  made = subst (IsMadeBy (length t.trace)) (sym (same_store book order s t versions messages))
+      (subst (λ (rows : List Row). IsMadeBy (length rows) (store_of book order s)) (sym trace) stands.made);
 }
 
 -- an empty cloud stands under the empty book
 pub empty_stands : (s : CloudState) → IsEmptyCloud s → StandsUnder empty_book [] s
-empty_stands s empty = record { holds = empty_holds s empty; decodes = empty_decodes s empty }
+empty_stands s empty = record { holds = empty_holds s empty; decodes = empty_decodes s empty; traced = empty_traced s empty; made = none_made }
+  where
+    none_made : IsMadeBy (length s.trace) (store_of empty_book [] s)
+    none_made = record {
+      log = omega arith;
+      next = λ tree root is. absurd (in_none (roots_of s tree) root (ap (map root_in) (empty.versions (object.Tree tree))) is);
+    }

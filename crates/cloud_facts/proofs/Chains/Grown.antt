@@ -28,7 +28,7 @@ after_page_grows st tree page node own rises lands = page_grows st tree page nod
 
 pub after_raise_grows : (st : Store) (tree : ℕ) (root : Tree) (level : ℕ) (links : List Link) → IsTree tree → ChainHolds st
     → CoversApplied st tree root → Raises st tree root level links → Grows st (after_raise tree root level links st)
-after_raise_grows st tree root level links is holds covers raises = raise_grows st tree root level links covers raises.next none
+after_raise_grows st tree root level links is holds covers raises = raise_grows st tree root level links covers (let same = raises.next in omega (arith, same)) none
   where
     none : st.book.chain tree level ≡ []
     none = (holds tree is).levels.above level (omega (arith, raises.level_is))

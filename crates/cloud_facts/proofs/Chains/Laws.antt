@@ -159,7 +159,7 @@ after_root_keeps st tree root h covers lands t is = on (t == tree) refl
     here : IsTree tree → IsChained (st.book.chain tree) (st.tally.nodes tree) (st.tally.roots tree ++ root ∷ []) (st.tally.done tree)
         (λ client. number_of root.cursor client)
     here is = root_keeps (st.book.chain tree) (st.tally.nodes tree) (st.tally.roots tree) (st.tally.done tree) (st.tally.cursor tree 0) root (h tree is)
-        (record { level = lands.level; next = lands.next; names = lands.names; rises = covers.rises })
+        (record { level = lands.level; next = let more = lands.next in omega (arith, more); names = lands.names; rises = covers.rises })
 
     on : (b : Bool) → (t == tree) ≡ b → IsChained (st.book.chain t) (st.tally.nodes t) (roots_after st tree root b t) (st.tally.done t)
         (cursors_after st tree root b t)
@@ -182,7 +182,7 @@ after_raise_keeps st tree root level links h covers lands t is = on (t == tree) 
         (record {
           level_is = lands.level_is;
           height = lands.height;
-          next = lands.next;
+          next = let same = lands.next in omega (arith, same);
           names = lands.names;
           begins = lands.begins;
           ascends = lands.ascends;

@@ -44,6 +44,10 @@ newest_counts s client d = on (last_cases vs)
 few : (p : Phase) (count : ℕ) → p ≡ Open count → IsPhase p → count ≤ 200
 few p count e is = (subst IsPhase e is).1
 
+-- a head opens at most 200 records
+pub opened_few : (st : Store) (client : ℕ) (head : Head) (records : List AtomicRec) (bytes : List ℕ) → head_of bytes ≡ Some head → Opens st client head records → length records ≤ 200
+opened_few st client head records bytes reads o = few head.phase (length records) o.phase (head_of-some bytes head reads).0.phase
+
 -- a head that opens raises each counter by at most the records of a transaction
 pub opens_counts : (st : Store) (client : ℕ) (head : Head) (records : List AtomicRec) (bytes : List ℕ) (n : ℕ) → head_of bytes ≡ Some head → Opens st client head records
     → CountsWithin n (st.tally.head client) → CountsWithin (n + 1) head
@@ -51,7 +55,7 @@ opens_counts st client head records bytes n reads o counts =
     record { epoch = let same = o.epoch in let within = counts.epoch in omega (arith, same, within); numbers = λ tree page. number tree page }
   where
     at_most : length records ≤ 200
-    at_most = few head.phase (length records) o.phase (head_of-some bytes head reads).0.phase
+    at_most = opened_few st client head records bytes reads o
 
     number : (tree page : ℕ) → number_of_queue head.counters tree page ≤ 200 * (n + 1)
     number tree page =

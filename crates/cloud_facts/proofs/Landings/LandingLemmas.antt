@@ -101,7 +101,7 @@ landing_grows who st ask su h (puts_page tree page node bytes one two is e first
     after_page_grows st tree page node (own_of page node)
     (λ client is_client. let z = cursor_unlinked st h.numbers tree page client is_client first.page_is (λ link linked. first.unlinked 0 link linked) in omega (arith, z)) lands
 landing_grows who st ask su h (puts_inner tree page node pieces bytes one two is e lands) = after_inner_grows st tree page node pieces lands
-landing_grows who st ask su h (puts_root tree t bytes one two is e covers lands) = root_grows st tree t covers lands.next
+landing_grows who st ask su h (puts_root tree t bytes one two is e covers lands) = root_grows st tree t covers (let more = lands.next in omega (arith, more))
 landing_grows who st ask su h (raises_root tree t level links bytes one two is e covers lands) = after_raise_grows st tree t level links is h.chains covers lands
 landing_grows who st ask su h (stays asked puts touches) = grows_itself st
 

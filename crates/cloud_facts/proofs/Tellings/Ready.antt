@@ -180,7 +180,7 @@ module _ (book : Book) (order : List Entry) (s : CloudState) (tree : ℕ) (of_tr
 
   pub raises : (root : Tree) (sizes : List ℕ) (first : ℕ) → HaveLanded inner_node (nodes_of s tree) first (node_parts sizes (first + 1) (node_of_root top))
       → ((piece : Link) → IsIn (raised_links sizes first) piece → IsUnlinked (book.chain tree) piece.page)
-      → root.level ≡ top.level + 1 → top.next ≤ root.next → root.entries ≡ map entry_for (raised_links sizes first)
+      → root.level ≡ top.level + 1 → root.next ≡ top.next → root.entries ≡ map entry_for (raised_links sizes first)
       → Raises (store_of book order s) tree root top.level (raised_links sizes first)
   raises root sizes first landed unlinked height next entries = record {
     level_is = refl;

@@ -1,5 +1,5 @@
 -- The records of the log: of which queue and key they are, whether they are applied, and whether they are under way.
-use Rattle.std.specs.Prelude.{ℕ, ◌≡◌, ◌≤◌, ◌==◌, ◌&&◌, Bool, true, false, List, length, filter, map, slice_get, Some}
+use Rattle.std.specs.Prelude.{ℕ, ◌≡◌, ◌≢◌, ◌≤◌, ◌==◌, ◌&&◌, Bool, true, false, List, [], ◌∷◌, length, filter, map, slice_get, Some}
 use Rattle.std.specs.Str.{bytes_eq}
 use Rattle.db_base.specs.Change.{key_of}
 use Rattle.head_codec.specs.declared.head.Head.{Head}
@@ -16,6 +16,11 @@ StandsAt xs place x = slice_get xs place ≡ Some x
 
 abbrev pub IsIn : {A : Type 0} → List A → A → Type 0
 IsIn xs x = (place : ℕ) × StandsAt xs place x
+
+-- nothing comes twice
+abbrev pub Apart : {A : Type 0} → List A → Type 0
+Apart [] = Unit {0}
+Apart {A} (x ∷ xs) = ((y : A) → IsIn xs y → y ≢ x) × Apart xs
 
 -- ---- which records
 

@@ -1,8 +1,10 @@
 -- What holds of a cloud under a book, and what a call must put so that its effect is told after it.
-use Rattle.std.specs.Prelude.{ℕ, ◌≡◌, ◌+◌, List}
+use Rattle.std.specs.Prelude.{ℕ, ◌≡◌, ◌+◌, List, length}
 use Rattle.cloud_trait.specs.Ask.{Ask}
 use Rattle.cloud_trait.specs.Caller.{Caller}
 use Rattle.cloud_trait.specs.State.{CloudState}
+use Rattle.cloud_trait.specs.Traced.{IsTraced}
+use Rattle.cloud_facts.specs.Calls.Made.{IsMadeBy}
 use Rattle.cloud_facts.specs.Chains.Links.{newest_node, top_of}
 use Rattle.cloud_facts.specs.Decoding.Decodes.{Decodes}
 use Rattle.cloud_facts.specs.Homes.Homes.{Home, Part, AtHome}
@@ -16,10 +18,12 @@ use Rattle.cloud_facts.specs.Book.Telling.{newest_leaf}
 use Rattle.cloud_facts.specs.Tellings.Taking.{taking_of, LandsTaken}
 use Rattle.cloud_facts.specs.Tellings.Told.{store_of}
 
--- a cloud stands under a book, with an order: what it tells holds, and all bytes of it decode
+-- a cloud stands under a book, with an order: what it tells holds, all bytes of it decode, and what landed has its rows and brought it no further
 pub record StandsUnder (book : Book) (order : List Entry) (s : CloudState) : Type 0 where
   pub holds : Holds (store_of book order s)
   pub decodes : Decodes s
+  pub traced : IsTraced s
+  pub made : IsMadeBy (length s.trace) (store_of book order s)
 
 -- the leaf that lands is the newest leaf of its page with the run applied, whole or the left piece of it
 pub record IsTaken (st : Store) (p : Taking) : Type 0 where

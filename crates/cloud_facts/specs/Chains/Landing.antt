@@ -1,11 +1,12 @@
 -- What must be known of a tree's chains before a node or a root lands.
-use Rattle.std.specs.Prelude.{ℕ, ◌≡◌, ◌+◌, ◌<◌, ◌≤◌, true, List, [], ◌∷◌, slice_get, Option, Some, None}
+use Rattle.std.specs.Prelude.{ℕ, ◌≡◌, ◌+◌, ◌<◌, ◌≤◌, ◌⊎◌, true, List, [], ◌∷◌, length, slice_get, Option, Some, None}
 use Rattle.byte_format.specs.Order.{bytes_below}
 use Rattle.leaf_view.specs.Fits.{Ascend}
 use Rattle.leaf_view.specs.Leaf.{Leaf}
 use Rattle.leaf_view.specs.Lookup.{number_of as done_number}
 use Rattle.node_codec.specs.Inner.{Inner}
 use Rattle.node_codec.specs.Tree.{Tree}
+use Rattle.split_plan.specs.Sizes.{count_of}
 use Rattle.cloud_facts.specs.Book.Book.{Link}
 use Rattle.cloud_facts.specs.Book.Effects.{Taking}
 use Rattle.cloud_facts.specs.Book.Records.{StandsAt, IsIn}
@@ -74,17 +75,25 @@ pub record LandsNew (st : Store) (tree page : ℕ) (node : Node) : Type 0 where
   pub reserved : page < (top_of (st.tally.roots tree)).next
   pub names : NodeNames (st.book.chain tree) node
 
+-- So many pages may be reserved at once: as many as a leaf is cut into that has a record for each committed one and for each message ever sent to the tree's
+-- queue, or a node that names each page of a level.
+abbrev pub MayReserve : Store → ℕ → ℕ → Type 0
+MayReserve st tree pages =
+    (pages ≤ count_of (length st.book.log + length (st.tally.posts tree 0))) ⊎ ((level : ℕ) × (pages ≤ count_of (length (st.book.chain tree level))))
+
 -- a root of the same level lands: with more pages reserved, or with more entries
 pub record LandsRoot (st : Store) (tree : ℕ) (root : Tree) : Type 0 where
   pub level : root.level ≡ (top_of (st.tally.roots tree)).level
-  pub next : (top_of (st.tally.roots tree)).next ≤ root.next
+  pub pages : ℕ
+  pub next : root.next ≡ (top_of (st.tally.roots tree)).next + pages
+  pub few : MayReserve st tree pages
   pub names : NamesBelow (st.book.chain tree) root.level [] root.entries
 
 -- a root lands that is one level higher: the pieces of the one before are a new level from the left end to the right end, and it names them
 pub record Raises (st : Store) (tree : ℕ) (root : Tree) (level : ℕ) (links : List Link) : Type 0 where
   pub level_is : level ≡ (top_of (st.tally.roots tree)).level
   pub height : root.level ≡ level + 1
-  pub next : (top_of (st.tally.roots tree)).next ≤ root.next
+  pub next : root.next ≡ (top_of (st.tally.roots tree)).next
   pub names : NamesLinks links [] root.entries
   pub begins : (link : Link) × StandsAt links 0 link × (link.low ≡ [])
   pub ascends : Ascends links

@@ -259,7 +259,7 @@ waiting_kept p reply waits k kept next leads = on waits
     on (inr none) = absurd (cc (none, kept))
 
 module _ (who : Caller) (before after : Seen) (s t : CloudState) (told : before.state ≡ Some s) (told_after : after.state ≡ Some t) (held : List Claim) (Spent : CloudState → Counter → Type 0) (st : Store) (now : ℕ) (p : Paging)
-    (reply : Answer) (knows : KnowsPaging st now p) (made : Makes who (paging_ask p) reply before after) (tells : IsToldBy st t)
+    (reply : Answer) (knows : KnowsPaging st now p) (made : Makes who (paging_ask p) reply before after) (tells : IsToldBy st s t)
     (own : (what : Counter) → IsSpentInPages p.tree t what → Spent t what) where
   abbrev Sh : Trouble → Type 0
   Sh k = IsShown (paging_ask p) held Spent before.counts after.counts s t k

@@ -33,7 +33,7 @@ use Rattle.session_facts.proofs.TreeCheckpoints.Explaining.{making_shows, making
 use Rattle.tree_ckpt.specs.Making.{Making, making_ask, MakingLeads}
 
 module _ (who : Caller) (before after : Seen) (s t : CloudState) (told : before.state ≡ Some s) (told_after : after.state ≡ Some t) (st : Store) (now : ℕ) (home : Home) (m : Making)
-    (knows : KnowsMaking st now m) (tells : IsToldBy st t) where
+    (knows : KnowsMaking st now m) (tells : IsToldBy st s t) where
   abbrev Explained : Work → Turn Answer → Type 0
   Explained work turn = Explains (making_ask m) before.counts after.counts s t (Folding home m) work turn
 

@@ -248,10 +248,10 @@ buffer_keeps book order s sessions session buffer may stand =
     (record { work = (stand.each session).work; kept = (stand.each session).kept; buffer = may })
 
 -- the clock goes on, a wish is set, a wait is counted
-pub rest_keeps : (book : Book) (order : List Entry) (s t : CloudState) (sessions : Sessions) → t.versions ≡ s.versions → t.messages ≡ s.messages → t.locks ≡ s.locks → s.now ≤ t.now
+pub rest_keeps : (book : Book) (order : List Entry) (s t : CloudState) (sessions : Sessions) → t.versions ≡ s.versions → t.messages ≡ s.messages → t.trace ≡ s.trace → t.locks ≡ s.locks → s.now ≤ t.now
     → SessionsStand book order s sessions → SessionsStand book order t sessions
-rest_keeps book order s t sessions versions messages locks later stand = record {
-  cloud = same_stands book order s t versions messages stand.cloud;
+rest_keeps book order s t sessions versions messages trace locks later stand = record {
+  cloud = same_stands book order s t versions messages trace stand.cloud;
   leases = subst (λ (ls : Lock → Hold). LeasesHold t.now ls (hands_of sessions)) (sym locks) (later_keeps s.now t.now s.locks (hands_of sessions) later stand.leases);
   parts = stand.parts;
   homes = subst (λ (st : Store). HomesHold st.tally t.now stand.parts) (sym same) (homes_later (store_of book order s).tally s.now t.now stand.parts later stand.homes);

@@ -29,7 +29,7 @@ use Rattle.session_facts.proofs.Sessions.Spending.{IsToldBy}
 use Rattle.session_facts.proofs.Sessions.Answered.{answered_is, stopped_none, waited_is}
 
 module _ (who : Caller) (before after : Seen) (s t : CloudState) (told : before.state ≡ Some s) (told_after : after.state ≡ Some t) (st : Store) (now : ℕ) (home : Home) (p : Paging)
-    (knows : KnowsPaging st now p) (tells : IsToldBy st t) (work : Work) where
+    (knows : KnowsPaging st now p) (tells : IsToldBy st s t) (work : Work) where
   abbrev Taken : Paging → Turn CkptAnswer → Type 0
   Taken m turn = Steps paging_ask PagingLeads KeepsLeases who before after p m turn
 

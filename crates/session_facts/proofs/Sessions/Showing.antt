@@ -36,6 +36,12 @@ held_newest who name l (Got w) c d b t row v e =
     subst (λ (x : CloudState). newest x name ≡ v) (sym row.0) (sym row.2 ∙ same)
 held_newest who name l a c d b t row v e = absurd (cc)
 
+-- it was so before too
+pub held_before : (who : Caller) (name : ObjName) (l : Claim) (a : Answer) (c d : Counts) (b t : CloudState) → Weather who (GetHeld name l) a c d b t → (v : Option (List ℕ)) → got_of a ≡ Ok v
+    → newest b name ≡ v
+held_before who name l (Got w) c d b t row v e = let same : w ≡ v = cc in sym row.2 ∙ same
+held_before who name l a c d b t row v e = absurd (cc)
+
 module _ (who : Caller) (before after : Seen) (s t : CloudState) (told : before.state ≡ Some s) (told_after : after.state ≡ Some t) (held : List Claim) (Spent : CloudState → Counter → Type 0) where
   abbrev pub Shown : Ask → Trouble → Type 0
   Shown ask k = IsShown ask held Spent before.counts after.counts s t k

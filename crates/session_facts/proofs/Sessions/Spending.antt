@@ -1,5 +1,5 @@
 -- What landed is told from then on, and so is a counter that is spent.
-use Rattle.std.proofs.Common.{◌≡◌, ◌+◌, ◌≤◌, ◌==◌, ◌^◌, ◌⊎◌, inl, inr, ℕ, Bool, true, false, cond, List, map, Option, Some, None, Result, Ok, Err, sym, ap, subst, ◌∙◌, arith}
+use Rattle.std.proofs.Common.{◌≡◌, ◌+◌, ◌*◌, ◌≤◌, ◌==◌, ◌^◌, ◌⊎◌, inl, inr, ℕ, Bool, true, false, cond, List, map, Option, Some, None, Result, Ok, Err, sym, ap, subst, ◌∙◌, arith}
 use Rattle.std.specs.Prelude.{◌-◌, length}
 use Rattle.std.specs.Result.{result_ok}
 use Rattle.std.proofs.lemmas.List.{map-append, length-append, length-map}
@@ -8,15 +8,19 @@ use Rattle.byte_format.specs.Order.{bytes_same}
 use Rattle.byte_format.specs.Format.{greatest}
 use Rattle.byte_format.specs.Whole.{whole}
 use Rattle.cloud_facts.proofs.Book.Places.{get_map, in_front}
-use Rattle.cloud_facts.proofs.Decoding.Newest.{newest_last}
+use Rattle.cloud_facts.proofs.Calls.Making.{IsWithin}
+use Rattle.cloud_facts.proofs.Calls.StandingLemmas.{within_rows}
+use Rattle.cloud_facts.proofs.Decoding.Newest.{newest_last, last_map}
 use Rattle.cloud_facts.proofs.Decoding.Reading.{node_reads}
+use Rattle.cloud_facts.proofs.Meanings.Keys.{few_records}
 use Rattle.cloud_facts.specs.Book.Book.{Book}
 use Rattle.cloud_facts.specs.Calls.Standing.{StandsUnder}
 use Rattle.cloud_facts.specs.Chains.Chain.{ChainHolds}
 use Rattle.cloud_facts.specs.Chains.Links.{top_of}
 use Rattle.cloud_facts.specs.Book.Records.{IsIn}
 use Rattle.cloud_facts.specs.Book.Tally.{Node, Leafy, Store}
-use Rattle.cloud_facts.specs.Book.Telling.{leaf_of_bytes, node_in, node_or, root_in, nodes_of, roots_of}
+use Rattle.cloud_facts.specs.Book.Telling.{leaf_in, leaf_of_bytes, newest_leaf, node_in, node_or, root_in, nodes_of, roots_of}
+use Rattle.cloud_facts.specs.Tellings.Taking.{IsLinked}
 use Rattle.cloud_facts.specs.Tellings.Told.{store_of}
 use Rattle.cloud_trait.proofs.RowLemmas.{leaves_grown}
 use Rattle.cloud_trait.specs.declared.answer.Answer.{Answer}
@@ -42,6 +46,7 @@ use Rattle.leaf_view.specs.Leaf.{Leaf, IsLeaf, leaf}
 use Rattle.leaf_view.specs.Lookup.{empty_leaf}
 use Rattle.node_codec.specs.Tree.{Tree, empty_tree}
 use Rattle.report_types.specs.declared.entry.Entry.{Entry}
+use Rattle.split_plan.specs.Sizes.{count_of}
 use Rattle.session_facts.proofs.TreeCheckpoints.EntryCounts.{pieces_more}
 use Rattle.session_facts.proofs.Trees.RisingGrounds.{top_most}
 use Rattle.session_facts.specs.Sessions.Spent.{HasLastEpoch, HasLastNumber, HasLastPage, HasLastPages, HasLastRoot, IsLeafOf, MayNeed, IsSpentToOpen, IsSpentToCommit, IsSpentInPages, IsSpentInTree, IsSpentToSettle}
@@ -50,12 +55,17 @@ use Rattle.session_facts.specs.Sessions.Spent.{HasLastEpoch, HasLastNumber, HasL
 pub record HasAll (s t : CloudState) : Type 0 where
   pub versions : (name : ObjName) → BeginsWith (s.versions name) (t.versions name)
   pub messages : (queue : QueueName) → length (s.messages queue) ≤ length (t.messages queue)
+  pub rows : length s.trace ≤ length t.trace
 
 longer : {X : Type 0} (xs ys : List X) → BeginsWith xs ys → length xs ≤ length ys
 longer xs ys grown = let all = ap length grown.1 ∙ length-append xs grown.0 in omega (arith, all)
 
 pub grown_all : (s t : CloudState) → HasGrown s t → HasAll s t
-grown_all s t grown = record { versions = grown.versions; messages = λ queue. more (s.messages queue) (t.messages queue) (grown.messages queue) }
+grown_all s t grown = record {
+  versions = grown.versions;
+  messages = λ queue. more (s.messages queue) (t.messages queue) (grown.messages queue);
+  rows = longer s.trace t.trace grown.trace;
+}
   where
     more : (ms ns : List Posted) → BeginsWith (posts_of ms) (posts_of ns) → length ms ≤ length ns
     more ms ns begins =
@@ -85,22 +95,38 @@ root_later s t grown tree root is =
     let ws : List Version = t.versions (object.Tree tree) in
     in_grown (map root_in vs) (map root_in ws) root (map_grown root_in vs ws (grown.versions (object.Tree tree))) is
 
--- a cloud tells all pages, tree objects and messages that a store has, whose trees are chained and whose pages are numbered in 64 bits
-pub record IsToldBy (st : Store) (t : CloudState) : Type 0 where
+-- A cloud tells all pages, tree objects and messages that a store has, which an earlier one told. Its trees are chained, and their pages are numbered in
+-- 64 bits; and its messages, links and newest leaves are within what landed.
+pub record IsToldBy (st : Store) (s t : CloudState) : Type 0 where
   pub pages : (tree page : ℕ) (n : Node) → IsIn (st.tally.nodes tree page) n → IsIn (nodes_of t tree page) n
   pub roots : (tree : ℕ) (root : Tree) → IsIn (st.tally.roots tree) root → IsIn (roots_of t tree) root
   pub posts : (tree : ℕ) → length (st.tally.posts tree 0) ≤ length (t.messages (TreePu tree))
   pub chains : ChainHolds st
   pub next : (tree : ℕ) → IsTree tree → (top_of (st.tally.roots tree)).next ≤ greatest
+  pub sent : (tree : ℕ) → length (st.tally.posts tree 0) ≤ length t.trace
+  pub links : (tree level : ℕ) → IsTree tree → length (st.book.chain tree level) ≤ length t.trace + 1
+  pub leaves : (tree page : ℕ) → IsTree tree → IsLinked (st.book.chain tree 0) page → length (newest_leaf (nodes_of s) tree page).records ≤ 200 * length t.trace
 
-pub told_later : (book : Book) (order : List Entry) (s t : CloudState) → StandsUnder book order s → HasAll s t → IsToldBy (store_of book order s) t
+pub told_later : (book : Book) (order : List Entry) (s t : CloudState) → StandsUnder book order s → HasAll s t → IsToldBy (store_of book order s) s t
 told_later book order s t stands grown = record {
   pages = page_later s t grown;
   roots = root_later s t grown;
   posts = λ tree. grown.messages (TreePu tree);
   chains = stands.holds.chains;
   next = λ tree of_tree. top_most book order s stands tree of_tree;
+  sent = λ tree. let few = within.posts tree in omega (arith, few, rows);
+  links = λ tree level of_tree. let few = within.links tree of_tree level in omega (arith, few, rows);
+  leaves = λ tree page of_tree at.
+      let few = few_records book order s stands tree of_tree page at in
+      let log = stands.made.log in
+      omega (arith, few, log, rows);
 }
+  where
+    within : IsWithin (length s.trace) (store_of book order s)
+    within = within_rows book order s stands
+
+    rows : length s.trace ≤ length t.trace
+    rows = grown.rows
 
 -- so it does behind a call
 pub all_behind : (who : Caller) (ask : Ask) (reply : Answer) (before after : Seen) (s t : CloudState) → before.state ≡ Some s → after.state ≡ Some t → Makes who ask reply before after → HasAll s t
@@ -110,7 +136,7 @@ all_behind who ask reply before after s t told told_after made =
     grown_all s t (subst (λ (u : CloudState). HasGrown s u) same (leaves_grown who ask reply before.counts after.counts s after.state l))
 
 pub told_behind : (who : Caller) (ask : Ask) (reply : Answer) (before after : Seen) (book : Book) (order : List Entry) (s t : CloudState) → StandsUnder book order s → before.state ≡ Some s
-    → after.state ≡ Some t → Makes who ask reply before after → IsToldBy (store_of book order s) t
+    → after.state ≡ Some t → Makes who ask reply before after → IsToldBy (store_of book order s) s t
 told_behind who ask reply before after book order s t stands told told_after made = told_later book order s t stands (all_behind who ask reply before after s t told told_after made)
 
 -- ---- a leaf
@@ -136,6 +162,14 @@ pub whole_landed : (t : CloudState) (tree page : ℕ) (bytes : List ℕ) (l : Le
     → IsIn (nodes_of t tree page) (Leafy l)
 whole_landed t tree page bytes l is reads =
     newest_landed t tree page bytes (Leafy l) is (λ v same. in_bytes v l (subst (λ (b : List ℕ). whole leaf b ≡ Ok l) (sym same) reads))
+
+-- it is the newest leaf that is told
+pub whole_newest : (s : CloudState) (tree page : ℕ) (bytes : List ℕ) (l : Leaf) → newest s (object.Page tree page) ≡ Some bytes → whole leaf bytes ≡ Ok l
+    → newest_leaf (nodes_of s) tree page ≡ l
+whole_newest s tree page bytes l is reads =
+    let vs : List Version = s.versions (object.Page tree page) in
+    let last = newest_last vs bytes is in
+    ap leaf_in (last_map node_in (Leafy empty_leaf) vs last.0 last.1 ∙ in_bytes last.0 l (subst (λ (b : List ℕ). whole leaf b ≡ Ok l) (sym last.2) reads))
 
 -- what the get of a page brought landed there
 pub leaf_landed : (t : CloudState) (tree page : ℕ) (got : Option (List ℕ)) (l : Leaf) → newest t (object.Page tree page) ≡ got → HoldsLeaf tree page got (Ok l)
@@ -196,11 +230,15 @@ module _ (s t : CloudState) (grown : HasAll s t) where
   leaf_later tree l (inr (page, landed)) = inr (page, page_later s t grown tree page (Leafy l) landed)
 
   need_later : (tree pages : ℕ) → MayNeed s tree pages → MayNeed t tree pages
-  need_later tree pages (inl few) = inl few
-  need_later tree pages (inr (l, leaf, few)) =
-      let more = grown.messages (TreePu tree) in
-      let least = pieces_more (length l.records + length (s.messages (TreePu tree))) (length l.records + length (t.messages (TreePu tree))) (omega (arith, more)) in
-      inr (l, leaf_later tree l leaf, omega (arith, few, least))
+  need_later tree pages is = record { cut = cut is.cut; few = let few = is.few in let rows = grown.rows in omega (arith, few, rows) }
+    where
+      cut : (pages ≤ 2 ^ 59) ⊎ ((l : Leaf) × IsLeafOf s tree l × (pages ≤ count_of (length l.records + length (s.messages (TreePu tree)))))
+          → (pages ≤ 2 ^ 59) ⊎ ((l : Leaf) × IsLeafOf t tree l × (pages ≤ count_of (length l.records + length (t.messages (TreePu tree)))))
+      cut (inl few) = inl few
+      cut (inr (l, leaf, few)) =
+          let more = grown.messages (TreePu tree) in
+          let least = pieces_more (length l.records + length (s.messages (TreePu tree))) (length l.records + length (t.messages (TreePu tree))) (omega (arith, more)) in
+          inr (l, leaf_later tree l leaf, omega (arith, few, least))
 
   last_pages_later : (tree : ℕ) → HasLastPages s tree → HasLastPages t tree
   last_pages_later tree is = record { root = is.root; landed = landed is.landed; pages = is.pages; needed = need_later tree is.pages is.needed; last = is.last }

@@ -4,13 +4,12 @@ use Rattle.std.proofs.lemmas.Bool.{eq-eqb}
 use Rattle.cloud_facts.proofs.Book.Places.{in_behind}
 use Rattle.cloud_facts.proofs.Chains.Pieces.{none_in, in_first, in_front, in_cases}
 use Rattle.cloud_facts.proofs.Copies.Tops.{any_of}
-use Rattle.cloud_facts.specs.Book.Records.{IsIn}
+use Rattle.cloud_facts.proofs.Book.Lengths.{apart_fits}
+use Rattle.cloud_facts.specs.Book.Records.{IsIn, Apart}
 use Rattle.run_cursor.specs.Covered.{is_seen, new_ones}
 use Rattle.session_facts.proofs.Runs.Received.{new_in}
 use Rattle.session_facts.proofs.Settled.Draining.{new_all}
-use Rattle.session_facts.proofs.Settled.TreeLists.{apart_fits}
 use Rattle.session_facts.specs.Few.{distinct}
-use Rattle.session_facts.specs.TreeCheckpoints.Counting.{Apart}
 
 -- what was seen is not new
 new_unseen : (seen ns : List ℕ) (n : ℕ) → IsIn (new_ones seen ns) n → IsIn seen n → ⊥

@@ -11,7 +11,7 @@ use Rattle.cloud_facts.proofs.Book.Places.{get_map}
 use Rattle.cloud_facts.proofs.Chains.Names.{in_single}
 use Rattle.cloud_facts.proofs.Chains.Pieces.{none_in, in_first, in_rest, in_cases, in_both}
 use Rattle.cloud_facts.proofs.Copies.Tops.{top_covers}
-use Rattle.cloud_facts.specs.Book.Records.{IsIn}
+use Rattle.cloud_facts.specs.Book.Records.{IsIn, Apart}
 use Rattle.cloud_facts.specs.Book.Tally.{Store}
 use Rattle.cloud_facts.specs.Copies.Copies.{Copies, AreItems}
 use Rattle.cloud_trait.specs.Delivery.{unmarked, unmarked_from, WasSent, IsDelivering}
@@ -27,7 +27,6 @@ use Rattle.recover_run.proofs.Marks.{others, marked_leaves}
 use Rattle.run_cursor.specs.Covered.{is_covered, is_seen, new_ones, covered_ids}
 use Rattle.run_cursor.specs.Run.{IsRun}
 use Rattle.session_facts.proofs.Runs.Received.{each_in, all_in, items_sent, item_client, new_in, covered_in}
-use Rattle.session_facts.specs.TreeCheckpoints.Counting.{Apart}
 use Rattle.session_facts.proofs.Trees.RisingGrounds.{in_dropped}
 use Rattle.session_facts.proofs.Trees.Unseen.{seen_in}
 use Rattle.session_facts.specs.Runs.Runs.{IsSentItem}

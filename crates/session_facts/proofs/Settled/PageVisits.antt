@@ -4,7 +4,7 @@ use Rattle.std.specs.Prelude.{◌||◌, ◌==◌}
 use Rattle.std.specs.List.{list_any}
 use Rattle.std.proofs.lemmas.Bool.{eq-eqb}
 use Rattle.cloud_facts.proofs.Copies.Tops.{any_of}
-use Rattle.cloud_facts.specs.Book.Records.{IsIn}
+use Rattle.cloud_facts.specs.Book.Records.{IsIn, Apart}
 use Rattle.cloud_trait.specs.declared.answer.Answer.{Answer}
 use Rattle.cloud_trait.specs.Machine.{Goes, Ends, Stops, Deed, Came}
 use Rattle.db_base.specs.declared.trouble.Trouble.{Trouble}
@@ -14,7 +14,6 @@ use Rattle.page_ckpt.specs.Paging.{Paging, Step, new_paging, paging_ask, PagingL
 use Rattle.page_ckpt.proofs.Outcomes.{Onward, Clears, Fails, Comes, comes}
 use Rattle.page_ckpt.proofs.Outcomes as step
 use Rattle.session_facts.proofs.Settled.TreeLists.{apart_more}
-use Rattle.session_facts.specs.TreeCheckpoints.Counting.{Apart}
 
 -- one page more, which was not among them
 pub record OneMore (old new : List ℕ) : Type 0 where

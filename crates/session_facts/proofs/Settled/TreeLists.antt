@@ -1,53 +1,10 @@
--- Lists in which nothing comes twice are no longer than those that hold what they hold.
-use Rattle.std.proofs.Common.{◌≡◌, ◌≢◌, ◌+◌, ◌<◌, ◌≤◌, ◌⊎◌, inl, inr, ℕ, zero, suc, Bool, true, false, ◌==◌, List, [], ◌∷◌, ◌++◌, length, Some, refl, sym, subst, ◌∙◌, arith}
-use Rattle.std.specs.Prelude.{slice_get}
+-- Numbers of which none comes twice are no more than there are.
+use Rattle.std.proofs.Common.{◌≡◌, ◌≢◌, ◌+◌, ◌<◌, ◌≤◌, ◌⊎◌, inl, inr, ℕ, zero, suc, Bool, true, false, ◌==◌, List, [], ◌∷◌, ◌++◌, length, refl, sym, subst, ◌∙◌, arith}
 use Rattle.std.proofs.lemmas.Bool.{eqb-true, eqb-false}
-use Rattle.cloud_facts.proofs.Chains.Pieces.{none_in, in_first, in_rest, in_cases, in_both}
+use Rattle.cloud_facts.proofs.Book.Lengths.{apart_fits}
+use Rattle.cloud_facts.proofs.Chains.Pieces.{none_in, in_first, in_rest, in_both}
 use Rattle.cloud_facts.proofs.Chains.Names.{in_single}
-use Rattle.cloud_facts.specs.Book.Records.{IsIn}
-use Rattle.session_facts.specs.TreeCheckpoints.Counting.{Apart}
-
--- ---- one element less
-
-record Without {X : Type 0} (x : X) (ys : List X) : Type 0 where
-  rest : List X
-  one : length rest + 1 ≡ length ys
-  others : (z : X) → IsIn ys z → (x ≡ z) ⊎ IsIn rest z
-
-without : {X : Type 0} (x : X) (ys : List X) (place : ℕ) → slice_get ys place ≡ Some x → Without x ys
-without x [] place e = absurd (cc)
-without {X} x (y ∷ ys) zero e =
-    let same : y ≡ x = cc in
-    record { rest = ys; one = omega arith; others = λ z is. subst (λ (w : X). (w ≡ z) ⊎ IsIn ys z) same (in_cases y ys z is) }
-without {X} x (y ∷ ys) (suc place) e = behind (without x ys place e)
-  where
-    behind : Without x ys → Without x (y ∷ ys)
-    behind r = record { rest = y ∷ r.rest; one = let n = r.one in omega (arith, n); others = λ z is. on z (in_cases y ys z is) }
-      where
-        later : (z : X) → (x ≡ z) ⊎ IsIn r.rest z → (x ≡ z) ⊎ IsIn (y ∷ r.rest) z
-        later z (inl same) = inl same
-        later z (inr there) = inr (in_rest y r.rest z there)
-
-        on : (z : X) → (y ≡ z) ⊎ IsIn ys z → (x ≡ z) ⊎ IsIn (y ∷ r.rest) z
-        on z (inl same) = inr (subst (IsIn (y ∷ r.rest)) same (in_first y r.rest))
-        on z (inr is) = later z (r.others z is)
-
-pub apart_fits : {X : Type 0} (xs ys : List X) → Apart xs → ((x : X) → IsIn xs x → IsIn ys x) → length xs ≤ length ys
-apart_fits [] ys apart within = omega arith
-apart_fits {X} (x ∷ xs) ys apart within = fits (apart_fits xs w.rest apart.1 left) w.one
-  where
-    w : Without x ys
-    w = let is = within x (in_first x xs) in without x ys is.0 is.1
-
-    left : (z : X) → IsIn xs z → IsIn w.rest z
-    left z is = on (w.others z (within z (in_rest x xs z is)))
-      where
-        on : (x ≡ z) ⊎ IsIn w.rest z → IsIn w.rest z
-        on (inl same) = absurd (apart.0 z is (sym same))
-        on (inr there) = there
-
-    fits : length xs ≤ length w.rest → length w.rest + 1 ≡ length ys → length (x ∷ xs) ≤ length ys
-    fits few one = omega (arith, few, one)
+use Rattle.cloud_facts.specs.Book.Records.{IsIn, Apart}
 
 -- ---- numbers
 

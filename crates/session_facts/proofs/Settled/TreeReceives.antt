@@ -11,7 +11,7 @@ use Rattle.ckpt_parts.specs.declared.intake.Intake.{Intake}
 use Rattle.ckpt_parts.specs.Intakes.{ids_of, items_of, intake_of, TakesItems, TakesIn}
 use Rattle.cloud_facts.proofs.Book.Places.{get_map}
 use Rattle.cloud_facts.proofs.Chains.Pieces.{none_in, in_first, in_rest, in_cases}
-use Rattle.cloud_facts.specs.Book.Records.{IsIn}
+use Rattle.cloud_facts.specs.Book.Records.{IsIn, Apart}
 use Rattle.cloud_facts.specs.Calls.Call.{IsCall}
 use Rattle.cloud_trait.specs.Ask.{Ask, Get, GetHeld, PutHeld, Send, Receive, Delete, Take, Renew, Release}
 use Rattle.cloud_trait.specs.Caller.{Caller}
@@ -35,7 +35,6 @@ use Rattle.session_facts.proofs.Settled.Distinct.{new_apart, apart_distinct}
 use Rattle.session_facts.proofs.Settled.Draining.{item_ids, covered_received}
 use Rattle.session_facts.specs.Few.{distinct}
 use Rattle.session_facts.specs.Runs.Runs.{IsSentItem}
-use Rattle.session_facts.specs.TreeCheckpoints.Counting.{Apart}
 use Rattle.session_facts.proofs.Settled.TreeSteps.{IsQuiet, TouchesQueue, work_quiet}
 use Rattle.tree_ckpt.specs.Making.{received_after}
 use Rattle.tree_moves.specs.Work.{delete_ask, work_ask}

@@ -6,7 +6,7 @@ use Rattle.cloud_facts.proofs.Chains.Pieces.{none_in, in_first, in_rest, in_case
 use Rattle.cloud_facts.proofs.Decoding.Newest.{IsLast, last_cases, last_map}
 use Rattle.cloud_facts.proofs.Meanings.Steps.{not_passed}
 use Rattle.cloud_facts.specs.Book.Book.{Book}
-use Rattle.cloud_facts.specs.Book.Records.{IsIn}
+use Rattle.cloud_facts.specs.Book.Records.{IsIn, Apart}
 use Rattle.cloud_facts.specs.Book.Tally.{Store}
 use Rattle.cloud_facts.specs.Book.Telling.{root_in, nodes_of, roots_of}
 use Rattle.cloud_facts.specs.Calls.Standing.{StandsUnder}
@@ -28,7 +28,7 @@ use Rattle.session_facts.proofs.Settled.TreePieces.{puts_as_many}
 use Rattle.session_facts.proofs.Settled.TreeVisits.{IsNew}
 use Rattle.session_facts.proofs.Trees.Unseen.{seen_in}
 use Rattle.session_facts.specs.TreeCheckpoints.Checkpoint.{IsUnder, KnowsWork}
-use Rattle.session_facts.specs.TreeCheckpoints.Counting.{Apart, next_of, HasRoot, Once}
+use Rattle.session_facts.specs.TreeCheckpoints.Counting.{next_of, HasRoot, Once}
 use Rattle.session_facts.specs.Trees.Charts.{KnowsNodes}
 use Rattle.session_facts.specs.Trees.Folds.{Reserves}
 use Rattle.session_facts.specs.Trees.Leaves.{KnowsRest, IsCome, IsPutting, KnowsLeaf}

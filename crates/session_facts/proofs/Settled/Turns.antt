@@ -245,7 +245,7 @@ first_moment book order t sessions closed stand = record {
   book = book;
   order = order;
   sessions = at 0 settling_session sessions;
-  stand = rest_keeps book order t (record t { wish = Plain }) (at 0 settling_session sessions) refl refl refl (omega arith) (settling_begins_session book order t sessions 0 closed stand);
+  stand = rest_keeps book order t (record t { wish = Plain }) (at 0 settling_session sessions) refl refl refl refl (omega arith) (settling_begins_session book order t sessions 0 closed stand);
 }
 
 abbrev pub begins_on : (B : Settling → Moment → Type 0) (E : Settling → Settled → Moment → Type 0) (P : Deed → Type 0) (hands : Hands B E P) (book : Book) (order : List Entry) (t : CloudState)

@@ -118,7 +118,7 @@ left_by (Stops n q) = 0
 
 module _ (who : Caller) (before after : Seen) (s t : CloudState) (book : Book) (order : List Entry) (told : before.state ≡ Some s) (told_after : after.state ≡ Some t)
     (cloud : StandsUnder book order s) (part : Part) (holds : PartHolds (store_of book order s).tally t.now part) (reply : Answer) (found : reply ≢ Memory)
-    (tells : IsToldBy (store_of book order s) t) where
+    (tells : IsToldBy (store_of book order s) s t) where
   abbrev st : Store
   st = store_of book order s
 

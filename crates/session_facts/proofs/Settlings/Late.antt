@@ -72,7 +72,7 @@ module _ (who : Caller) (before after : Seen) (s t : CloudState) (book : Book) (
   abbrev st : Store
   st = store_of book order s
 
-  tells : (ask : Ask) → Makes who ask reply before after → IsToldBy st t
+  tells : (ask : Ask) → Makes who ask reply before after → IsToldBy st s t
   tells ask made = told_behind who ask reply before after book order s t cloud told told_after made
 
   -- what is spent is of no matter here

@@ -1,12 +1,12 @@
--- A page has no more entries than there are numbers of pages: they name links of one level, whose pages differ.
-use Rattle.std.proofs.Common.{◌≡◌, ◌+◌, ◌-◌, ◌^◌, ◌<◌, ◌≤◌, ◌⊎◌, inl, inr, ℕ, Bool, true, false, cond, nat_lt, List, [], ◌∷◌, ◌++◌, length, map, drop, Option, Some, None, refl, ap, subst, ◌∙◌, arith}
-use Rattle.std.specs.Prelude.{◌&&◌, nat_le}
+-- A page has no more entries than the level below has links, and a level no more links than there are numbers of pages.
+use Rattle.std.proofs.Common.{◌≡◌, ◌+◌, ◌-◌, ◌*◌, ◌^◌, ◌<◌, ◌≤◌, ℕ, Bool, true, false, cond, nat_lt, List, [], ◌∷◌, ◌++◌, length, map, drop, Option, Some, None, refl, ap, arith}
 use Rattle.std.proofs.lemmas.Bool.{and_parts}
 use Rattle.std.proofs.lemmas.List.{length-map}
-use Rattle.byte_format.specs.Format.{greatest, in_range, list_fits}
+use Rattle.byte_format.specs.Format.{greatest, list_fits}
 use Rattle.byte_format.specs.Order.{bytes_below, bytes_same}
-use Rattle.cloud_facts.proofs.Chains.Pieces.{in_cases, in_first, in_rest, none_in, apart_of}
-use Rattle.cloud_facts.proofs.Chains.Pieces.{Apart as AreApartLinks}
+use Rattle.cloud_facts.proofs.Book.Lengths.{few_keys, image}
+use Rattle.cloud_facts.proofs.Calls.Rows.{page_of, pages_apart}
+use Rattle.cloud_facts.proofs.Chains.Joining.{level_apart}
 use Rattle.cloud_facts.specs.Book.Book.{Link}
 use Rattle.cloud_facts.specs.Book.Records.{IsIn}
 use Rattle.cloud_facts.specs.Book.Tally.{Node}
@@ -15,16 +15,14 @@ use Rattle.cloud_facts.specs.Chains.Links.{link_below, link_of, Ascends, NamesBe
 use Rattle.leaf_view.specs.Fits.{Ascend}
 use Rattle.node_codec.proofs.EntryLemmas.{behind_parts}
 use Rattle.node_codec.proofs.InnerLemmas.{inner_fits}
-use Rattle.node_codec.proofs.NodeLemmas.{in_range_parts}
 use Rattle.node_codec.proofs.TreeLemmas.{tree_fits}
 use Rattle.node_codec.specs.Inner.{Inner, HasInnerSpelling}
-use Rattle.node_codec.specs.Node.{Entry, entry, may_stand, with_entry}
+use Rattle.node_codec.specs.Node.{Entry, entry, with_entry}
 use Rattle.node_codec.specs.Tree.{Tree, IsSoundTree, with_child}
 use Rattle.session_facts.proofs.Settled.TreeLists.{pages_fit}
 use Rattle.session_facts.proofs.Trees.Naming.{links_name, named_names}
 use Rattle.session_facts.proofs.Trees.RisingSpells.{ArePages, links_fit, named_spelled}
 use Rattle.session_facts.proofs.Trees.RisingPlaces.{parts_count}
-use Rattle.session_facts.specs.TreeCheckpoints.Counting.{Apart}
 use Rattle.session_facts.specs.Trees.Charts.{AreFound}
 use Rattle.session_facts.specs.Trees.Risings.{piece_links}
 use Rattle.split_plan.specs.Part.{NodePart, entry_key, part_of_node}
@@ -46,71 +44,21 @@ module _ (low : List ℕ) (high : Option (List ℕ)) (last : ℕ) where
       let a = and_parts ((entry low high last (Some before)).fits x) (list_fits true (entry low high last) (Some x) es) fits in
       ((behind_parts low high last before x a.0).0, behind_ascend true x es a.1)
 
-  all_ascend : (es : List Entry) → list_fits false (entry low high last) None es ≡ true → Ascends (map link_of es)
+  pub all_ascend : (es : List Entry) → list_fits false (entry low high last) None es ≡ true → Ascends (map link_of es)
   all_ascend [] fits = tt
   all_ascend (x ∷ es) fits =
       let a = and_parts ((entry low high last None).fits x) (list_fits true (entry low high last) (Some x) es) fits in
       (tt, behind_ascend true x es a.1)
 
-  -- and their pages are numbers from 1 on
-  page_fits : (before : Option Entry) (e : Entry) → (entry low high last before).fits e ≡ true → (1 ≤ e.1) × (e.1 ≤ greatest)
-  page_fits before e fits =
-      let a = and_parts (in_range 0 64 (length e.0) && may_stand low high before e.0) (in_range 1 greatest e.1 && nat_le e.1 last) fits in
-      in_range_parts 1 greatest e.1 (and_parts (in_range 1 greatest e.1) (nat_le e.1 last) a.1).0
-
-  pages_fit_all : (may_end : Bool) (before : Option Entry) (es : List Entry) → list_fits may_end (entry low high last) before es ≡ true → (e : Entry) → IsIn es e → (1 ≤ e.1) × (e.1 ≤ greatest)
-  pages_fit_all may_end before [] fits e is = absurd (none_in e is)
-  pages_fit_all may_end before (x ∷ es) fits e is = on (in_cases x es e is) (pages_fit_all true (Some x) es a.1 e)
-    where
-      a : ((entry low high last before).fits x ≡ true) × (list_fits true (entry low high last) (Some x) es ≡ true)
-      a = and_parts ((entry low high last before).fits x) (list_fits true (entry low high last) (Some x) es) fits
-
-      on : (x ≡ e) ⊎ IsIn es e → (IsIn es e → (1 ≤ e.1) × (e.1 ≤ greatest)) → (1 ≤ e.1) × (e.1 ≤ greatest)
-      on (inl same) again = subst (λ (y : Entry). (1 ≤ y.1) × (y.1 ≤ greatest)) same (page_fits before x a.0)
-      on (inr there) again = again there
-
--- ---- pages that differ
-
-pub image : {X Y : Type 0} (f : X → Y) (xs : List X) (y : Y) → IsIn (map f xs) y → (x : X) × IsIn xs x × (f x ≡ y)
-image f [] y is = absurd (none_in y is)
-image {X} {Y} f (x ∷ xs) y is = on (in_cases (f x) (map f xs) y is) (image f xs y)
+-- entries that ascend, and name links of a level
+pub few_entries : (links : List Link) (es : List Entry) → Ascends (map link_of es) → ((e : Entry) → IsIn es e → IsIn links (link_of e)) → length es ≤ length links
+few_entries links es ascends names =
+    let all = length-map es link_of in
+    let few = few_keys (λ (l : Link). l.low) (λ (l : Link). l.low) (map link_of es) links ascends each in
+    omega (arith, all, few)
   where
-    on : (f x ≡ y) ⊎ IsIn (map f xs) y → (IsIn (map f xs) y → (z : X) × IsIn xs z × (f z ≡ y)) → (z : X) × IsIn (x ∷ xs) z × (f z ≡ y)
-    on (inl same) again = (x, in_first x xs, same)
-    on (inr there) again = let z = again there in (z.0, in_rest x xs z.0 z.1, z.2)
-
-abbrev page_of : Link → ℕ
-page_of l = l.page
-
-pages_apart : (ls : List Link) → AreApartLinks ls → Apart (map page_of ls)
-pages_apart [] apart = tt
-pages_apart (l ∷ ls) apart = (λ n is. let k = image page_of ls n is in λ same. apart.0 k.0 k.1 (k.2 ∙ same), pages_apart ls apart.1)
-
--- entries that fit, and name links of one level of a tree
-few_named : (chain : ℕ → List Link) (nodes : ℕ → List Node) (roots : List Tree) (done : List ℕ → ℕ → ℕ → ℕ) (cursor : ℕ → ℕ) → IsChained chain nodes roots done cursor
-    → (level : ℕ) (first low : List ℕ) (high : Option (List ℕ)) (last : ℕ) (es : List Entry) → NamesBelow chain level first es
-    → list_fits false (entry low high last) None es ≡ true → length es ≤ greatest
-few_named chain nodes roots done cursor chained level first low high last es names fits =
-    let links = length-map es link_of in
-    let pages = length-map (map link_of es) page_of in
-    let few = pages_fit (map page_of (map link_of es)) greatest (greatest + 1) (pages_apart (map link_of es) (apart_of None (map link_of es) (all_ascend low high last es fits) same)) within (omega arith) in
-    omega (arith, links, pages, few)
-  where
-    linked : (l : Link) → IsIn (map link_of es) l → IsIn (chain (level - 1)) l
-    linked l is = let e = image link_of es l is in subst (IsIn (chain (level - 1))) e.2 (names.links.names e.0 e.1)
-
-    same : (a b : Link) → IsIn (map link_of es) a → IsIn (map link_of es) b → a.page ≡ b.page → a.low ≡ b.low
-    same a b here there one = (chained.levels.once (level - 1) (level - 1) a b (linked a here) (linked b there) one).1
-
-    within : (n : ℕ) → IsIn (map page_of (map link_of es)) n → (1 ≤ n) × (n < greatest + 1)
-    within n is =
-        let l = image page_of (map link_of es) n is in
-        let e = image link_of es l.0 l.1 in
-        let page = pages_fit_all low high last false None es fits e.0 e.1 in
-        let number : e.0.1 ≡ n = ap page_of e.2 ∙ l.2 in
-        let some = page.0 in
-        let most = page.1 in
-        (omega (arith, number, some), omega (arith, number, most))
+    each : (l : Link) → IsIn (map link_of es) l → (other : Link) × IsIn links other × (other.low ≡ l.low)
+    each l is = let e = image link_of es l is in (link_of e.0, names e.0 e.1, ap (λ (x : Link). x.low) e.2)
 
 -- ---- links add entries of their own
 
@@ -186,31 +134,50 @@ module _ (chain : ℕ → List Link) (nodes : ℕ → List Node) (roots : List T
       let less = page.1 in
       (page.0, omega (arith, less, most))
 
-  pub few_known : (n : Inner) (known : List Found) → HasInnerSpelling n → NamesBelow chain n.level n.low n.entries → AreFound chain known → length (with_links n known n.entries) ≤ greatest
+  pub few_known : (n : Inner) (known : List Found) → HasInnerSpelling n → NamesBelow chain n.level n.low n.entries → AreFound chain known
+      → length (with_links n known n.entries) ≤ length (chain (n.level - 1))
   few_known n known spells names found =
-      few_named chain nodes roots done cursor chained n.level n.low n.low n.high greatest (with_links n known n.entries) (links_name chain n known n.entries found names)
-      (links_fit n known n.entries (found_pages known found) (inner_fits n spells).entries)
+      few_entries (chain (n.level - 1)) (with_links n known n.entries)
+      (all_ascend n.low n.high greatest (with_links n known n.entries) (links_fit n known n.entries (found_pages known found) (inner_fits n spells).entries))
+      (links_name chain n known n.entries found names).links.names
 
   pub few_in_node : (n : Inner) (known more : List Found) → HasInnerSpelling n → NamesBelow chain n.level n.low n.entries → AreFound chain known
-      → length (with_links n (known ++ more) n.entries) ≤ greatest + length more
+      → length (with_links n (known ++ more) n.entries) ≤ length (chain (n.level - 1)) + length more
   few_in_node n known more spells names found =
       let added = more_links n known more n.entries in
       let few = few_known n known spells names found in
       omega (arith, added, few)
 
   pub few_in_root : (root t : Tree) (known more : List Found) → IsSoundTree root → NamesBelow chain root.level [] root.entries → AreFound chain known → t.next ≡ root.next → t.entries ≡ root.entries
-      → length (with_named root.level (known ++ more) t).entries ≤ greatest + length more
+      → length (with_named root.level (known ++ more) t).entries ≤ length (chain (root.level - 1)) + length more
   few_in_root root t known more sound names found next entries =
       let added = more_named root.level known more t in
       let same : length (with_named root.level known t).entries ≡ length (with_named root.level known first).entries =
       ap (λ (es : List Entry). length es) (named_same root.level known t first next entries) in
-      let few = few_named chain nodes roots done cursor chained root.level [] [] None ((with_named root.level known first).next - 1) (with_named root.level known first).entries
-      (named_names chain root.level known first found names)
-      (tree_fits (with_named root.level known first) (named_spelled root.level known first (found_pages known found) sound)).entries in
+      let few = few_entries (chain (root.level - 1)) (with_named root.level known first).entries
+      (all_ascend [] None ((with_named root.level known first).next - 1) (with_named root.level known first).entries
+      (tree_fits (with_named root.level known first) (named_spelled root.level known first (found_pages known found) sound)).entries)
+      (named_names chain root.level known first found names).links.names in
       omega (arith, added, same, few)
     where
       first : Tree
       first = record root { version = 1 }
+
+  -- a level has no more links than there are numbers of pages
+  pub few_links : (level : ℕ) → length (chain level) ≤ greatest
+  few_links level =
+      let all = length-map (chain level) page_of in
+      let few = pages_fit (map page_of (chain level)) greatest (greatest + 1) (pages_apart (chain level) (level_apart chain (top_of roots).level chained.levels level)) within (omega arith) in
+      omega (arith, all, few)
+    where
+      within : (n : ℕ) → IsIn (map page_of (chain level)) n → (1 ≤ n) × (n < greatest + 1)
+      within n is =
+          let l = image page_of (chain level) n is in
+          let page = chained.pages.linked level l.0 l.1 in
+          let number = l.2 in
+          let some = page.0 in
+          let less = page.1 in
+          (omega (arith, number, some), omega (arith, number, less, most))
 
 -- ---- pieces
 
@@ -240,3 +207,6 @@ pieces_more few many less = omega (arith, less)
 -- entries, and beside them as many more as another page has new pieces
 pub few_pieces : (own more other : ℕ) → own ≤ greatest + more → more ≤ count_of other - 1 → other ≤ greatest → count_of own ≤ 2 ^ 59
 few_pieces own more other few pieces less = omega (arith, few, pieces, less)
+
+pub few_landed : (own more other rows : ℕ) → own ≤ rows + 1 + more → more ≤ count_of other - 1 → other ≤ rows + 1 → count_of own ≤ 4 * rows + 1
+few_landed own more other rows few pieces less = omega (arith, few, pieces, less)

@@ -34,7 +34,7 @@ use Rattle.session_facts.specs.Sessions.Explaining.{trouble_of_ending, ending_of
 use Rattle.session_facts.specs.Sessions.Spent.{IsSpentInTree}
 use Rattle.session_facts.specs.TreeCheckpoints.Checkpoint.{KnowsWork, KnowsMaking}
 use Rattle.session_facts.specs.Trees.Risings.{PutsNode, PutsOf, KnowsRising}
-use Rattle.session_facts.proofs.Sessions.Showing.{IsFree, free_shown, held_newest, row_of, got_shown, put_shown, delete_fails, received_shown, given_shown}
+use Rattle.session_facts.proofs.Sessions.Showing.{IsFree, free_shown, held_before, held_newest, row_of, got_shown, put_shown, delete_fails, received_shown, given_shown}
 use Rattle.session_facts.proofs.Sessions.Spending.{IsToldBy}
 use Rattle.session_facts.proofs.TreeCheckpoints.Spending.{spends_bare, spends_begun, spends_behind, spends_leaf}
 use Rattle.session_facts.proofs.TreeCheckpoints.Meeting.{StopsFor, SpendsUp, descent_for, down_for, folding_for, rises_for, lands_for}
@@ -189,6 +189,15 @@ module _ (who : Caller) (before after : Seen) (s t : CloudState) (told : before.
       (held_newest who (object.Page f.chart.tree f.page) f.lease a before.counts after.counts (called who t.now s) t
       (row_of who before after s t told told_after held Spent get a (leaf_call f l a call none)) got e)
 
+  -- it was so before the call
+  leaf_before : (tree : ℕ) (f : Folding) (l : Claim) (a : Answer) → f.chart.tree ≡ tree → Call (folding_ask f l) a → has_nothing f.placing ≡ true → (got : Option (List ℕ)) → got_of a ≡ Ok got
+      → newest s (object.Page tree f.page) ≡ got
+  leaf_before tree f l a same call none got e =
+      let get : Ask = GetHeld (object.Page f.chart.tree f.page) f.lease in
+      subst (λ (n : ℕ). newest s (object.Page n f.page) ≡ got) same
+      (held_before who (object.Page f.chart.tree f.page) f.lease a before.counts after.counts (called who t.now s) t
+      (row_of who before after s t told told_after held Spent get a (leaf_call f l a call none)) got e)
+
   -- ---- the deletions that failed
 
   abbrev FaultsRose : Type 0
@@ -240,10 +249,10 @@ module _ (who : Caller) (before after : Seen) (s t : CloudState) (told : before.
     step_left k call other (step.rests h applied c none) = clears_left k call other c
     step_left k call other c = inl (omega arith)
 
-    module _ (of_tree : IsTree tree) (tells : IsToldBy st t) (own : (what : Counter) → IsSpentInTree tree t what → Spent t what) where
+    module _ (of_tree : IsTree tree) (tells : IsToldBy st s t) (own : (what : Counter) → IsSpentInTree tree t what → Spent t what) where
       seeks_spends : {w : Work} {a : Answer} {h : Held} {c : Chart} (ask : Ask) → KnowsWork st now tree w → Seeks tree w a h c → SpendsUp (Shows ask) (free_shows ask) (up.begun c)
-      seeks_spends ask k (step.with_run l root ms i takes some) = spends_bare st now t tells tree of_tree l (Shows ask) (free_shows ask) own root i.run k.1
-      seeks_spends ask k (step.from_leaf h l c a) = spends_begun st now t tells tree of_tree h.lease (Shows ask) (free_shows ask) own c (k.1.0).tree_is (k.1.1).chart
+      seeks_spends ask k (step.with_run l root ms i takes some) = spends_bare st now s t tells tree of_tree l (Shows ask) (free_shows ask) own root i.run k.1
+      seeks_spends ask k (step.from_leaf h l c a) = spends_begun st now s t tells tree of_tree h.lease (Shows ask) (free_shows ask) own c (k.1.0).tree_is (k.1.1).chart
       seeks_spends ask k (step.alone h c a) = absurd k
 
       descends_shows : {w : Work} {a : Answer} {h : Held} {next : Next Descent (Unit {0})} → Call (work_ask tree w) a → Descends tree w a h next → StopsFor (Shows (work_ask tree w)) next
@@ -258,14 +267,14 @@ module _ (who : Caller) (before after : Seen) (s t : CloudState) (told : before.
       ascends_shows k call (step.goes_up h r a) =
           let ask : Ask = rising_ask r h.lease in
           lands_for (Shows ask) (free_shows ask) (λ q e. up_put r h.lease a (rising_put st now h.lease r h.deletions.ids k.1) call q e)
-          (spends_behind st now t tells tree of_tree h.lease (Shows ask) (free_shows ask) own r h.deletions.ids (k.0).tree_is k.1) (lands r (done_of a))
+          (spends_behind st now s t tells tree of_tree h.lease (Shows ask) (free_shows ask) own r h.deletions.ids (k.0).tree_is k.1) (lands r (done_of a))
 
       folding_shows : (h : Held) (f : Folding) (a : Answer) → KnowsWork st now tree (work.Folding h f) → Call (folding_ask f h.lease) a → StopsFor (Shows (folding_ask f h.lease)) (folding_next f a)
       folding_shows h f a k call =
           let ask : Ask = folding_ask f h.lease in
           folding_for (Shows ask) (free_shows ask) f a (leaf_got f h.lease a call) (leaf_put f h.lease a call)
-          (λ none got e. spends_leaf st now t tells tree of_tree h.lease (Shows ask) (free_shows ask) own f h.deletions.ids (k.0).tree_is k.1 got
-          (leaf_newest tree f h.lease a (k.0).tree_is call none got e))
+          (λ none got e. spends_leaf st now s t tells tree of_tree h.lease (Shows ask) (free_shows ask) own f h.deletions.ids (k.0).tree_is k.1 got
+          (leaf_newest tree f h.lease a (k.0).tree_is call none got e) (leaf_before tree f h.lease a (k.0).tree_is call none got e))
 
       -- the call in hand shows why it fails
       fails_shows : {w : Work} {a : Answer} {leases : Leases} {q : Trouble} → KnowsWork st now tree w → Call (work_ask tree w) a → Fails tree w a leases q → Shows (work_ask tree w) q
@@ -294,7 +303,7 @@ module _ (who : Caller) (before after : Seen) (s t : CloudState) (told : before.
 
   -- ---- a call of a checkpoint
 
-  module _ (reply : Answer) (st : Store) (now : ℕ) (m : Making) (knows : KnowsMaking st now m) (call : Call (making_ask m) reply) (tells : IsToldBy st t)
+  module _ (reply : Answer) (st : Store) (now : ℕ) (m : Making) (knows : KnowsMaking st now m) (call : Call (making_ask m) reply) (tells : IsToldBy st s t)
       (own : (what : Counter) → IsSpentInTree m.tree t what → Spent t what) where
     pub making_shows : (next : Next Making CkptAnswer) → MakingLeads m reply next → trouble_of_making m ≡ None → (k : Trouble) → MeetsNext trouble_of_making next k
         → Shows (making_ask m) k

@@ -9,7 +9,7 @@ use Rattle.byte_format.specs.Order.{bytes_cmp}
 use Rattle.cloud_facts.proofs.Book.Places.{get_within}
 use Rattle.cloud_facts.proofs.Chains.Pieces.{in_cases, in_first, in_rest, none_in}
 use Rattle.cloud_facts.specs.Book.Messages.{HasCopy}
-use Rattle.cloud_facts.specs.Book.Records.{IsIn}
+use Rattle.cloud_facts.specs.Book.Records.{IsIn, Apart}
 use Rattle.cloud_facts.specs.Book.Tally.{Store}
 use Rattle.cloud_trait.specs.declared.state.Posted.{Posted}
 use Rattle.db_base.specs.Change.{key_of, act}
@@ -26,7 +26,6 @@ use Rattle.run_cursor.specs.Run.{Taken, is_at}
 use Rattle.session_facts.proofs.Runs.Runs.{run_in, run_within}
 use Rattle.session_facts.proofs.Settled.TreeLists.{pages_fit}
 use Rattle.session_facts.specs.Runs.Runs.{TookRun}
-use Rattle.session_facts.specs.TreeCheckpoints.Counting.{Apart}
 
 -- ---- items with numbers of their own
 

@@ -1,5 +1,5 @@
 -- Where a checkpoint of a tree finds a version spent, the cloud tells so: what is to be put next was got, or put by the checkpoint, and it landed.
-use Rattle.std.proofs.Common.{◌≡◌, ◌+◌, ◌-◌, ◌^◌, ◌<◌, ◌≤◌, ◌==◌, ◌⊎◌, inl, inr, ℕ, Bool, true, false, cond, nat_lt, List, [], ◌∷◌, ◌++◌, length, map, drop, Option, Some, None, refl, sym, ap, subst, ◌∙◌, arith}
+use Rattle.std.proofs.Common.{◌≡◌, ◌+◌, ◌-◌, ◌*◌, ◌^◌, ◌<◌, ◌≤◌, ◌==◌, ◌⊎◌, inl, inr, ℕ, Bool, true, false, cond, nat_lt, List, [], ◌∷◌, ◌++◌, length, map, drop, Option, Some, None, refl, sym, ap, subst, ◌∙◌, arith}
 use Rattle.std.specs.Prelude.{◌&&◌, is_none, is_some, reverse, slice_get}
 use Rattle.std.proofs.lemmas.Bool.{eqb-true}
 use Rattle.std.proofs.lemmas.List.{append-nil, length-reverse, length-map}
@@ -8,6 +8,7 @@ use Rattle.cloud_facts.specs.Book.Records.{IsIn}
 use Rattle.cloud_facts.specs.Book.Tally.{Branch, Leafy, Store}
 use Rattle.cloud_facts.specs.Book.Telling.{nodes_of, roots_of}
 use Rattle.cloud_facts.specs.Chains.Chain.{IsChained}
+use Rattle.cloud_facts.specs.Tellings.Taking.{IsLinked}
 use Rattle.cloud_facts.proofs.Chains.Pieces.{none_in}
 use Rattle.cloud_trait.specs.Claim.{Claim}
 use Rattle.cloud_trait.specs.State.{CloudState, newest}
@@ -33,8 +34,8 @@ use Rattle.session_facts.specs.Runs.Runs.{TookRun}
 use Rattle.session_facts.specs.Trees.Charts.{IsRootOf, AreFound, KnowsChart, KnowsNode, KnowsRoot}
 use Rattle.session_facts.specs.Trees.Leaves.{KnowsLeaf}
 use Rattle.session_facts.specs.Trees.Risings.{IsLastVersion, piece_links, risen_node, PutsCut, PutsNode, PutsOf, whole as whole_root, cut, KnowsRising}
-use Rattle.session_facts.proofs.Sessions.Spending.{IsToldBy, last_leaf, whole_landed}
-use Rattle.session_facts.proofs.TreeCheckpoints.EntryCounts.{few_in_node, few_in_root, few_known, few_pieces, pieces_more, pieces_noted}
+use Rattle.session_facts.proofs.Sessions.Spending.{IsToldBy, last_leaf, whole_landed, whole_newest}
+use Rattle.session_facts.proofs.TreeCheckpoints.EntryCounts.{few_in_node, few_in_root, few_known, few_landed, few_links, few_pieces, pieces_more, pieces_noted}
 use Rattle.session_facts.proofs.TreeCheckpoints.RunLengths.{applied_records, run_length}
 use Rattle.session_facts.proofs.TreeCheckpoints.Meeting.{MeetsSpent, SpendsBehind, SpendsLeaf, SpendsUp}
 use Rattle.session_facts.proofs.Sessions.Showing.{IsFree}
@@ -79,7 +80,7 @@ some_pages : (page first : ℕ) (ps : List NodePart) → 1 ≤ length ps → 1 �
 some_pages page first [] some = absurd (omega (arith, some))
 some_pages page first (p ∷ ps) some = omega arith
 
-module _ (st : Store) (now : ℕ) (t : CloudState) (tells : IsToldBy st t) (tree : ℕ) (of_tree : IsTree tree) (lease : Claim) where
+module _ (st : Store) (now : ℕ) (s t : CloudState) (tells : IsToldBy st s t) (tree : ℕ) (of_tree : IsTree tree) (lease : Claim) where
   -- ---- what landed last
 
   last_root : (root : Tree) → KnowsRoot st now lease tree root → root.version ≡ greatest → HasLastRoot t tree
@@ -111,13 +112,14 @@ module _ (st : Store) (now : ℕ) (t : CloudState) (tells : IsToldBy st t) (tree
       on (inr landed) = inr (tells.roots tree root landed)
 
   -- what a leaf needs that takes a run
-  leaf_needs : (page : ℕ) (l : Leaf) (run : List PuItem) → (l ≡ empty_leaf) ⊎ IsIn (nodes_of t tree page) (Leafy l) → length run ≤ length (st.tally.posts tree 0)
-      → MayNeed t tree (count_of (length (applied l 0 run).records) - 1)
-  leaf_needs page l run there few =
+  leaf_needs : (page : ℕ) (l : Leaf) (run : List PuItem) → (l ≡ empty_leaf) ⊎ IsIn (nodes_of t tree page) (Leafy l) → length l.records ≤ 200 * length t.trace
+      → length run ≤ length (st.tally.posts tree 0) → MayNeed t tree (count_of (length (applied l 0 run).records) - 1)
+  leaf_needs page l run there own few =
       let records = applied_records l run in
       let posts = tells.posts tree in
+      let sent = tells.sent tree in
       let pieces = pieces_more (length (applied l 0 run).records) (length l.records + length (t.messages (TreePu tree))) (omega (arith, records, few, posts)) in
-      inr (l, on there, omega (arith, pieces))
+      record { cut = inr (l, on there, omega (arith, pieces)); few = omega (arith, records, own, few, sent) }
     where
       on : (l ≡ empty_leaf) ⊎ IsIn (nodes_of t tree page) (Leafy l) → IsLeafOf t tree l
       on (inl empty) = inl empty
@@ -135,9 +137,15 @@ module _ (st : Store) (now : ℕ) (t : CloudState) (tells : IsToldBy st t) (tree
     items : ℕ
     pieces : length more ≤ count_of items - 1
     most : items ≤ greatest
+    few : items ≤ length t.trace + 1
 
   all_found : (links : List Found) → AreFound (st.book.chain tree) links → AreKnown links
-  all_found links found = record { known = links; more = []; links_are = sym (append-nil links); found = found; items = 0; pieces = omega arith; most = omega arith }
+  all_found links found =
+      record { known = links; more = []; links_are = sym (append-nil links); found = found; items = 0; pieces = omega arith; most = omega arith; few = omega arith }
+
+  -- a level has few links
+  most_links : (level : ℕ) → length (st.book.chain tree level) ≤ greatest
+  most_links level = few_links (st.book.chain tree) (st.tally.nodes tree) (st.tally.roots tree) (st.tally.done tree) (st.tally.cursor tree 0) chained (tells.next tree of_tree) level
 
   noted_links : (k : KeptNode) (first : ℕ) (n : Inner) (known : List Found) → HasInnerSpelling n → IsIn (st.tally.nodes tree k.page) (Branch n) → AreFound (st.book.chain tree) known
       → (links : List Found) → links ≡ known ++ piece_links k first (risen_node n known) → AreKnown links
@@ -148,33 +156,51 @@ module _ (st : Store) (now : ℕ) (t : CloudState) (tells : IsToldBy st t) (tree
     found = found;
     items = length (with_links n known n.entries);
     pieces = let count = pieces_noted k first (risen_node n known) in omega (arith, count);
-    most = few_known (st.book.chain tree) (st.tally.nodes tree) (st.tally.roots tree) (st.tally.done tree) (st.tally.cursor tree 0) chained (tells.next tree of_tree) n known spells
-        (chained.entries.of_nodes k.page (Branch n) landed) found;
+    most = let links = most_links (n.level - 1) in omega (arith, named, links);
+    few = let links = tells.links tree (n.level - 1) of_tree in omega (arith, named, links);
   }
+    where
+      named : length (with_links n known n.entries) ≤ length (st.book.chain tree (n.level - 1))
+      named =
+          few_known (st.book.chain tree) (st.tally.nodes tree) (st.tally.roots tree) (st.tally.done tree) (st.tally.cursor tree 0) chained (tells.next tree of_tree) n known spells
+          (chained.entries.of_nodes k.page (Branch n) landed) found
+
+  -- entries of links of a level, and of pieces
+  pieces_need : (level entries more items : ℕ) → entries ≤ length (st.book.chain tree level) + more → more ≤ count_of items - 1 → items ≤ greatest → items ≤ length t.trace + 1
+      → (count_of entries ≤ 2 ^ 59) × (count_of entries ≤ 4 * length t.trace + 1)
+  pieces_need level entries more items own pieces most few =
+      let links = most_links level in
+      let rows = tells.links tree level of_tree in
+      (few_pieces entries more items (omega (arith, own, links)) pieces most, few_landed entries more items (length t.trace) (omega (arith, own, rows)) pieces few)
 
   -- what a node and a tree object need that take them
   node_needs : (k : KeptNode) (known : KnowsNode st now lease tree k) (links : List Found) → AreKnown links
       → MayNeed t tree (count_of (length (with_links known.inner links known.inner.entries)) - 1)
   node_needs k known links l =
-      let own = subst (λ (ls : List Found). length (with_links known.inner ls known.inner.entries) ≤ greatest + length l.more) (sym l.links_are)
+      let own =
+      subst (λ (ls : List Found). length (with_links known.inner ls known.inner.entries) ≤ length (st.book.chain tree (known.inner.level - 1)) + length l.more) (sym l.links_are)
       (few_in_node (st.book.chain tree) (st.tally.nodes tree) (st.tally.roots tree) (st.tally.done tree) (st.tally.cursor tree 0) chained (tells.next tree of_tree)
       known.inner l.known l.more known.spells.fits (chained.entries.of_nodes k.page (Branch known.inner) known.landed) l.found) in
-      let few = few_pieces (length (with_links known.inner links known.inner.entries)) (length l.more) l.items own l.pieces l.most in
-      inl (omega (arith, few))
+      let need = pieces_need (known.inner.level - 1) (length (with_links known.inner links known.inner.entries)) (length l.more) l.items own l.pieces l.most l.few in
+      let most = need.0 in
+      let few = need.1 in
+      record { cut = inl (omega (arith, most)); few = omega (arith, few) }
 
   root_needs : (root : Tree) → KnowsRoot st now lease tree root → (links : List Found) (top : List (ℕ × ℕ)) → AreKnown links → MayNeed t tree (pages_of_root root (raised root links top))
-  root_needs root k links top l = inl (on (nat_lt 64 (length (raised root links top).entries) && nat_lt root.level 255))
+  root_needs root k links top l =
+      let need = on (nat_lt 64 (length (raised root links top).entries) && nat_lt root.level 255) in
+      record { cut = inl need.0; few = need.1 }
     where
-      own : length (raised root links top).entries ≤ greatest + length l.more
+      own : length (raised root links top).entries ≤ length (st.book.chain tree (root.level - 1)) + length l.more
       own =
-          subst (λ (ls : List Found). length (raised root ls top).entries ≤ greatest + length l.more) (sym l.links_are)
+          subst (λ (ls : List Found). length (raised root ls top).entries ≤ length (st.book.chain tree (root.level - 1)) + length l.more) (sym l.links_are)
           (few_in_root (st.book.chain tree) (st.tally.nodes tree) (st.tally.roots tree) (st.tally.done tree) (st.tally.cursor tree 0) chained (tells.next tree of_tree)
           root (record (record root { version = root.version + 1 }) { cursor = raised_cursor root.cursor top }) l.known l.more (root_sound root k.spelled)
           (root_names (st.book.chain tree) (st.tally.nodes tree) (st.tally.roots tree) (st.tally.done tree) (st.tally.cursor tree 0) chained root k.landed) l.found refl refl)
 
-      on : (b : Bool) → cond b (count_of (length (raised root links top).entries)) 0 ≤ 2 ^ 59
-      on true = few_pieces (length (raised root links top).entries) (length l.more) l.items own l.pieces l.most
-      on false = omega arith
+      on : (b : Bool) → (cond b (count_of (length (raised root links top).entries)) 0 ≤ 2 ^ 59) × (cond b (count_of (length (raised root links top).entries)) 0 ≤ 4 * length t.trace + 1)
+      on true = pieces_need (root.level - 1) (length (raised root links top).entries) (length l.more) l.items own l.pieces l.most l.few
+      on false = (omega arith, omega arith)
 
   -- ---- what is due
 
@@ -192,13 +218,14 @@ module _ (st : Store) (now : ℕ) (t : CloudState) (tells : IsToldBy st t) (tree
     -- ---- a leaf
 
     leaf_spent : (f : Folding) (page : ℕ) (l : Leaf) → KnowsRoot st now lease tree (tree_held f.chart.root) → length f.chart.run.items ≤ length (st.tally.posts tree 0)
-        → (l ≡ empty_leaf) ⊎ IsIn (nodes_of t tree page) (Leafy l) → MeetsSpent Met (LeafDue (tree_held f.chart.root) l f.chart.run.items)
-    leaf_spent f page l root few there =
-        meets_spent (LeafDue (tree_held f.chart.root) l f.chart.run.items) root (λ last. inr (last_leaf t tree page l there last)) (leaf_needs page l f.chart.run.items there few)
+        → (l ≡ empty_leaf) ⊎ IsIn (nodes_of t tree page) (Leafy l) → length l.records ≤ 200 * length t.trace → MeetsSpent Met (LeafDue (tree_held f.chart.root) l f.chart.run.items)
+    leaf_spent f page l root few there own =
+        meets_spent (LeafDue (tree_held f.chart.root) l f.chart.run.items) root (λ last. inr (last_leaf t tree page l there last)) (leaf_needs page l f.chart.run.items there own few)
 
     -- whatever the get of the page brought
-    pub spends_leaf : (f : Folding) (ids : List ℕ) → f.chart.tree ≡ tree → KnowsLeaf st now lease f ids → (got : Option (List ℕ)) → newest t (object.Page tree f.page) ≡ got → SpendsLeaf Met free f got
-    spends_leaf f ids same known got told l holds = leaf_spent f f.page l root few (there got told holds)
+    pub spends_leaf : (f : Folding) (ids : List ℕ) → f.chart.tree ≡ tree → KnowsLeaf st now lease f ids → (got : Option (List ℕ)) → newest t (object.Page tree f.page) ≡ got
+        → newest s (object.Page tree f.page) ≡ got → SpendsLeaf Met free f got
+    spends_leaf f ids same known got told was l holds = leaf_spent f f.page l root few (there got told holds) (records got was holds)
       where
         root_of_leaf : KnowsLeaf st now lease f ids → KnowsRoot st now lease f.chart.tree (tree_held f.chart.root)
         root_of_leaf (inl reading) = reading.at.chart.root
@@ -215,6 +242,18 @@ module _ (st : Store) (now : ℕ) (t : CloudState) (tells : IsToldBy st t) (tree
         few =
             subst (λ (n : ℕ). length f.chart.run.items ≤ length (st.tally.posts n 0)) same
             (run_length st f.chart.tree (tree_held f.chart.root).cursor f.chart.run ids (run_of_leaf known))
+
+        linked_leaf : KnowsLeaf st now lease f ids → IsLinked (st.book.chain f.chart.tree 0) f.page
+        linked_leaf (inl reading) = let at = reading.at.way.at.linked in record { place = at.0; link = record { low = f.low; page = f.page }; linked = at.1; page_is = refl }
+        linked_leaf (inr putting) = putting.puts.linked
+
+        linked : IsLinked (st.book.chain tree 0) f.page
+        linked = subst (λ (n : ℕ). IsLinked (st.book.chain n 0) f.page) same (linked_leaf known)
+
+        records : (got : Option (List ℕ)) → newest s (object.Page tree f.page) ≡ got → HoldsLeaf f.page l got → length l.records ≤ 200 * length t.trace
+        records (Some bytes) was holds =
+            subst (λ (m : Leaf). length m.records ≤ 200 * length t.trace) (whole_newest s tree f.page bytes l was holds) (tells.leaves tree f.page of_tree linked)
+        records None was holds = subst (λ (m : Leaf). length m.records ≤ 200 * length t.trace) (sym holds.1) (omega arith)
 
         there : (got : Option (List ℕ)) → newest t (object.Page tree f.page) ≡ got → HoldsLeaf f.page l got → (l ≡ empty_leaf) ⊎ IsIn (nodes_of t tree f.page) (Leafy l)
         there (Some bytes) told holds = inr (whole_landed t tree f.page bytes l told holds)

@@ -52,6 +52,7 @@ use Rattle.cloud_facts.specs.Calls.Links.{HasTreeLease}
 use Rattle.session_facts.specs.Trees.Leaves.{IsPutting}
 use Rattle.session_facts.proofs.Trees.FoldPuts.{page_asked, root_asked, piece_lands, piece_is_new, piece_after, left_lands, left_taken, left_after}
 use Rattle.session_facts.proofs.Trees.FoldPutting.{reserving_putting, piece_putting, left_rest}
+use Rattle.session_facts.proofs.TreeCheckpoints.RunLengths.{run_length}
 use Rattle.session_facts.proofs.Trees.FoldReserves.{reserving_lands, reserving_version, reserving_after}
 use Rattle.session_facts.proofs.Trees.LeafPieces.{taken}
 use Rattle.session_facts.proofs.Trees.PlacingLemmas.{last_cases, puts_more}
@@ -131,7 +132,8 @@ module _ (who : Caller) (s t : CloudState) (book : Book) (order : List Entry) (p
             let root = newest (put_lasts who (object.Tree tree) bytes lease None (called who t.now s) t lands) in
             let su = reserving_after book order s stands t.now lease f of_tree run k root bytes some in
             put_landed who book order s t parts mine (fold_note f root_put) Known (object.Tree tree) bytes lease None su lands stands
-            (reserving_lands book order s stands t.now lease f of_tree run k root bytes some who) (reserving_version book order s stands t.now lease f of_tree run k root bytes some) tt tt own
+            (reserving_lands book order s stands t.now lease f of_tree run k root bytes some who (run_length st tree cursor f.chart.run ids p.took))
+            (reserving_version book order s stands t.now lease f of_tree run k root bytes some) tt tt own
             (aside_keeps st.tally su.tally t.now (at who.session own parts) refl refl still)
             (record {
               part_is = refl;

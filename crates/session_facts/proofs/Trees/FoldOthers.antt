@@ -1,5 +1,5 @@
 -- What a checkpoint knows at a leaf survives the calls of others.
-use Rattle.std.proofs.Common.{◌≡◌, ◌+◌, ◌<◌, ◌≤◌, ◌⊎◌, inl, inr, ℕ, true, List, [], ◌∷◌, length, Option, Some, None, refl, sym, ap, subst, ◌∙◌, arith}
+use Rattle.std.proofs.Common.{◌≡◌, ◌+◌, ◌<◌, ◌≤◌, ◌⊎◌, inl, inr, ℕ, true, List, [], ◌∷◌, length, length-append, Option, Some, None, refl, sym, ap, subst, ◌∙◌, arith}
 use Rattle.cloud_facts.specs.Chains.Chain.{IsUnlinked}
 use Rattle.cloud_facts.specs.Chains.Cuts.{leaf_node}
 use Rattle.cloud_facts.specs.Chains.Links.{top_of}
@@ -92,6 +92,7 @@ pieces_others mine st su now later lease f run after held is own own_is clients 
   leaf = k.leaf;
   linked = linked;
   newest = newest;
+  few = let log = ap length grows.log.1 ∙ length-append st.book.log grows.log.0 in let was = k.few in omega (arith, log, was);
   first = k.first;
   fit = k.fit;
   placing = k.placing;

@@ -5,6 +5,7 @@ use Rattle.std.proofs.lemmas.Bool.{eqb-false, and_from}
 use Rattle.byte_format.specs.Format.{greatest}
 use Rattle.byte_format.specs.Order.{bytes_below, bytes_same, below_bound}
 use Rattle.byte_format.proofs.OrderLemmas.{same_is}
+use Rattle.cloud_facts.proofs.Meanings.Keys.{few_records}
 use Rattle.cloud_facts.specs.Chains.Chain.{IsChained}
 use Rattle.cloud_facts.specs.Chains.Links.{top_of}
 use Rattle.cloud_facts.specs.Calls.Standing.{StandsUnder}
@@ -163,6 +164,7 @@ module _ (book : Book) (order : List Entry) (s : CloudState) (stands : StandsUnd
       is = leaf_newest book order s stands tree at.chart.tree f.page f.low f.chart.key f.visited at.way;
       absent = leaf_absent book order s stands tree at.chart.tree f.page f.low f.chart.key f.visited at.way;
     };
+    few = few_records book order s stands tree at.chart.tree f.page (leaf_linked book order s stands tree at.chart.tree f.page f.low f.chart.key f.visited at.way);
     first = r.first;
     fit = fit r reserves;
     placing = (pieces_placed f.page r.first whole).placing;

@@ -131,6 +131,7 @@ module _ (book : Book) (order : List Entry) (s : CloudState) (stands : StandsUnd
           let was = k.newest still in
           let here = page_stays f.page other in
           record { is = ap (λ (ns : List Node). last_or (Leafy empty_leaf) ns) here ∙ was.is; absent = λ empty. was.absent (sym here ∙ empty) };
+      few = k.few;
       first = k.first;
       fit = k.fit;
       placing = record {

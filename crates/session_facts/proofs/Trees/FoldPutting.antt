@@ -38,6 +38,7 @@ use Rattle.session_facts.specs.Trees.Charts.{KnowsRoot, IsFound, AreFound}
 use Rattle.session_facts.specs.Trees.Leaves.{KnowsRest, IsPutting}
 use Rattle.session_facts.proofs.Trees.ChartOthers.{root_stays, nodes_stay, links_stay}
 use Rattle.session_facts.proofs.Trees.FoldPuts.{piece_after, piece_lands, piece_known, page_stays, reserved_last, within, left_after, left_lands, left_done, pieces_left}
+use Rattle.session_facts.proofs.TreeCheckpoints.RunLengths.{run_length}
 use Rattle.session_facts.proofs.Trees.FoldReserves.{reserving_after, reserving_lands, reserving_root, reserving_known, held}
 use Rattle.session_facts.proofs.Trees.LeafPieces.{taken}
 use Rattle.session_facts.proofs.Trees.RisingEffects.{no_branch}
@@ -106,7 +107,7 @@ module _ (book : Book) (order : List Entry) (s : CloudState) (stands : StandsUnd
       grows : Grows st su
       grows =
           (landing_passes nobody st (PutHeld (object.Tree tree) bytes lease None) su stands.holds
-          (reserving_lands book order s stands now lease f p.tree run p.puts newest bytes some nobody)).grows
+          (reserving_lands book order s stands now lease f p.tree run p.puts newest bytes some nobody (run_length (store_of book order s) f.chart.tree (tree_held f.chart.root).cursor f.chart.run ids p.took))).grows
 
   -- ---- the pages
 

@@ -1,5 +1,6 @@
 -- The put that reserves the numbers of a leaf's new pieces: what it rests on, and what is known behind it.
-use Rattle.std.proofs.Common.{◌≡◌, ◌+◌, ℕ, List, [], length, Option, Some, None, refl, sym, ap, subst, ◌∙◌}
+use Rattle.std.proofs.Common.{◌≡◌, ◌+◌, ◌≤◌, inl, ℕ, List, [], length, length-append, Option, Some, None, refl, sym, ap, subst, ◌∙◌, arith}
+use Rattle.cloud_facts.specs.Chains.Landing.{MayReserve}
 use Rattle.cloud_facts.specs.Chains.Cuts.{leaf_node}
 use Rattle.cloud_facts.specs.Chains.Links.{top_of}
 use Rattle.cloud_facts.specs.Calls.Standing.{StandsUnder}
@@ -10,6 +11,7 @@ use Rattle.cloud_trait.specs.State.{CloudState}
 use Rattle.db_base.specs.Ids.{IsTree}
 use Rattle.db_base.specs.declared.names.ObjName.TheVariants as object
 use Rattle.cloud_facts.specs.Landings.Landing.{Landing}
+use Rattle.leaf_edit.specs.Applied.{applied}
 use Rattle.leaf_fold.specs.declared.folding.Folding.{Folding}
 use Rattle.leaf_fold.specs.Folding.{landed}
 use Rattle.log_codec.specs.declared.record.PuItem.{PuItem}
@@ -26,6 +28,9 @@ use Rattle.tree_parts.specs.Read.{tree_held}
 use Rattle.session_facts.specs.Trees.Charts.{KnowsRoot}
 use Rattle.session_facts.specs.Trees.Folds.{Reserves, PutsPieces}
 use Rattle.session_facts.specs.Trees.Placings.{AreReserved, IsReservation, reserving}
+use Rattle.session_facts.proofs.TreeCheckpoints.EntryCounts.{pieces_more}
+use Rattle.session_facts.proofs.TreeCheckpoints.RunLengths.{applied_records}
+use Rattle.session_facts.proofs.Trees.Planning.{pieces_count}
 use Rattle.session_facts.proofs.Trees.Reservations.{reservation_landing, reservation_held, reserved_then, root_known}
 
 module _ (book : Book) (order : List Entry) (s : CloudState) (stands : StandsUnder book order s) (now : ℕ) (lease : Claim) (f : Folding) (of_tree : IsTree f.chart.tree) (run : List PuItem)
@@ -48,8 +53,19 @@ module _ (book : Book) (order : List Entry) (s : CloudState) (stands : StandsUnd
   abbrev pub reserving_after : Store
   reserving_after = after_root tree (reserving count root) st
 
-  abbrev pub reserving_lands : (who : Caller) → Landing who st (PutHeld (object.Tree tree) bytes lease None) reserving_after
-  reserving_lands who = reservation_landing book order s stands tree of_tree who lease None root newest count k.first bytes planned.1
+  -- the records of the pieces were committed, or are those of the run
+  pub few : length run ≤ length (st.tally.posts tree 0) → MayReserve st tree count
+  few sent =
+      let pieces = ap length k.placing.pieces_are in
+      let all = pieces_count k.first (applied k.leaf 0 run) in
+      let others = length-append k.placing.middle k.placing.behind in
+      let records = applied_records k.leaf run in
+      let committed = k.few in
+      let more = pieces_more (length (applied k.leaf 0 run).records) (length book.log + length (st.tally.posts tree 0)) (omega (arith, records, committed, sent)) in
+      inl (omega (arith, pieces, all, others, more))
+
+  abbrev pub reserving_lands : (who : Caller) → length run ≤ length (st.tally.posts tree 0) → Landing who st (PutHeld (object.Tree tree) bytes lease None) reserving_after
+  reserving_lands who sent = reservation_landing book order s stands tree of_tree who lease None root newest count k.first bytes planned.1 (few sent)
 
   pub reserving_version : (reserving count root).version ≡ (top_of (roots_of s tree)).version + 1
   reserving_version = ap (λ (t : Tree). t.version + 1) (sym newest)
@@ -68,6 +84,7 @@ module _ (book : Book) (order : List Entry) (s : CloudState) (stands : StandsUnd
     leaf = k.leaf;
     linked = k.linked;
     newest = k.newest;
+    few = k.few;
     first = k.first;
     fit = k.fit;
     placing = record {

@@ -61,7 +61,7 @@ entries_name (a ∷ links) e is = on (entries_name links e) (in_cases (entry_for
     on again (inr k) = in_rest a links (link_of e) (again k)
 
 module _ (book : Book) (order : List Entry) (s : CloudState) (stands : StandsUnder book order s) (tree : ℕ) (of_tree : IsTree tree) (root : Tree) (newest : top_of (roots_of s tree) ≡ root)
-    (cursor_top : List (ℕ × ℕ)) (last : Tree) (raised_is : IsRaised (book.chain tree) root cursor_top last) (rises : root.next ≤ last.next) (received run : List PuItem)
+    (cursor_top : List (ℕ × ℕ)) (last : Tree) (raised_is : IsRaised (book.chain tree) root cursor_top last) (keeps : last.next ≡ root.next) (received run : List PuItem)
     (is_run : IsRun root.cursor received run cursor_top) (items : (x : PuItem) → IsIn received x → IsItemOf (store_of book order s) tree 0 x)
     (applied : (x : PuItem) → IsIn run x → x.rec.number ≤ (store_of book order s).tally.done tree (key_of x.rec.change) 0 x.rec.client) where
   abbrev st : Store
@@ -73,15 +73,18 @@ module _ (book : Book) (order : List Entry) (s : CloudState) (stands : StandsUnd
   pub last_covers : (t : Tree) → t.cursor ≡ last.cursor → CoversApplied st tree t
   last_covers t same = covers st tree stands.holds.numbers root.cursor cursor_top received run is_run cursor_is items applied t (same ∙ raised_is.cursor)
 
-  top_next : (top_of (roots_of s tree)).next ≤ last.next
-  top_next = let e = ap (λ (t : Tree). t.next) newest in omega (arith, e, rises)
+  -- no page is reserved
+  top_next : last.next ≡ (top_of (roots_of s tree)).next
+  top_next = keeps ∙ ap (λ (t : Tree). t.next) (sym newest)
 
   -- ---- it is not cut
 
   pub lands_root : LandsRoot st tree last
   lands_root = record {
     level = raised_is.level ∙ ap (λ (t : Tree). t.level) (sym newest);
-    next = top_next;
+    pages = 0;
+    next = let same = top_next in omega (arith, same);
+    few = inl (omega arith);
     names = raised_is.names;
   }
 

@@ -1,7 +1,7 @@
 -- The put of a root that reserves numbers: it rests on nothing new, and its numbers are free behind it.
 use Rattle.std.proofs.Common.{◌≡◌, ◌+◌, ◌≢◌, ◌-◌, ◌≤◌, ◌⊎◌, inl, inr, ℕ, zero, false, List, [], ◌∷◌, ◌++◌, length, Option, Some, None, refl, sym, ap, subst, ◌∙◌, arith}
 use Rattle.cloud_facts.specs.Chains.Chain.{IsChained}
-use Rattle.cloud_facts.specs.Chains.Landing.{LandsRoot}
+use Rattle.cloud_facts.specs.Chains.Landing.{LandsRoot, MayReserve}
 use Rattle.cloud_facts.specs.Chains.Links.{first_link, link_of, top_of, NamesBelow}
 use Rattle.cloud_facts.proofs.Chains.Newest.{last_in}
 use Rattle.cloud_facts.proofs.Chains.Pieces.{in_first, in_cases, none_in}
@@ -141,10 +141,12 @@ module _ (book : Book) (order : List Entry) (s : CloudState) (stands : StandsUnd
     abbrev next : Tree
     next = reserving count root
 
-    pub lands_root : LandsRoot st tree next
-    lands_root = record {
+    pub lands_root : MayReserve st tree count → LandsRoot st tree next
+    lands_root few = record {
       level = ap (λ (t : Tree). t.level) (sym newest);
-      next = let e : top.next ≡ root.next = ap (λ (t : Tree). t.next) newest in omega (arith, e);
+      pages = count;
+      next = ap (λ (t : Tree). t.next + count) (sym newest);
+      few = few;
       names = root_names (book.chain tree) (nodes_of s tree) (roots_of s tree) (st.tally.done tree) (st.tally.cursor tree 0) chained root
           (subst (IsRootOf (roots_of s tree)) newest (newest_root_of (roots_of s tree)));
     }
@@ -152,9 +154,9 @@ module _ (book : Book) (order : List Entry) (s : CloudState) (stands : StandsUnd
     pub reservation_spells : SpellsTree bytes next
     reservation_spells = subst (λ (b : List ℕ). SpellsTree b next) (sym is.bytes_are) (spelled_root next is.fits)
 
-    abbrev pub reservation_landing : Landing who st (PutHeld (object.Tree tree) bytes one two) (after_root tree next st)
-    reservation_landing =
-        puts_root tree next bytes one two of_tree reservation_spells (same_covers next (ap (λ (t : Tree). t.cursor) (sym newest))) lands_root
+    abbrev pub reservation_landing : MayReserve st tree count → Landing who st (PutHeld (object.Tree tree) bytes one two) (after_root tree next st)
+    reservation_landing few =
+        puts_root tree next bytes one two of_tree reservation_spells (same_covers next (ap (λ (t : Tree). t.cursor) (sym newest))) (lands_root few)
 
     pub reservation_held : tree_held (Some bytes) ≡ next
     reservation_held = ap (λ (b : List ℕ). tree_held (Some b)) is.bytes_are ∙ held_spelled next is.fits

@@ -93,7 +93,7 @@ module _ (who : Caller) (s t : CloudState) (book : Book) (order : List Entry) (p
               (same_note ∙ sym e.noted)
             where
               first_stands : StandsUnder book order (called who t.now s)
-              first_stands = same_stands book order s (called who t.now s) refl refl setting.cloud
+              first_stands = same_stands book order s (called who t.now s) refl refl refl setting.cloud
 
               then_stands : StandsUnder e.after.book e.after.order (effect who (PutHeld name bytes lease None) (called who t.now s))
               then_stands = effect_stands who book order (called who t.now s) (PutHeld name bytes lease None) e.after first_stands e.lands e.follows

@@ -88,7 +88,7 @@ module _ (book : Book) (order : List Entry) (s : CloudState) (stands : StandsUnd
   pub whole_effect : (p : PutsWhole st r bytes) → RisingEffect book order s who own mine now lease r ids (object.Tree tree) bytes
   whole_effect p = record {
     after = after_root tree p.root st;
-    lands = last_landing book order s stands tree k.tree root newest r.chart.run.top p.root p.raises (let n = p.next in omega (arith, n)) k.run.took.received r.chart.run.items
+    lands = last_landing book order s stands tree k.tree root newest r.chart.run.top p.root p.raises p.next k.run.took.received r.chart.run.items
         k.run.took.is_run k.run.took.items k.run.done who bytes lease None (subst (λ (b : List ℕ). SpellsTree b p.root) (sym p.bytes_are) (spelled_root p.root p.fits));
     follows = p.version ∙ ap (λ (t : Tree). t.version + 1) (sym newest);
     commits = tt;
@@ -98,7 +98,7 @@ module _ (book : Book) (order : List Entry) (s : CloudState) (stands : StandsUnd
     noted = refl;
     known = λ u stands_then told.
         subst (RisesOn (after_root tree p.root st) now lease ids) (sym (ends_now r none p.no_page))
-        (may_delete book order s stands tree k.tree root newest r.chart.run.top p.root p.raises (let n = p.next in omega (arith, n)) k.run.took.received r.chart.run.items
+        (may_delete book order s stands tree k.tree root newest r.chart.run.top p.root p.raises p.next k.run.took.received r.chart.run.items
         k.run.took.is_run k.run.took.items k.run.done p.root refl ids k.run.took.covers);
   }
 
@@ -278,9 +278,6 @@ module _ (book : Book) (order : List Entry) (s : CloudState) (stands : StandsUnd
           subst (λ (ps : List NodePart). HaveLanded inner_node (nodes_of s tree) p.first ps) (sym all_pieces)
           (let start : p.first + 0 ≡ p.first = omega arith in subst (λ (n : ℕ). HaveLanded inner_node (nodes_of s tree) n p.behind) start reserved_none.landed)
 
-      rises : root.next ≤ p.root.next
-      rises = let n = planned.1 in omega (arith, n)
-
       abbrev links : List Link
       links = links_on p.first (root_pieces p.first p.root)
 
@@ -301,7 +298,7 @@ module _ (book : Book) (order : List Entry) (s : CloudState) (stands : StandsUnd
       pub above_effect : RisingEffect book order s who own mine now lease r ids (object.Tree tree) bytes
       above_effect = record {
         after = after_raise tree above_root p.root.level links st;
-        lands = raise_landing book order s stands tree k.tree root newest r.chart.run.top p.root p.raises rises k.run.took.received r.chart.run.items k.run.took.is_run k.run.took.items
+        lands = raise_landing book order s stands tree k.tree root newest r.chart.run.top p.root p.raises planned.1 k.run.took.received r.chart.run.items k.run.took.is_run k.run.took.items
             k.run.done who bytes lease None p.first pieces_landed new_links (subst (λ (b : List ℕ). SpellsTree b above_root) (sym p.bytes_are) (spelled_root above_root p.fits));
         follows = planned.0 put_whole ∙ ap (λ (t : Tree). t.version + 1) (sym newest);
         commits = tt;
@@ -311,6 +308,6 @@ module _ (book : Book) (order : List Entry) (s : CloudState) (stands : StandsUnd
         noted = refl;
         known = λ u stands_then told.
             subst (RisesOn (after_raise tree above_root p.root.level links st) now lease ids) (sym (ends_now r none no_page))
-            (may_delete book order s stands tree k.tree root newest r.chart.run.top p.root p.raises rises k.run.took.received r.chart.run.items k.run.took.is_run k.run.took.items k.run.done
+            (may_delete book order s stands tree k.tree root newest r.chart.run.top p.root p.raises planned.1 k.run.took.received r.chart.run.items k.run.took.is_run k.run.took.items k.run.done
             above_root refl ids k.run.took.covers);
       }

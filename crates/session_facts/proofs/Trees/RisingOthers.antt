@@ -44,7 +44,7 @@ names_stay st su tree level low es grows n = record {
 }
 
 pub raised_stays : (st su : Store) (tree : ℕ) (root : Tree) (top : List (ℕ × ℕ)) (t : Tree) → Grows st su → IsRaised (st.book.chain tree) root top t → IsRaised (su.book.chain tree) root top t
-raised_stays st su tree root top t grows k = record { level = k.level; cursor = k.cursor; names = names_stay st su tree t.level [] t.entries grows k.names }
+raised_stays st su tree root top t grows k = record { level = k.level; cursor = k.cursor; names = names_stay st su tree t.level [] t.entries grows k.names; ascends = k.ascends }
 
 -- a node is known on while its page stays as it is
 abbrev pub node_stays : (st su : Store) (now later : ℕ) (lease : Claim) (tree : ℕ) (kept : KeptNode) → now ≤ later → Grows st su

@@ -1,6 +1,9 @@
 -- The put that reserves the numbers of new pieces on the way up, of a node's and of the root's.
-use Rattle.std.proofs.Common.{◌≡◌, ◌+◌, ◌&&◌, ℕ, Bool, true, false, List, [], length, drop, Option, Some, None, refl, sym, ap, subst, ◌∙◌, arith}
+use Rattle.std.proofs.Common.{◌≡◌, ◌+◌, ◌-◌, ◌&&◌, inr, ℕ, Bool, true, false, List, [], length, length-append, drop, Option, Some, None, refl, sym, ap, subst, ◌∙◌, arith}
+use Rattle.cloud_facts.specs.Book.Tally.{Branch}
+use Rattle.cloud_facts.specs.Chains.Chain.{IsChained}
 use Rattle.cloud_facts.specs.Chains.Cuts.{inner_node}
+use Rattle.cloud_facts.specs.Chains.Landing.{MayReserve}
 use Rattle.cloud_facts.specs.Chains.Links.{top_of}
 use Rattle.cloud_facts.specs.Calls.Standing.{StandsUnder}
 use Rattle.cloud_facts.proofs.Calls.Passing.{landing_passes}
@@ -12,28 +15,33 @@ use Rattle.cloud_trait.specs.State.{CloudState}
 use Rattle.db_base.specs.declared.names.ObjName.TheVariants as object
 use Rattle.cloud_facts.specs.Homes.Homes.{Part as Home}
 use Rattle.cloud_facts.specs.Landings.Landing.{Landing}
+use Rattle.node_codec.specs.Inner.{node_of_root}
 use Rattle.node_codec.specs.Tree.{Tree}
 use Rattle.report_types.specs.declared.entry.Entry.{Entry}
 use Rattle.session_facts.specs.Runs.Runs.{TookRun}
 use Rattle.session_facts.proofs.Runs.Marks.{run_stays}
-use Rattle.split_plan.specs.Part.{NodePart}
+use Rattle.split_plan.specs.Part.{NodePart, entry_key, part_of_node}
 use Rattle.split_plan.specs.Plan.{node_bytes}
 use Rattle.cloud_facts.specs.Book.Book.{Book}
 use Rattle.cloud_facts.specs.Book.Effects.{after_root}
 use Rattle.cloud_facts.specs.Book.Growth.{Grows}
 use Rattle.cloud_facts.specs.Book.Tally.{Store}
-use Rattle.cloud_facts.specs.Book.Telling.{roots_of}
+use Rattle.cloud_facts.specs.Book.Telling.{nodes_of, roots_of}
 use Rattle.cloud_facts.specs.Tellings.Told.{store_of}
 use Rattle.tree_parts.specs.Placing.{root_after, puts_after, has_nothing}
 use Rattle.tree_parts.specs.Read.{tree_held}
 use Rattle.tree_rising.specs.declared.rising.Rising.{Rising}
+use Rattle.tree_rising.specs.Nodes.{with_links}
 use Rattle.tree_rising.specs.Rising.{landed, put_landed}
 use Rattle.session_facts.specs.Trees.Charts.{KnowsRoot}
 use Rattle.session_facts.specs.Trees.Placings.{AreReserved, IsReservation, reserving}
-use Rattle.session_facts.specs.Trees.Risings.{IsLastVersion, AppliesRun, ReservesNodes, ReservesRoot, PutsNode, IsRaised, PutsCut, cut, PutsOf, KnowsRising, RisesOn}
+use Rattle.session_facts.specs.Trees.Risings.{IsLastVersion, AppliesRun, ReservesNodes, ReservesRoot, PutsNode, IsRaised, PutsCut, cut, PutsOf, risen_node, KnowsRising, RisesOn}
+use Rattle.session_facts.proofs.TreeCheckpoints.EntryCounts.{few_entries, few_known, pieces_more}
 use Rattle.session_facts.proofs.Trees.ChartOthers.{nodes_stay}
 use Rattle.session_facts.proofs.Trees.FoldOthers.{done_stays}
 use Rattle.session_facts.proofs.Trees.Reservations.{reservation_landing, reservation_held, reserved_then, root_known}
+use Rattle.session_facts.proofs.Trees.RisingGrounds.{top_most}
+use Rattle.session_facts.proofs.Trees.RisingPlaces.{parts_count}
 use Rattle.session_facts.proofs.Trees.RisingEffects.{RisingEffect, has_reservation, goes_on, goes_last, some_puts, some_left, never_both, no_puts}
 use Rattle.session_facts.proofs.Trees.RisingOthers.{node_stays}
 
@@ -48,7 +56,10 @@ module _ (book : Book) (order : List Entry) (s : CloudState) (stands : StandsUnd
   abbrev root : Tree
   root = tree_held r.chart.root
 
-  module _ (count first : ℕ) (is : IsReservation root count first bytes) where
+  chained : IsChained (book.chain tree) (nodes_of s tree) (roots_of s tree) (st.tally.done tree) (st.tally.cursor tree 0)
+  chained = stands.holds.chains tree k.tree
+
+  module _ (count first : ℕ) (is : IsReservation root count first bytes) (may : MayReserve st tree count) where
     abbrev new : Tree
     new = reserving count root
 
@@ -56,7 +67,7 @@ module _ (book : Book) (order : List Entry) (s : CloudState) (stands : StandsUnd
     su = after_root tree new st
 
     abbrev lands : Landing who st (PutHeld (object.Tree tree) bytes lease None) su
-    lands = reservation_landing book order s stands tree k.tree who lease None root newest count first bytes is
+    lands = reservation_landing book order s stands tree k.tree who lease None root newest count first bytes is may
 
     grows : Grows st su
     grows = (landing_passes who st (PutHeld (object.Tree tree) bytes lease None) su stands.holds lands).grows
@@ -79,7 +90,7 @@ module _ (book : Book) (order : List Entry) (s : CloudState) (stands : StandsUnd
     left_is = ap (λ (o : Option (List ℕ)). puts_after o r.placing.puts) some
 
     raised_then : (t : Tree) → IsRaised (st.book.chain tree) root r.chart.run.top t → IsRaised (su.book.chain tree) (tree_held (landed r).chart.root) r.chart.run.top t
-    raised_then t x = subst (λ (q : Tree). IsRaised (book.chain tree) q r.chart.run.top t) (sym held) (record { level = x.level; cursor = x.cursor; names = x.names })
+    raised_then t x = subst (λ (q : Tree). IsRaised (book.chain tree) q r.chart.run.top t) (sym held) (record { level = x.level; cursor = x.cursor; names = x.names; ascends = x.ascends })
 
     free : (middle : List NodePart) → length middle ≡ count
         → AreReserved inner_node (su.book.chain tree) (su.tally.nodes tree) (top_of (su.tally.roots tree)).next first middle []
@@ -151,10 +162,22 @@ module _ (book : Book) (order : List Entry) (s : CloudState) (stands : StandsUnd
   -- ---- of a node, and of the root
 
   pub node_reserves : (p : PutsNode st now lease r) → r.last ≡ None → RisingEffect book order s who own mine now lease r ids (object.Tree tree) bytes
-  node_reserves p none = effect (length p.placing.middle) p.first planned.1 (subst (RisesOn after now lease ids) (sym leads) then_known)
+  node_reserves p none = effect (length p.placing.middle) p.first planned.1 may (subst (RisesOn after now lease ids) (sym leads) then_known)
     where
       planned : (p.placing.behind ≡ []) × IsReservation root (length p.placing.middle) p.first bytes
       planned = subst (λ (o : Option (List ℕ)). ReservesNodes st now lease tree root p.first p.placing.middle p.placing.behind o) some p.reserves
+
+      -- the entries of its pieces are links of the level below
+      may : MayReserve st tree (length p.placing.middle)
+      may =
+          let inner = p.node.inner in
+          let pieces = ap length p.placing.pieces_are in
+          let all = parts_count entry_key p.first (part_of_node (risen_node inner p.known)) in
+          let others = length-append p.placing.middle p.placing.behind in
+          let few = few_known (book.chain tree) (nodes_of s tree) (roots_of s tree) (st.tally.done tree) (st.tally.cursor tree 0) chained (top_most book order s stands tree k.tree) inner p.known p.node.spells.fits
+          (chained.entries.of_nodes p.kept.page (Branch inner) p.node.landed) p.found in
+          let more = pieces_more (length (with_links inner p.known inner.entries)) (length (book.chain tree (inner.level - 1))) few in
+          inr (inner.level - 1, omega (arith, pieces, all, others, more))
 
       after : Store
       after = after_root tree (reserving (length p.placing.middle) root) st
@@ -163,18 +186,27 @@ module _ (book : Book) (order : List Entry) (s : CloudState) (stands : StandsUnd
       leads =
           goes_on r (has_reservation r bytes some)
           (λ e. some_puts node_bytes p.kept.page p.first p.placing.front p.placing.middle
-          (sym p.placing.puts_are ∙ (sym (left_is (length p.placing.middle) p.first planned.1) ∙ e)))
+          (sym p.placing.puts_are ∙ (sym (left_is (length p.placing.middle) p.first planned.1 may) ∙ e)))
 
       then_known : KnowsRising after now lease (landed r) ids
       then_known =
-          known (length p.placing.middle) p.first planned.1
-          (subst (λ (o : Option (List ℕ)). PutsOf after now lease (landed r) o) (sym none) (node_then (length p.placing.middle) p.first planned.1 p planned.0 refl refl))
+          known (length p.placing.middle) p.first planned.1 may
+          (subst (λ (o : Option (List ℕ)). PutsOf after now lease (landed r) o) (sym none) (node_then (length p.placing.middle) p.first planned.1 may p planned.0 refl refl))
 
   pub root_reserves : (last : List ℕ) (p : PutsCut st now lease r last) → r.last ≡ Some last → RisingEffect book order s who own mine now lease r ids (object.Tree tree) bytes
-  root_reserves last p is_last = effect (length p.middle) p.first planned.1 (subst (RisesOn after now lease ids) (sym leads) then_known)
+  root_reserves last p is_last = effect (length p.middle) p.first planned.1 may (subst (RisesOn after now lease ids) (sym leads) then_known)
     where
       planned : (p.behind ≡ []) × IsReservation root (length p.middle) p.first bytes × (r.is_spent ≡ false → p.root.version ≡ root.version + 1 + 1) × (p.root.next ≡ root.next + length p.middle)
       planned = subst (λ (o : Option (List ℕ)). ReservesRoot r.is_spent st now lease tree root p.root p.first p.middle p.behind o) some p.reserves
+
+      may : MayReserve st tree (length p.middle)
+      may =
+          let pieces = ap length p.pieces_are in
+          let all = parts_count entry_key (p.first + 1) (part_of_node (node_of_root p.root)) in
+          let others = length-append p.middle p.behind in
+          let few = few_entries (book.chain tree (p.root.level - 1)) p.root.entries p.raises.ascends p.raises.names.links.names in
+          let more = pieces_more (length p.root.entries) (length (book.chain tree (p.root.level - 1))) few in
+          inr (p.root.level - 1, omega (arith, pieces, all, others, more))
 
       after : Store
       after = after_root tree (reserving (length p.middle) root) st
@@ -184,7 +216,7 @@ module _ (book : Book) (order : List Entry) (s : CloudState) (stands : StandsUnd
         where
           pages : r.is_spent ≡ true → (landed r).placing.puts ≡ [] → ⊥
           pages spent e =
-              no_puts node_bytes p.first (p.first + 1) p.middle (p.left spent) (sym p.puts_are ∙ (sym (left_is (length p.middle) p.first planned.1) ∙ e))
+              no_puts node_bytes p.first (p.first + 1) p.middle (p.left spent) (sym p.puts_are ∙ (sym (left_is (length p.middle) p.first planned.1 may) ∙ e))
 
           on : (b : Bool) → r.is_spent ≡ b → (has_nothing (landed r).placing && r.is_spent) ≡ false
           on true e = ap (λ (c : Bool). c && r.is_spent) (some_left (landed r).placing.puts (pages e))
@@ -192,6 +224,6 @@ module _ (book : Book) (order : List Entry) (s : CloudState) (stands : StandsUnd
 
       then_known : KnowsRising after now lease (landed r) ids
       then_known =
-          known (length p.middle) p.first planned.1
+          known (length p.middle) p.first planned.1 may
           (subst (λ (o : Option (List ℕ)). PutsOf after now lease (landed r) o) (sym is_last)
-          (cut (cut_then (length p.middle) p.first planned.1 last p planned.0 refl refl planned.2 planned.3)))
+          (cut (cut_then (length p.middle) p.first planned.1 may last p planned.0 refl refl planned.2 planned.3)))

@@ -1,5 +1,5 @@
 -- What is planned for the root behind the last node: it is put whole, or its pieces are put and then a root above them.
-use Rattle.std.proofs.Common.{◌≡◌, ◌≢◌, ◌+◌, ◌<◌, ◌≤◌, ◌==◌, inr, ℕ, Bool, true, false, cond, nat_lt, ◌&&◌, List, [], length, Some, Result, Ok, Err, refl, sym, ap, subst, ◌∙◌, arith}
+use Rattle.std.proofs.Common.{◌≡◌, ◌≢◌, ◌+◌, ◌-◌, ◌<◌, ◌≤◌, ◌==◌, inr, ℕ, Bool, true, false, cond, nat_lt, ◌&&◌, List, [], length, Some, None, Result, Ok, Err, refl, sym, ap, subst, ◌∙◌, arith}
 use Rattle.std.proofs.lemmas.Bool.{and_parts, eqb-false, eqb-true, ltb-false, ltb-true}
 use Rattle.std.proofs.lemmas.List.{append-nil}
 use Rattle.byte_format.specs.Format.{greatest}
@@ -9,6 +9,7 @@ use Rattle.cloud_facts.specs.Calls.Standing.{StandsUnder}
 use Rattle.cloud_trait.specs.Claim.{Claim}
 use Rattle.cloud_trait.specs.State.{CloudState}
 use Rattle.db_base.specs.declared.trouble.Trouble.{Trouble}
+use Rattle.node_codec.proofs.TreeLemmas.{tree_fits}
 use Rattle.node_codec.specs.Inner.{node_of_root}
 use Rattle.node_codec.specs.Node.{raised}
 use Rattle.node_codec.specs.Node.{Entry as Named}
@@ -30,6 +31,7 @@ use Rattle.tree_rising.specs.Rising.{plan_of, put_root, finish}
 use Rattle.tree_rising.specs.Root.{with_named, risen_by, lowered, cut_at, cut_by, cut_behind, root_cut, uncut, root_plan}
 use Rattle.session_facts.specs.Trees.Placings.{IsReservation}
 use Rattle.session_facts.specs.Trees.Risings.{KnowsUpward, IsRaised, PutsCut, PutsRoot, whole, cut, RisesOn}
+use Rattle.session_facts.proofs.TreeCheckpoints.EntryCounts.{all_ascend}
 use Rattle.session_facts.proofs.Trees.FoldReads.{Reserving, none, some, reservation_is}
 use Rattle.session_facts.proofs.Trees.Naming.{KeepsRest, named_names, named_rest}
 use Rattle.session_facts.proofs.Trees.Reservations.{root_names, reserving_fits, numbered_fits}
@@ -70,8 +72,8 @@ module _ (book : Book) (order : List Entry) (s : CloudState) (stands : StandsUnd
       (named_names (book.chain tree) root.level r.chart.links raised_root k.links
       (root_names (book.chain tree) (nodes_of s tree) (roots_of s tree) (st.tally.done tree) (st.tally.cursor tree 0) chained root k.root.landed))
 
-  raises : IsRaised (book.chain tree) root top whole_root
-  raises = record { level = rest.level; cursor = rest.cursor; names = names }
+  raises : HasTreeSpelling whole_root → IsRaised (book.chain tree) root top whole_root
+  raises fits = record { level = rest.level; cursor = rest.cursor; names = names; ascends = all_ascend [] None (whole_root.next - 1) whole_root.entries (tree_fits whole_root fits).entries }
 
   sound : IsSoundTree root
   sound = root_sound root k.root.spelled
@@ -100,7 +102,7 @@ module _ (book : Book) (order : List Entry) (s : CloudState) (stands : StandsUnd
       known (uncut whole_root)
       (whole (record {
         root = whole_root;
-        raises = raises;
+        raises = raises fits;
         version = rest.version;
         next = rest.next;
         fits = fits;
@@ -129,6 +131,7 @@ module _ (book : Book) (order : List Entry) (s : CloudState) (stands : StandsUnd
       cursor = cursors ∙ rest.cursor;
       names = subst (λ (l : ℕ). NamesBelow (book.chain tree) l [] cut_root.entries) (sym levels)
           (subst (λ (es : List Named). NamesBelow (book.chain tree) whole_root.level [] es) (sym entries) names);
+      ascends = all_ascend [] None (cut_root.next - 1) cut_root.entries (tree_fits cut_root fits).entries;
     };
     first = whole_root.next;
     fits = above_spelled whole_root.next cut_root low room below fits;

@@ -1,5 +1,5 @@
 -- Counters that stand at their last value, by what a cloud tells.
-use Rattle.std.specs.Prelude.{ℕ, ◌≡◌, ◌<◌, ◌≤◌, ◌⊎◌, ◌+◌, ◌-◌, ◌^◌, length, Some}
+use Rattle.std.specs.Prelude.{ℕ, ◌≡◌, ◌<◌, ◌≤◌, ◌⊎◌, ◌+◌, ◌-◌, ◌*◌, ◌^◌, length, Some}
 use Rattle.cloud_facts.specs.Book.Records.{IsIn}
 use Rattle.cloud_facts.specs.Book.Tally.{Node, Leafy, version_of}
 use Rattle.cloud_facts.specs.Book.Telling.{nodes_of, roots_of}
@@ -57,9 +57,10 @@ abbrev pub IsLeafOf : CloudState → ℕ → Leaf → Type 0
 IsLeafOf t tree l = (l ≡ empty_leaf) ⊎ ((page : ℕ) × IsIn (nodes_of t tree page) (Leafy l))
 
 -- so many pages may be needed at once: at most a 32nd of all page numbers, or as many as a leaf is cut into that takes each record that was ever sent
--- to the tree's queue
-abbrev pub MayNeed : CloudState → ℕ → ℕ → Type 0
-MayNeed t tree pages = (pages ≤ 2 ^ 59) ⊎ ((l : Leaf) × IsLeafOf t tree l × (pages ≤ count_of (length l.records + length (t.messages (TreePu tree)))))
+-- to the tree's queue; and at most four for each put and send that landed, and one more
+pub record MayNeed (t : CloudState) (tree pages : ℕ) : Type 0 where
+  pub cut : (pages ≤ 2 ^ 59) ⊎ ((l : Leaf) × IsLeafOf t tree l × (pages ≤ count_of (length l.records + length (t.messages (TreePu tree)))))
+  pub few : pages ≤ 4 * length t.trace + 1
 
 -- a tree object has landed, or is that of a tree that was never put, whose next page is so near the end that so many pages do not fit
 pub record HasLastPages (t : CloudState) (tree : ℕ) : Type 0 where

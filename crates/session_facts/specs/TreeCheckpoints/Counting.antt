@@ -1,7 +1,7 @@
 -- How many calls of a tree checkpoint are left, where its tree has so many pages, and that these are few with those that it made.
-use Rattle.std.specs.Prelude.{ℕ, ◌≡◌, ◌≢◌, ◌+◌, ◌-◌, ◌*◌, ◌≤◌, ◌==◌, if◌then◌else◌, List, [], ◌∷◌, length, Option, Some, None}
+use Rattle.std.specs.Prelude.{ℕ, ◌≡◌, ◌+◌, ◌-◌, ◌*◌, ◌≤◌, ◌==◌, if◌then◌else◌, List, length, Option, Some, None}
 use Rattle.ckpt_parts.specs.Leasing.{claims_of}
-use Rattle.cloud_facts.specs.Book.Records.{IsIn}
+use Rattle.cloud_facts.specs.Book.Records.{Apart}
 use Rattle.cloud_trait.specs.State.{CloudState}
 use Rattle.session_facts.specs.Few.{distinct, next_page}
 use Rattle.tree_ckpt.specs.Ending.{unhandled, behind_key, ids_in, calls_in}
@@ -78,11 +78,6 @@ HasRoot got (work.LeftPage h (onward.Right c)) = c.chart.root ≡ got
 HasRoot got (work.LeftPage h (onward.Handled c)) = c.root ≡ got
 HasRoot got (work.Rising h r) = r.chart.root ≡ got
 HasRoot got w = Unit {0}
-
--- nothing comes twice
-abbrev pub Apart : {X : Type 0} → List X → Type 0
-Apart [] = Unit {0}
-Apart {X} (x ∷ xs) = ((y : X) → IsIn xs y → y ≢ x) × Apart xs
 
 -- no page was visited twice on the way
 abbrev pub Once : Work → Type 0

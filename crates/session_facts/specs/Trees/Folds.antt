@@ -70,6 +70,8 @@ pub record PutsPieces (st : Store) (now : ℕ) (lease : Claim) (f : Folding) (ru
   pub leaf : Leaf
   pub linked : IsLinked (st.book.chain f.chart.tree 0) f.page
   pub newest : Lasts now f.lease → IsNewestLeaf (st.tally.nodes f.chart.tree) f.page leaf
+  -- it has no more records than were committed
+  pub few : length leaf.records ≤ length st.book.log
   pub first : ℕ
   pub fit : AllByRecursion IsLeafPart (leaf_pieces first (applied leaf 0 run))
   pub placing : IsPlacing leaf_bytes f.page first (leaf_pieces first (applied leaf 0 run)) f.placing.puts

@@ -3,7 +3,7 @@ use Rattle.std.specs.Prelude.{ℕ, ◌≡◌, ◌≢◌, ◌+◌, ◌≤◌, Boo
 use Rattle.std.specs.List.{AllByRecursion}
 use Rattle.byte_format.specs.Format.{greatest}
 use Rattle.cloud_facts.specs.Chains.Cuts.{inner_node}
-use Rattle.cloud_facts.specs.Chains.Links.{top_of, NamesBelow}
+use Rattle.cloud_facts.specs.Chains.Links.{link_of, top_of, Ascends, NamesBelow}
 use Rattle.cloud_trait.specs.Claim.{Claim, Lasts}
 use Rattle.cloud_trait.specs.Machine.{Next, Goes, Ends, Stops}
 use Rattle.db_base.specs.Ids.{IsTree}
@@ -84,11 +84,12 @@ pub record PutsNode (st : Store) (now : ℕ) (lease : Claim) (r : Rising) : Type
 
 -- ---- the last put
 
--- a root with the run's cursor, whose entries name links of the level below
+-- a root with the run's cursor, whose entries name links of the level below, from left to right
 pub record IsRaised (chain : ℕ → List Link) (root : Tree) (top : List (ℕ × ℕ)) (t : Tree) : Type 0 where
   pub level : t.level ≡ root.level
   pub cursor : t.cursor ≡ raised root.cursor top
   pub names : NamesBelow chain t.level [] t.entries
+  pub ascends : Ascends (map link_of t.entries)
 
 -- it is put whole
 pub record PutsWhole (st : Store) (r : Rising) (bytes : List ℕ) : Type 0 where

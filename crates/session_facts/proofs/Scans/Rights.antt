@@ -1,30 +1,29 @@
--- At a leaf a scan ends, with what is to its right: a page further right, to which it has not come before.
-use Rattle.std.proofs.Common.{◌≡◌, ◌≢◌, ◌==◌, ◌&&◌, ◌⊎◌, inl, inr, ℕ, zero, suc, Bool, true, false, cond, List, [], ◌∷◌, ◌++◌, Option, Some, None, unwrap_or, refl, sym, ap, subst, ◌∙◌, true≢false}
+-- What is to the right of a leaf at which a scan is: a page further right, to which it has not come before.
+use Rattle.std.proofs.Common.{◌≡◌, ◌≢◌, ◌==◌, ◌⊎◌, inl, inr, ℕ, zero, suc, true, false, List, [], ◌∷◌, ◌++◌, Option, Some, None, unwrap_or, refl, sym, ap, subst, ◌∙◌, true≢false}
 use Rattle.std.specs.Prelude.{slice_get}
 use Rattle.std.proofs.lemmas.Bool.{or_cases, eqb-true}
 use Rattle.std.proofs.lemmas.List.Folds.{list_any-append}
-use Rattle.byte_format.specs.Order.{bytes_below, below_bound}
+use Rattle.byte_format.specs.Order.{bytes_below}
 use Rattle.cloud_facts.specs.Chains.Chain.{NamesRight, IsVersionOf, ChainHolds}
 use Rattle.cloud_facts.specs.Chains.Links.{first_link}
 use Rattle.cloud_facts.proofs.Chains.Pieces.{not_itself}
 use Rattle.cloud_facts.specs.Meanings.Meets.{IsPassed}
 use Rattle.cloud_facts.proofs.Meanings.Steps.{not_passed, passed_right}
-use Rattle.cloud_trait.specs.Machine.{Next, Ends, Stops}
 use Rattle.db_base.specs.Ids.{IsTree}
 use Rattle.db_base.specs.declared.names.ObjName.TheVariants as object
 use Rattle.db_base.specs.declared.trouble.Trouble.{Trouble}
-use Rattle.db_base.specs.declared.trouble.Trouble.TheVariants as trouble
 use Rattle.leaf_view.specs.Leaf.{Leaf}
 use Rattle.leaf_view.specs.Lookup.{page_at}
 use Rattle.page_cache.specs.Cache.{Cache}
 use Rattle.page_cache.specs.Held.{leaf_at}
-use Rattle.range_scan.specs.Scan.{Scan, scan_object, scan_came_to, right_behind, ended_at, leaf_ended, scan_beside}
-use Rattle.session_facts.specs.Scans.Scans.{IsLeafLink, IsBehind, StandsRight, LeadsRight, KnowsScan, ScanLeads}
+use Rattle.range_scan.specs.Scan.{Scan, scan_object, scan_came_to, right_behind}
+use Rattle.range_scan.proofs.Outcomes.{Leaves, Loops}
+use Rattle.session_facts.specs.Scans.Scans.{IsLeafLink, IsBehind, StandsRight, IsFurther, LeadsRight, KnowsScanning, IsAtScannedLeaf}
 use Rattle.cloud_facts.specs.Book.Book.{Link}
 use Rattle.cloud_facts.specs.Book.Records.{IsIn}
 use Rattle.cloud_facts.specs.Book.Tally.{Node, Leafy, Store}
 use Rattle.tree_walk.specs.Walk.{Spot, is_among}
-use Rattle.session_facts.specs.Walks.Caches.{KnowsCache, IsSeenLeaf}
+use Rattle.session_facts.specs.Walks.Caches.{IsSeenLeaf}
 
 -- ---- lists of pages
 
@@ -97,67 +96,59 @@ module _ (st : Store) (h : ChainHolds st) (tree : ℕ) (is : IsTree tree) where
 
 -- ---- at a leaf
 
-module _ (st : Store) (h : ChainHolds st) (s : Scan) (is : IsTree s.walk.tree) where
+-- a scan is at a leaf of the chain as it landed, and all that it came to is further left, or above, or that leaf
+pub record IsAtEnd (st : Store) (s : Scan) (c : Cache) (l : Leaf) (page : ℕ) : Type 0 where
+  pub known : KnowsScanning st s c
+  pub in_hand : scan_object s ≡ object.Page s.walk.tree page
+  pub kept : leaf_at c (object.Page s.walk.tree page) ≡ Some l
+  pub linked : IsIn (st.book.chain s.walk.tree 0) (record { low = l.low; page = page })
+  pub seen : IsSeenLeaf (st.tally.nodes s.walk.tree page) page l
+  pub came : (other : ℕ) → scan_came_to s other ≡ true → IsPassed (st.book.chain s.walk.tree) 0 l.low other ⊎ (page ≡ other)
+
+module _ (st : Store) (h : ChainHolds st) (s : Scan) (c : Cache) (l : Leaf) (page : ℕ) (at : IsAtEnd st s c l page) where
   abbrev links : ℕ → List Link
   links = st.book.chain s.walk.tree
 
-  -- a scan that has come to no page to the right of a leaf ends there
-  module _ (p : Spot) (l : Leaf) (linked : IsLeafLink links p) (seen : IsSeenLeaf (st.tally.nodes s.walk.tree p.page) p.page l)
-      (came : (page : ℕ) → scan_came_to s page ≡ true → IsBehind links p page ⊎ (p.page ≡ page)) where
-    abbrev Ended : Next Scan ℕ → Type 0
-    Ended x = (next : Option Spot) × (x ≡ Ends (record s { next = next }) p.page) × LeadsRight links (record s { next = next }) next
+  further : (high : List ℕ) → bytes_below l.low high ≡ true → (other : ℕ) → scan_came_to s other ≡ true → IsPassed links 0 high other
+  further high beyond other there = on (at.came other there)
+    where
+      on : IsPassed links 0 l.low other ⊎ (page ≡ other) → IsPassed links 0 high other
+      on (inl behind) = passed_right links 0 l.low high other beyond behind
+      on (inr same) = record { height = 0; link = record { low = l.low; page = page }; linked = at.linked; page_is = same; behind = inr (refl, beyond) }
 
-    further : (high : List ℕ) → bytes_below p.low high ≡ true → (page : ℕ) → scan_came_to s page ≡ true → IsPassed links 0 high page
-    further high beyond page there = on (came page there)
-      where
-        on : IsBehind links p page ⊎ (p.page ≡ page) → IsPassed links 0 high page
-        on (inl behind) = passed_right links 0 p.low high page beyond behind
-        on (inr same) = record { height = 0; link = record { low = p.low; page = p.page }; linked = linked; page_is = same; behind = inr (refl, beyond) }
+  -- the page to its right is further right than all that the scan came to
+  right_further : (next : Spot) → right_behind l.high (page_at l.right) ≡ Some next → IsFurther links s next
+  right_further next e = on l.high refl e
+    where
+      on : (high : Option (List ℕ)) → l.high ≡ high → right_behind high (page_at l.right) ≡ Some next → IsFurther links s next
+      on None none f = absurd (cc (f))
+      on (Some high) some f =
+          let right = right_linked st h s.walk.tree at.known.scan.walk.tree (record { page = page; level = 0; low = l.low }) l high at.linked at.seen some in
+          let is : record { page = unwrap_or (page_at l.right) 1; level = 0; low = high } ≡ next = cc (f) in
+          subst (IsFurther links s) is (record { linked = right.0; behind = further high right.1 })
 
-    leads_on : (high : List ℕ) → l.high ≡ Some high → Ended (ended_at s p.page (right_behind (Some high) (page_at l.right)))
-    leads_on high e = (Some next, on (scan_came_to s next.page) refl, record { linked = right.0; behind = behind })
-      where
-        next : Spot
-        next = record { page = unwrap_or (page_at l.right) 1; level = 0; low = high }
+  -- so its link does not lead back
+  pub loops_never : (n : Scan) (t : Trouble) → Loops s l n t → ⊥
+  loops_never n t loop =
+      let to = right_further loop.next loop.linked in
+      never_behind st h s.walk.tree at.known.scan.walk.tree loop.next to.linked (to.behind loop.next.page loop.came)
 
-        right : IsLeafLink links next × (bytes_below p.low high ≡ true)
-        right = right_linked st h s.walk.tree is p l high linked seen e
+  right_again : (next o : Option Spot) → StandsRight links s o → StandsRight links (record s { next = next }) o
+  right_again next None k = k
+  right_again next (Some spot) k = record { linked = k.linked; behind = k.behind }
 
-        behind : (page : ℕ) → scan_came_to s page ≡ true → IsBehind links next page
-        behind page there = further high right.1 page there
+  -- and the scan is at the leaf, with what is to its right
+  pub leaves_known : (n : Scan) (p : ℕ) → Leaves s l page n p → KnowsScanning st n c × IsAtScannedLeaf st n c p
+  leaves_known n p leaves =
+      subst (λ (x : Scan). KnowsScanning st x c × IsAtScannedLeaf st x c p) (sym leaves.is)
+      (subst (λ (q : ℕ). KnowsScanning st here c × IsAtScannedLeaf st here c q) (sym leaves.page_is) (
+        record { scan = record { walk = at.known.scan.walk; right = right_again here.next s.spot at.known.scan.right }; cache = at.known.cache },
+        record { leaf = l; in_hand = at.in_hand; kept = at.kept; linked = at.linked; seen = at.seen; next = on here.next refl },
+      ))
+    where
+      here : Scan
+      here = record s { next = right_behind l.high (page_at l.right) }
 
-        new : (b : Bool) → cond (b && false) (Stops s (trouble.Loop next.page)) (Ends (record s { next = Some next }) p.page) ≡ Ends (record s { next = Some next }) p.page
-        new true = refl
-        new false = refl
-
-        on : (b : Bool) → scan_came_to s next.page ≡ b
-            → cond (below_bound next.low s.to && b) (Stops s (trouble.Loop next.page)) (Ends (record s { next = Some next }) p.page) ≡ Ends (record s { next = Some next }) p.page
-        on true there = absurd (never_behind st h s.walk.tree is next right.0 (behind next.page there))
-        on false there = new (below_bound next.low s.to)
-
-    ends : Ended (leaf_ended s l p.page)
-    ends = on l.high refl
-      where
-        on : (high : Option (List ℕ)) → l.high ≡ high → Ended (ended_at s p.page (right_behind high (page_at l.right)))
-        on None e = (None, refl, tt)
-        on (Some high) e = leads_on high e
-
-    right_again : (next o : Option Spot) → StandsRight links s o → StandsRight links (record s { next = next }) o
-    right_again next None k = k
-    right_again next (Some spot) k = record { linked = k.linked; behind = k.behind }
-
-    -- it is at a leaf as it landed then
-    pub leaf_leads : (May : Trouble → Type 0) (c : Cache) → KnowsScan st s → KnowsCache st c → scan_object s ≡ object.Page s.walk.tree p.page
-        → leaf_at c (object.Page s.walk.tree p.page) ≡ Some l → ScanLeads st May (scan_beside (leaf_ended s l p.page, c))
-    leaf_leads May c k cache in_hand kept =
-        subst (λ (x : Next Scan ℕ). ScanLeads st May (scan_beside (x, c))) (sym ends.1) (
-          record { scan = record { walk = k.walk; right = right_again ends.0 s.spot k.right }; cache = cache },
-          record {
-            leaf = l;
-            in_hand = in_hand;
-            kept = kept;
-            linked = subst (λ (low : List ℕ). IsIn (links 0) (record { low = low; page = p.page })) (sym (seen_low st h s.walk.tree is p l linked seen)) linked;
-            seen = seen;
-            next = ends.2;
-          },
-        )
+      on : (o : Option Spot) → right_behind l.high (page_at l.right) ≡ o → LeadsRight links here o
+      on None e = tt
+      on (Some next) e = let to = right_further next e in record { linked = to.linked; behind = to.behind }

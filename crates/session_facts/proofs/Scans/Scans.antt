@@ -62,7 +62,8 @@ module _ (book : Book) (order : List Entry) (s : CloudState) (stands : StandsUnd
   -- a step of a scan
   pub scan_goes : (who : Caller) (m : Scan) (c : Cache) (a : Answer) (t : CloudState) → IsCall who (scan_ask m) a s t → KnowsScanning (store_of book order s) m c
       → ScanLeads (store_of book order s) MayStop (scan_next (m, c) a)
-  scan_goes who m c a t call k = scan_turns (store_of book order s) stands.holds.chains m c a k (call_answers book order s stands who (scan_object m) a t call)
+  scan_goes who m c a t call k =
+      scan_turns (store_of book order s) stands.holds.chains (m, c) k a (call_answers book order s stands who (scan_object m) a t call)
 
   -- over a cloud that started empty no scan stops for a damaged object, a wrong fence or a loop: where it stops, a get was stale or failed, or
   -- memory ran out

@@ -1,8 +1,6 @@
 -- Where the turns of a scan lead: those of its walk, and those at right pages.
-use Rattle.std.proofs.Common.{◌≡◌, ◌||◌, ◌⊎◌, inl, inr, ℕ, Bool, true, false, cond, List, [], ◌∷◌, ◌++◌, Option, Some, None, Result, Ok, Err, refl, sym, ap, subst, ◌∙◌, true≢false}
+use Rattle.std.proofs.Common.{◌≡◌, ◌||◌, ◌⊎◌, inl, inr, ℕ, Bool, true, false, List, [], ◌∷◌, ◌++◌, Option, Some, None, Err, refl, sym, ap, subst, ◌∙◌, true≢false}
 use Rattle.std.proofs.lemmas.Bool.{or_cases, eqb-true}
-use Rattle.byte_format.specs.Order.{bytes_same}
-use Rattle.byte_format.proofs.OrderLemmas.{same_itself}
 use Rattle.cloud_facts.specs.Chains.Chain.{ChainHolds}
 use Rattle.cloud_facts.proofs.Chains.Pieces.{not_itself}
 use Rattle.cloud_facts.specs.Meanings.Meets.{IsPassed}
@@ -13,36 +11,31 @@ use Rattle.db_base.specs.Ids.{IsTree}
 use Rattle.db_base.specs.declared.names.ObjName.{ObjName}
 use Rattle.db_base.specs.declared.names.ObjName.TheVariants as object
 use Rattle.db_base.specs.declared.trouble.Trouble.{Trouble}
-use Rattle.db_base.specs.declared.trouble.Trouble.TheVariants as trouble
-use Rattle.cloud_facts.specs.Decoding.Kinds.{IsNode}
 use Rattle.leaf_view.specs.Leaf.{Leaf}
-use Rattle.leaf_view.specs.Lookup.{empty_leaf}
-use Rattle.page_cache.specs.Cache.{Cache, kept_at, accepts}
-use Rattle.page_cache.specs.Held.{leaf_at, as_leaf}
-use Rattle.page_cache.proofs.CacheLemmas.{accept_kept}
-use Rattle.range_scan.specs.Scan.{Scan, scan_object, scan_object_at, scan_came_to, leaf_ended, first_in, walked_by, right_read_in, right_accepted, right_got, scan_beside, next_at, scan_next}
+use Rattle.page_cache.specs.Cache.{Cache, accepts}
+use Rattle.page_cache.specs.Held.{leaf_at}
+use Rattle.range_scan.specs.Scan.{Scan, scan_object, scan_object_at, scan_came_to, scan_next}
+use Rattle.range_scan.proofs.Outcomes as step
+use Rattle.range_scan.proofs.Outcomes.{IsRead, Reaches, StopsFor, Comes, comes}
 use Rattle.session_facts.specs.Scans.Scans.{IsLeafLink, IsBehind, IsOnRight, StandsRight, KnowsScanning, ScanLeads}
-use Rattle.session_facts.proofs.Scans.Rights.{none_among, among_more, version, seen_low, leaf_leads}
+use Rattle.session_facts.proofs.Scans.Rights.{none_among, among_more, seen_low, IsAtEnd, loops_never, leaves_known}
 use Rattle.cloud_facts.specs.Book.Book.{Link}
 use Rattle.cloud_facts.specs.Book.Records.{IsIn}
 use Rattle.cloud_facts.specs.Book.Tally.{Store}
-use Rattle.tree_walk.specs.Walk.{Spot, Walk, object_at, object_of, sought, is_page, is_among, came_to, accepted_by, walk_next}
-use Rattle.session_facts.specs.Walks.Caches.{HasLanded, KnowsCache, IsSeenLeaf}
-use Rattle.session_facts.specs.Walks.Walks.{StandsAt, KnowsWalk, IsAtSeenLeaf, MayStop, WalkLeads}
-use Rattle.session_facts.proofs.Walks.Caches.{kept_known, MayServe, cache_accepts}
-use Rattle.session_facts.proofs.Walks.Steps.{leaf_of_level}
-use Rattle.session_facts.proofs.Walks.Turns.{MayAnswer, BesideLeads, by_leads}
-use Rattle.session_facts.proofs.Walks.Walks.{walk_turns}
-use Rattle.page_cache.proofs.ReadingLemmas.{is_leaf_in}
+use Rattle.tree_walk.specs.Walk.{Spot, Walk, object_at, object_of, sought, is_page, is_among, came_to, walk_next}
+use Rattle.session_facts.specs.Walks.Caches.{KnowsCache, IsSeenLeaf}
+use Rattle.session_facts.specs.Walks.Walks.{StandsAt, KnowsWalk, KnowsWalking, IsAtSeenLeaf, MayStop, WalkLeads}
+use Rattle.session_facts.proofs.Walks.Caches.{cache_accepts, seen_leaf}
+use Rattle.session_facts.proofs.Walks.Steps.{same_low}
+use Rattle.session_facts.proofs.Walks.Turns.{MayAnswer, served_by, walk_fails, walk_refuses, walk_turns}
 use Rattle.tree_walk.proofs.Onceness.{or_right}
 
--- what a get may have answered of an object: a version of it that landed, which is accepted, or refused for what may stop; or a trouble that may
-abbrev pub MayCome : Store → (Trouble → Type 0) → Cache → ObjName → Result (Option (List ℕ)) Trouble → Type 0
-MayCome st May c name (Ok got) = MayServe st name got × ((t : Trouble) → accepts c name true got ≡ Err t → May t)
-MayCome st May c name (Err t) = May t
+or_left : (a b : Bool) → a ≡ true → (a || b) ≡ true
+or_left true b e = refl
+or_left false b e = absurd (true≢false (sym e))
 
 module _ (st : Store) (h : ChainHolds st) where
-  -- ---- the walk
+  -- ---- the leaf at which a walk ended
 
   module _ (w : Walk) (c : Cache) (page : ℕ) (k : KnowsWalk st w) (a : IsAtSeenLeaf st w c page) where
     abbrev chain : ℕ → List Link
@@ -78,42 +71,9 @@ module _ (st : Store) (h : ChainHolds st) where
         on None way e came = absurd (cc (e))
         on (Some s) way e came = at s way (page_of s e) came
 
-  module _ (s : Scan) (none : s.spot ≡ None) (empty : s.passed ≡ []) where
-    -- with such a walk, and no right page in hand
-    right_none : (w : Walk) → StandsRight (st.book.chain w.tree) (record s { walk = w }) s.spot
-    right_none w = subst (StandsRight (st.book.chain w.tree) (record s { walk = w })) (sym none) empty
-
-    first_came : (w : Walk) (c : Cache) (page : ℕ) → KnowsWalk st w → (a : IsAtSeenLeaf st w c page) → (other : ℕ) → scan_came_to (record s { walk = w }) other ≡ true
-        → IsPassed (st.book.chain w.tree) 0 a.leaf.low other ⊎ (page ≡ other)
-    first_came w c page k a other there = on (or_cases (is_page other s.spot) (came_to w other || is_among s.passed other) there)
-      where
-        walked : (came_to w other ≡ true) ⊎ (is_among s.passed other ≡ true) → IsPassed (st.book.chain w.tree) 0 a.leaf.low other ⊎ (page ≡ other)
-        walked (inl came) = walk_came w c page k a other came
-        walked (inr never) = absurd (none_among s.passed other empty never)
-
-        on : (is_page other s.spot ≡ true) ⊎ ((came_to w other || is_among s.passed other) ≡ true) → IsPassed (st.book.chain w.tree) 0 a.leaf.low other ⊎ (page ≡ other)
-        on (inl never) = absurd (true≢false (sym never ∙ ap (is_page other) none))
-        on (inr came) = walked (or_cases (came_to w other) (is_among s.passed other) came)
-
-    first_leads : (May : Trouble → Type 0) (w : Walk) (c : Cache) (page : ℕ) → KnowsWalk st w → KnowsCache st c → (a : IsAtSeenLeaf st w c page)
-        → ScanLeads st May (scan_beside (first_in (record s { walk = w }) page (leaf_at c (object_of w)), c))
-    first_leads May w c page k cache a =
-        subst (λ (o : Option Leaf). ScanLeads st May (scan_beside (first_in (record s { walk = w }) page o, c))) (sym (ap (leaf_at c) a.in_hand ∙ a.kept))
-        (leaf_leads st h (record s { walk = w }) k.tree (record { page = page; level = 0; low = a.leaf.low }) a.leaf a.linked a.seen (first_came w c page k a) May c
-        (record { walk = k; right = right_none w }) cache (ap (scan_object_at (record s { walk = w })) none ∙ a.in_hand) a.kept)
-
-    -- a turn of the walk
-    pub walk_leads : (May : Trouble → Type 0) (x : Next (Walk × Cache) ℕ) → WalkLeads st May x → ScanLeads st May (walked_by s x)
-    walk_leads May (Goes m) k = record { scan = record { walk = k.walk; right = right_none m.0 }; cache = k.cache }
-    walk_leads May (Ends m page) k = first_leads May m.0 m.1 page k.0.walk k.0.cache k.1
-    walk_leads May (Stops m t) k = (k.0.cache, k.1)
-
-  -- ---- a right page
+  -- ---- a walk that is at a right page
 
   module _ (tree : ℕ) (is : IsTree tree) (p : Spot) (linked : IsLeafLink (st.book.chain tree) p) where
-    abbrev name : ObjName
-    name = object.Page tree p.page
-
     -- a walk that is there
     abbrev pub there : Walk
     there = record { tree = tree; key = Some p.low; fresh = true; spot = Some (record p { level = 0 }); nodes = []; leaves = []; turned = false; used = None }
@@ -129,98 +89,149 @@ module _ (st : Store) (h : ChainHolds st) where
       used = tt;
     }
 
-    -- what is refused there is stale
-    refused : (c : Cache) → KnowsCache st c → (got : Option (List ℕ)) → MayServe st name got → (t : Trouble) → accepts c name true got ≡ Err t → MayStop t
-    refused c cache got may t e =
-        (subst (λ (r : Result (ℕ × Cache) Trouble). BesideLeads st (accepted_by there c r)) e (by_leads st h c there there_known cache (Ok got) may)).2
+  -- ---- a turn
 
-    -- and what is accepted is a leaf as it landed
-    kept_leaf : (d : Cache) (got : Option (List ℕ)) → HasLanded st name got → kept_at d name ≡ Some got
-        → (l : Leaf) × (leaf_at d name ≡ Some l) × IsSeenLeaf (st.tally.nodes tree p.page) p.page l
-    kept_leaf d None first e = (empty_leaf, ap as_leaf e, inl (first, refl))
-    kept_leaf d (Some bytes) (node, spelled, landed) e =
-        let l = leaf_of_level 0 node refl (version st h tree is p node linked landed).level_is in (
-          l.0,
-          ap as_leaf e ∙ is_leaf_in bytes l.0 (subst (IsNode bytes) l.1 spelled),
-          inr (subst (IsIn (st.tally.nodes tree p.page)) l.1 landed),
-        )
+  -- by where its get leads a walk that has the same object in hand
+  module _ (May : Trouble → Type 0) (m : Scan × Cache) (k : KnowsScanning st m.0 m.1) (a : Answer) (may : MayAnswer st (scan_object m.0) (got_of a))
+      (walks : (w : Walk) → KnowsWalking st w m.1 → scan_object m.0 ≡ object_of w → WalkLeads st May (walk_next (w, m.1) a)) where
+    abbrev chain_of : ℕ → List Link
+    chain_of = st.book.chain m.0.walk.tree
 
-  module _ (s : Scan) (p : Spot) (c : Cache) (walk : KnowsWalk st s.walk) (right : IsOnRight (st.book.chain s.walk.tree) (record s { spot = Some p }) p)
-      (cache : KnowsCache st c) where
-    abbrev here : Scan
-    here = record s { spot = Some p }
+    walked : m.0.spot ≡ None → WalkLeads st May (walk_next (m.0.walk, m.1) a)
+    walked none = walks m.0.walk (record { walk = k.scan.walk; cache = k.cache }) (ap (scan_object_at m.0) none)
 
-    -- the same scan, which got its right page
-    abbrev gone : Scan
-    gone = record s { spot = Some p; passed = s.passed ++ p.page ∷ [] }
+    none_passed : m.0.spot ≡ None → m.0.passed ≡ []
+    none_passed none = subst (StandsRight chain_of m.0) none k.scan.right
 
-    abbrev links : ℕ → List Link
-    links = st.book.chain s.walk.tree
+    with_walk : (w : Walk) (c : Cache) → m.0.spot ≡ None → KnowsWalking st w c → KnowsScanning st (record m.0 { walk = w }) c
+    with_walk w c none known = record {
+      scan = record { walk = known.walk; right = subst (StandsRight (st.book.chain w.tree) (record m.0 { walk = w })) (sym none) (none_passed none) };
+      cache = known.cache;
+    }
 
-    or_left : (a b : Bool) → a ≡ true → (a || b) ≡ true
-    or_left true b e = refl
-    or_left false b e = absurd (true≢false (sym e))
-
-    gone_behind : (page : ℕ) → (came_to s.walk page || is_among gone.passed page) ≡ true → IsBehind links p page ⊎ (p.page ≡ page)
-    gone_behind page came = on (or_cases (came_to s.walk page) (is_among gone.passed page) came)
+    first_came : (w : Walk) (c : Cache) (page : ℕ) → m.0.spot ≡ None → KnowsWalk st w → (x : IsAtSeenLeaf st w c page) → (other : ℕ)
+        → scan_came_to (record m.0 { walk = w }) other ≡ true → IsPassed (st.book.chain w.tree) 0 x.leaf.low other ⊎ (page ≡ other)
+    first_came w c page none known x other there =
+        on (or_cases (came_to w other) (is_among m.0.passed other)
+        (subst (λ (o : Option Spot). (is_page other o || (came_to w other || is_among m.0.passed other)) ≡ true) none there))
       where
-        more : (is_among s.passed page ≡ true) ⊎ (p.page ≡ page) → IsBehind links p page ⊎ (p.page ≡ page)
-        more (inl old) = right.behind page (or_right (came_to s.walk page) (is_among s.passed page) old)
-        more (inr same) = inr same
+        on : (came_to w other ≡ true) ⊎ (is_among m.0.passed other ≡ true) → IsPassed (st.book.chain w.tree) 0 x.leaf.low other ⊎ (page ≡ other)
+        on (inl came) = walk_came w c page known x other came
+        on (inr never) = absurd (none_among m.0.passed other (none_passed none) never)
 
-        on : (came_to s.walk page ≡ true) ⊎ (is_among gone.passed page ≡ true) → IsBehind links p page ⊎ (p.page ≡ page)
-        on (inl walked) = right.behind page (or_left (came_to s.walk page) (is_among s.passed page) walked)
-        on (inr passed) = more (among_more s.passed p.page page passed)
+    first_ends : (w : Walk) (c : Cache) (page : ℕ) (l : Leaf) → m.0.spot ≡ None → KnowsWalking st w c → IsAtSeenLeaf st w c page
+        → leaf_at c (object_of w) ≡ Some l → IsAtEnd st (record m.0 { walk = w }) c l page
+    first_ends w c page l none known x kept =
+        let both : Some x.leaf ≡ Some l = sym x.kept ∙ (sym (ap (leaf_at c) x.in_hand) ∙ kept) in
+        let same : x.leaf ≡ l = cc (both) in
+        subst (λ (leaf : Leaf). IsAtEnd st (record m.0 { walk = w }) c leaf page) same
+        (record {
+          known = with_walk w c none known;
+          in_hand = ap (scan_object_at (record m.0 { walk = w })) none ∙ x.in_hand;
+          kept = x.kept;
+          linked = x.linked;
+          seen = x.seen;
+          came = first_came w c page none known.walk x;
+        })
 
-    gone_came : (page : ℕ) → scan_came_to gone page ≡ true → IsBehind links p page ⊎ (p.page ≡ page)
-    gone_came page came = on (or_cases (is_page page (Some p)) (came_to s.walk page || is_among gone.passed page) came)
-      where
-        on : (is_page page (Some p) ≡ true) ⊎ ((came_to s.walk page || is_among gone.passed page) ≡ true) → IsBehind links p page ⊎ (p.page ≡ page)
-        on (inl same) = inr (eqb-true p.page page same)
-        on (inr before) = gone_behind page before
+    -- ---- at a right page
 
-    read_leads : (May : Trouble → Type 0) (d : Cache) → KnowsCache st d → (l : Leaf) → leaf_at d (object.Page s.walk.tree p.page) ≡ Some l
-        → IsSeenLeaf (st.tally.nodes s.walk.tree p.page) p.page l → ScanLeads st May (scan_beside (right_read_in here (leaf_at d (object.Page s.walk.tree p.page)), d))
-    read_leads May d known l kept seen =
-        subst (λ (o : Option Leaf). ScanLeads st May (scan_beside (right_read_in here o, d))) (sym kept)
-        (subst (λ (b : Bool). ScanLeads st May (scan_beside (cond b (leaf_ended gone l p.page) (Stops here (trouble.BadFence p.page p.low l.low)), d))) (sym low)
-        (leaf_leads st h gone walk.tree p l right.linked seen gone_came May d (record { walk = walk; right = record { linked = right.linked; behind = gone_behind } }) known refl kept))
-      where
-        low : bytes_same l.low p.low ≡ true
-        low = ap (bytes_same l.low) (sym (seen_low st h s.walk.tree walk.tree p l right.linked seen)) ∙ same_itself l.low
+    module _ (spot : Spot) (in_hand : m.0.spot ≡ Some spot) where
+      right : IsOnRight chain_of m.0 spot
+      right = subst (StandsRight chain_of m.0) in_hand k.scan.right
 
-    accepted_leads : (May : Trouble → Type 0) (got : Option (List ℕ)) → MayServe st (object.Page s.walk.tree p.page) got
-        → ((t : Trouble) → accepts c (object.Page s.walk.tree p.page) true got ≡ Err t → May t)
-        → ScanLeads st May (scan_beside (right_accepted here c (accepts c (object.Page s.walk.tree p.page) true got)))
-    accepted_leads May got may stops = on (accepts c (object.Page s.walk.tree p.page) true got) refl
-      where
-        on : (r : Result (ℕ × Cache) Trouble) → accepts c (object.Page s.walk.tree p.page) true got ≡ r → ScanLeads st May (scan_beside (right_accepted here c r))
-        on (Err t) e = (cache, stops t e)
-        on (Ok (v, d)) e =
-            let known = cache_accepts st c (object.Page s.walk.tree p.page) true got v d cache may e in
-            let kept = accept_kept c (object.Page s.walk.tree p.page) true got v d e in
-            let l = kept_leaf s.walk.tree walk.tree p right.linked d got (kept_known st d (object.Page s.walk.tree p.page) got known kept) kept in
-            read_leads May d known l.0 l.1 l.2
+      object_is : scan_object m.0 ≡ object.Page m.0.walk.tree spot.page
+      object_is = ap (scan_object_at m.0) in_hand
 
-    -- a get of a right page
-    pub right_leads : (May : Trouble → Type 0) (g : Result (Option (List ℕ)) Trouble) → MayCome st May c (object.Page s.walk.tree p.page) g
-        → ScanLeads st May (scan_beside (right_got here c g))
-    right_leads May (Err t) may = (cache, may)
-    right_leads May (Ok got) may = accepted_leads May got may.0 may.1
+      -- a walk that is there
+      abbrev at : Walk
+      at = there m.0.walk.tree k.scan.walk.tree spot right.linked
 
-    -- what was answered stops it as stale or failed, if at all
-    right_comes : (g : Result (Option (List ℕ)) Trouble) → MayAnswer st (object.Page s.walk.tree p.page) g → MayCome st MayStop c (object.Page s.walk.tree p.page) g
-    right_comes (Err t) may = may
-    right_comes (Ok got) may = (may, refused s.walk.tree walk.tree p right.linked c cache got may)
+      at_right : WalkLeads st May (walk_next (at, m.1) a)
+      at_right = walks at (record { walk = there_known m.0.walk.tree k.scan.walk.tree spot right.linked; cache = k.cache }) object_is
 
-  -- ---- every turn
+      -- the scan that got the page
+      abbrev gone : Scan
+      gone = record m.0 { passed = m.0.passed ++ spot.page ∷ [] }
+
+      right_behind : (page : ℕ) → (came_to m.0.walk page || is_among gone.passed page) ≡ true → IsBehind chain_of spot page ⊎ (spot.page ≡ page)
+      right_behind page came = on (or_cases (came_to m.0.walk page) (is_among gone.passed page) came)
+        where
+          more : (is_among m.0.passed page ≡ true) ⊎ (spot.page ≡ page) → IsBehind chain_of spot page ⊎ (spot.page ≡ page)
+          more (inl old) = right.behind page (or_right (came_to m.0.walk page) (is_among m.0.passed page) old)
+          more (inr same) = inr same
+
+          on : (came_to m.0.walk page ≡ true) ⊎ (is_among gone.passed page ≡ true) → IsBehind chain_of spot page ⊎ (spot.page ≡ page)
+          on (inl walk) = right.behind page (or_left (came_to m.0.walk page) (is_among m.0.passed page) walk)
+          on (inr passed) = more (among_more m.0.passed spot.page page passed)
+
+      right_came : (page : ℕ) → scan_came_to gone page ≡ true → IsBehind chain_of spot page ⊎ (spot.page ≡ page)
+      right_came page came = on (or_cases (is_page page m.0.spot) (came_to m.0.walk page || is_among gone.passed page) came)
+        where
+          on : (is_page page m.0.spot ≡ true) ⊎ ((came_to m.0.walk page || is_among gone.passed page) ≡ true) → IsBehind chain_of spot page ⊎ (spot.page ≡ page)
+          on (inl same) = inr (eqb-true spot.page page (sym (ap (is_page page) in_hand) ∙ same))
+          on (inr before) = right_behind page before
+
+    -- the leaf that was got there landed, and begins as promised
+    read_known : (spot : Spot) (c : Cache) (l : Leaf) → IsRead m a spot c l
+        → KnowsCache st c × (leaf_at c (object.Page m.0.walk.tree spot.page) ≡ Some l)
+        × IsSeenLeaf (st.tally.nodes m.0.walk.tree spot.page) spot.page l × (l.low ≡ spot.low)
+    read_known spot c l read =
+        let serves = served_by st (scan_object m.0) a read.got read.answered may in
+        let cache = cache_accepts st m.1 (scan_object m.0) true read.got read.version c k.cache serves read.accepted in
+        let kept = ap (leaf_at c) (sym (object_is spot read.in_hand)) ∙ read.kept in
+        let seen = seen_leaf st c m.0.walk.tree spot.page l cache kept in
+        (cache, kept, seen, seen_low st h m.0.walk.tree k.scan.walk.tree spot l (right spot read.in_hand).linked seen)
+
+    -- ---- every turn
+
+    reached : (s : Scan) (c : Cache) (l : Leaf) (page : ℕ) → Reaches m a s c l page → IsAtEnd st s c l page
+    reached _ _ _ _ (step.first w page l none ends kept) =
+        let leads = subst (WalkLeads st May) ends (walked none) in
+        first_ends w.0 w.1 page l none leads.0 leads.1 kept
+    reached _ _ _ _ (step.right spot c l read same) =
+        let (cache, kept, seen, low_is) = read_known spot c l read in
+        let on = right spot read.in_hand in
+        record {
+          known = record {
+            scan = record {
+              walk = k.scan.walk;
+              right = subst (StandsRight chain_of (gone spot read.in_hand)) (sym read.in_hand)
+                  (record { linked = on.linked; behind = right_behind spot read.in_hand });
+            };
+            cache = cache;
+          };
+          in_hand = object_is spot read.in_hand;
+          kept = kept;
+          linked = subst (λ (low : List ℕ). IsIn (chain_of 0) (record { low = low; page = spot.page })) (sym low_is) on.linked;
+          seen = seen;
+          came = λ page came. subst (λ (low : List ℕ). IsPassed chain_of 0 low page ⊎ (spot.page ≡ page)) (sym low_is) (right_came spot read.in_hand page came);
+        }
+
+    stopped : (n : Scan × Cache) (t : Trouble) → StopsFor m a n t → KnowsCache st n.1 × May t
+    stopped _ _ (step.walk_stops w t none e) = let leads = subst (WalkLeads st May) e (walked none) in (leads.0.cache, leads.1)
+    stopped _ _ (step.no_leaf w page none e lost) =
+        let leads = subst (WalkLeads st May) e (walked none) in
+        let kept = ap (leaf_at w.1) leads.1.in_hand ∙ leads.1.kept in
+        absurd (cc (lost, kept))
+    stopped _ _ (step.fails spot t in_hand e) = (k.cache, (subst (WalkLeads st May) (walk_fails (at spot in_hand) m.1 a t e) (at_right spot in_hand)).1)
+    stopped _ _ (step.refuses spot got t in_hand answered e) =
+        let refused = subst (λ (name : ObjName). accepts m.1 name true got ≡ Err t) (object_is spot in_hand) e in
+        (k.cache, (subst (WalkLeads st May) (walk_refuses (at spot in_hand) m.1 a got t answered refused) (at_right spot in_hand)).1)
+    stopped _ _ (step.breaks spot c l read differs) = let same = same_low l.low spot.low (read_known spot c l read).3 in absurd (cc (same, differs))
+    stopped _ _ (step.loops s n c l page t at loop) = absurd (loops_never st h s c l page (reached s c l page at) n t loop)
+
+    came : (next : Next (Scan × Cache) ℕ) → Comes m a next → ScanLeads st May next
+    came (Goes n) o =
+        subst (λ (s : Scan). KnowsScanning st s n.1) (sym o.is) (with_walk n.0.walk n.1 o.none (subst (WalkLeads st May) o.walk (walked o.none)))
+    came (Ends n page) o = leaves_known st h o.at n.1 o.leaf o.at_page (reached o.at n.1 o.leaf o.at_page o.reached) n.0 page o.leaves
+    came (Stops n t) o = stopped n t o
+
+    pub scan_leads : ScanLeads st May (scan_next m a)
+    scan_leads = came (scan_next m a) (comes m a)
 
   -- by what its get may have answered
-  pub scan_turns : (s : Scan) (c : Cache) (a : Answer) → KnowsScanning st s c → MayAnswer st (scan_object s) (got_of a) → ScanLeads st MayStop (scan_next (s, c) a)
-  scan_turns s c a k may = on s.spot k.scan.right may
-    where
-      on : (o : Option Spot) → StandsRight (st.book.chain s.walk.tree) (record s { spot = o }) o → MayAnswer st (scan_object_at s o) (got_of a)
-          → ScanLeads st MayStop (next_at o (record s { spot = o }, c) a)
-      on None right may =
-          walk_leads (record s { spot = None }) refl right MayStop (walk_next (s.walk, c) a) (walk_turns st h s.walk c a (record { walk = k.scan.walk; cache = k.cache }) may)
-      on (Some p) right may = right_leads s p c k.scan.walk right k.cache MayStop (got_of a) (right_comes s p c k.scan.walk right k.cache (got_of a) may)
+  pub scan_turns : (m : Scan × Cache) → KnowsScanning st m.0 m.1 → (a : Answer) → MayAnswer st (scan_object m.0) (got_of a)
+      → ScanLeads st MayStop (scan_next m a)
+  scan_turns m k a may =
+      scan_leads MayStop m k a may (λ w known same. walk_turns st h w m.1 known a (subst (λ (name : ObjName). MayAnswer st name (got_of a)) same may))

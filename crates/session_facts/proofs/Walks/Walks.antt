@@ -6,7 +6,7 @@ use Rattle.cloud_facts.specs.Calls.Call.{IsCall}
 use Rattle.cloud_facts.specs.Calls.Standing.{StandsUnder}
 use Rattle.cloud_trait.specs.Ask.{Get}
 use Rattle.cloud_trait.specs.Caller.{Caller}
-use Rattle.cloud_trait.specs.Machine.{Next, Goes, Ends, Stops}
+use Rattle.cloud_trait.specs.Machine.{Goes, Stops}
 use Rattle.cloud_trait.specs.State.{CloudState, Counts, version_at}
 use Rattle.cloud_trait.specs.Views.{got_of}
 use Rattle.cloud_trait.specs.Weather.{Weather}
@@ -25,40 +25,17 @@ use Rattle.cloud_facts.specs.Book.Growth.{Grows}
 use Rattle.cloud_facts.specs.Book.Premises.{IsLeafAtMost}
 use Rattle.cloud_facts.specs.Book.Tally.{Store}
 use Rattle.cloud_facts.specs.Tellings.Told.{store_of}
-use Rattle.tree_walk.specs.Walk.{Spot, Walk, new_walk, sought, object_of, goes_on, got_by, beside, rested, walk_ready, walk_next}
-use Rattle.tree_walk.proofs.Outcomes.{Runs, runs}
+use Rattle.tree_walk.specs.Walk.{Spot, Walk, new_walk, sought, object_of, walk_ready, walk_next}
 use Rattle.session_facts.specs.Walks.Caches.{KnowsCache}
 use Rattle.session_facts.specs.Walks.Walks.{IsOnWay, StandsAt, WasUsed, KnowsWalk, KnowsWalking, MayStop, WalkLeads}
 use Rattle.session_facts.proofs.Walks.Caches.{MayServe}
-use Rattle.session_facts.proofs.Walks.Steps.{StepLeads}
-use Rattle.session_facts.proofs.Walks.Turns.{through, MayAnswer, by_leads, beside_leads}
+use Rattle.session_facts.proofs.Walks.Turns.{MayAnswer, walk_turns, walk_readies}
 
--- ---- one walk
-
-rests : (st : Store) (w : Walk) → KnowsWalk st w → KnowsWalk st (rested w)
-rests st w k = record { tree = k.tree; stands = k.stands; used = tt }
-
-new_known : (st : Store) (tree : ℕ) (key : Option (List ℕ)) (fresh : Bool) → IsTree tree → KnowsWalk st (new_walk tree key fresh)
-new_known st tree key fresh is = record { tree = is; stands = (refl, refl); used = tt }
-
-module _ (st : Store) (h : ChainHolds st) where
-  -- a walk that begins goes on to its first call, with all that it knows; it stops for nothing that the cache keeps
-  pub walk_begins : (tree : ℕ) (key : Option (List ℕ)) (fresh : Bool) (c : Cache) → IsTree tree → KnowsCache st c
-      → (m : Walk × Cache) × (walk_ready (new_walk tree key fresh, c) ≡ Goes m) × KnowsWalking st m.0 m.1
-  walk_begins tree key fresh c is cache =
-      on (goes_on c (rested (new_walk tree key fresh)))
-      (through st h c cache 64 (rested (new_walk tree key fresh)) (rests st (new_walk tree key fresh) (new_known st tree key fresh is)))
-      (runs c 64 (rested (new_walk tree key fresh)))
-    where
-      on : (x : Next Walk ℕ) → StepLeads st h c x → Runs c (rested (new_walk tree key fresh)) x → (m : Walk × Cache) × (beside (x, c) ≡ Goes m) × KnowsWalking st m.0 m.1
-      on (Goes v) a u = ((v, c), refl, record { walk = a; cache = cache })
-      on (Ends v page) a u = absurd u
-      on (Stops v t) a u = absurd a
-
-  -- a turn of a walk, by what its get may have answered
-  pub walk_turns : (w : Walk) (c : Cache) (a : Answer) → KnowsWalking st w c → MayAnswer st (object_of w) (got_of a) → WalkLeads st MayStop (walk_next (w, c) a)
-  walk_turns w c a k may =
-      beside_leads st (got_by (rested w) c (got_of a)) (by_leads st h c (rested w) (rests st w k.walk) k.cache (got_of a) may)
+-- a walk that begins goes on to its first call, with all that it knows; it stops for nothing that the cache keeps
+pub walk_begins : (st : Store) → ChainHolds st → (tree : ℕ) (key : Option (List ℕ)) (fresh : Bool) (c : Cache) → IsTree tree → KnowsCache st c
+    → (m : Walk × Cache) × (walk_ready (new_walk tree key fresh, c) ≡ Goes m) × KnowsWalking st m.0 m.1
+walk_begins st h tree key fresh c is cache =
+    walk_readies st h (new_walk tree key fresh) c (record { walk = record { tree = is; stands = (refl, refl); used = tt }; cache = cache })
 
 -- ---- over a cloud
 
@@ -93,7 +70,7 @@ module _ (book : Book) (order : List Entry) (s : CloudState) (stands : StandsUnd
   -- a step of a walk
   pub walk_goes : (who : Caller) (w : Walk) (c : Cache) (a : Answer) (t : CloudState) → IsCall who (Get (object_of w)) a s t → KnowsWalking (store_of book order s) w c
       → WalkLeads (store_of book order s) MayStop (walk_next (w, c) a)
-  walk_goes who w c a t call k = walk_turns (store_of book order s) stands.holds.chains w c a k (call_answers who (object_of w) a t call)
+  walk_goes who w c a t call k = walk_turns (store_of book order s) stands.holds.chains w c k a (call_answers who (object_of w) a t call)
 
   -- over a cloud that started empty no walk stops for a damaged object, a wrong fence or a loop: where it stops, a get was stale or failed, or
   -- memory ran out

@@ -48,5 +48,11 @@ pub mod Answering
 pub mod Acknowledged
 pub mod LeftNone
 pub mod ShownByLines
+pub mod FindsOnce
+pub mod NewestLeaves
+pub mod FoldLemmas
+pub mod IndexEntries
+pub mod StoredLemmas
+pub mod Still
 pub mod SpentRows
 pub mod Attempts

@@ -22,4 +22,7 @@ pub mod Added
 pub mod Opened
 pub mod LeftNone
 pub mod ShownByLines
+pub mod NewestLeaves
+pub mod IndexEntries
+pub mod WholeIndex
 pub mod Late

@@ -34,6 +34,8 @@ mod replays;
 #[cfg(test)]
 mod shells;
 #[cfg(test)]
+mod short_loads;
+#[cfg(test)]
 mod sizes;
 #[cfg(test)]
 mod theorem;

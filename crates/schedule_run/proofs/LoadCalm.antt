@@ -1,4 +1,4 @@
--- A load whose steps were all calm stops for a spent counter or for want of memory alone.
+-- A load whose steps were all calm stops for want of memory alone.
 use Rattle.std.proofs.Common.{suc, ◌≡◌, ◌≢◌, ◌+◌, ◌<◌, ◌^◌, ◌==◌, ◌⊎◌, ℕ, List, [], ◌∷◌, ◌++◌, length, map, Some, Ok, Bool, true, false, if◌then◌else◌, refl, sym, ap, subst, ◌∙◌, append_assoc, inl, inr, arith, length-append}
 use Rattle.std.specs.Prelude.{replicate}
 use Rattle.std.proofs.lemmas.Bool.{eq-eqb}
@@ -7,6 +7,7 @@ use Rattle.cloud_trait.specs.Seen.{Seen}
 use Rattle.cloud_trait.specs.State.{CloudState, IsEmptyCloud}
 use Rattle.db_base.specs.declared.trouble.CommitAnswer.{CommitAnswer}
 use Rattle.db_base.specs.declared.trouble.CommitAnswer.TheVariants.{Committed, NotCommitted, InDoubt, CommittedOpen}
+use Rattle.db_base.specs.declared.trouble.Counter.{Counter}
 use Rattle.db_base.specs.declared.trouble.Counter.TheVariants as counter
 use Rattle.db_base.specs.declared.trouble.Trouble.{Trouble}
 use Rattle.db_base.specs.declared.trouble.Trouble.TheVariants as trouble
@@ -23,10 +24,10 @@ use Rattle.load_facts.proofs.Unspent.{commit_spent, run_unspent}
 use Rattle.session_facts.proofs.Attempts.{no_attempt}
 use Rattle.session_facts.proofs.CommittedLemmas.{standing_line}
 use Rattle.session_facts.proofs.StartLemmas.{closed_at}
-use Rattle.session_facts.proofs.SpentRows.{spends_late, late_trouble}
+use Rattle.session_facts.proofs.SpentRows.{spends_late}
 use Rattle.session_facts.specs.Facts.{session_at}
 use Rattle.session_facts.specs.Late.{SpendsLate}
-use Rattle.session_facts.specs.Sessions.Spent.{IsSpentToOpen, IsSpentToCommit, IsSpentToSettle}
+use Rattle.session_facts.specs.Sessions.Spent.{IsSpentToOpen, IsSpentToCommit, IsSpentToSettle, IsSpentInTree}
 use Rattle.session_facts.specs.Sessions.Untroubled.{IsUntroubled, IsSpent}
 use Rattle.world_core.specs.Calm.{StepIsCalm, RepliesWell, RunsWell, work_at}
 use Rattle.world_core.specs.EachStep.{EachStep}
@@ -35,7 +36,8 @@ use Rattle.world_core.specs.World.{World}
 use Rattle.schedule_run.specs.Answered.{IsNew, WentOn, start, further, AreExplained, IsExplained}
 use Rattle.schedule_run.specs.InPlay.{Play}
 use Rattle.schedule_run.specs.Load.{goes_on, stop_of}
-use Rattle.schedule_run.specs.LoadCalm.{AreCalm, IsLateNumber, IsSpentStop}
+use Rattle.schedule_run.specs.LoadCalm.{AreCalm}
+use Rattle.schedule_run.specs.declared.load.LoadStop.TheVariants.{Memory}
 use Rattle.schedule_run.specs.Shell.{IsWhole, alone, with_run, AreWhole, no_events, more_events, WereRun}
 use Rattle.schedule_run.proofs.BehindLemmas.{lines_left}
 use Rattle.schedule_run.proofs.LoadFronts.{last_of}
@@ -227,41 +229,69 @@ module _ (s : Seen) (first : World) (x : CloudState) (fresh : IsNew true first) 
 
 -- ---- the stop
 
--- a commit that does not stop for an attempt stops for a number
-late_number : (u : CloudState) → SpendsLate u → (k : Trouble) → k ≢ no_attempt → IsSpent IsSpentToCommit u k → IsSpent IsLateNumber u k
-late_number u late (trouble.Exhausted counter.Number) other is = (is, late.commit counter.Number is)
-late_number u late (trouble.Exhausted counter.Txn) other is = absurd (other refl)
-late_number u late (trouble.Exhausted what) other is = absurd is
-late_number u late k other is = absurd is
+-- no counter is spent that ends a load
+record IsUnspent (u : CloudState) : Type 0 where
+  opening : (what : Counter) → IsSpentToOpen u what → ⊥
+  number : IsSpentToCommit u counter.Number → ⊥
+  settling : (what : Counter) → IsSpentToSettle u what → ⊥
+
+-- so it is where few puts and sends landed
+unspent : (u : CloudState) → SpendsLate u → length u.trace < 2 ^ 27 → IsUnspent u
+unspent u late few = record { opening = opening; number = λ is. let long = late.commit counter.Number is in omega (arith, long, few); settling = settling }
+  where
+    opening : (what : Counter) → IsSpentToOpen u what → ⊥
+    opening counter.Epoch is = let long = late.opening counter.Epoch is in omega (arith, long, few)
+    opening what is = is
+
+    folding : (tree : ℕ) (what : Counter) → IsSpentInTree tree u what → ⊥
+    folding tree counter.Version is = let long = late.settling counter.Version (inr (tree, is)) in omega (arith, long, few)
+    folding tree counter.Pages is = let long = late.settling counter.Pages (inr (tree, is)) in omega (arith, long, few)
+    folding tree what is = is
+
+    settling : (what : Counter) → IsSpentToSettle u what → ⊥
+    settling what (inl is) = opening what is
+    settling what (inr is) = folding is.0 what is.1
+
+-- no trouble tells a counter that is not spent
+never_told : (Spent : CloudState → Counter → Type 0) (u : CloudState) → ((what : Counter) → Spent u what → ⊥) → (k : Trouble) → IsSpent Spent u k → ⊥
+never_told Spent u none (trouble.Exhausted what) is = none what is
+never_told Spent u none k is = is
+
+-- a commit that does not stop for an attempt would stop for a number
+never_number : (u : CloudState) → IsUnspent u → (k : Trouble) → k ≢ no_attempt → IsSpent IsSpentToCommit u k → ⊥
+never_number u none (trouble.Exhausted counter.Number) other is = none.number is
+never_number u none (trouble.Exhausted counter.Txn) other is = other refl
+never_number u none (trouble.Exhausted what) other is = is
+never_number u none k other is = is
 
 -- a reply that no attempt is left
 abbrev TellsNoAttempt : Reply → Type 0
 TellsNoAttempt r = r ≡ reply.Commit (NotCommitted no_attempt)
 
 -- a reply to an event alone, where it is a good one
-alone_stop : (u : CloudState) → SpendsLate u → (e : Event) (posture : Posture) (r : Reply) → ((session : ℕ) → e ≡ event.Commit session → TellsNoAttempt r → ⊥) → goes_on e r ≡ false → RepliesWell u e posture r → IsSpentStop u (stop_of e r)
-alone_stop u late (event.Open session client) posture (reply.Opened epoch) other ends well = absurd (cc)
-alone_stop u late (event.Open session client) posture (reply.Trouble k) other ends well = late_trouble IsSpentToOpen u late.opening k well
-alone_stop u late (event.Commit session) posture (reply.Commit (Committed txn)) other ends well = absurd (cc)
-alone_stop u late (event.Commit session) posture (reply.Commit (NotCommitted k)) other ends well =
-    late_number u late k (λ is. other session refl (ap (λ (t : Trouble). reply.Commit (NotCommitted t)) is)) well
-alone_stop u late (event.Commit session) posture (reply.Commit InDoubt) other ends well = absurd well
-alone_stop u late (event.Commit session) posture (reply.Commit (CommittedOpen k)) other ends well = absurd well
-alone_stop u late event.Settle posture (reply.Settled calls) other ends well = absurd (cc)
-alone_stop u late event.Settle posture (reply.NotSettled k) other ends well = late_trouble IsSpentToSettle u late.settling k well
-alone_stop u late e posture r other ends well = tt
+alone_stop : (u : CloudState) → IsUnspent u → (e : Event) (posture : Posture) (r : Reply) → ((session : ℕ) → e ≡ event.Commit session → TellsNoAttempt r → ⊥) → goes_on e r ≡ false → RepliesWell u e posture r → stop_of e r ≡ Memory
+alone_stop u none (event.Open session client) posture (reply.Opened epoch) other ends well = absurd (cc)
+alone_stop u none (event.Open session client) posture (reply.Trouble k) other ends well = absurd (never_told IsSpentToOpen u none.opening k well)
+alone_stop u none (event.Commit session) posture (reply.Commit (Committed txn)) other ends well = absurd (cc)
+alone_stop u none (event.Commit session) posture (reply.Commit (NotCommitted k)) other ends well =
+    absurd (never_number u none k (λ is. other session refl (ap (λ (t : Trouble). reply.Commit (NotCommitted t)) is)) well)
+alone_stop u none (event.Commit session) posture (reply.Commit InDoubt) other ends well = absurd well
+alone_stop u none (event.Commit session) posture (reply.Commit (CommittedOpen k)) other ends well = absurd well
+alone_stop u none event.Settle posture (reply.Settled calls) other ends well = absurd (cc)
+alone_stop u none event.Settle posture (reply.NotSettled k) other ends well = absurd (never_told IsSpentToSettle u none.settling k well)
+alone_stop u none e posture r other ends well = refl
 
 -- a reply to the run of what it began
-run_stop : (u : CloudState) → SpendsLate u → (e : Event) (r : Reply) (before : Standing) → (TellsNoAttempt r → ⊥) → session_of e ≡ 1 → goes_on e r ≡ false → RunsWell u (after_own e reply.Begun before).posture r → IsSpentStop u (stop_of e r)
-run_stop u late (event.Open session client) (reply.Opened epoch) before other one ends well = absurd (cc)
-run_stop u late (event.Open session client) (reply.Trouble k) before other one ends well = late_trouble IsSpentToOpen u late.opening k well
-run_stop u late (event.Commit session) (reply.Commit (Committed txn)) before other one ends well = absurd (cc)
-run_stop u late (event.Commit session) (reply.Commit (NotCommitted k)) before other one ends well =
-    late_number u late k (λ is. other (ap (λ (t : Trouble). reply.Commit (NotCommitted t)) is)) well
-run_stop u late (event.Commit session) (reply.Commit InDoubt) before other one ends well = absurd well
-run_stop u late (event.Commit session) (reply.Commit (CommittedOpen k)) before other one ends well = absurd well
-run_stop u late event.Settle r before other one ends well = absurd (omega (arith, one))
-run_stop u late e r before other one ends well = tt
+run_stop : (u : CloudState) → IsUnspent u → (e : Event) (r : Reply) (before : Standing) → (TellsNoAttempt r → ⊥) → session_of e ≡ 1 → goes_on e r ≡ false → RunsWell u (after_own e reply.Begun before).posture r → stop_of e r ≡ Memory
+run_stop u none (event.Open session client) (reply.Opened epoch) before other one ends well = absurd (cc)
+run_stop u none (event.Open session client) (reply.Trouble k) before other one ends well = absurd (never_told IsSpentToOpen u none.opening k well)
+run_stop u none (event.Commit session) (reply.Commit (Committed txn)) before other one ends well = absurd (cc)
+run_stop u none (event.Commit session) (reply.Commit (NotCommitted k)) before other one ends well =
+    absurd (never_number u none k (λ is. other (ap (λ (t : Trouble). reply.Commit (NotCommitted t)) is)) well)
+run_stop u none (event.Commit session) (reply.Commit InDoubt) before other one ends well = absurd well
+run_stop u none (event.Commit session) (reply.Commit (CommittedOpen k)) before other one ends well = absurd well
+run_stop u none event.Settle r before other one ends well = absurd (omega (arith, one))
+run_stop u none e r before other one ends well = refl
 
 -- a commit of a load is of session 1
 session_one : {e : Event} → IsOfLoad e → (session : ℕ) → e ≡ event.Commit session → session ≡ 1
@@ -282,11 +312,11 @@ at_most before old _ after new (further lines line mid _ world _ went handled) k
     (line_at_most (length lines + 1) (length lines) line.event mid after world new line.reply (lines_last IsLoadEvent lines line kinds) handled
     (at_most before old lines mid world went (lines_first IsLoadEvent lines (line ∷ []) kinds) h))
 
-pub stops_spent : (trees : List DumpedTree) (earlier later : List Event) (e : Event) (replies : List Reply) (r : Reply) (mid now : Seen) (play : Play)
+pub stops_for_memory : (trees : List DumpedTree) (earlier later : List Event) (e : Event) (replies : List Reply) (r : Reply) (mid now : Seen) (play : Play)
     → load_events trees ≡ earlier ++ e ∷ later → (run : WereRun (earlier ++ e ∷ []) (replies ++ r ∷ []) mid now play) → play.handled < 2 ^ 64 → goes_on e r ≡ false
-    → (t : CloudState) → mid.state ≡ Some t → IsEmptyCloud t → (u : CloudState) → now.state ≡ Some u
-    → AreCalm mid run.played.first run.lines now play.world run.played.went → IsSpentStop u (stop_of e r)
-stops_spent trees earlier later e replies r mid now play at run within ends t told empty u seen calm =
+    → (t : CloudState) → mid.state ≡ Some t → IsEmptyCloud t → (u : CloudState) → now.state ≡ Some u → length u.trace < 2 ^ 27
+    → AreCalm mid run.played.first run.lines now play.world run.played.went → stop_of e r ≡ Memory
+stops_for_memory trees earlier later e replies r mid now play at run within ends t told empty u seen few calm =
     on (last_whole (earlier ++ e ∷ []) run.lines (replies ++ r ∷ []) run.whole earlier e replies r refl refl)
   where
     own : Ones earlier × IsOfLoad e
@@ -297,11 +327,11 @@ stops_spent trees earlier later e replies r mid now play at run within ends t to
         (each_upto IsLoadEvent (before_settling trees) earlier later e (load_split trees ∙ at)
         (load_each IsLoadEvent (record { opens = refl; inserts = λ p. refl; commits = refl; folds = λ tree. refl; renews = refl; closes = refl }) trees)).0
 
-    late : SpendsLate u
-    late =
+    none : IsUnspent u
+    none =
         let o = run.played.stands t told empty in
         let one : o.0 ≡ u = same_some o.0 u (sym o.1 ∙ seen) in
-        subst SpendsLate one (spends_late run.lines (session_at play.world.sessions) play.world.audit play.world.blind o.0 o.2.by_lines o.4)
+        unspent u (subst SpendsLate one (spends_late run.lines (session_at play.world.sessions) play.world.audit play.world.blind o.0 o.2.by_lines)) few
 
     all : Behind mid run.played.first run.lines now
     all = record { world = play.world; went = run.played.went; explained = run.played.explained t told empty; calm = calm }
@@ -328,9 +358,9 @@ stops_spent trees earlier later e replies r mid now play at run within ends t to
         let l = last_of mid run.played.first run.lines now play.world run.played.went front (record { event = event.Run 1; reply = r }) is in
         run_unspent (NotCommitted no_attempt) refl (length front + 1) l.mid now l.world play.world r tells 1 l.handled
 
-    in_it : (front of_it : List Line) → LinesOf IsLoadEvent front → LinesOne front → run.lines ≡ front ++ of_it → IsWhole e of_it r → IsSpentStop u (stop_of e r)
+    in_it : (front of_it : List Line) → LinesOf IsLoadEvent front → LinesOne front → run.lines ≡ front ++ of_it → IsWhole e of_it r → stop_of e r ≡ Memory
     in_it front _ kinds ones is (alone _ other) =
-        alone_stop u late e (standing front (session_of e)).posture r (unspent_alone front kinds is) ends (well run.lines now all front (record { event = e; reply = r }) is ones own.1 u seen)
+        alone_stop u none e (standing front (session_of e)).posture r (unspent_alone front kinds is) ends (well run.lines now all front (record { event = e; reply = r }) is ones own.1 u seen)
     in_it front _ kinds ones is (with_run _) = in_run own.1
       where
         began : Line
@@ -339,9 +369,9 @@ stops_spent trees earlier later e replies r mid now play at run within ends t to
         parted : run.lines ≡ (front ++ began ∷ []) ++ record { event = event.Run 1; reply = r } ∷ []
         parted = is ∙ sym (append_assoc front (began ∷ []) (record { event = event.Run 1; reply = r } ∷ []))
 
-        in_run : IsOfLoad e → IsSpentStop u (stop_of e r)
+        in_run : IsOfLoad e → stop_of e r ≡ Memory
         in_run (inl one) =
-            run_stop u late e r (standing front 1) (unspent_run (front ++ began ∷ []) parted) one ends
+            run_stop u none e r (standing front 1) (unspent_run (front ++ began ∷ []) parted) one ends
             (subst (λ (p : Standing). RunsWell u p.posture r) (own_line front e one)
             (well run.lines now all (front ++ began ∷ []) (record { event = event.Run 1; reply = r }) parted (lines_both IsOne front (began ∷ []) ones (one, tt)) (inl refl) u seen))
         in_run (inr settles) =
@@ -350,5 +380,5 @@ stops_spent trees earlier later e replies r mid now play at run within ends t to
             let answered = well (front ++ began ∷ []) so_far.0 so_far.1 front began refl ones (inr settles) left.0 left.1 in
             absurd (subst (λ (x : Event). RepliesWell left.0 x (standing front (session_of x)).posture reply.Begun) settles answered)
 
-    on : LastWhole earlier e r run.lines → IsSpentStop u (stop_of e r)
+    on : LastWhole earlier e r run.lines → stop_of e r ≡ Memory
     on last = in_it last.front last.of_it (lines_whole IsLoadEvent refl earlier last.front last.replies last.whole kinds) (lines_whole IsOne refl earlier last.front last.replies last.whole own.0) last.at last.it

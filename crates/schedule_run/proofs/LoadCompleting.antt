@@ -10,7 +10,7 @@ use Rattle.db_io.specs.Writes.{Written}
 use Rattle.dump_text.specs.declared.dump.DumpedTree.{DumpedTree}
 use Rattle.load_plan.specs.FirstLook.{first_names, LooksEnded}
 use Rattle.load_plan.specs.declared.first_look.LookStop.TheVariants as look
-use Rattle.schedule_run.specs.Complete.{IsOrMemory, IsComplete, LoadStopped, StopsSpent, LoadCompletes}
+use Rattle.schedule_run.specs.Complete.{IsOrMemory, IsComplete, LoadStopped, StopsUnwell, LoadCompletes}
 use Rattle.schedule_run.specs.Load.{LoadEnded}
 use Rattle.schedule_run.specs.LoadComplete.{Completes}
 use Rattle.schedule_run.specs.declared.load.LoadStop.{LoadStop}
@@ -37,22 +37,22 @@ never_dark start now ended still =
 
 pub completes_so : (result : Result Loaded LoadStop) (trees : List DumpedTree) (start now : Seen) → LoadEnded result trees start now → Completes result trees start now
 completes_so (Ok loaded) trees start now went = record { went = went; well = λ t u told empty seen still calm. tt }
-completes_so (Err (NotEmpty text)) trees start now went = record { went = went; well = λ t u told empty seen still calm. never_there text start now t went told empty }
-completes_so (Err (Stopped k)) trees start now went = record { went = went; well = λ t u told empty seen still calm. never_dark start now went.1 still }
+completes_so (Err (NotEmpty text)) trees start now went = record { went = went; well = λ t u told empty seen still calm. absurd (never_there text start now t went told empty) }
+completes_so (Err (Stopped k)) trees start now went = record { went = went; well = λ t u told empty seen still calm. absurd (never_dark start now went.1 still) }
 completes_so (Err (Opening k)) trees start now went = record { went = went; well = λ t u told empty seen still calm. went.calm t told empty u seen calm }
 completes_so (Err (Commit answer)) trees start now went = record { went = went; well = λ t u told empty seen still calm. went.calm t told empty u seen calm }
 completes_so (Err (Settling k)) trees start now went = record { went = went; well = λ t u told empty seen still calm. went.calm t told empty u seen calm }
-completes_so (Err Memory) trees start now went = record { went = went; well = λ t u told empty seen still calm. tt }
+completes_so (Err Memory) trees start now went = record { went = went; well = λ t u told empty seen still calm. refl }
 
 -- ---- of a run
 
-stops_spent : (result : Status) (w u : Written) (s t : Seen) → LoadStopped result w u s t → StopsSpent result s t
-stops_spent result w u s t it = record { trees = it.trees; stop = it.stop; leads = it.leads; completes = completes_so (Err it.stop) it.trees s t it.went }
+stops_unwell : (result : Status) (w u : Written) (s t : Seen) → LoadStopped result w u s t → StopsUnwell result s t
+stops_unwell result w u s t it = record { trees = it.trees; stop = it.stop; leads = it.leads; completes = completes_so (Err it.stop) it.trees s t it.went }
 
 ends_so : (result : Status) (w u : Written) (s t : Seen) → IsOrMemory status.Done result ⊎ ((status.Done ≡ status.Done) × LoadStopped result w u s t)
-    → IsOrMemory status.Done result ⊎ StopsSpent result s t
+    → IsOrMemory status.Done result ⊎ StopsUnwell result s t
 ends_so result w u s t (inl done) = inl done
-ends_so result w u s t (inr stopped) = inr (stops_spent result w u s t stopped.1)
+ends_so result w u s t (inr stopped) = inr (stops_unwell result w u s t stopped.1)
 
 pub load_completes : (shape : Shape) (result : Status) (left rest : Told) (w u : Written) (s t : Seen) → IsComplete (Some shape) result left rest w u s t
     → LoadCompletes (Some shape) result left rest w u s t

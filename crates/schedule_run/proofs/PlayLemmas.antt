@@ -15,6 +15,7 @@ use Rattle.world_core.specs.World.{World}
 use Rattle.world_core.specs.declared.world.WorldFault.{WorldFault}
 use Rattle.world_core.specs.declared.world.WorldFault.TheVariants as world
 use Rattle.world_core.specs.Handled.{Handled}
+use Rattle.world_core.specs.Quota.{SpendsQuota}
 use Rattle.world_core.specs.Stands.{WorldStands, StandsOn, Grows}
 use Rattle.world_core.proofs.Caused.{caused}
 use Rattle.schedule_run.specs.InPlay.{Play}
@@ -157,9 +158,11 @@ found_no_memory event m t z old new world.Memory next handled grows =
 
 -- whatever its result, the next event was taken
 pub takes_next : (event : Event) (result : Result Reply WorldFault) (t z : Seen) (old new : Play) → new.handled ≡ old.handled + 1 → new.handled < 2 ^ 64
-    → Handled new.handled event t z old.world new.world result → StandsOn new.handled event t z old.world new.world result → Grows new.handled t z → Takes event result t z old new
-takes_next event (Ok reply) t z old new next within handled stands grows = record { count = next; within = within; handled = handled; stands = stands; grows = grows }
-takes_next event (Err fault) t z old new next within handled stands grows = found_no_memory event new.handled t z old new fault next handled grows
+    → Handled new.handled event t z old.world new.world result → StandsOn new.handled event t z old.world new.world result → Grows new.handled t z
+    → SpendsQuota t z old.left new.left → Takes event result t z old new
+takes_next event (Ok reply) t z old new next within handled stands grows spends =
+    record { count = next; within = within; handled = handled; stands = stands; grows = grows; spends = spends }
+takes_next event (Err fault) t z old new next within handled stands grows spends = found_no_memory event new.handled t z old new fault next handled grows
 
 -- an operation that an event began is run behind it
 pub run_behind : (event : Event) (result : Result Reply WorldFault) (s t z : Seen) (old mid new : Play) → IsNext event Begun s t old mid → Takes (Run 1) result t z mid new

@@ -75,8 +75,8 @@ StopsAtBadLine asked result left rest written now_written start now =
 
 -- ---- of a load
 
--- the load of a dump stopped, which ends the run by its status; where all went well, it stopped for a counter that is spent
-pub record StopsSpent (result : Status) (start now : Seen) : Type 0 where
+-- the load of a dump stopped, which ends the run by its status; where all went well, memory ran out
+pub record StopsUnwell (result : Status) (start now : Seen) : Type 0 where
   pub trees : List DumpedTree
   pub stop : LoadStop
   pub leads : result ≡ ended_as status_of_load (load_end (Err stop))
@@ -86,7 +86,7 @@ pub record StopsSpent (result : Status) (start now : Seen) : Type 0 where
 abbrev pub LoadCompletes : Option Shape → Status → Told → Told → Written → Written → Seen → Seen → Type 0
 LoadCompletes (Some (Load dir)) result left rest written now_written start now =
     WentInOrder (Some (Load dir)) left rest written now_written → (ReadBadLine (Some (Load dir)) left rest → ⊥)
-    → IsOrMemory Done result ⊎ StopsSpent result start now
+    → IsOrMemory Done result ⊎ StopsUnwell result start now
 LoadCompletes (Some Replay) result left rest written now_written start now = Unit {0}
 LoadCompletes (Some (Gen number count)) result left rest written now_written start now = Unit {0}
 LoadCompletes (Some (Shell client dir)) result left rest written now_written start now = Unit {0}

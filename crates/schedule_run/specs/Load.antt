@@ -15,7 +15,7 @@ use Rattle.reply_text.specs.declared.reply.Reply.{Reply}
 use Rattle.reply_text.specs.declared.reply.Reply.TheVariants as reply
 use Rattle.schedule_run.specs.Answered.{IsNoReport}
 use Rattle.schedule_run.specs.InPlay.{Play}
-use Rattle.schedule_run.specs.LoadCalm.{AreCalm, IsSpentStop}
+use Rattle.schedule_run.specs.LoadCalm.{AreCalm}
 use Rattle.schedule_run.specs.Play.{IsRun, StopsRun}
 use Rattle.schedule_run.specs.Settling.{is_settled}
 use Rattle.schedule_run.specs.Shell.{WereRun, WereStopped, is_opened}
@@ -69,7 +69,7 @@ pub record LoadDone (loaded : Loaded) (trees : List DumpedTree) (start now : See
   pub records : loaded.records ≡ length (records_of trees)
 
 -- none of the first objects was there; the events before this one were run and it went on behind each, and so was this one, behind whose reply it
--- does not go on; over a cloud that was empty and told its state, where each step was calm, a counter is spent, or memory ran out
+-- does not go on; over a cloud that was empty and told its state, where each step was calm, that is for want of memory
 pub record StoppedBehind (stop : LoadStop) (trees : List DumpedTree) (start now : Seen) : Type 0 where
   pub mid : Seen
   pub empty : LookedAtAll first_names start mid
@@ -85,7 +85,7 @@ pub record StoppedBehind (stop : LoadStop) (trees : List DumpedTree) (start now 
   pub ends : goes_on event reply ≡ false
   pub stops : stop ≡ stop_of event reply
   pub calm : (t : CloudState) → start.state ≡ Some t → IsEmptyCloud t → (u : CloudState) → now.state ≡ Some u
-      → AreCalm mid run.played.first run.lines now play.world run.played.went → IsSpentStop u stop
+      → AreCalm mid run.played.first run.lines now play.world run.played.went → stop ≡ Memory
 
 -- where memory ran out: at the first looks, before anything was run, behind these events, at the next one, or behind a reply that is none of its
 -- event's

@@ -4,7 +4,7 @@ use Rattle.cloud_trait.specs.Seen.{Seen}
 use Rattle.cloud_trait.specs.State.{CloudState, IsEmptyCloud}
 use Rattle.dump_text.specs.declared.dump.DumpedTree.{DumpedTree}
 use Rattle.schedule_run.specs.Load.{LoadEnded, StoppedBehind}
-use Rattle.schedule_run.specs.LoadCalm.{AreCalm, IsSpentStop}
+use Rattle.schedule_run.specs.LoadCalm.{AreCalm}
 use Rattle.schedule_run.specs.declared.load.LoadStop.{LoadStop}
 use Rattle.schedule_run.specs.declared.load.LoadStop.TheVariants.{NotEmpty, Stopped, Opening, Commit, Settling, Memory}
 use Rattle.schedule_run.specs.declared.load.Loaded.{Loaded}
@@ -23,14 +23,14 @@ WasCalm (Err (Commit answer)) trees start now behind = StepsAreCalm (Commit answ
 WasCalm (Err (Settling t)) trees start now behind = StepsAreCalm (Settling t) trees start now behind
 WasCalm (Err Memory) trees start now ended = Unit {0}
 
--- it is done, or memory ran out, or a counter is spent, as the cloud tells
-abbrev pub EndsWell : CloudState → Result Loaded LoadStop → Type 0
-EndsWell u (Ok loaded) = Unit {0}
-EndsWell u (Err stop) = IsSpentStop u stop
+-- it is done, or memory ran out
+abbrev pub EndsWell : Result Loaded LoadStop → Type 0
+EndsWell (Ok loaded) = Unit {0}
+EndsWell (Err stop) = stop ≡ Memory
 
 -- A load ended so. Over a cloud that was empty and told its state, where no count rose and each step was calm, so that no lease was over, it ends well:
 -- nothing is there and no look failed, the session is opened, each commit is committed, and all is settled.
 pub record Completes (result : Result Loaded LoadStop) (trees : List DumpedTree) (start now : Seen) : Type 0 where
   pub went : LoadEnded result trees start now
   pub well : (t u : CloudState) → start.state ≡ Some t → IsEmptyCloud t → now.state ≡ Some u → now.counts ≡ start.counts
-      → WasCalm result trees start now went → EndsWell u result
+      → WasCalm result trees start now went → EndsWell result

@@ -14,6 +14,7 @@ use Rattle.world_core.specs.declared.world.WorldFault.TheVariants as world
 use Rattle.world_core.specs.Handled.{Handled}
 use Rattle.world_core.specs.Added.{WorldAdds}
 use Rattle.world_core.specs.Opened.{OpenEachOnce}
+use Rattle.world_core.specs.Quota.{SpendsQuota}
 use Rattle.world_core.specs.Stands.{WorldStands, StandsOn, Grows}
 use Rattle.schedule_run.specs.InPlay.{Play}
 use Rattle.schedule_run.specs.Answered.{IsNew, AskNoReport, WentOn, AreSettled, IsOfRuns, LeavesOne, IsUnanswered, events_of, OpensNoneTwice, ReportsAreRight, KeepsTheTheorem, AreExplained, AreMetered, AreCaused, ReportsCome}
@@ -25,13 +26,14 @@ pub record IsFresh (blind : Bool) (play : Play) : Type 0 where
 
 -- ---- the next event
 
--- it was handled under the next number, of 64 bits, and has this reply, and what stood stands with it
+-- it was handled under the next number, of 64 bits, and has this reply, what stood stands with it, and no more landed than was left to make
 pub record IsNext (event : Event) (reply : Reply) (before after : Seen) (old new : Play) : Type 0 where
   pub count : new.handled ≡ old.handled + 1
   pub within : new.handled < 2 ^ 64
   pub handled : Handled new.handled event before after old.world new.world (Ok reply)
   pub stands : StandsOn new.handled event before after old.world new.world (Ok reply)
   pub grows : Grows new.handled before after
+  pub spends : SpendsQuota before after old.left new.left
 
 -- memory ran out before it did anything, or while it was handled
 pub data RanOut (event : Event) (before after : Seen) (old new : Play) : Type 0 where

@@ -1,6 +1,6 @@
 //! Filling an empty database from a dump by ordinary commits.
 
-ghost use Rattle.std.specs.Prelude.{◌≡◌, [], ◌∷◌, map, take, drop, length, IfOk, OnOk};
+ghost use Rattle.std.specs.Prelude.{◌≡◌, ◌<◌, ◌^◌, [], ◌∷◌, map, take, drop, length, IfOk, OnOk};
 ghost use Rattle.dump_text.specs.Dump.{IsDumpable};
 ghost use Rattle.event_text.specs.declared.event.Event.TheVariants.{Open, Commit};
 ghost use Rattle.schedule_run.specs.Load.{LoadEnded, Loads, Settles, Runs, IsPassedOver, GoesThrough, answer_of, calls_of, stop_of_look};
@@ -28,6 +28,10 @@ use std::alloc::Global;
 /// How many records a transaction takes.
 const PART: u64 = 200;
 
+/// How many puts and sends a load makes at most, far more than the longest text takes: 2^27 - 1. Before as many landed no counter
+/// of a store that was empty is spent.
+pub const MOST_LANDINGS: u64 = 134_217_727;
+
 /// What a load did.
 #[derive(Clone, Copy, Debug, PartialEq, Eq)]
 pub struct Loaded {
@@ -50,16 +54,22 @@ pub enum LoadStop {
     Commit(CommitAnswer),
     /// The settling stopped.
     Settling(Trouble),
-    /// Memory ran out.
+    /// Memory ran out, or as many puts and sends were made as the load may make.
     Memory,
 }
 
-/// Commits the records of a dump to an empty database, 200 a transaction, by session 1 of client 1, and settles.
-pub fn load<C: Bench>(alloc: Global, cloud: &mut C, dump: &Dump) -> Result<Loaded, LoadStop>
-    requires { IsDumpable dump.now.trees }
+/// Commits the records of a dump to an empty database, 200 a transaction, by session 1 of client 1, and settles. One put or send more
+/// than `most`, which is below 2^27, is not made: the load stops as where memory ran out.
+pub fn load<C: Bench>(
+    alloc: Global,
+    cloud: &mut C,
+    dump: &Dump,
+    most: u64,
+) -> Result<Loaded, LoadStop>
+    requires dumpable { IsDumpable dump.now.trees }
+    requires bounded { most < 2 ^ 27 }
     ensures went { LoadEnded result dump.now.trees (C.seen cloud.old) (C.seen cloud.new) }
-    // Over a cloud that was empty, where no count rose and each step was calm: it is done, or the pages of a tree are spent, or 2^56 puts and sends
-    // landed and another counter is; or memory ran out.
+    // Over a cloud that was empty, where no count rose and each step was calm: it is done, or memory ran out.
     ensures complete { Completes result dump.now.trees (C.seen cloud.old) (C.seen cloud.new) }
     // Done, over a cloud that was empty: what is logged, what each tree has, and that a dump of it writes the same text.
     ensures leaves { IfOk result (λ loaded. LeavesLoaded dump.now.trees (C.seen cloud.old) (C.seen cloud.new)) }
@@ -70,7 +80,7 @@ pub fn load<C: Bench>(alloc: Global, cloud: &mut C, dump: &Dump) -> Result<Loade
         Ok(()) => {}
         Err(stop) => return Err(stopped_looking(stop)),
     }
-    match Play::<Session>::unseeing(alloc) {
+    match Play::<Session>::within(alloc, most) {
         Ok(mut play) => load_in(alloc, &mut play, cloud, dump),
         Err(_) => Err(LoadStop::Memory),
     }

@@ -10,6 +10,7 @@ use event_text::event::Event;
 use reply_text::reply::Reply;
 use std::alloc::Global;
 use std::marker::Model;
+use world_core::quota::Quota;
 use world_core::world::{World, WorldFault};
 
 /// A world that handles one event behind another, each under the next number from 1 on.
@@ -17,6 +18,8 @@ pub(crate) struct Play<S: SessionCalls> {
     world: World<S>,
     // How many events it has handled.
     handled: u64,
+    // How many puts and sends it may still make.
+    quota: Quota,
 }
 
 // Written out, so that what holds one need not look into it to let it go.
@@ -25,6 +28,7 @@ impl<S: SessionCalls> Drop for Play<S> {
         let Play {
             world: _,
             handled: _,
+            quota: _,
         } = self;
     }
 }
@@ -34,7 +38,7 @@ impl<S: SessionCalls> Model for Play<S> {
 
     ghost Value = { Play };
 
-    ghost view = { λ p. record { world = p.world; handled = p.handled } };
+    ghost view = { λ p. record { world = p.world; handled = p.handled; left = p.quota } };
 }
 
 impl<S: SessionCalls> Play<S> {
@@ -46,6 +50,7 @@ impl<S: SessionCalls> Play<S> {
         Ok(Play {
             world: World::new(alloc)?,
             handled: 0,
+            quota: Quota::new(u64::MAX),
         })
     }
 
@@ -54,13 +59,23 @@ impl<S: SessionCalls> Play<S> {
         ensures fresh { IfOk result (λ play. IsFresh true play) }
         ensures memory { IfErr result (λ e. e ≡ Refused.Memory) }
     {
+        Play::within(alloc, u64::MAX)
+    }
+
+    /// The same for events that make at most so many puts and sends. Refused for memory alone.
+    pub fn within(alloc: Global, most: u64) -> Result<Play<S>, Refused>
+        ensures fresh { IfOk result (λ play. IsFresh true play) }
+        ensures left { IfOk result (λ play. play.left ≡ most) }
+        ensures memory { IfErr result (λ e. e ≡ Refused.Memory) }
+    {
         Ok(Play {
             world: World::unseeing(alloc)?,
             handled: 0,
+            quota: Quota::new(most),
         })
     }
 
-    /// Handles the next event.
+    /// Handles the next event. A put or send that it may not make any more is told as want of memory.
     pub fn take<C: Bench>(
         &mut self,
         alloc: Global,
@@ -73,7 +88,8 @@ impl<S: SessionCalls> Play<S> {
             Some(handled) => handled,
             None => return Err(WorldFault::Memory),
         };
-        self.world.event(alloc, cloud, self.handled, event)
+        self.world
+            .event(alloc, cloud, &mut self.quota, self.handled, event)
     }
 
     /// Handles an event and, where it began an operation of session 1, the run of that session. The last reply.

@@ -16,6 +16,7 @@ use event_text::event::Event;
 use run_text::writing::{let_go, refuse, write_reply};
 use std::alloc::Global;
 use words::fault::TextFault;
+use world_core::quota::Quota;
 use world_core::world::{World, WorldFault};
 
 /// Why a line ends the run.
@@ -135,7 +136,8 @@ fn handle<S: SessionCalls, O: Sink, C: Bench>(
     ensures writes { (result ≡ Err LineFault.WriteFault)
         ⊎ ((O.told sink.new).faults ≡ (O.told sink.old).faults) }
 {
-    match world.event(alloc, cloud, n, event) {
+    let mut quota = Quota::new(u64::MAX);
+    match world.event(alloc, cloud, &mut quota, n, event) {
         Ok(reply) => {
             let written = write_reply(alloc, sink, n, &reply);
             let_go(reply);

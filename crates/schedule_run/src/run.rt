@@ -54,7 +54,7 @@ pub fn run<I: Source, O: Sink, C: Bench>(
     ensures complete { IsComplete (shape_of (map string_bytes words.now)) result
         (I.told source.old) (I.told source.new) (O.told sink.old) (O.told sink.new)
         (C.seen cloud.old) (C.seen cloud.new) }
-    // A load of a dump, where besides no count of the cloud rose and each step was calm, too, unless a counter is spent.
+    // A load of a dump, where besides no count of the cloud rose and each step was calm, too, unless memory ran out.
     ensures complete_load { LoadCompletes (shape_of (map string_bytes words.now)) result
         (I.told source.old) (I.told source.new) (O.told sink.old) (O.told sink.new)
         (C.seen cloud.old) (C.seen cloud.new) }

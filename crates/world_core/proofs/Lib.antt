@@ -8,6 +8,7 @@ pub mod Texts
 pub mod Stopping
 pub mod Landing
 pub mod GrowthLemmas
+pub mod QuotaLemmas
 pub mod Marks
 pub mod Behind
 pub mod StandsLemmas

@@ -22,6 +22,7 @@ pub mod World
 pub mod Writers
 pub mod Metered
 pub mod Passed
+pub mod Quota
 pub mod Spared
 pub mod Begun
 pub mod Caused

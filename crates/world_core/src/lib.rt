@@ -5,6 +5,7 @@ pub mod asked;
 mod checkpoint;
 mod noting;
 mod put;
+pub mod quota;
 mod replying;
 pub mod sessions;
 pub mod world;

@@ -1,5 +1,6 @@
 ghost use Rattle.std.specs.Prelude.{◌≡◌, ℕ, ◌≤◌, ◌<◌, ◌⊎◌, true, false, [], replicate, slice_get, All, Some, None, Ok, IfOk, IfErr, OnErr, OnOk};
 ghost use Rattle.world_core.specs.Put.{is_blind};
+ghost use Rattle.world_core.specs.Quota.{SpendsQuota};
 ghost use Rattle.world_core.specs.Stands.{Grows};
 ghost use Rattle.world_core.specs.Handled.{WaitsFor};
 ghost use Rattle.ckpt_policy.specs.Ledger.{IsNumber};
@@ -11,6 +12,7 @@ use crate::asked::{Asked, Noting, Request};
 use crate::checkpoint::{begin_notes, checkpoint_of, count_if, forget};
 use crate::noting::{keep_landed, note_put};
 use crate::put::{Put, is_newest, put_in_hand};
+use crate::quota::{Quota, leaves_row};
 use crate::replying::{
     begun_reply, declined, done, is_done, reply_of, settled_reply, told, trouble_reply, turn_reply,
 };
@@ -96,6 +98,7 @@ impl<S: SessionCalls> World<S> {
     ghost use Rattle.world_core.specs.Metered.{KeepsMeter};
     ghost use Rattle.world_core.specs.Named.{NamesSteps};
     ghost use Rattle.world_core.specs.Passed.{PassesWell};
+    ghost use Rattle.world_core.specs.Quota.{HasNoRowInHand, IsCovered, SpendsQuota};
     ghost use Rattle.world_core.specs.Spared.{SparesWriter};
     ghost use Rattle.world_core.specs.Settled.{SettlingEnds, SettlingIsRight, SettlingLeaves};
     ghost use Rattle.world_core.specs.Stands.{KeepsABook, WorldStands, StandsOn};
@@ -146,11 +149,13 @@ impl<S: SessionCalls> World<S> {
         })
     }
 
-    /// Handles the line of a number: what it does to the world, and the reply.
+    /// Handles the line of a number: what it does to the world, and the reply. A put or send beyond the quota is not made, which
+    /// is told as want of memory.
     pub fn event<C: Bench>(
         &mut self,
         alloc: Global,
         cloud: &mut C,
+        quota: &mut Quota,
         n: u64,
         event: &Event,
     ) -> Result<Reply, WorldFault>
@@ -186,45 +191,51 @@ impl<S: SessionCalls> World<S> {
         ensures short { LeavesShort event.now self.old self.new result }
         ensures keeps { KeepsABook (C.seen cloud.old) (C.seen cloud.new) self.old self.new result }
         ensures grows { Grows n (C.seen cloud.old) (C.seen cloud.new) }
+        // No more lands than is taken of the quota.
+        ensures spends { SpendsQuota (C.seen cloud.old) (C.seen cloud.new) quota.old quota.new }
     {
-        self.handle(alloc, cloud, n, event)
+        self.handle(alloc, cloud, quota, n, event)
     }
 
-    #[tactic(auto, using(crate::proofs::GrowthLemmas::grows_not, crate::proofs::Texts::has_text))]
+    #[tactic(auto, using(crate::proofs::GrowthLemmas::grows_not, crate::proofs::Texts::has_text, crate::proofs::QuotaLemmas::spends_not))]
     fn handle<C: Bench>(
         &mut self,
         alloc: Global,
         cloud: &mut C,
+        quota: &mut Quota,
         n: u64,
         event: &Event,
     ) -> Result<Reply, WorldFault>
         ensures handled { Handled n event.now (C.seen cloud.old) (C.seen cloud.new) self.old self.new result }
         ensures grows { Grows n (C.seen cloud.old) (C.seen cloud.new) }
+        ensures spends { SpendsQuota (C.seen cloud.old) (C.seen cloud.new) quota.old quota.new }
     {
         match Asked::of(alloc, event) {
-            Asked::Session(number, request) => self.ask(alloc, cloud, n, number, request),
+            Asked::Session(number, request) => self.ask(alloc, cloud, quota, n, number, request),
             Asked::Wait(ticks) => wait(cloud, ticks),
             Asked::Report(tree) => self.report(alloc, cloud, tree),
-            Asked::Settle => self.settle(alloc, cloud, n),
+            Asked::Settle => self.settle(alloc, cloud, quota, n),
         }
     }
 
     /// Does what is asked of the session of this number, where it is one.
-    #[tactic(auto, using(crate::proofs::GrowthLemmas::grows_not))]
+    #[tactic(auto, using(crate::proofs::GrowthLemmas::grows_not, crate::proofs::QuotaLemmas::spends_not))]
     fn ask<C: Bench>(
         &mut self,
         alloc: Global,
         cloud: &mut C,
+        quota: &mut Quota,
         n: u64,
         number: u64,
         request: Result<Request, Refused>,
     ) -> Result<Reply, WorldFault>
         ensures answers { Answers n (Asked.Session number request) (C.seen cloud.old) (C.seen cloud.new) self.old self.new result }
         ensures grows { Grows n (C.seen cloud.old) (C.seen cloud.new) }
+        ensures spends { SpendsQuota (C.seen cloud.old) (C.seen cloud.new) quota.old quota.new }
     {
         match SessionNo::new(number) {
             Ok(session) => match request {
-                Ok(request) => self.serve(alloc, cloud, Who { session, event: n }, request),
+                Ok(request) => self.serve(alloc, cloud, quota, Who { session, event: n }, request),
                 Err(why) => declined(why),
             },
             Err(rule) => declined(Refused::Rule(rule)),
@@ -232,25 +243,28 @@ impl<S: SessionCalls> World<S> {
     }
 
     /// Does what is asked of the session.
+    #[tactic(auto, using(crate::proofs::QuotaLemmas::spends_not))]
     fn serve<C: Bench>(
         &mut self,
         alloc: Global,
         cloud: &mut C,
+        quota: &mut Quota,
         who: Who,
         request: Request,
     ) -> Result<Reply, WorldFault>
         ensures does { Does who.event who.session request (C.seen cloud.old) (C.seen cloud.new) self.old self.new result }
         ensures grows { Grows who.event (C.seen cloud.old) (C.seen cloud.new) }
+        ensures spends { SpendsQuota (C.seen cloud.old) (C.seen cloud.new) quota.old quota.new }
     {
         match request {
             Request::Begin(op) => self.begin(alloc, who.session, op),
             Request::Note(noting) => self.note(alloc, who.session, noting),
             Request::Abort => self.abort(who.session),
             Request::Policy(role, k) => self.policy(alloc, who.session, role, k),
-            Request::Work => self.work(alloc, cloud, who),
-            Request::Step(wish) => self.step(alloc, cloud, who, wish),
-            Request::Run => self.run(alloc, cloud, who),
-            Request::Crash(done) => self.crash(alloc, cloud, who, done),
+            Request::Work => self.work(alloc, cloud, quota, who),
+            Request::Step(wish) => self.step(alloc, cloud, quota, who, wish),
+            Request::Run => self.run(alloc, cloud, quota, who),
+            Request::Crash(done) => self.crash(alloc, cloud, quota, who, done),
         }
     }
 
@@ -380,20 +394,23 @@ impl<S: SessionCalls> World<S> {
     }
 
     /// Makes one step under a wish.
+    #[tactic(auto, using(crate::proofs::QuotaLemmas::spends_not))]
     fn step<C: Bench>(
         &mut self,
         alloc: Global,
         cloud: &mut C,
+        quota: &mut Quota,
         who: Who,
         wish: Wish,
     ) -> Result<Reply, WorldFault>
         ensures steps { MakesStep who.event who.session wish (C.seen cloud.old) (C.seen cloud.new) self.old self.new result }
         ensures grows { Grows who.event (C.seen cloud.old) (C.seen cloud.new) }
+        ensures spends { SpendsQuota (C.seen cloud.old) (C.seen cloud.new) quota.old quota.new }
     {
         if !self.works(who.session) {
             return Ok(Reply::Refused(Refusal::NotWorking));
         }
-        match self.step_under(alloc, cloud, who, wish) {
+        match self.step_under(alloc, cloud, quota, who, wish) {
             Ok(turn) => {
                 let reply = turn_reply(alloc, self.session(who.session), turn);
                 self.replied(who.session, reply)
@@ -403,14 +420,22 @@ impl<S: SessionCalls> World<S> {
     }
 
     /// Makes plain steps until the answer.
-    fn run<C: Bench>(&mut self, alloc: Global, cloud: &mut C, who: Who) -> Result<Reply, WorldFault>
+    #[tactic(auto, using(crate::proofs::QuotaLemmas::spends_not))]
+    fn run<C: Bench>(
+        &mut self,
+        alloc: Global,
+        cloud: &mut C,
+        quota: &mut Quota,
+        who: Who,
+    ) -> Result<Reply, WorldFault>
         ensures runs { Runs who.event who.session (C.seen cloud.old) (C.seen cloud.new) self.old self.new result }
         ensures grows { Grows who.event (C.seen cloud.old) (C.seen cloud.new) }
+        ensures spends { SpendsQuota (C.seen cloud.old) (C.seen cloud.new) quota.old quota.new }
     {
         if !self.works(who.session) {
             return Ok(Reply::Refused(Refusal::NotWorking));
         }
-        match self.run_on(alloc, cloud, who) {
+        match self.run_on(alloc, cloud, quota, who) {
             Ok(answer) => {
                 let reply = reply_of(alloc, self.session(who.session), answer);
                 self.replied(who.session, reply)
@@ -424,15 +449,17 @@ impl<S: SessionCalls> World<S> {
         &mut self,
         alloc: Global,
         cloud: &mut C,
+        quota: &mut Quota,
         who: Who,
     ) -> Result<Answer, WorldFault>
         requires { IsAtWork who.session self.old.sessions }
         ensures comes { IfOk result (λ answer. ComesTo who (C.seen cloud.old) (C.seen cloud.new) self.old self.new answer) }
         ensures short { OnErr result (StopsShort who (C.seen cloud.old) (C.seen cloud.new) self.old self.new) }
         ensures grows { Grows who.event (C.seen cloud.old) (C.seen cloud.new) }
+        ensures spends { SpendsQuota (C.seen cloud.old) (C.seen cloud.new) quota.old quota.new }
     {
         'steps: loop {
-            let turn = self.step_under(alloc, cloud, who, Wish::Plain)?;
+            let turn = self.step_under(alloc, cloud, quota, who, Wish::Plain)?;
             match turn {
                 Turn::More => {}
                 Turn::Ended(answer) => return Ok(answer),
@@ -487,34 +514,40 @@ impl<S: SessionCalls> World<S> {
     }
 
     /// Makes one checkpoint of each queue that is due to the session.
+    #[tactic(auto, using(crate::proofs::QuotaLemmas::spends_not))]
     fn work<C: Bench>(
         &mut self,
         alloc: Global,
         cloud: &mut C,
+        quota: &mut Quota,
         who: Who,
     ) -> Result<Reply, WorldFault>
         ensures works { WorksThrough who.event who.session (C.seen cloud.old) (C.seen cloud.new) self.old self.new result }
         ensures grows { Grows who.event (C.seen cloud.old) (C.seen cloud.new) }
+        ensures spends { SpendsQuota (C.seen cloud.old) (C.seen cloud.new) quota.old quota.new }
     {
         match self.session(who.session).client() {
-            Ok(_) => self.work_open(alloc, cloud, who),
+            Ok(_) => self.work_open(alloc, cloud, quota, who),
             Err(rule) => Ok(Reply::Refused(rule)),
         }
     }
 
     /// Makes those of a session that is open.
+    #[tactic(auto, using(crate::proofs::QuotaLemmas::spends_not))]
     fn work_open<C: Bench>(
         &mut self,
         alloc: Global,
         cloud: &mut C,
+        quota: &mut Quota,
         who: Who,
     ) -> Result<Reply, WorldFault>
         requires { IsOpen who.session self.old.sessions }
         ensures works { WorksThrough who.event who.session (C.seen cloud.old) (C.seen cloud.new) self.old self.new result }
         ensures grows { Grows who.event (C.seen cloud.old) (C.seen cloud.new) }
+        ensures spends { SpendsQuota (C.seen cloud.old) (C.seen cloud.new) quota.old quota.new }
     {
         match self.notes.due(alloc, who.session) {
-            Ok(queues) => self.work_down(alloc, cloud, who, queues.as_slice()),
+            Ok(queues) => self.work_down(alloc, cloud, quota, who, queues.as_slice()),
             Err(_) => {
                 self.break_off(who.session);
                 Err(WorldFault::Memory)
@@ -527,6 +560,7 @@ impl<S: SessionCalls> World<S> {
         &mut self,
         alloc: Global,
         cloud: &mut C,
+        quota: &mut Quota,
         who: Who,
         queues: &[QueueName],
     ) -> Result<Reply, WorldFault>
@@ -535,6 +569,7 @@ impl<S: SessionCalls> World<S> {
         ensures ok { IfOk result (λ reply. WorksOff who queues.now (C.seen cloud.old) (C.seen cloud.new) self.old self.new reply) }
         ensures short { OnErr result (WorksShort who (C.seen cloud.old) (C.seen cloud.new) self.old self.new) }
         ensures grows { Grows who.event (C.seen cloud.old) (C.seen cloud.new) }
+        ensures spends { SpendsQuota (C.seen cloud.old) (C.seen cloud.new) quota.old quota.new }
     {
         // Read for the bound on both counts.
         let most = queues.len() as u64;
@@ -542,7 +577,7 @@ impl<S: SessionCalls> World<S> {
         let mut passed = 0u64;
         let mut left = queues;
         'checkpoints: while let Some((queue, rest)) = left.split_first() {
-            let is_done = self.checkpoint(alloc, cloud, who, *queue)?;
+            let is_done = self.checkpoint(alloc, cloud, quota, who, *queue)?;
             done = count_if(done, most, is_done);
             passed = count_if(passed, most, !is_done);
             left = rest;
@@ -556,6 +591,7 @@ impl<S: SessionCalls> World<S> {
         &mut self,
         alloc: Global,
         cloud: &mut C,
+        quota: &mut Quota,
         who: Who,
         queue: QueueName,
     ) -> Result<bool, WorldFault>
@@ -564,9 +600,10 @@ impl<S: SessionCalls> World<S> {
         ensures ok { IfOk result (λ done. MakesOne who queue done (C.seen cloud.old) (C.seen cloud.new) self.old self.new) }
         ensures short { OnErr result (FailsAt who (C.seen cloud.old) (C.seen cloud.new) self.old self.new) }
         ensures grows { Grows who.event (C.seen cloud.old) (C.seen cloud.new) }
+        ensures spends { SpendsQuota (C.seen cloud.old) (C.seen cloud.new) quota.old quota.new }
     {
         self.begin_checkpoint(alloc, who.session, &queue);
-        match self.run_on(alloc, cloud, who)? {
+        match self.run_on(alloc, cloud, quota, who)? {
             Answer::Done(_) => Ok(true),
             Answer::Trouble(trouble) => self.pass_over(who.session, trouble),
             _ => unreachable!(),
@@ -614,19 +651,21 @@ impl<S: SessionCalls> World<S> {
     }
 
     /// Has the settler settle.
-    #[tactic(auto, using(crate::proofs::GrowthLemmas::grows_not))]
+    #[tactic(auto, using(crate::proofs::GrowthLemmas::grows_not, crate::proofs::QuotaLemmas::spends_not))]
     fn settle<C: Bench>(
         &mut self,
         alloc: Global,
         cloud: &mut C,
+        quota: &mut Quota,
         n: u64,
     ) -> Result<Reply, WorldFault>
         ensures settles { Settles n (C.seen cloud.old) (C.seen cloud.new) self.old self.new result }
         ensures grows { Grows n (C.seen cloud.old) (C.seen cloud.new) }
+        ensures spends { SpendsQuota (C.seen cloud.old) (C.seen cloud.new) quota.old quota.new }
     {
         let session = SessionNo::settler();
         match self.begin_settling(alloc, session) {
-            Ok(()) => self.settle_on(alloc, cloud, Who { session, event: n }),
+            Ok(()) => self.settle_on(alloc, cloud, quota, Who { session, event: n }),
             Err(_) => Err(WorldFault::Memory),
         }
     }
@@ -636,13 +675,15 @@ impl<S: SessionCalls> World<S> {
         &mut self,
         alloc: Global,
         cloud: &mut C,
+        quota: &mut Quota,
         who: Who,
     ) -> Result<Reply, WorldFault>
         requires { slice_get self.old.sessions who.session ≡ Some settling_session }
         ensures settles { SettlesOn who (C.seen cloud.old) (C.seen cloud.new) self.old self.new result }
         ensures grows { Grows who.event (C.seen cloud.old) (C.seen cloud.new) }
+        ensures spends { SpendsQuota (C.seen cloud.old) (C.seen cloud.new) quota.old quota.new }
     {
-        let answer = self.run_on(alloc, cloud, who);
+        let answer = self.run_on(alloc, cloud, quota, who);
         self.close(who.session);
         match answer {
             Ok(answer) => settled_reply(answer),
@@ -651,19 +692,21 @@ impl<S: SessionCalls> World<S> {
     }
 
     /// Lets the session die: at once, or once its call in hand is made.
-    #[tactic(auto, using(crate::proofs::GrowthLemmas::grows_not))]
+    #[tactic(auto, using(crate::proofs::GrowthLemmas::grows_not, crate::proofs::QuotaLemmas::spends_not))]
     fn crash<C: Bench>(
         &mut self,
         alloc: Global,
         cloud: &mut C,
+        quota: &mut Quota,
         who: Who,
         done: bool,
     ) -> Result<Reply, WorldFault>
         ensures crashes { Crashes who.event who.session done (C.seen cloud.old) (C.seen cloud.new) self.old self.new result }
         ensures grows { Grows who.event (C.seen cloud.old) (C.seen cloud.new) }
+        ensures spends { SpendsQuota (C.seen cloud.old) (C.seen cloud.new) quota.old quota.new }
     {
         if done && self.works(who.session) {
-            return self.crash_done(alloc, cloud, who);
+            return self.crash_done(alloc, cloud, quota, who);
         }
         self.die(who.session);
         Ok(Reply::Crashed)
@@ -674,13 +717,15 @@ impl<S: SessionCalls> World<S> {
         &mut self,
         alloc: Global,
         cloud: &mut C,
+        quota: &mut Quota,
         who: Who,
     ) -> Result<Reply, WorldFault>
         requires works { IsAtWork who.session self.old.sessions }
         ensures dies { CrashesDone who (C.seen cloud.old) (C.seen cloud.new) self.old self.new result }
         ensures grows { Grows who.event (C.seen cloud.old) (C.seen cloud.new) }
+        ensures spends { SpendsQuota (C.seen cloud.old) (C.seen cloud.new) quota.old quota.new }
     {
-        let turn = self.step_under(alloc, cloud, who, Wish::Plain)?;
+        let turn = self.step_under(alloc, cloud, quota, who, Wish::Plain)?;
         self.die(who.session);
         unanswered(turn);
         Ok(Reply::Crashed)
@@ -691,6 +736,7 @@ impl<S: SessionCalls> World<S> {
         &mut self,
         alloc: Global,
         cloud: &mut C,
+        quota: &mut Quota,
         who: Who,
         wish: Wish,
     ) -> Result<Turn<Answer>, WorldFault>
@@ -698,13 +744,59 @@ impl<S: SessionCalls> World<S> {
         ensures looked { IfOk result (λ turn. StepsLooked who wish (C.seen cloud.old) (C.seen cloud.new) self.old self.new turn) }
         ensures short { OnErr result (RunsShort who wish (C.seen cloud.old) (C.seen cloud.new) self.old self.new) }
         ensures grows { Grows who.event (C.seen cloud.old) (C.seen cloud.new) }
+        ensures spends { SpendsQuota (C.seen cloud.old) (C.seen cloud.new) quota.old quota.new }
     {
-        match self.step_looked(alloc, cloud, who, wish) {
+        match self.step_within(alloc, cloud, quota, who, wish) {
             Ok(turn) => Ok(turn),
             Err(fault) => {
                 self.break_off(who.session);
                 Err(fault)
             }
+        }
+    }
+
+    /// Makes a step of a session that is at work under a wish, where the quota covers its call.
+    #[tactic(auto, using(crate::proofs::QuotaLemmas::spends_not, crate::proofs::QuotaLemmas::spends_none))]
+    fn step_within<C: Bench>(
+        &mut self,
+        alloc: Global,
+        cloud: &mut C,
+        quota: &mut Quota,
+        who: Who,
+        wish: Wish,
+    ) -> Result<Turn<Answer>, WorldFault>
+        requires works { IsAtWork who.session self.old.sessions }
+        ensures looked { IfOk result (λ turn. StepsLooked who wish (C.seen cloud.old) (C.seen cloud.new) self.old self.new turn) }
+        ensures short { OnErr result (FallsShort who wish (C.seen cloud.old) (C.seen cloud.new) self.old self.new) }
+        ensures grows { Grows who.event (C.seen cloud.old) (C.seen cloud.new) }
+        ensures spends { SpendsQuota (C.seen cloud.old) (C.seen cloud.new) quota.old quota.new }
+    {
+        if !self.is_covered(quota, who.session) {
+            return Err(WorldFault::Memory);
+        }
+        self.step_looked(alloc, cloud, who, wish)
+    }
+
+    /// Whether the call in hand of the session is neither a put nor a send, or one of the quota was taken for it.
+    fn is_covered(&self, quota: &mut Quota, number: SessionNo) -> bool
+        ensures covered { result ≡ true → IsCovered number self.now.sessions quota.old quota.new }
+        ensures spent { result ≡ false → quota.new ≡ quota.old }
+    {
+        if self.lands(number) {
+            quota.take()
+        } else {
+            true
+        }
+    }
+
+    /// Whether the session has a put or a send in hand.
+    #[tactic(auto, using(crate::proofs::QuotaLemmas::no_row_in_hand))]
+    fn lands(&self, number: SessionNo) -> bool
+        ensures { result ≡ false → HasNoRowInHand number self.now.sessions }
+    {
+        match self.session(number).in_hand() {
+            Some(call) => leaves_row(&call),
+            None => false,
         }
     }
 
@@ -849,11 +941,12 @@ fn is_blinded(blind: bool, before: Option<bool>, after: Option<bool>) -> bool
 }
 
 /// Lets the clock go on.
-#[tactic(auto, using(crate::proofs::GrowthLemmas::grows_not, crate::proofs::GrowthLemmas::grows_wait))]
+#[tactic(auto, using(crate::proofs::GrowthLemmas::grows_not, crate::proofs::GrowthLemmas::grows_wait, crate::proofs::QuotaLemmas::spends_not))]
 fn wait<C: Bench>(cloud: &mut C, ticks: u64) -> Result<Reply, WorldFault>
     ensures within { ticks ≤ 1000000 → WaitsFor ticks (C.seen cloud.old) (C.seen cloud.new) result }
     ensures beyond { 1000000 < ticks → (result ≡ Ok (Reply.Refused Refusal.BadNumber)) × (C.seen cloud.new ≡ C.seen cloud.old) }
     ensures grows { (n : ℕ) → Grows n (C.seen cloud.old) (C.seen cloud.new) }
+    ensures spends { (quota : ℕ) → SpendsQuota (C.seen cloud.old) (C.seen cloud.new) quota quota }
 {
     if ticks > MAX_WAIT {
         return Ok(Reply::Refused(Refusal::BadNumber));

@@ -6,7 +6,7 @@ use Rattle.world_core.proofs.world.World.step_under.Goals as goal
 pub returns-in-Err-clause-short : goal.returns-in-Err-clause-short
 returns-in-Err-clause-short g c = record {
   works = c.requires.works;
-  left = c.step_looked.new.self;
+  left = c.step_within.new.self;
   falls = c.in-Err.ensures.short;
-  breaks = subst (λ n. BreaksOff n c.step_looked.new.self c.break_off.new.self) (ap (λ (w : Caller). w.session) c.who.view_is) c.break_off.ensures;
+  breaks = subst (λ n. BreaksOff n c.step_within.new.self c.break_off.new.self) (ap (λ (w : Caller). w.session) c.who.view_is) c.break_off.ensures;
 }

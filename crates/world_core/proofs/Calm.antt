@@ -253,7 +253,7 @@ module _ (who : Caller) (wish : Wish) (before after : Seen) (old new : World) (t
   untroubled_before : (calm : StepIsCalm who wish before after old new turn p) → Goes before old → IsUntroubled calm.calm.before p.session.before.work
   untroubled_before calm (t, told, well) =
       subst (λ (x : CloudState). IsUntroubled x p.session.before.work) (state_is (record t { wish = wish }) calm.calm.before (sym (told_under t told) ∙ calm.calm.told))
-      (untroubled_later t (record t { wish = wish }) p.session.before.work (record { versions = λ name. begins_itself (t.versions name); messages = λ queue. omega arith })
+      (untroubled_later t (record t { wish = wish }) p.session.before.work (record { versions = λ name. begins_itself (t.versions name); messages = λ queue. omega arith; rows = omega arith })
       (omega arith)
       (subst (λ (a : Acting). IsUntroubled t a.work) (changed_was who.session _ old.sessions new.sessions p.session) well))
 
@@ -755,6 +755,7 @@ module _ (lines : List Line) (n : ℕ) (before after : Seen) (old new : World) (
                 untroubled_later t w.after (work_at old 0) (record {
                   versions = λ name. begins_same (t.versions name) (w.after.versions name) (ap (λ (x : CloudState). x.versions name) w.rest);
                   messages = λ queue. let same = ap (λ (x : CloudState). length (x.messages queue)) w.rest in omega (arith, same);
+                  rows = let same = ap (λ (x : CloudState). length x.trace) w.rest in omega (arith, same);
                 })
                     (end_later t.now ticks w.after.now (waits.0.clock t told) w.later) (well t told),
               )

@@ -58,3 +58,5 @@ pub mod Caused
 pub mod Shown
 pub mod EachUnderWay
 pub mod ShownByLines
+pub mod LookedUp
+pub mod Tagged

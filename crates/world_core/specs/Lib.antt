@@ -28,3 +28,4 @@ pub mod Begun
 pub mod Caused
 pub mod Shown
 pub mod ShownByLines
+pub mod Tagged

@@ -8,4 +8,5 @@ mod put;
 pub mod quota;
 mod replying;
 pub mod sessions;
+mod stepping;
 pub mod world;

@@ -1,5 +1,4 @@
-ghost use Rattle.std.specs.Prelude.{◌≡◌, ℕ, ◌≤◌, ◌<◌, ◌⊎◌, true, false, [], replicate, slice_get, All, Some, None, Ok, IfOk, IfErr, OnErr, OnOk};
-ghost use Rattle.world_core.specs.Put.{is_blind};
+ghost use Rattle.std.specs.Prelude.{◌≡◌, ℕ, ◌≤◌, ◌<◌, true, false, [], replicate, slice_get, All, Some, Ok, IfOk, IfErr, OnErr, OnOk};
 ghost use Rattle.world_core.specs.Quota.{SpendsQuota};
 ghost use Rattle.world_core.specs.Stands.{Grows};
 ghost use Rattle.world_core.specs.Handled.{WaitsFor};
@@ -10,11 +9,9 @@ ghost use Rattle.session_notes.specs.Notebook.{blank, ChangesBook};
 
 use crate::asked::{Asked, Noting, Request};
 use crate::checkpoint::{begin_notes, checkpoint_of, count_if, forget};
-use crate::noting::{keep_landed, note_put};
-use crate::put::{Put, is_newest, put_in_hand};
-use crate::quota::{Quota, leaves_row};
+use crate::quota::Quota;
 use crate::replying::{
-    begun_reply, declined, done, is_done, reply_of, settled_reply, told, trouble_reply, turn_reply,
+    begun_reply, declined, done, reply_of, settled_reply, told, trouble_reply, turn_reply,
 };
 use crate::sessions::Sessions;
 use ckpt_policy::{Ledger, Role, is_number};
@@ -31,7 +28,6 @@ use db_base::trouble::Trouble;
 use db_base::wish::Wish;
 use event_text::event::Event;
 use reply_text::reply::Reply;
-use session_notes::note_of_call::note_of_call;
 use session_notes::notebooks::Notebooks;
 use std::alloc::Global;
 use std::marker::Model;
@@ -50,13 +46,13 @@ pub enum WorldFault {
 /// The sessions of a replay, and what was seen of them.
 pub struct World<S: SessionCalls> {
     // By their numbers.
-    sessions: Sessions<S>,
+    pub(crate) sessions: Sessions<S>,
     // What was seen to commit and to be applied.
-    audit: Audit,
+    pub(crate) audit: Audit,
     // Whether it looks at no put, from its start or since a look failed: the audit does not know then whether the put landed.
-    blind: bool,
+    pub(crate) blind: bool,
     // What is kept of each session for the choice of its checkpoints.
-    notes: Notebooks,
+    pub(crate) notes: Notebooks,
 }
 
 // Written out, so that what holds a world need not look into it to let it go.
@@ -82,7 +78,7 @@ impl<S: SessionCalls> Model for World<S> {
 impl<S: SessionCalls> World<S> {
     ghost use Rattle.cloud_trait.specs.State.{CloudState, IsEmptyCloud};
     ghost use Rattle.cloud_trait.specs.Seen.{Seen};
-    ghost use Rattle.client_work.specs.Session.{closed_session, settling_session, StepsSession};
+    ghost use Rattle.client_work.specs.Session.{closed_session, settling_session};
     ghost use Rattle.reply_text.specs.Reply.{ReplyHasText};
     ghost use Rattle.world_core.specs.Sound.{AnswersSoundly};
     ghost use Rattle.world_core.specs.Acknowledged.{AnswersDurably};
@@ -91,6 +87,7 @@ impl<S: SessionCalls> World<S> {
     ghost use Rattle.world_core.specs.Caused.{CausesSteps};
     ghost use Rattle.world_core.specs.Shown.{ShowsSteps};
     ghost use Rattle.world_core.specs.ShownByLines.{ShowsStepsBy};
+    ghost use Rattle.world_core.specs.Tagged.{ShowsTagged};
     ghost use Rattle.world_core.specs.Calm.{AnswersWell};
     ghost use Rattle.world_core.specs.Alone.{KeepsAlone};
     ghost use Rattle.world_core.specs.Bounded.{MakesFewCalls};
@@ -98,12 +95,12 @@ impl<S: SessionCalls> World<S> {
     ghost use Rattle.world_core.specs.Metered.{KeepsMeter};
     ghost use Rattle.world_core.specs.Named.{NamesSteps};
     ghost use Rattle.world_core.specs.Passed.{PassesWell};
-    ghost use Rattle.world_core.specs.Quota.{HasNoRowInHand, IsCovered, SpendsQuota};
+    ghost use Rattle.world_core.specs.Quota.{SpendsQuota};
     ghost use Rattle.world_core.specs.Spared.{SparesWriter};
     ghost use Rattle.world_core.specs.Settled.{SettlingEnds, SettlingIsRight, SettlingLeaves};
     ghost use Rattle.world_core.specs.Stands.{KeepsABook, WorldStands, StandsOn};
-    ghost use Rattle.world_core.specs.Sessions.{Changes, IsNotWorking, IsAtWork, HasPut};
-    ghost use Rattle.world_core.specs.Handled.{BeginsBook, BeginsCheckpoint, ClearsNotes, FailsAt, IsOpen, KeepsNotes, MakesOne, NotesCall, NotesEnd, Policies, WorksOff, WorksShort, WorksThrough, Handled, Answers, Does, BeginsOp, NotesChange, DropsChanges, MakesStep, ComesTo, Runs, Settles, SettlesOn, Has, Crashes, CrashesDone, StepsLooked, StopsShort, FallsShort, RunsShort, Reports, BreaksOff, LeavesReplied};
+    ghost use Rattle.world_core.specs.Sessions.{Changes, IsNotWorking, IsAtWork};
+    ghost use Rattle.world_core.specs.Handled.{BeginsBook, BeginsCheckpoint, ClearsNotes, FailsAt, IsOpen, KeepsNotes, MakesOne, Policies, WorksOff, WorksShort, WorksThrough, Handled, Answers, Does, BeginsOp, NotesChange, DropsChanges, MakesStep, ComesTo, Runs, Settles, SettlesOn, Has, Crashes, CrashesDone, StopsShort, Reports, BreaksOff, LeavesReplied};
 
     /// A world whose sessions are closed, and that saw nothing: over an empty cloud it stands for no lines. Refused for memory
     /// alone.
@@ -172,6 +169,8 @@ impl<S: SessionCalls> World<S> {
         ensures shown { ShowsSteps n event.now (C.seen cloud.old) (C.seen cloud.new) self.old self.new result }
         // What it shows is by what the lines say of its client.
         ensures shown_by_lines { ShowsStepsBy n event.now (C.seen cloud.old) (C.seen cloud.new) self.old self.new result }
+        // A look-up finds all records with the attribute, where all is applied and nothing that it got was old.
+        ensures tagged { ShowsTagged n event.now (C.seen cloud.old) (C.seen cloud.new) self.old self.new result }
         ensures calm { AnswersWell n event.now (C.seen cloud.old) (C.seen cloud.new) self.old self.new result }
         // A session that is alone finds its locks free.
         ensures alone { KeepsAlone n event.now (C.seen cloud.old) (C.seen cloud.new) self.old self.new result }
@@ -314,7 +313,7 @@ impl<S: SessionCalls> World<S> {
     }
 
     /// The session of a number.
-    fn session(&self, number: SessionNo) -> &S
+    pub(crate) fn session(&self, number: SessionNo) -> &S
         ensures { slice_get self.now.sessions number ≡ Some (S.acting result.now) }
     {
         self.sessions.get(number)
@@ -347,7 +346,7 @@ impl<S: SessionCalls> World<S> {
     }
 
     /// Breaks the session off: of an open client its lease is left.
-    fn break_off(&mut self, number: SessionNo)
+    pub(crate) fn break_off(&mut self, number: SessionNo)
         ensures { BreaksOff number self.old self.new }
     {
         self.sessions.break_off(number);
@@ -372,17 +371,6 @@ impl<S: SessionCalls> World<S> {
                 Err(fault)
             }
         }
-    }
-
-    /// Makes the call in hand of the session.
-    fn call<C: Bench>(&mut self, alloc: Global, cloud: &mut C, who: Who) -> Turn<Answer>
-        requires { IsAtWork who.session self.old.sessions }
-        ensures session { Changes who.session (λ a b. StepsSession who (C.seen cloud.old) (C.seen cloud.new) a b (Ok result)) self.old.sessions self.new.sessions }
-        ensures audit { self.new.audit ≡ self.old.audit }
-        ensures blind { self.new.blind ≡ self.old.blind }
-        ensures notes { KeepsNotes self.old self.new }
-    {
-        self.sessions.step(alloc, cloud, who)
     }
 
     /// Whether the session has a call in hand.
@@ -731,186 +719,6 @@ impl<S: SessionCalls> World<S> {
         Ok(Reply::Crashed)
     }
 
-    /// Makes a step of a session that is at work under a wish, and breaks the session off where memory runs out beside it.
-    fn step_under<C: Bench>(
-        &mut self,
-        alloc: Global,
-        cloud: &mut C,
-        quota: &mut Quota,
-        who: Who,
-        wish: Wish,
-    ) -> Result<Turn<Answer>, WorldFault>
-        requires works { IsAtWork who.session self.old.sessions }
-        ensures looked { IfOk result (λ turn. StepsLooked who wish (C.seen cloud.old) (C.seen cloud.new) self.old self.new turn) }
-        ensures short { OnErr result (RunsShort who wish (C.seen cloud.old) (C.seen cloud.new) self.old self.new) }
-        ensures grows { Grows who.event (C.seen cloud.old) (C.seen cloud.new) }
-        ensures spends { SpendsQuota (C.seen cloud.old) (C.seen cloud.new) quota.old quota.new }
-    {
-        match self.step_within(alloc, cloud, quota, who, wish) {
-            Ok(turn) => Ok(turn),
-            Err(fault) => {
-                self.break_off(who.session);
-                Err(fault)
-            }
-        }
-    }
-
-    /// Makes a step of a session that is at work under a wish, where the quota covers its call.
-    #[tactic(auto, using(crate::proofs::QuotaLemmas::spends_not, crate::proofs::QuotaLemmas::spends_none))]
-    fn step_within<C: Bench>(
-        &mut self,
-        alloc: Global,
-        cloud: &mut C,
-        quota: &mut Quota,
-        who: Who,
-        wish: Wish,
-    ) -> Result<Turn<Answer>, WorldFault>
-        requires works { IsAtWork who.session self.old.sessions }
-        ensures looked { IfOk result (λ turn. StepsLooked who wish (C.seen cloud.old) (C.seen cloud.new) self.old self.new turn) }
-        ensures short { OnErr result (FallsShort who wish (C.seen cloud.old) (C.seen cloud.new) self.old self.new) }
-        ensures grows { Grows who.event (C.seen cloud.old) (C.seen cloud.new) }
-        ensures spends { SpendsQuota (C.seen cloud.old) (C.seen cloud.new) quota.old quota.new }
-    {
-        if !self.is_covered(quota, who.session) {
-            return Err(WorldFault::Memory);
-        }
-        self.step_looked(alloc, cloud, who, wish)
-    }
-
-    /// Whether the call in hand of the session is neither a put nor a send, or one of the quota was taken for it.
-    fn is_covered(&self, quota: &mut Quota, number: SessionNo) -> bool
-        ensures covered { result ≡ true → IsCovered number self.now.sessions quota.old quota.new }
-        ensures spent { result ≡ false → quota.new ≡ quota.old }
-    {
-        if self.lands(number) {
-            quota.take()
-        } else {
-            true
-        }
-    }
-
-    /// Whether the session has a put or a send in hand.
-    #[tactic(auto, using(crate::proofs::QuotaLemmas::no_row_in_hand))]
-    fn lands(&self, number: SessionNo) -> bool
-        ensures { result ≡ false → HasNoRowInHand number self.now.sessions }
-    {
-        match self.session(number).in_hand() {
-            Some(call) => leaves_row(&call),
-            None => false,
-        }
-    }
-
-    /// Makes a step of a session that is at work under a wish, between two looks where it is a put and the world is not blind.
-    fn step_looked<C: Bench>(
-        &mut self,
-        alloc: Global,
-        cloud: &mut C,
-        who: Who,
-        wish: Wish,
-    ) -> Result<Turn<Answer>, WorldFault>
-        requires works { IsAtWork who.session self.old.sessions }
-        ensures looked { IfOk result (λ turn. StepsLooked who wish (C.seen cloud.old) (C.seen cloud.new) self.old self.new turn) }
-        ensures short { OnErr result (FallsShort who wish (C.seen cloud.old) (C.seen cloud.new) self.old self.new) }
-        ensures grows { Grows who.event (C.seen cloud.old) (C.seen cloud.new) }
-    {
-        if self.blind {
-            return self.step_other(alloc, cloud, who, wish);
-        }
-        match put_in_hand(alloc, self.session(who.session)) {
-            Ok(Some(put)) => self.step_put(alloc, cloud, who, wish, &put),
-            Ok(None) => self.step_other(alloc, cloud, who, wish),
-            Err(_) => Err(WorldFault::Memory),
-        }
-    }
-
-    /// Makes a step at whose put nothing looks: it is none, or the world is blind.
-    fn step_other<C: Bench>(
-        &mut self,
-        alloc: Global,
-        cloud: &mut C,
-        who: Who,
-        wish: Wish,
-    ) -> Result<Turn<Answer>, WorldFault>
-        requires works { IsAtWork who.session self.old.sessions }
-        requires unlooked { (self.old.blind ≡ true) ⊎ HasPut who.session self.old.sessions None }
-        ensures looked { IfOk result (λ turn. StepsLooked who wish (C.seen cloud.old) (C.seen cloud.new) self.old self.new turn) }
-        ensures short { OnErr result (FallsShort who wish (C.seen cloud.old) (C.seen cloud.new) self.old self.new) }
-        ensures grows { Grows who.event (C.seen cloud.old) (C.seen cloud.new) }
-    {
-        match self.note_call(who.session) {
-            Ok(()) => {}
-            Err(_) => return Err(WorldFault::Memory),
-        }
-        cloud.wish(wish);
-        let turn = self.call(alloc, cloud, who);
-        match self.note_end(who.session, is_done(&turn)) {
-            Ok(()) => Ok(turn),
-            Err(_) => Err(WorldFault::Memory),
-        }
-    }
-
-    /// Notes that what the session had in hand came to its end; done where that is a checkpoint that was done. Refused for memory
-    /// alone, and then nothing changes.
-    fn note_end(&mut self, number: SessionNo, done: bool) -> Result<(), Refused>
-        ensures ok { OnOk result (NotesEnd number done self.old self.new) }
-        ensures err { OnErr result (self.new ≡ self.old) }
-        ensures done { OnErr result (done ≡ true) }
-    {
-        self.notes.end(number, done)
-    }
-
-    /// Notes the call in hand of the session, where it counts. Refused for memory alone, and then nothing changes.
-    fn note_call(&mut self, number: SessionNo) -> Result<(), Refused>
-        requires { IsAtWork number self.old.sessions }
-        ensures ok { OnOk result (NotesCall number self.old self.new) }
-        ensures err { OnErr result (self.new ≡ self.old) }
-    {
-        let note = match self.session(number).in_hand() {
-            Some(call) => note_of_call(&call),
-            None => None,
-        };
-        self.notes.take(number, note)
-    }
-
-    /// Makes a step that is a put, and notes what it commits or applies where it is seen to land.
-    fn step_put<C: Bench>(
-        &mut self,
-        alloc: Global,
-        cloud: &mut C,
-        who: Who,
-        wish: Wish,
-        put: &Put,
-    ) -> Result<Turn<Answer>, WorldFault>
-        requires works { IsAtWork who.session self.old.sessions }
-        requires puts { HasPut who.session self.old.sessions (Some put.now) }
-        ensures looked { IfOk result (λ turn. StepsLooked who wish (C.seen cloud.old) (C.seen cloud.new) self.old self.new turn) }
-        ensures short { OnErr result (FallsShort who wish (C.seen cloud.old) (C.seen cloud.new) self.old self.new) }
-        ensures grows { Grows who.event (C.seen cloud.old) (C.seen cloud.new) }
-    {
-        let before = is_newest(cloud, put)?;
-        let mark = self.audit.mark();
-        match note_put(
-            alloc,
-            &mut self.audit,
-            &self.sessions,
-            who.session,
-            put.name,
-        ) {
-            Ok(()) => {}
-            Err(_) => return Err(WorldFault::Memory),
-        }
-        cloud.wish(wish);
-        let turn = self.sessions.step(alloc, cloud, who);
-        match self.notes.end(who.session, is_done(&turn)) {
-            Ok(()) => {}
-            Err(_) => return Err(WorldFault::Memory),
-        }
-        let after = is_newest(cloud, put)?;
-        keep_landed(&mut self.audit, mark, before, after);
-        self.blind = is_blinded(self.blind, before, after);
-        Ok(turn)
-    }
-
     /// Reports on a tree. Where an earlier look failed it answers that it failed.
     fn report<C: Bench>(&self, alloc: Global, cloud: &mut C, tree: u64) -> Result<Reply, WorldFault>
         ensures { Reports tree (C.seen cloud.old) (C.seen cloud.new) self.now self.now result }
@@ -931,14 +739,6 @@ impl<S: SessionCalls> World<S> {
 
 /// Forgets what a step came to.
 fn unanswered(_turn: Turn<Answer>) {}
-
-/// Whether a look failed, in earlier steps or before or after the put of this one.
-fn is_blinded(blind: bool, before: Option<bool>, after: Option<bool>) -> bool
-    ensures saw { result ≡ false → (blind ≡ false) × (is_blind before ≡ false) × (is_blind after ≡ false) }
-    ensures blinded { result ≡ true → (blind ≡ true) ⊎ ((before ≡ None) ⊎ (after ≡ None)) }
-{
-    blind || before.is_none() || after.is_none()
-}
 
 /// Lets the clock go on.
 #[tactic(auto, using(crate::proofs::GrowthLemmas::grows_not, crate::proofs::GrowthLemmas::grows_wait, crate::proofs::QuotaLemmas::spends_not))]

@@ -13,6 +13,7 @@ use Rattle.world_core.proofs.Shown.{shown}
 use Rattle.world_core.proofs.ShownByLines.{shown_by}
 use Rattle.world_core.proofs.Sound.{sound_after}
 use Rattle.world_core.proofs.Spared.{spares_writer}
+use Rattle.world_core.proofs.Tagged.{shows_tagged}
 use Rattle.world_core.proofs.Acknowledged.{durable_after}
 use Rattle.world_core.proofs.LeftNone.{nothing_after}
 use Rattle.world_core.proofs.LeftShort.{left_short}
@@ -38,6 +39,9 @@ returns-clause-shown g c = shown _ _ _ _ _ _ _
 
 pub returns-clause-shown_by_lines : goal.returns-clause-shown_by_lines
 returns-clause-shown_by_lines g c = shown_by _ _ _ _ _ _ _
+
+pub returns-clause-tagged : goal.returns-clause-tagged
+returns-clause-tagged g c = shows_tagged _ _ _ _ _ _ _ c.handle.ensures.handled
 
 pub returns-clause-calm : goal.returns-clause-calm
 returns-clause-calm g c = well_after _ _ _ _ _ _ _

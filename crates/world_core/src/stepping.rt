@@ -1,0 +1,227 @@
+//! The steps of sessions: what a quota covers of them, and what is seen and noted of those that are made.
+
+ghost use Rattle.std.specs.Prelude.{◌≡◌, ◌⊎◌, false, true, None, Some, IfOk, OnErr, OnOk};
+ghost use Rattle.world_core.specs.Put.{is_blind};
+ghost use Rattle.world_core.specs.Stands.{Grows};
+
+use crate::noting::{keep_landed, note_put};
+use crate::put::{Put, is_newest, put_in_hand};
+use crate::quota::{Quota, leaves_row};
+use crate::replying::is_done;
+use crate::world::{World, WorldFault};
+use client_work::answer::Answer;
+use client_work::calls::SessionCalls;
+use cloud_trait::cloud::Bench;
+use cloud_trait::turn::Turn;
+use cloud_trait::who::Who;
+use db_base::ids::SessionNo;
+use db_base::refusal::Refused;
+use db_base::wish::Wish;
+use session_notes::note_of_call::note_of_call;
+use std::alloc::Global;
+
+impl<S: SessionCalls> World<S> {
+    ghost use Rattle.client_work.specs.Session.{StepsSession};
+    ghost use Rattle.world_core.specs.Handled.{FallsShort, KeepsNotes, NotesCall, NotesEnd, RunsShort, StepsLooked};
+    ghost use Rattle.world_core.specs.Quota.{HasNoRowInHand, IsCovered, SpendsQuota};
+    ghost use Rattle.world_core.specs.Sessions.{Changes, HasPut, IsAtWork};
+
+    /// Makes a step of a session that is at work under a wish, and breaks the session off where memory runs out beside it.
+    pub(crate) fn step_under<C: Bench>(
+        &mut self,
+        alloc: Global,
+        cloud: &mut C,
+        quota: &mut Quota,
+        who: Who,
+        wish: Wish,
+    ) -> Result<Turn<Answer>, WorldFault>
+        requires works { IsAtWork who.session self.old.sessions }
+        ensures looked { IfOk result (λ turn. StepsLooked who wish (C.seen cloud.old) (C.seen cloud.new) self.old self.new turn) }
+        ensures short { OnErr result (RunsShort who wish (C.seen cloud.old) (C.seen cloud.new) self.old self.new) }
+        ensures grows { Grows who.event (C.seen cloud.old) (C.seen cloud.new) }
+        ensures spends { SpendsQuota (C.seen cloud.old) (C.seen cloud.new) quota.old quota.new }
+    {
+        match self.step_within(alloc, cloud, quota, who, wish) {
+            Ok(turn) => Ok(turn),
+            Err(fault) => {
+                self.break_off(who.session);
+                Err(fault)
+            }
+        }
+    }
+
+    /// Makes a step of a session that is at work under a wish, where the quota covers its call.
+    #[tactic(auto, using(crate::proofs::QuotaLemmas::spends_not, crate::proofs::QuotaLemmas::spends_none))]
+    fn step_within<C: Bench>(
+        &mut self,
+        alloc: Global,
+        cloud: &mut C,
+        quota: &mut Quota,
+        who: Who,
+        wish: Wish,
+    ) -> Result<Turn<Answer>, WorldFault>
+        requires works { IsAtWork who.session self.old.sessions }
+        ensures looked { IfOk result (λ turn. StepsLooked who wish (C.seen cloud.old) (C.seen cloud.new) self.old self.new turn) }
+        ensures short { OnErr result (FallsShort who wish (C.seen cloud.old) (C.seen cloud.new) self.old self.new) }
+        ensures grows { Grows who.event (C.seen cloud.old) (C.seen cloud.new) }
+        ensures spends { SpendsQuota (C.seen cloud.old) (C.seen cloud.new) quota.old quota.new }
+    {
+        if !self.is_covered(quota, who.session) {
+            return Err(WorldFault::Memory);
+        }
+        self.step_looked(alloc, cloud, who, wish)
+    }
+
+    /// Whether the call in hand of the session is neither a put nor a send, or one of the quota was taken for it.
+    fn is_covered(&self, quota: &mut Quota, number: SessionNo) -> bool
+        ensures covered { result ≡ true → IsCovered number self.now.sessions quota.old quota.new }
+        ensures spent { result ≡ false → quota.new ≡ quota.old }
+    {
+        if self.lands(number) {
+            quota.take()
+        } else {
+            true
+        }
+    }
+
+    /// Whether the session has a put or a send in hand.
+    #[tactic(auto, using(crate::proofs::QuotaLemmas::no_row_in_hand))]
+    fn lands(&self, number: SessionNo) -> bool
+        ensures { result ≡ false → HasNoRowInHand number self.now.sessions }
+    {
+        match self.session(number).in_hand() {
+            Some(call) => leaves_row(&call),
+            None => false,
+        }
+    }
+
+    /// Makes a step of a session that is at work under a wish, between two looks where it is a put and the world is not blind.
+    fn step_looked<C: Bench>(
+        &mut self,
+        alloc: Global,
+        cloud: &mut C,
+        who: Who,
+        wish: Wish,
+    ) -> Result<Turn<Answer>, WorldFault>
+        requires works { IsAtWork who.session self.old.sessions }
+        ensures looked { IfOk result (λ turn. StepsLooked who wish (C.seen cloud.old) (C.seen cloud.new) self.old self.new turn) }
+        ensures short { OnErr result (FallsShort who wish (C.seen cloud.old) (C.seen cloud.new) self.old self.new) }
+        ensures grows { Grows who.event (C.seen cloud.old) (C.seen cloud.new) }
+    {
+        if self.blind {
+            return self.step_other(alloc, cloud, who, wish);
+        }
+        match put_in_hand(alloc, self.session(who.session)) {
+            Ok(Some(put)) => self.step_put(alloc, cloud, who, wish, &put),
+            Ok(None) => self.step_other(alloc, cloud, who, wish),
+            Err(_) => Err(WorldFault::Memory),
+        }
+    }
+
+    /// Makes a step at whose put nothing looks: it is none, or the world is blind.
+    fn step_other<C: Bench>(
+        &mut self,
+        alloc: Global,
+        cloud: &mut C,
+        who: Who,
+        wish: Wish,
+    ) -> Result<Turn<Answer>, WorldFault>
+        requires works { IsAtWork who.session self.old.sessions }
+        requires unlooked { (self.old.blind ≡ true) ⊎ HasPut who.session self.old.sessions None }
+        ensures looked { IfOk result (λ turn. StepsLooked who wish (C.seen cloud.old) (C.seen cloud.new) self.old self.new turn) }
+        ensures short { OnErr result (FallsShort who wish (C.seen cloud.old) (C.seen cloud.new) self.old self.new) }
+        ensures grows { Grows who.event (C.seen cloud.old) (C.seen cloud.new) }
+    {
+        match self.note_call(who.session) {
+            Ok(()) => {}
+            Err(_) => return Err(WorldFault::Memory),
+        }
+        cloud.wish(wish);
+        let turn = self.call(alloc, cloud, who);
+        match self.note_end(who.session, is_done(&turn)) {
+            Ok(()) => Ok(turn),
+            Err(_) => Err(WorldFault::Memory),
+        }
+    }
+
+    /// Notes that what the session had in hand came to its end; done where that is a checkpoint that was done. Refused for memory
+    /// alone, and then nothing changes.
+    fn note_end(&mut self, number: SessionNo, done: bool) -> Result<(), Refused>
+        ensures ok { OnOk result (NotesEnd number done self.old self.new) }
+        ensures err { OnErr result (self.new ≡ self.old) }
+        ensures done { OnErr result (done ≡ true) }
+    {
+        self.notes.end(number, done)
+    }
+
+    /// Notes the call in hand of the session, where it counts. Refused for memory alone, and then nothing changes.
+    fn note_call(&mut self, number: SessionNo) -> Result<(), Refused>
+        requires { IsAtWork number self.old.sessions }
+        ensures ok { OnOk result (NotesCall number self.old self.new) }
+        ensures err { OnErr result (self.new ≡ self.old) }
+    {
+        let note = match self.session(number).in_hand() {
+            Some(call) => note_of_call(&call),
+            None => None,
+        };
+        self.notes.take(number, note)
+    }
+
+    /// Makes a step that is a put, and notes what it commits or applies where it is seen to land.
+    fn step_put<C: Bench>(
+        &mut self,
+        alloc: Global,
+        cloud: &mut C,
+        who: Who,
+        wish: Wish,
+        put: &Put,
+    ) -> Result<Turn<Answer>, WorldFault>
+        requires works { IsAtWork who.session self.old.sessions }
+        requires puts { HasPut who.session self.old.sessions (Some put.now) }
+        ensures looked { IfOk result (λ turn. StepsLooked who wish (C.seen cloud.old) (C.seen cloud.new) self.old self.new turn) }
+        ensures short { OnErr result (FallsShort who wish (C.seen cloud.old) (C.seen cloud.new) self.old self.new) }
+        ensures grows { Grows who.event (C.seen cloud.old) (C.seen cloud.new) }
+    {
+        let before = is_newest(cloud, put)?;
+        let mark = self.audit.mark();
+        match note_put(
+            alloc,
+            &mut self.audit,
+            &self.sessions,
+            who.session,
+            put.name,
+        ) {
+            Ok(()) => {}
+            Err(_) => return Err(WorldFault::Memory),
+        }
+        cloud.wish(wish);
+        let turn = self.sessions.step(alloc, cloud, who);
+        match self.notes.end(who.session, is_done(&turn)) {
+            Ok(()) => {}
+            Err(_) => return Err(WorldFault::Memory),
+        }
+        let after = is_newest(cloud, put)?;
+        keep_landed(&mut self.audit, mark, before, after);
+        self.blind = is_blinded(self.blind, before, after);
+        Ok(turn)
+    }
+
+    /// Makes the call in hand of the session.
+    fn call<C: Bench>(&mut self, alloc: Global, cloud: &mut C, who: Who) -> Turn<Answer>
+        requires { IsAtWork who.session self.old.sessions }
+        ensures session { Changes who.session (λ a b. StepsSession who (C.seen cloud.old) (C.seen cloud.new) a b (Ok result)) self.old.sessions self.new.sessions }
+        ensures audit { self.new.audit ≡ self.old.audit }
+        ensures blind { self.new.blind ≡ self.old.blind }
+        ensures notes { KeepsNotes self.old self.new }
+    {
+        self.sessions.step(alloc, cloud, who)
+    }
+}
+
+/// Whether a look failed, in earlier steps or before or after the put of this one.
+fn is_blinded(blind: bool, before: Option<bool>, after: Option<bool>) -> bool
+    ensures saw { result ≡ false → (blind ≡ false) × (is_blind before ≡ false) × (is_blind after ≡ false) }
+    ensures blinded { result ≡ true → (blind ≡ true) ⊎ ((before ≡ None) ⊎ (after ≡ None)) }
+{
+    blind || before.is_none() || after.is_none()
+}

@@ -9,7 +9,7 @@ use cloud_trait::message::Message;
 use cloud_trait::perform::{let_go, perform, renew};
 use cloud_trait::who::Who;
 use db_base::blob::Blob;
-use db_base::ids::{MsgId, SessionNo, TreeId};
+use db_base::ids::{MsgId, PageId, SessionNo, TreeId};
 use db_base::names::{Lock, ObjName, QueueName};
 use db_base::trouble::Trouble;
 use db_base::wish::Wish;
@@ -59,6 +59,22 @@ impl Cloud for Silent {
         _second: Option<&Lease>,
     ) -> Result<(), HeldFault> {
         if first.end() == 0 {
+            return Err(HeldFault::Late { end: 0, now: 0 });
+        }
+        Ok(())
+    }
+
+    fn list_held(
+        &mut self,
+        _who: Who,
+        _tree: TreeId,
+        _lease: &Lease,
+    ) -> Result<Vec<PageId>, HeldFault> {
+        Ok(Vec::new(self.alloc))
+    }
+
+    fn remove_held(&mut self, _who: Who, _name: ObjName, lease: &Lease) -> Result<(), HeldFault> {
+        if lease.end() == 0 {
             return Err(HeldFault::Late { end: 0, now: 0 });
         }
         Ok(())
@@ -118,6 +134,7 @@ impl Bench for Silent {
 struct Names {
     who: Who,
     object: ObjName,
+    tree: TreeId,
     queue: QueueName,
     lock: Lock,
 }
@@ -129,6 +146,7 @@ fn usual_names() -> Option<Names> {
     Some(Names {
         who: Who::new(session, 4),
         object: ObjName::Tree(tree),
+        tree,
         queue: QueueName::TreePu(tree),
         lock: Lock::Tree(tree),
     })
@@ -138,6 +156,24 @@ fn usual_names() -> Option<Names> {
 fn is_put<C: Cloud>(cloud: &mut C, names: &Names, lease: &Lease) -> bool {
     let put = Call::PutHeld(names.object, b"x", lease, None);
     put.bytes() == Some(b"x".as_slice()) && perform(cloud, names.who, &put).done().is_ok()
+}
+
+/// Whether an object is removed under a lease, which has no bytes to send.
+fn is_removed<C: Cloud>(cloud: &mut C, names: &Names, lease: &Lease) -> bool {
+    let removal = Call::RemoveHeld(names.object, lease);
+    removal.bytes().is_none() && perform(cloud, names.who, &removal).done().is_ok()
+}
+
+/// Whether a listing of the tree, which is about its object, shows no page.
+fn lists_none<C: Cloud>(cloud: &mut C, names: &Names, lease: &Lease) -> bool {
+    let listing = Call::ListHeld(names.tree, lease);
+    if listing.name() != Target::Object(names.object) {
+        return false;
+    }
+    match perform(cloud, names.who, &listing).listed() {
+        Ok(pages) => pages.len() == 0,
+        Err(_) => false,
+    }
 }
 
 /// Whether a get has no answer.
@@ -179,6 +215,9 @@ fn is_taken<C: Cloud>(cloud: &mut C, names: &Names) -> bool {
         return false;
     };
     if !is_put(cloud, names, &lease) || !is_not_got(cloud, names) {
+        return false;
+    }
+    if !is_removed(cloud, names, &lease) || !lists_none(cloud, names, &lease) {
         return false;
     }
     if !is_renewed(cloud, names, &mut lease) {

@@ -9,7 +9,7 @@ use cloud_trait::lease::Lease;
 use cloud_trait::message::Message;
 use cloud_trait::who::Who;
 use db_base::blob::Blob;
-use db_base::ids::MsgId;
+use db_base::ids::{MsgId, PageId, TreeId};
 use db_base::names::{Lock, ObjName, QueueName};
 use db_base::wish::Wish;
 use memory_cloud::memory::MemoryCloud;
@@ -91,6 +91,19 @@ impl Cloud for DarkCloud {
         _first: &Lease,
         _second: Option<&Lease>,
     ) -> Result<(), HeldFault> {
+        Err(HeldFault::Memory)
+    }
+
+    fn list_held(
+        &mut self,
+        _who: Who,
+        _tree: TreeId,
+        _lease: &Lease,
+    ) -> Result<Vec<PageId>, HeldFault> {
+        Err(HeldFault::Memory)
+    }
+
+    fn remove_held(&mut self, _who: Who, _name: ObjName, _lease: &Lease) -> Result<(), HeldFault> {
         Err(HeldFault::Memory)
     }
 

@@ -91,6 +91,63 @@ fn keeps_objects(rt: HostRuntime) {
     assert!(rt; keeps_beside(&rt));
 }
 
+/// Pages that are put out of order, beside files that are of no page of the tree: of another tree, of page 0, in capital letters, and
+/// with another ending.
+const PAGES: &[Step<'static>] = &[
+    Step::Takes(100, 1, 112),
+    Step::Lists(&[]),
+    Step::PutsPage(300, b"c"),
+    Step::PutsPage(2, b"a"),
+    Step::PutsPage(17, b"b"),
+    Step::Writes("pages-test/objects/page-020000000000000003", b"kept"),
+    Step::Writes("pages-test/objects/page-010000000000000000", b"none"),
+    Step::Writes("pages-test/objects/page-01000000000000000A", b"none"),
+    Step::Writes("pages-test/objects/page-010000000000000005.old", b"none"),
+    Step::Writes("pages-test/objects/tree-01", b"root"),
+    Step::Writes("pages-test/objects/notes.txt", b"kept"),
+    Step::Lists(&[2, 17, 300]),
+    Step::TakesAway(17),
+    Step::Lacks("pages-test/objects/page-010000000000000011"),
+    Step::Has("pages-test/in-use", ""),
+    Step::Lists(&[2, 300]),
+    // What is not there is removed well.
+    Step::TakesAway(17),
+    Step::TakesAway(2),
+    Step::Lists(&[300]),
+    Step::Gets(None),
+    Step::GetsHeld(None),
+    Step::Peeks(None),
+    Step::PutsPage(2, b"anew"),
+    Step::Gets(Some(b"anew")),
+    Step::Lists(&[2, 300]),
+    Step::Has("pages-test/objects/page-020000000000000003", "kept"),
+    Step::Has("pages-test/objects/notes.txt", "kept"),
+    Step::MakesFolder("pages-test/objects/page-010000000000000004"),
+    Step::FailsToTakeAway(4),
+    Step::Gets(Some(b"anew")),
+];
+
+#[test]
+fn lists_pages_in_order_and_removes_them(rt: HostRuntime) {
+    assert!(rt; plays_anew(&rt, "pages-test", PAGES));
+}
+
+/// The folder is opened at 11; each call is a tick later.
+const LATE_PAGES: &[Step<'static>] = &[
+    Step::Takes(2, 1, 14),
+    Step::Puts(b"kept"),
+    Step::TakesAwayLate(14, 14),
+    Step::ListsLate(14, 15),
+    Step::Gets(Some(b"kept")),
+    Step::Takes(100, 2, 117),
+    Step::Lists(&[2]),
+];
+
+#[test]
+fn lists_and_removes_nothing_late(rt: HostRuntime) {
+    assert!(rt; plays_anew(&rt, "late-test", LATE_PAGES));
+}
+
 const MESSAGES: &[Step<'static>] = &[
     Step::Receives(256, &[]),
     Step::Sends(b"a", 1),
@@ -175,6 +232,8 @@ const TAKES: &[Step<'static>] = &[Step::Takes(100, 1, 112)];
 const HELD_UP: &[Step<'static>] = &[
     Step::GetsLate(112, 200),
     Step::PutsLate(b"late", 112, 200),
+    Step::ListsLate(112, 200),
+    Step::TakesAwayLate(112, 200),
     Step::RenewsLate(112, 200),
     Step::Releases,
     Step::Gets(None),
@@ -242,13 +301,15 @@ const LOST: &[Step<'static>] = &[
     Step::Swaps,
     Step::FailsToGetHeld,
     Step::FailsToPut(b"first"),
+    Step::FailsToList,
+    Step::FailsToTakeAway(2),
     Step::FailsToRenew,
     Step::FailsToRelease,
     Step::Swaps,
     Step::GetsHeld(Some(b"second")),
-    Step::Renews(10, 40),
+    Step::Renews(10, 42),
     Step::Releases,
-    Step::Takes(5, 3, 37),
+    Step::Takes(5, 3, 39),
 ];
 
 /// Whether all scripts are played, each by an opening of its own at its moment.

@@ -2,7 +2,7 @@ use db_base::ids::{ClientId, PageId, TreeId};
 use db_base::names::{Lock, ObjName, QueueName};
 use folder_names::fault::NameFault;
 use folder_names::files::{file_of, folder_of, lock_of};
-use folder_names::objects::object_of;
+use folder_names::objects::{object_of, page_of};
 use std::alloc::Global;
 use std::process::Abort;
 
@@ -46,6 +46,33 @@ fn have_files(alloc: Global, ids: &Ids) -> bool {
 fn objects_have_files_and_files_objects(rt: HostRuntime) {
     match ids(63, 16, 258) {
         Some(ids) => assert!(rt; have_files(rt.alloc(), &ids)),
+        None => rt.panic("no ids"),
+    }
+}
+
+fn has_page(alloc: Global, tree: TreeId, file: &str, page: PageId) -> bool {
+    page_of(alloc, tree, file) == Ok(page)
+}
+
+fn has_no_page(alloc: Global, tree: TreeId, file: &str) -> bool {
+    page_of(alloc, tree, file) == Err(NameFault::NotOurs)
+}
+
+/// Whether pages are told from other objects and from other files, for tree 2.
+fn have_pages(alloc: Global, ids: &Ids) -> bool {
+    let (_, tree, page) = *ids;
+    has_page(alloc, tree, "page-020000000000000003", page)
+        && has_no_page(alloc, tree, "page-010000000000000003")
+        && has_no_page(alloc, tree, "page-020000000000000000")
+        && has_no_page(alloc, tree, "tree-02")
+        && has_no_page(alloc, tree, "head-02")
+        && has_no_page(alloc, tree, "aside")
+}
+
+#[test]
+fn pages_of_a_tree_are_told_by_their_files(rt: HostRuntime) {
+    match ids(1, 2, 3) {
+        Some(ids) => assert!(rt; have_pages(rt.alloc(), &ids)),
         None => rt.panic("no ids"),
     }
 }

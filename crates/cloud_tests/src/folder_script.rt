@@ -31,6 +31,20 @@ pub(crate) enum Step<'a> {
     GetsLate(u64, u64),
     /// A renewal that comes late: the end of the lease, and the clock.
     RenewsLate(u64, u64),
+    /// A put of a page, by its number, under the lease in hand.
+    PutsPage(u64, &'a [u8]),
+    /// A listing under the lease in hand: the numbers of the pages.
+    Lists(&'a [u64]),
+    /// A listing that comes late: the end of the lease in hand, and the clock.
+    ListsLate(u64, u64),
+    /// A listing under the lease in hand that fails.
+    FailsToList,
+    /// A removal of a page, by its number, under the lease in hand.
+    TakesAway(u64),
+    /// A removal that comes late: the end of the lease in hand, and the clock.
+    TakesAwayLate(u64, u64),
+    /// A removal of a page, by its number, under the lease in hand, which fails.
+    FailsToTakeAway(u64),
     /// A get that fails.
     FailsToGet,
     /// A get under the lease in hand that fails.
@@ -113,12 +127,13 @@ impl Leases {
 #[derive(Clone, Copy)]
 struct Names {
     who: Who,
+    tree: TreeId,
     page: ObjName,
     queue: QueueName,
     lock: Lock,
 }
 
-/// Event 7 of session 3, page 2 and the queue of tree 1, and the lock of client 2.
+/// Event 7 of session 3, tree 1 with its page 2 and its queue, and the lock of client 2.
 fn those() -> Option<Names> {
     let (Ok(session), Ok(client)) = (SessionNo::new(3), ClientId::new(2)) else {
         return None;
@@ -128,6 +143,7 @@ fn those() -> Option<Names> {
     };
     Some(Names {
         who: Who::new(session, 7),
+        tree,
         page: ObjName::Page(tree, page),
         queue: QueueName::TreePu(tree),
         lock: Lock::Client(client),
@@ -211,6 +227,28 @@ fn play_held<C: Cloud>(cloud: &mut C, names: &Names, leases: &mut Leases, step: 
         Step::Releases => releases(cloud, names, lease),
         Step::FailsToRelease => fails_to_release(cloud, names, lease),
         Step::Swaps => leases.swap(),
+        _ => play_pages(cloud, names, lease, step),
+    }
+}
+
+/// The same for a step that is about the pages of the tree.
+fn play_pages<C: Cloud>(
+    cloud: &mut C,
+    names: &Names,
+    lease: &Option<Lease>,
+    step: Step<'_>,
+) -> bool {
+    let Some(lease) = lease else {
+        return false;
+    };
+    match step {
+        Step::PutsPage(number, bytes) => puts_page(cloud, names, lease, number, bytes),
+        Step::Lists(wanted) => lists(cloud, names, lease, wanted),
+        Step::ListsLate(end, now) => lists_late(cloud, names, lease, (end, now)),
+        Step::FailsToList => fails_to_list(cloud, names, lease),
+        Step::TakesAway(number) => takes_away(cloud, names, lease, number),
+        Step::TakesAwayLate(end, now) => takes_away_late(cloud, names, lease, (end, now)),
+        Step::FailsToTakeAway(number) => fails_to_take_away(cloud, names, lease, number),
         _ => false,
     }
 }
@@ -505,5 +543,94 @@ fn makes_large<R: Files<File = File>>(rt: &R, path: &str, len: u64) -> bool {
     match fs::create(rt, path) {
         Ok(file) => file.set_len(len).is_ok(),
         Err(_) => false,
+    }
+}
+
+/// A page of the tree.
+fn page_at(names: &Names, number: u64) -> Option<ObjName> {
+    match PageId::new(number) {
+        Ok(page) => Some(ObjName::Page(names.tree, page)),
+        Err(_) => None,
+    }
+}
+
+fn puts_page<C: Cloud>(
+    cloud: &mut C,
+    names: &Names,
+    lease: &Lease,
+    number: u64,
+    bytes: &[u8],
+) -> bool {
+    match page_at(names, number) {
+        Some(page) => cloud.put_held(names.who, page, bytes, lease, None).is_ok(),
+        None => false,
+    }
+}
+
+fn is_page(page: Option<&PageId>, number: u64) -> bool {
+    match page {
+        Some(page) => page.get() == number,
+        None => false,
+    }
+}
+
+fn are_pages(pages: &[PageId], wanted: &[u64]) -> bool {
+    for (index, number) in wanted.iter().enumerate() {
+        if !is_page(pages.get(index), *number) {
+            return false;
+        }
+    }
+    pages.len() == wanted.len()
+}
+
+fn lists<C: Cloud>(cloud: &mut C, names: &Names, lease: &Lease, wanted: &[u64]) -> bool {
+    match cloud.list_held(names.who, names.tree, lease) {
+        Ok(pages) => are_pages(pages.as_slice(), wanted),
+        Err(_) => false,
+    }
+}
+
+/// Whether a listing comes late: the end of the lease and the clock.
+fn lists_late<C: Cloud>(cloud: &mut C, names: &Names, lease: &Lease, wanted: (u64, u64)) -> bool {
+    match cloud.list_held(names.who, names.tree, lease) {
+        Err(HeldFault::Late { end, now }) => (end, now) == wanted,
+        _ => false,
+    }
+}
+
+fn fails_to_list<C: Cloud>(cloud: &mut C, names: &Names, lease: &Lease) -> bool {
+    matches!(
+        cloud.list_held(names.who, names.tree, lease),
+        Err(HeldFault::Failed)
+    )
+}
+
+fn takes_away<C: Cloud>(cloud: &mut C, names: &Names, lease: &Lease, number: u64) -> bool {
+    match page_at(names, number) {
+        Some(page) => cloud.remove_held(names.who, page, lease).is_ok(),
+        None => false,
+    }
+}
+
+/// Whether a removal comes late: the end of the lease and the clock.
+fn takes_away_late<C: Cloud>(
+    cloud: &mut C,
+    names: &Names,
+    lease: &Lease,
+    wanted: (u64, u64),
+) -> bool {
+    match cloud.remove_held(names.who, names.page, lease) {
+        Err(HeldFault::Late { end, now }) => (end, now) == wanted,
+        _ => false,
+    }
+}
+
+fn fails_to_take_away<C: Cloud>(cloud: &mut C, names: &Names, lease: &Lease, number: u64) -> bool {
+    match page_at(names, number) {
+        Some(page) => matches!(
+            cloud.remove_held(names.who, page, lease),
+            Err(HeldFault::Failed)
+        ),
+        None => false,
     }
 }

@@ -1,5 +1,6 @@
 mod keeper;
 mod keeping;
+mod removal;
 mod wishes;
 
 use cloud_trait::cloud::{Bench, Cloud};
@@ -19,18 +20,25 @@ use std::process::Abort;
 struct Names {
     who: Who,
     object: ObjName,
+    of: TreeId,
+    other: TreeId,
     queue: QueueName,
     tree: Lock,
     page: Lock,
 }
 
 fn usual_names() -> Option<Names> {
-    let (Ok(tree), Ok(session)) = (TreeId::new(1), SessionNo::new(3)) else {
+    let (Ok(tree), Ok(other)) = (TreeId::new(1), TreeId::new(2)) else {
+        return None;
+    };
+    let Ok(session) = SessionNo::new(3) else {
         return None;
     };
     Some(Names {
         who: Who::new(session, 7),
         object: ObjName::Tree(tree),
+        of: tree,
+        other,
         queue: QueueName::TreePu(tree),
         tree: Lock::Tree(tree),
         page: Lock::Page(tree, PageId::first()),
@@ -39,7 +47,7 @@ fn usual_names() -> Option<Names> {
 
 // A cloud that shows what landed. What is asked of any such cloud is proved once, and not over the types of the cloud in memory.
 trait Shown: Bench {
-    // Whether an object has a version of this number.
+    // Whether an object has a version of this number that has bytes.
     fn has_version(&self, name: ObjName, number: u64) -> bool;
 
     // Whether a queue ever had a message of this number.

@@ -3,9 +3,9 @@ use Rattle.std.proofs.Common.{◌≡◌, ◌≤◌, ◌<◌, ◌⊎◌, inl, inr
 use Rattle.db_base.specs.declared.names.ObjName.{ObjName}
 use Rattle.db_base.specs.declared.names.QueueName.{QueueName}
 use Rattle.cloud_trait.specs.declared.answer.Answer.{Answer}
-use Rattle.cloud_trait.specs.declared.answer.Answer.TheVariants.{Got, Sent, Received, Done, Given, Held, Renewed, Late, Failed, Memory}
+use Rattle.cloud_trait.specs.declared.answer.Answer.TheVariants.{Got, Sent, Received, Listed, Done, Given, Held, Renewed, Late, Failed, Memory}
 use Rattle.cloud_trait.specs.declared.message.Message.{Message}
-use Rattle.cloud_trait.specs.Ask.{Ask, Get, GetHeld, PutHeld, Send, Receive, Delete, Take, Renew, Release}
+use Rattle.cloud_trait.specs.Ask.{Ask, Get, GetHeld, PutHeld, ListHeld, RemoveHeld, Send, Receive, Delete, Take, Renew, Release}
 use Rattle.cloud_trait.specs.Caller.{Caller}
 use Rattle.cloud_trait.specs.Claim.{Claim, Lasts, IsOver}
 use Rattle.cloud_trait.specs.Machine.{Deed, IsMade}
@@ -36,6 +36,8 @@ row_well : (who : Caller) (ask : Ask) (a : Answer) (c d : Counts) (s t : CloudSt
 row_well who ask Failed c d s t now same free lasting failed row = omega (arith, failed refl, ap (λ (x : Counts). x.faults) same)
 row_well who (GetHeld name l) (Late e n) c d s t now same free lasting failed row = not_over now l lasting row.1
 row_well who (PutHeld name bytes one two) (Late e n) c d s t now same free lasting failed row = none_over now one two name bytes e lasting row.1
+row_well who (ListHeld tree l) (Late e n) c d s t now same free lasting failed row = not_over now l lasting row.1
+row_well who (RemoveHeld name l) (Late e n) c d s t now same free lasting failed row = not_over now l lasting row.1
 row_well who (Renew l ticks) (Late e n) c d s t now same free lasting failed row = not_over now l lasting row.1
 row_well who (Take lock ticks) (Held until) c d s t now same free lasting failed row =
     not_held now (s.locks lock).until until c.withheld d.withheld free (ap (λ (x : Counts). x.withheld) same) row.1
@@ -48,6 +50,8 @@ row_well who (Release l) (Late e n) c d s t now same free lasting failed row = r
 row_well who (Get name) (Held until) c d s t now same free lasting failed row = row
 row_well who (GetHeld name l) (Held until) c d s t now same free lasting failed row = row
 row_well who (PutHeld name bytes one two) (Held until) c d s t now same free lasting failed row = row
+row_well who (ListHeld tree l) (Held until) c d s t now same free lasting failed row = row
+row_well who (RemoveHeld name l) (Held until) c d s t now same free lasting failed row = row
 row_well who (Send queue bytes) (Held until) c d s t now same free lasting failed row = row
 row_well who (Receive queue most) (Held until) c d s t now same free lasting failed row = row
 row_well who (Delete queue id) (Held until) c d s t now same free lasting failed row = row
@@ -56,6 +60,7 @@ row_well who (Release l) (Held until) c d s t now same free lasting failed row =
 row_well who ask (Got v) c d s t now same free lasting failed row = tt
 row_well who ask (Sent id) c d s t now same free lasting failed row = tt
 row_well who ask (Received ms) c d s t now same free lasting failed row = tt
+row_well who ask (Listed ps) c d s t now same free lasting failed row = tt
 row_well who ask Done c d s t now same free lasting failed row = tt
 row_well who ask (Given l) c d s t now same free lasting failed row = tt
 row_well who ask (Renewed e) c d s t now same free lasting failed row = tt

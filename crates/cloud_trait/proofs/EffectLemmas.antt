@@ -1,5 +1,5 @@
 -- What an effect changes and what it leaves.
-use Rattle.std.proofs.Common.{◌≡◌, ◌-◌, ℕ, zero, suc, List, [], ◌∷◌, refl, ap, sym, subst, arith, Bool, true, false, cond}
+use Rattle.std.proofs.Common.{◌≡◌, ◌-◌, ℕ, zero, suc, List, [], ◌∷◌, Option, Some, None, refl, ap, sym, subst, arith, Bool, true, false, cond}
 use Rattle.std.specs.Bool.{◌==◌}
 use Rattle.std.specs.Prelude.{nat_lt}
 use Rattle.std.proofs.lemmas.List.{append-nil, map-append}
@@ -10,8 +10,8 @@ use Rattle.cloud_trait.specs.declared.state.Posted.{Posted}
 use Rattle.cloud_trait.specs.Caller.{Caller}
 use Rattle.cloud_trait.specs.Claim.{Claim}
 use Rattle.cloud_trait.specs.Names.{object_cmp, queue_cmp}
-use Rattle.cloud_trait.specs.State.{CloudState, taken, released, moved, held_so, is_current, end_after, mark_at, marked}
-use Rattle.cloud_trait.specs.Ask.{Ask, Get, GetHeld, PutHeld, Send, Receive, Delete, Take, Renew, Release, effect, MovesNoLock, PutsNothing, TouchesNoMessage, LandsNoRow}
+use Rattle.cloud_trait.specs.State.{CloudState, stored, taken, released, moved, held_so, is_current, end_after, mark_at, marked}
+use Rattle.cloud_trait.specs.Ask.{Ask, Get, GetHeld, PutHeld, ListHeld, RemoveHeld, Send, Receive, Delete, Take, Renew, Release, effect, MovesNoLock, PutsNothing, TouchesNoMessage, LandsNoRow}
 use Rattle.cloud_trait.specs.Growth.{BeginsWith, HasGrown, IsAtRest}
 use Rattle.cloud_trait.specs.Upto.{posts_of}
 use Rattle.cloud_trait.proofs.NameLemmas.{object_cmp-equal, queue_cmp-equal}
@@ -36,6 +36,8 @@ pub effect_rest : (who : Caller) (ask : Ask) (s : CloudState) → IsAtRest s (ef
 effect_rest who (Get name) s = record { now = refl; waits = refl; wish = refl; last = refl }
 effect_rest who (GetHeld name l) s = record { now = refl; waits = refl; wish = refl; last = refl }
 effect_rest who (PutHeld name bytes one two) s = record { now = refl; waits = refl; wish = refl; last = refl }
+effect_rest who (ListHeld tree l) s = record { now = refl; waits = refl; wish = refl; last = refl }
+effect_rest who (RemoveHeld name l) s = record { now = refl; waits = refl; wish = refl; last = refl }
 effect_rest who (Send queue bytes) s = record { now = refl; waits = refl; wish = refl; last = refl }
 effect_rest who (Receive queue most) s = record { now = refl; waits = refl; wish = refl; last = refl }
 effect_rest who (Delete queue id) s = record { now = refl; waits = refl; wish = refl; last = refl }
@@ -50,6 +52,8 @@ pub effect_locks : (who : Caller) (ask : Ask) (s : CloudState) → MovesNoLock a
 effect_locks who (Get name) s h = refl
 effect_locks who (GetHeld name l) s h = refl
 effect_locks who (PutHeld name bytes one two) s h = refl
+effect_locks who (ListHeld tree l) s h = refl
+effect_locks who (RemoveHeld name l) s h = refl
 effect_locks who (Send queue bytes) s h = refl
 effect_locks who (Receive queue most) s h = refl
 effect_locks who (Delete queue id) s h = refl
@@ -57,11 +61,13 @@ effect_locks who (Take lock ticks) s h = absurd h
 effect_locks who (Renew l ticks) s h = absurd h
 effect_locks who (Release l) s h = absurd h
 
--- only a put makes a version
+-- only a put and a removal make a version
 pub effect_versions : (who : Caller) (ask : Ask) (s : CloudState) → PutsNothing ask → (effect who ask s).versions ≡ s.versions
 effect_versions who (Get name) s h = refl
 effect_versions who (GetHeld name l) s h = refl
 effect_versions who (PutHeld name bytes one two) s h = absurd h
+effect_versions who (ListHeld tree l) s h = refl
+effect_versions who (RemoveHeld name l) s h = absurd h
 effect_versions who (Send queue bytes) s h = refl
 effect_versions who (Receive queue most) s h = refl
 effect_versions who (Delete queue id) s h = refl
@@ -74,6 +80,8 @@ pub effect_messages : (who : Caller) (ask : Ask) (s : CloudState) → TouchesNoM
 effect_messages who (Get name) s h = refl
 effect_messages who (GetHeld name l) s h = refl
 effect_messages who (PutHeld name bytes one two) s h = refl
+effect_messages who (ListHeld tree l) s h = refl
+effect_messages who (RemoveHeld name l) s h = refl
 effect_messages who (Send queue bytes) s h = absurd h
 effect_messages who (Receive queue most) s h = refl
 effect_messages who (Delete queue id) s h = absurd h
@@ -81,11 +89,13 @@ effect_messages who (Take lock ticks) s h = refl
 effect_messages who (Renew l ticks) s h = moved_by (λ u. u.messages ≡ s.messages) l (end_after s.now ticks) s refl refl
 effect_messages who (Release l) s h = released_by (λ u. u.messages ≡ s.messages) l s refl refl
 
--- only a put and a send leave a row in the trace
+-- only a put, a removal and a send leave a row in the trace
 pub effect_trace : (who : Caller) (ask : Ask) (s : CloudState) → LandsNoRow ask → (effect who ask s).trace ≡ s.trace
 effect_trace who (Get name) s h = refl
 effect_trace who (GetHeld name l) s h = refl
 effect_trace who (PutHeld name bytes one two) s h = absurd h
+effect_trace who (ListHeld tree l) s h = refl
+effect_trace who (RemoveHeld name l) s h = absurd h
 effect_trace who (Send queue bytes) s h = absurd h
 effect_trace who (Receive queue most) s h = refl
 effect_trace who (Delete queue id) s h = refl
@@ -120,16 +130,21 @@ grown_itself s t v m r n = record {
   later = omega arith;
 }
 
--- nothing that landed is lost
-pub effect_grown : (who : Caller) (ask : Ask) (s : CloudState) → HasGrown s (effect who ask s)
-effect_grown who (Get name) s = grown_itself s s refl refl refl refl
-effect_grown who (GetHeld name l) s = grown_itself s s refl refl refl refl
-effect_grown who (PutHeld name bytes one two) s = record {
+stored_grown : (who : Caller) (name : ObjName) (bytes : Option (List ℕ)) (s : CloudState) → HasGrown s (stored who name bytes s)
+stored_grown who name bytes s = record {
   versions = put_at_by (λ q v. BeginsWith (s.versions q) v) object_cmp object_cmp-equal s.versions name _ (_ ∷ [], refl) (λ q. begins_itself (s.versions q));
   messages = λ queue. begins_itself (posts_of (s.messages queue));
   trace = (_ ∷ [], refl);
   later = omega arith;
 }
+
+-- nothing that landed is lost
+pub effect_grown : (who : Caller) (ask : Ask) (s : CloudState) → HasGrown s (effect who ask s)
+effect_grown who (Get name) s = grown_itself s s refl refl refl refl
+effect_grown who (GetHeld name l) s = grown_itself s s refl refl refl refl
+effect_grown who (PutHeld name bytes one two) s = stored_grown who name (Some bytes) s
+effect_grown who (ListHeld tree l) s = grown_itself s s refl refl refl refl
+effect_grown who (RemoveHeld name l) s = stored_grown who name None s
 effect_grown who (Send queue bytes) s = record {
   versions = λ name. begins_itself (s.versions name);
   messages = put_at_by (λ q v. BeginsWith (posts_of (s.messages q)) (posts_of v)) queue_cmp queue_cmp-equal s.messages queue _ (_ ∷ [], map-append _ (s.messages queue) _) (λ q. begins_itself (posts_of (s.messages q)));

@@ -1,10 +1,10 @@
 -- What every row of the table says of the state.
 use Rattle.std.proofs.Common.{◌≡◌, ◌<◌, ◌≤◌, ◌⊎◌, ℕ, Option, Some, refl, sym, subst, inl, inr}
 use Rattle.cloud_trait.specs.declared.answer.Answer.{Answer}
-use Rattle.cloud_trait.specs.declared.answer.Answer.TheVariants.{Got, Sent, Received, Done, Given, Held, Renewed, Late, Failed, Memory}
+use Rattle.cloud_trait.specs.declared.answer.Answer.TheVariants.{Got, Sent, Received, Listed, Done, Given, Held, Renewed, Late, Failed, Memory}
 use Rattle.cloud_trait.specs.Caller.{Caller}
 use Rattle.cloud_trait.specs.State.{CloudState, Counts, called}
-use Rattle.cloud_trait.specs.Ask.{Ask, Get, GetHeld, PutHeld, Send, Receive, Delete, Take, Renew, Release, effect, Lands, Permits, MovesNoLock, PutsNothing, TouchesNoMessage}
+use Rattle.cloud_trait.specs.Ask.{Ask, Get, GetHeld, PutHeld, ListHeld, RemoveHeld, Send, Receive, Delete, Take, Renew, Release, effect, Lands, Permits, MovesNoLock, PutsNothing, TouchesNoMessage}
 use Rattle.cloud_trait.specs.Weather.{Weather, Leaves}
 use Rattle.cloud_trait.specs.Growth.{HasGrown, IsAtRest}
 use Rattle.cloud_trait.specs.Upto.{AgreeUpto, IsUpto}
@@ -20,6 +20,10 @@ lands_or_not who (GetHeld name l) (Got v) c d b t row = inl row.0
 lands_or_not who (GetHeld name l) (Late e n) c d b t row = inl row.0
 lands_or_not who (PutHeld name bytes one two) Done c d b t row = inr row
 lands_or_not who (PutHeld name bytes one two) (Late e n) c d b t row = inl row.0
+lands_or_not who (ListHeld tree l) (Listed ps) c d b t row = inl row.0
+lands_or_not who (ListHeld tree l) (Late e n) c d b t row = inl row.0
+lands_or_not who (RemoveHeld name l) Done c d b t row = inr row
+lands_or_not who (RemoveHeld name l) (Late e n) c d b t row = inl row.0
 lands_or_not who (Send queue bytes) (Sent id) c d b t row = inr row.0
 lands_or_not who (Receive queue most) (Received ms) c d b t row = inl row.0
 lands_or_not who (Delete queue id) Done c d b t row = inr row

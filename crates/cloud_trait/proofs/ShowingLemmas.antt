@@ -1,13 +1,13 @@
 -- What a call leaves of what looks show.
-use Rattle.std.proofs.Common.{◌≡◌, ◌++◌, ℕ, List, [], ◌∷◌, Some, Bool, true, false, cond, refl, ap, subst, inl, inr}
+use Rattle.std.proofs.Common.{◌≡◌, ◌++◌, ℕ, List, [], ◌∷◌, Option, Some, None, Bool, true, false, cond, refl, ap, subst, inl, inr}
 use Rattle.std.specs.Ordering.{is_eq}
 use Rattle.db_base.specs.declared.names.ObjName.{ObjName}
 use Rattle.cloud_trait.specs.declared.answer.Answer.{Answer}
-use Rattle.cloud_trait.specs.Ask.{Ask, Get, GetHeld, PutHeld, Send, Receive, Delete, Take, Renew, Release, effect}
+use Rattle.cloud_trait.specs.Ask.{Ask, Get, GetHeld, PutHeld, ListHeld, RemoveHeld, Send, Receive, Delete, Take, Renew, Release, effect}
 use Rattle.cloud_trait.specs.Caller.{Caller}
 use Rattle.cloud_trait.specs.Names.{object_cmp}
 use Rattle.cloud_trait.specs.Seen.{Showing}
-use Rattle.cloud_trait.specs.State.{CloudState, Counts, put_at, newest, newest_of, landed}
+use Rattle.cloud_trait.specs.State.{CloudState, Counts, put_at, newest, newest_of, stored}
 use Rattle.cloud_trait.specs.Weather.{Weather, LeavesShown, GoesOnShowing}
 use Rattle.cloud_trait.proofs.EffectLemmas.{effect_versions}
 use Rattle.cloud_trait.proofs.RowLemmas.{row_by}
@@ -18,6 +18,8 @@ pub shows_itself : (ask : Ask) (p : Showing) → LeavesShown ask p p
 shows_itself (Get name) p = λ object. refl
 shows_itself (GetHeld name l) p = λ object. refl
 shows_itself (PutHeld name bytes one two) p = inl (λ object. refl)
+shows_itself (ListHeld tree l) p = λ object. refl
+shows_itself (RemoveHeld name l) p = inl (λ object. refl)
 shows_itself (Send queue bytes) p = λ object. refl
 shows_itself (Receive queue most) p = λ object. refl
 shows_itself (Delete queue id) p = λ object. refl
@@ -25,18 +27,20 @@ shows_itself (Take lock ticks) p = λ object. refl
 shows_itself (Renew l ticks) p = λ object. refl
 shows_itself (Release l) p = λ object. refl
 
-landed_shows : (who : Caller) (name : ObjName) (bytes : List ℕ) (s : CloudState) (object : ObjName)
-    → newest (landed who name bytes s) object ≡ put_at object_cmp (newest s) name (Some bytes) object
-landed_shows who name bytes s object = on (is_eq (object_cmp name object))
+stored_shows : (who : Caller) (name : ObjName) (bytes : Option (List ℕ)) (s : CloudState) (object : ObjName)
+    → newest (stored who name bytes s) object ≡ put_at object_cmp (newest s) name bytes object
+stored_shows who name bytes s object = on (is_eq (object_cmp name object))
   where
-    on : (same : Bool) → newest_of (cond same (s.versions name ++ record { who = who; bytes = bytes } ∷ []) (s.versions object)) ≡ cond same (Some bytes) (newest s object)
+    on : (same : Bool) → newest_of (cond same (s.versions name ++ record { who = who; bytes = bytes } ∷ []) (s.versions object)) ≡ cond same bytes (newest s object)
     on true = newest_of-push (s.versions name) (record { who = who; bytes = bytes })
     on false = refl
 
 effect_shows : (who : Caller) (ask : Ask) (s : CloudState) → LeavesShown ask (newest s) (newest (effect who ask s))
 effect_shows who (Get name) s = λ object. refl
 effect_shows who (GetHeld name l) s = λ object. refl
-effect_shows who (PutHeld name bytes one two) s = inr (landed_shows who name bytes s)
+effect_shows who (PutHeld name bytes one two) s = inr (stored_shows who name (Some bytes) s)
+effect_shows who (ListHeld tree l) s = λ object. refl
+effect_shows who (RemoveHeld name l) s = inr (stored_shows who name None s)
 effect_shows who (Send queue bytes) s = λ object. refl
 effect_shows who (Receive queue most) s = λ object. refl
 effect_shows who (Delete queue id) s = λ object. refl

@@ -37,7 +37,7 @@ slice_get-push {X} xs x i e =
     slice_get_read (xs ++ x ∷ []) (length (xs ++ x ∷ [])) i x refl (omega (arith, length-append xs (x ∷ []))) (sym (get_or_push xs x x i (sym e)))
 
 -- the newest of a list with one version more at its end
-pub newest_of-push : (vs : List Version) (v : Version) → newest_of (vs ++ v ∷ []) ≡ Some v.bytes
+pub newest_of-push : (vs : List Version) (v : Version) → newest_of (vs ++ v ∷ []) ≡ v.bytes
 newest_of-push vs v =
     let e : length (vs ++ v ∷ []) - 1 ≡ length vs = omega (arith, length-append vs (v ∷ [])) in
     rw (slice_get-push vs v (length (vs ++ v ∷ []) - 1) e)
@@ -45,4 +45,4 @@ newest_of-push vs v =
 -- bytes that landed are the newest
 pub landed_newest : (who : Caller) (name : ObjName) (bytes : List ℕ) (s : CloudState) → newest (landed who name bytes s) name ≡ Some bytes
 landed_newest who name bytes s =
-    rw (put_at_same object_cmp object_cmp-total) (newest_of-push (s.versions name) (record { who = who; bytes = bytes }))
+    rw (put_at_same object_cmp object_cmp-total) (newest_of-push (s.versions name) (record { who = who; bytes = Some bytes }))

@@ -1,5 +1,5 @@
 -- A cloud that began empty has a row for each version and each message, and cutting them by event agrees.
-use Rattle.std.proofs.Common.{◌≡◌, ◌+◌, ◌-◌, ◌++◌, ℕ, zero, suc, List, [], ◌∷◌, length, Option, refl, ap, sym, ◌∙◌, subst, arith, Bool, true, false, cond, Ordering}
+use Rattle.std.proofs.Common.{◌≡◌, ◌+◌, ◌-◌, ◌++◌, ℕ, zero, suc, List, [], ◌∷◌, length, Option, Some, None, refl, ap, sym, ◌∙◌, subst, arith, Bool, true, false, cond, Ordering}
 use Rattle.std.specs.Bool.{◌==◌}
 use Rattle.std.specs.Prelude.{filter}
 use Rattle.std.specs.declared.cmp.Ordering.TheVariants.{Less, Equal, Greater}
@@ -16,7 +16,7 @@ use Rattle.cloud_trait.specs.declared.state.Site.TheVariants.{Object, Queue}
 use Rattle.cloud_trait.specs.Caller.{Caller}
 use Rattle.cloud_trait.specs.Names.{object_cmp, queue_cmp}
 use Rattle.cloud_trait.specs.State.{CloudState, Counts, IsEmptyCloud, called, put_at, held_so, end_after, mark_at, marked}
-use Rattle.cloud_trait.specs.Ask.{Ask, Get, GetHeld, PutHeld, Send, Receive, Delete, Take, Renew, Release, effect}
+use Rattle.cloud_trait.specs.Ask.{Ask, Get, GetHeld, PutHeld, ListHeld, RemoveHeld, Send, Receive, Delete, Take, Renew, Release, effect}
 use Rattle.cloud_trait.specs.Weather.{Leaves}
 use Rattle.cloud_trait.specs.Traced.{is_object, is_queue, object_rows, queue_rows, version_rows, post_rows, IsTraced}
 use Rattle.cloud_trait.proofs.NameLemmas.{object_cmp-equal, queue_cmp-equal}
@@ -121,7 +121,12 @@ pub effect_traced : (who : Caller) (ask : Ask) (s : CloudState) → IsTraced s �
 effect_traced who (Get name) s h = h
 effect_traced who (GetHeld name l) s h = h
 effect_traced who (PutHeld name bytes one two) s h = record {
-  versions = λ q. put_traced s.trace s.versions name q (record { who = who; bytes = bytes }) (h.versions q);
+  versions = λ q. put_traced s.trace s.versions name q (record { who = who; bytes = Some bytes }) (h.versions q);
+  messages = λ q. other_rows (λ (r : Landing). is_queue q r.site) s.trace _ _ refl (h.messages q);
+}
+effect_traced who (ListHeld tree l) s h = h
+effect_traced who (RemoveHeld name l) s h = record {
+  versions = λ q. put_traced s.trace s.versions name q (record { who = who; bytes = None }) (h.versions q);
   messages = λ q. other_rows (λ (r : Landing). is_queue q r.site) s.trace _ _ refl (h.messages q);
 }
 effect_traced who (Send queue bytes) s h = record {

@@ -1,5 +1,5 @@
 -- Later events change nothing of the state up to an event.
-use Rattle.std.proofs.Common.{◌≡◌, ◌<◌, ◌≤◌, ◌-◌, ◌++◌, ℕ, zero, suc, List, [], ◌∷◌, refl, ap, sym, ◌∙◌, subst, inl, inr, arith, Bool, true, false, cond}
+use Rattle.std.proofs.Common.{◌≡◌, ◌<◌, ◌≤◌, ◌-◌, ◌++◌, ℕ, zero, suc, List, [], ◌∷◌, Option, Some, None, refl, ap, sym, ◌∙◌, subst, inl, inr, arith, Bool, true, false, cond}
 use Rattle.std.specs.Bool.{◌==◌}
 use Rattle.std.specs.Prelude.{filter, nat_le, All}
 use Rattle.std.proofs.lemmas.Bool.{le-leb}
@@ -13,8 +13,8 @@ use Rattle.cloud_trait.specs.declared.state.Posted.{Posted}
 use Rattle.cloud_trait.specs.declared.state.Landing.{Landing}
 use Rattle.cloud_trait.specs.Caller.{Caller}
 use Rattle.cloud_trait.specs.Names.{object_cmp, queue_cmp}
-use Rattle.cloud_trait.specs.State.{CloudState, held_so, end_after, mark_at, marked}
-use Rattle.cloud_trait.specs.Ask.{Ask, Get, GetHeld, PutHeld, Send, Receive, Delete, Take, Renew, Release, effect}
+use Rattle.cloud_trait.specs.State.{CloudState, stored, held_so, end_after, mark_at, marked}
+use Rattle.cloud_trait.specs.Ask.{Ask, Get, GetHeld, PutHeld, ListHeld, RemoveHeld, Send, Receive, Delete, Take, Renew, Release, effect}
 use Rattle.cloud_trait.specs.Upto.{AgreeUpto, IsUpto, upto, versions_upto, messages_upto, trace_upto, posts_of}
 use Rattle.cloud_trait.proofs.NameLemmas.{object_cmp-equal, queue_cmp-equal}
 use Rattle.cloud_trait.proofs.StateLemmas.{put_at_by}
@@ -61,15 +61,21 @@ agree_trans n s t u a b = record {
   trace = b.trace ∙ a.trace;
 }
 
--- what lands at a later event changes nothing up to an event
-pub effect_agree : (n : ℕ) (who : Caller) (ask : Ask) (s : CloudState) → n < who.event → AgreeUpto n s (effect who ask s)
-effect_agree n who (Get name) s h = agree_itself n s s refl refl refl
-effect_agree n who (GetHeld name l) s h = agree_itself n s s refl refl refl
-effect_agree n who (PutHeld name bytes one two) s h = record {
+-- a version that lands at a later event changes nothing up to an event
+stored_agree : (n : ℕ) (who : Caller) (name : ObjName) (bytes : Option (List ℕ)) (s : CloudState) → n < who.event → AgreeUpto n s (stored who name bytes s)
+stored_agree n who name bytes s h = record {
   versions = put_at_by (λ q v. versions_upto n v ≡ versions_upto n (s.versions q)) object_cmp object_cmp-equal s.versions name _ (filter-push_out (λ (v : Version). nat_le v.who.event n) (s.versions name) _ (later_event n who.event h)) (λ q. refl);
   messages = λ queue. refl;
   trace = filter-push_out (λ (r : Landing). nat_le r.who.event n) s.trace _ (later_event n who.event h);
 }
+
+-- what lands at a later event changes nothing up to an event
+pub effect_agree : (n : ℕ) (who : Caller) (ask : Ask) (s : CloudState) → n < who.event → AgreeUpto n s (effect who ask s)
+effect_agree n who (Get name) s h = agree_itself n s s refl refl refl
+effect_agree n who (GetHeld name l) s h = agree_itself n s s refl refl refl
+effect_agree n who (PutHeld name bytes one two) s h = stored_agree n who name (Some bytes) s h
+effect_agree n who (ListHeld tree l) s h = agree_itself n s s refl refl refl
+effect_agree n who (RemoveHeld name l) s h = stored_agree n who name None s h
 effect_agree n who (Send queue bytes) s h = record {
   versions = λ name. refl;
   messages = put_at_by (λ q v. posts_of (messages_upto n v) ≡ posts_of (messages_upto n (s.messages q))) queue_cmp queue_cmp-equal s.messages queue _ (ap posts_of (filter-push_out (λ (m : Posted). nat_le m.who.event n) (s.messages queue) _ (later_event n who.event h))) (λ q. refl);
@@ -108,15 +114,21 @@ is_upto_same n s t v m r h = record {
   trace = (let P : List Landing → Type 0 = λ f. All (λ (x : Landing). x.who.event ≤ n) f in subst P (sym r) h.trace);
 }
 
--- what lands by an event leaves all up to that event
-pub effect_upto : (n : ℕ) (who : Caller) (ask : Ask) (s : CloudState) → who.event ≤ n → IsUpto n s → IsUpto n (effect who ask s)
-effect_upto n who (Get name) s h u = u
-effect_upto n who (GetHeld name l) s h u = u
-effect_upto n who (PutHeld name bytes one two) s h u = record {
+-- a version that lands by an event leaves all up to that event
+stored_upto : (n : ℕ) (who : Caller) (name : ObjName) (bytes : Option (List ℕ)) (s : CloudState) → who.event ≤ n → IsUpto n s → IsUpto n (stored who name bytes s)
+stored_upto n who name bytes s h u = record {
   versions = put_at_by (λ q v. All (λ (x : Version). x.who.event ≤ n) v) object_cmp object_cmp-equal s.versions name _ (All-push (λ (x : Version). x.who.event ≤ n) (s.versions name) _ (u.versions name) h) u.versions;
   messages = u.messages;
   trace = All-push (λ (x : Landing). x.who.event ≤ n) s.trace _ u.trace h;
 }
+
+-- what lands by an event leaves all up to that event
+pub effect_upto : (n : ℕ) (who : Caller) (ask : Ask) (s : CloudState) → who.event ≤ n → IsUpto n s → IsUpto n (effect who ask s)
+effect_upto n who (Get name) s h u = u
+effect_upto n who (GetHeld name l) s h u = u
+effect_upto n who (PutHeld name bytes one two) s h u = stored_upto n who name (Some bytes) s h u
+effect_upto n who (ListHeld tree l) s h u = u
+effect_upto n who (RemoveHeld name l) s h u = stored_upto n who name None s h u
 effect_upto n who (Send queue bytes) s h u = record {
   versions = u.versions;
   messages = put_at_by (λ q v. All (λ (x : Posted). x.who.event ≤ n) v) queue_cmp queue_cmp-equal s.messages queue _ (All-push (λ (x : Posted). x.who.event ≤ n) (s.messages queue) _ (u.messages queue) h) u.messages;

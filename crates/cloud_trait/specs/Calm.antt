@@ -2,7 +2,7 @@
 use Rattle.std.specs.Prelude.{ℕ, ◌≡◌, ◌≤◌, List, [], ◌∷◌, Some, None}
 use Rattle.cloud_trait.specs.declared.answer.Answer.{Answer}
 use Rattle.cloud_trait.specs.declared.answer.Answer.TheVariants.{Held, Late, Failed}
-use Rattle.cloud_trait.specs.Ask.{Ask, GetHeld, PutHeld, Take, Renew}
+use Rattle.cloud_trait.specs.Ask.{Ask, GetHeld, PutHeld, ListHeld, RemoveHeld, Take, Renew}
 use Rattle.cloud_trait.specs.Claim.{Lasts}
 use Rattle.cloud_trait.specs.Machine.{Deed}
 use Rattle.cloud_trait.specs.State.{CloudState}
@@ -19,6 +19,8 @@ abbrev pub NamesLasting : Ask → ℕ → Type 0
 NamesLasting (GetHeld name l) now = Lasts now l
 NamesLasting (PutHeld name bytes one None) now = Lasts now one
 NamesLasting (PutHeld name bytes one (Some two)) now = Lasts now one × Lasts now two
+NamesLasting (ListHeld tree l) now = Lasts now l
+NamesLasting (RemoveHeld name l) now = Lasts now l
 NamesLasting (Renew l ticks) now = Lasts now l
 NamesLasting ask now = Unit {0}
 

@@ -8,6 +8,7 @@ pub mod Claim
 pub mod Delivery
 pub mod Down
 pub mod Growth
+pub mod Listing
 pub mod Machine
 pub mod Names
 pub mod Plenty

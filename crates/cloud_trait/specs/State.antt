@@ -1,6 +1,6 @@
 -- What a cloud holds, and how it changes.
 use Rattle.std.specs.Prelude.{ℕ, zero, suc, ◌≡◌, ◌+◌, ◌-◌, ◌==◌, ◌&&◌, Bool, true, false, cond, min, nat_lt, List, [], ◌∷◌, ◌++◌, length, Option, Some, None, slice_get}
-use Rattle.std.specs.Option.{option_map}
+use Rattle.std.specs.Option.{option_map, option_and_then}
 use Rattle.std.specs.declared.cmp.Ordering.{Ordering}
 use Rattle.std.specs.Ordering.{is_eq}
 use Rattle.db_base.specs.declared.names.ObjName.{ObjName}
@@ -60,17 +60,17 @@ greatest = 18446744073709551615
 abbrev pub end_after : ℕ → ℕ → ℕ
 end_after now ticks = min (now + ticks) greatest
 
--- the bytes of the newest version, or none
+-- the bytes of the newest version; none where there is no version, and where the newest one has none
 abbrev pub newest_of : List Version → Option (List ℕ)
-newest_of vs = option_map (λ (v : Version). v.bytes) (slice_get vs (length vs - 1))
+newest_of vs = option_and_then (λ (v : Version). v.bytes) (slice_get vs (length vs - 1))
 
 -- the bytes of the newest version of an object, or none
 abbrev pub newest : CloudState → ObjName → Option (List ℕ)
 newest s name = newest_of (s.versions name)
 
--- the bytes of the n-th version, from 1; none for 0 and past the end
+-- the bytes of the n-th version, from 1; none for 0, past the end, and where it has none
 abbrev pub version_at : List Version → ℕ → Option (List ℕ)
-version_at vs n = cond (n == 0) None (option_map (λ (v : Version). v.bytes) (slice_get vs (n - 1)))
+version_at vs n = cond (n == 0) None (option_and_then (λ (v : Version). v.bytes) (slice_get vs (n - 1)))
 
 -- the bytes of the message of this number, from 1; none for 0 and past the end
 abbrev pub message_at : List Posted → ℕ → Option (List ℕ)
@@ -90,12 +90,20 @@ marked ms id = cond (id == 0) ms (mark_at ms (id - 1))
 abbrev pub called : Caller → ℕ → CloudState → CloudState
 called who t s = record s { now = t; wish = Plain; last = Some (who, s.wish) }
 
--- bytes land as the newest version
-abbrev pub landed : Caller → ObjName → List ℕ → CloudState → CloudState
-landed who name bytes s = record s {
+-- a version, with bytes or without, lands as the newest
+abbrev pub stored : Caller → ObjName → Option (List ℕ) → CloudState → CloudState
+stored who name bytes s = record s {
   versions = put_at object_cmp s.versions name (s.versions name ++ record { who = who; bytes = bytes } ∷ []);
   trace = s.trace ++ record { who = who; site = Object name; position = length (s.versions name) + 1 } ∷ [];
 }
+
+-- bytes land as the newest version
+abbrev pub landed : Caller → ObjName → List ℕ → CloudState → CloudState
+landed who name bytes s = stored who name (Some bytes) s
+
+-- an object is removed: its newest version has no bytes
+abbrev pub removed : Caller → ObjName → CloudState → CloudState
+removed who name s = stored who name None s
 
 -- a message lands at the end of a queue
 abbrev pub sent : Caller → QueueName → List ℕ → CloudState → CloudState

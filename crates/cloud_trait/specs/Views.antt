@@ -4,7 +4,7 @@ use Rattle.db_base.specs.declared.names.Lock.{Lock}
 use Rattle.db_base.specs.declared.trouble.Trouble.{Trouble}
 use Rattle.db_base.specs.declared.trouble.Trouble.TheVariants as trouble
 use Rattle.cloud_trait.specs.declared.answer.Answer.{Answer}
-use Rattle.cloud_trait.specs.declared.answer.Answer.TheVariants.{Got, Sent, Received, Done, Given, Held, Renewed, Late, Memory}
+use Rattle.cloud_trait.specs.declared.answer.Answer.TheVariants.{Got, Sent, Received, Listed, Done, Given, Held, Renewed, Late, Memory}
 use Rattle.cloud_trait.specs.declared.message.Message.{Message}
 use Rattle.cloud_trait.specs.Claim.{Claim}
 
@@ -29,7 +29,12 @@ abbrev pub received_of : Answer → Result (List Message) Trouble
 received_of (Received ms) = Ok ms
 received_of a = Err (trouble_of a)
 
--- that a put, a deletion or a release was done
+-- the pages of a listing
+abbrev pub listed_of : Answer → Result (List ℕ) Trouble
+listed_of (Listed ps) = Ok ps
+listed_of a = Err (trouble_of a)
+
+-- that a put, a removal, a deletion or a release was done
 abbrev pub done_of : Answer → Result (Unit {0}) Trouble
 done_of Done = Ok tt
 done_of a = Err (trouble_of a)

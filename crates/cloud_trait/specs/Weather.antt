@@ -1,15 +1,16 @@
 -- What each service call may answer, and what it leaves: one table.
-use Rattle.std.specs.Prelude.{ℕ, ◌≡◌, ◌+◌, ◌≤◌, ◌<◌, ◌⊎◌, length, Option, Some, All, IsSomeAnd}
+use Rattle.std.specs.Prelude.{ℕ, ◌≡◌, ◌+◌, ◌≤◌, ◌<◌, ◌⊎◌, length, Option, Some, None, All, IsSomeAnd}
 use Rattle.db_base.specs.declared.names.ObjName.{ObjName}
 use Rattle.cloud_trait.specs.declared.answer.Answer.{Answer}
-use Rattle.cloud_trait.specs.declared.answer.Answer.TheVariants.{Got, Sent, Received, Done, Given, Held, Renewed, Late, Failed, Memory}
+use Rattle.cloud_trait.specs.declared.answer.Answer.TheVariants.{Got, Sent, Received, Listed, Done, Given, Held, Renewed, Late, Failed, Memory}
 use Rattle.cloud_trait.specs.Caller.{Caller}
 use Rattle.cloud_trait.specs.Claim.{Claim, Lasts, IsOver, extended}
 use Rattle.cloud_trait.specs.State.{CloudState, Counts, put_at, newest, version_at, called, end_after, lease_given}
 use Rattle.cloud_trait.specs.Names.{object_cmp}
 use Rattle.cloud_trait.specs.Seen.{Seen, Showing}
 use Rattle.cloud_trait.specs.Delivery.{WasSent, IsDelivering}
-use Rattle.cloud_trait.specs.Ask.{Ask, Get, GetHeld, PutHeld, Send, Receive, Delete, Take, Renew, Release, Lands}
+use Rattle.cloud_trait.specs.Listing.{AscendAbove, IsListing}
+use Rattle.cloud_trait.specs.Ask.{Ask, Get, GetHeld, PutHeld, ListHeld, RemoveHeld, Send, Receive, Delete, Take, Renew, Release, Lands}
 
 -- a count rose
 abbrev pub Rose : ℕ → ℕ → Type 0
@@ -38,6 +39,10 @@ Weather who (GetHeld name l) (Got v) c d b t = (t ≡ b) × Lasts b.now l × (v 
 Weather who (GetHeld name l) (Late e n) c d b t = (t ≡ b) × IsOver b.now l × (e ≡ l.end) × (n ≡ b.now)
 Weather who (PutHeld name bytes one two) Done c d b t = Lands who (PutHeld name bytes one two) b t
 Weather who (PutHeld name bytes one two) (Late e n) c d b t = (t ≡ b) × FirstOver b.now one two e × (n ≡ b.now)
+Weather who (ListHeld tree l) (Listed ps) c d b t = (t ≡ b) × Lasts b.now l × IsListing b tree ps
+Weather who (ListHeld tree l) (Late e n) c d b t = (t ≡ b) × IsOver b.now l × (e ≡ l.end) × (n ≡ b.now)
+Weather who (RemoveHeld name l) Done c d b t = Lands who (RemoveHeld name l) b t
+Weather who (RemoveHeld name l) (Late e n) c d b t = (t ≡ b) × IsOver b.now l × (e ≡ l.end) × (n ≡ b.now)
 Weather who (Send queue bytes) (Sent id) c d b t = Lands who (Send queue bytes) b t × (id ≡ length (b.messages queue) + 1)
 Weather who (Receive queue most) (Received ms) c d b t =
     (t ≡ b) × All (WasSent (b.messages queue)) ms × (IsDelivering (b.messages queue) most ms ⊎ Rose c.withheld d.withheld)
@@ -59,6 +64,10 @@ Fits (GetHeld name l) (Got v) = Unit {0}
 Fits (GetHeld name l) (Late e n) = IsOver n l × (e ≡ l.end)
 Fits (PutHeld name bytes one two) Done = Unit {0}
 Fits (PutHeld name bytes one two) (Late e n) = FirstOver n one two e
+Fits (ListHeld tree l) (Listed ps) = AscendAbove 0 ps
+Fits (ListHeld tree l) (Late e n) = IsOver n l × (e ≡ l.end)
+Fits (RemoveHeld name l) Done = Unit {0}
+Fits (RemoveHeld name l) (Late e n) = IsOver n l × (e ≡ l.end)
 Fits (Send queue bytes) (Sent id) = Unit {0}
 Fits (Receive queue most) (Received ms) = length ms ≤ most
 Fits (Delete queue id) Done = Unit {0}
@@ -76,10 +85,12 @@ pub record Leaves (who : Caller) (ask : Ask) (answer : Answer) (c d : Counts) (s
   pub later : s.now ≤ after.now
   pub row : Weather who ask answer c d (called who after.now s) after
 
--- what a call may leave of what looks show: all, or of a put all but its object, which has the new bytes
+-- what a call may leave of what looks show: all, or of a put or a removal all but its object, which has the new bytes or none
 abbrev pub LeavesShown : Ask → Showing → Showing → Type 0
 LeavesShown (PutHeld put bytes one two) p q =
     ((name : ObjName) → q name ≡ p name) ⊎ ((name : ObjName) → q name ≡ put_at object_cmp p put (Some bytes) name)
+LeavesShown (RemoveHeld gone l) p q =
+    ((name : ObjName) → q name ≡ p name) ⊎ ((name : ObjName) → q name ≡ put_at object_cmp p gone None name)
 LeavesShown ask p q = (name : ObjName) → q name ≡ p name
 
 -- where the cloud tells what looks show, it tells it after a call too, and that is what the call may leave

@@ -1,6 +1,7 @@
 ghost use Rattle.std.specs.Prelude.{◌≡◌};
 
 use crate::lease::Lease;
+use crate::listing::PageList;
 use crate::message::MessageList;
 use db_base::blob::Blob;
 use db_base::ids::MsgId;
@@ -16,7 +17,9 @@ pub enum Answer {
     Sent(MsgId),
     /// A receive.
     Received(MessageList),
-    /// A put, a deletion or a release.
+    /// A listing of pages.
+    Listed(PageList),
+    /// A put, a removal, a deletion or a release.
     Done,
     /// A take of a free lock.
     Given(Lease),
@@ -38,7 +41,7 @@ pub enum Answer {
 }
 
 impl Answer {
-    ghost use Rattle.cloud_trait.specs.Views.{trouble_of, got_of, sent_of, received_of, done_of, given_of, renewed_of};
+    ghost use Rattle.cloud_trait.specs.Views.{trouble_of, got_of, sent_of, received_of, listed_of, done_of, given_of, renewed_of};
 
     /// The trouble of an answer that brought no value.
     pub fn trouble(self) -> Trouble
@@ -81,7 +84,17 @@ impl Answer {
         }
     }
 
-    /// That a put, a deletion or a release was done, or the trouble.
+    /// The pages of a listing, or the trouble.
+    pub fn listed(self) -> Result<PageList, Trouble>
+        ensures { result ≡ listed_of self }
+    {
+        match self {
+            Answer::Listed(pages) => Ok(pages),
+            other => Err(other.trouble()),
+        }
+    }
+
+    /// That a put, a removal, a deletion or a release was done, or the trouble.
     pub fn done(self) -> Result<(), Trouble>
         ensures { result ≡ done_of self }
     {

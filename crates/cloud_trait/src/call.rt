@@ -3,7 +3,7 @@ ghost use Rattle.std.specs.Option.{option_copied};
 ghost use Rattle.cloud_trait.specs.Call.{ask_of, kind_of, target_of, bytes_of};
 
 use crate::lease::Lease;
-use db_base::ids::MsgId;
+use db_base::ids::{MsgId, TreeId};
 use db_base::names::{Lock, ObjName, QueueName};
 
 /// A service call, as a machine has it in hand.
@@ -15,6 +15,10 @@ pub enum Call<'a> {
     GetHeld(ObjName, &'a Lease),
     /// Puts an object under one or two leases.
     PutHeld(ObjName, &'a [u8], &'a Lease, Option<&'a Lease>),
+    /// Lists the pages of a tree under a lease.
+    ListHeld(TreeId, &'a Lease),
+    /// Removes an object under a lease.
+    RemoveHeld(ObjName, &'a Lease),
     /// Sends a message.
     Send(QueueName, &'a [u8]),
     /// Receives at most so many messages.
@@ -38,6 +42,10 @@ pub enum CallKind {
     GetHeld,
     /// A put of an object under leases.
     PutHeld,
+    /// A listing of a tree's pages under a lease.
+    ListHeld,
+    /// A removal of an object under a lease.
+    RemoveHeld,
     /// A send to a queue.
     Send,
     /// A receive from a queue.
@@ -74,6 +82,8 @@ impl<'a> Call<'a> {
             Call::Get(_) => CallKind::Get,
             Call::GetHeld(_, _) => CallKind::GetHeld,
             Call::PutHeld(_, _, _, _) => CallKind::PutHeld,
+            Call::ListHeld(_, _) => CallKind::ListHeld,
+            Call::RemoveHeld(_, _) => CallKind::RemoveHeld,
             Call::Send(_, _) => CallKind::Send,
             Call::Receive(_, _) => CallKind::Receive,
             Call::Delete(_, _) => CallKind::Delete,
@@ -83,7 +93,7 @@ impl<'a> Call<'a> {
         }
     }
 
-    /// What it is about.
+    /// What it is about: a listing, the object of its tree.
     pub fn name(&self) -> Target
         ensures { result ≡ target_of (ask_of self.now) }
     {
@@ -91,6 +101,8 @@ impl<'a> Call<'a> {
             Call::Get(name) => Target::Object(*name),
             Call::GetHeld(name, _) => Target::Object(*name),
             Call::PutHeld(name, _, _, _) => Target::Object(*name),
+            Call::ListHeld(tree, _) => Target::Object(ObjName::Tree(*tree)),
+            Call::RemoveHeld(name, _) => Target::Object(*name),
             Call::Send(queue, _) => Target::Queue(*queue),
             Call::Receive(queue, _) => Target::Queue(*queue),
             Call::Delete(queue, id) => Target::Message(*queue, *id),

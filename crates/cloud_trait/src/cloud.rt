@@ -1,8 +1,8 @@
 ghost use Rattle.std.specs.Prelude.{◌≡◌, ℕ, Option, length, IfOk};
 ghost use Rattle.std.specs.Option.{option_copied};
-ghost use Rattle.cloud_trait.specs.declared.answer.Answer.TheVariants.{Got, Sent, Received};
+ghost use Rattle.cloud_trait.specs.declared.answer.Answer.TheVariants.{Got, Sent, Received, Listed};
 ghost use Rattle.cloud_trait.specs.Answers.{answer_of, held_answer_of, done_by, granted_by, renewed_by};
-ghost use Rattle.cloud_trait.specs.Ask.{Get, GetHeld, PutHeld, Send, Receive, Delete, Take, Renew, Release};
+ghost use Rattle.cloud_trait.specs.Ask.{Get, GetHeld, PutHeld, ListHeld, RemoveHeld, Send, Receive, Delete, Take, Renew, Release};
 ghost use Rattle.cloud_trait.specs.State.{CloudState, newest};
 ghost use Rattle.cloud_trait.specs.Seen.{Seen};
 ghost use Rattle.cloud_trait.specs.Delivery.{unmarked};
@@ -15,7 +15,7 @@ use crate::lease::Lease;
 use crate::message::Message;
 use crate::who::Who;
 use db_base::blob::Blob;
-use db_base::ids::MsgId;
+use db_base::ids::{MsgId, PageId, TreeId};
 use db_base::names::{Lock, ObjName, QueueName};
 use db_base::wish::Wish;
 
@@ -52,6 +52,14 @@ pub trait Cloud {
         second: Option<&Lease>,
     ) -> Result<(), HeldFault>
         ensures made { Makes who (PutHeld name bytes.now first.now (option_copied second.entry)) (held_answer_of done_by result) (seen self.old) (seen self.new) };
+
+    /// Lists the pages of a tree whose newest version has bytes, in ascending order, under a lease.
+    fn list_held(&mut self, who: Who, tree: TreeId, lease: &Lease) -> Result<Vec<PageId>, HeldFault>
+        ensures made { Makes who (ListHeld tree lease.now) (held_answer_of (λ ps. Listed ps.items) result) (seen self.old) (seen self.new) };
+
+    /// Removes an object under a lease: its newest version has no bytes then.
+    fn remove_held(&mut self, who: Who, name: ObjName, lease: &Lease) -> Result<(), HeldFault>
+        ensures made { Makes who (RemoveHeld name lease.now) (held_answer_of done_by result) (seen self.old) (seen self.new) };
 
     /// Sends a message.
     fn send(&mut self, who: Who, queue: QueueName, bytes: &[u8]) -> Result<MsgId, CloudFault>

@@ -13,7 +13,7 @@ use crate::lease::Lease;
 use crate::message::Message;
 use crate::who::Who;
 use db_base::blob::Blob;
-use db_base::ids::MsgId;
+use db_base::ids::{MsgId, PageId, TreeId};
 use db_base::names::{Lock, ObjName, QueueName};
 use db_base::wish::Wish;
 use std::mem;
@@ -128,6 +128,19 @@ impl Cloud for DownCloud {
         _first: &Lease,
         _second: Option<&Lease>,
     ) -> Result<(), HeldFault> {
+        Err(self.fail_held(who))
+    }
+
+    fn list_held(
+        &mut self,
+        who: Who,
+        _tree: TreeId,
+        _lease: &Lease,
+    ) -> Result<Vec<PageId>, HeldFault> {
+        Err(self.fail_held(who))
+    }
+
+    fn remove_held(&mut self, who: Who, _name: ObjName, _lease: &Lease) -> Result<(), HeldFault> {
         Err(self.fail_held(who))
     }
 

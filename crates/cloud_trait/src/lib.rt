@@ -8,6 +8,7 @@ pub mod down;
 pub mod fault;
 pub mod grant;
 pub mod lease;
+pub mod listing;
 pub mod message;
 pub mod perform;
 pub mod state;

@@ -8,6 +8,7 @@ use crate::call::Call;
 use crate::cloud::Cloud;
 use crate::grant::Grant;
 use crate::lease::Lease;
+use crate::listing::PageList;
 use crate::message::MessageList;
 use crate::who::Who;
 
@@ -28,6 +29,14 @@ pub fn perform<C: Cloud>(cloud: &mut C, who: Who, call: &Call<'_>) -> Answer
         Call::PutHeld(name, bytes, first, second) => match cloud.put_held(
             who, *name, bytes, first, *second,
         ) {
+            Ok(()) => Answer::Done,
+            Err(fault) => fault.answer(),
+        },
+        Call::ListHeld(tree, lease) => match cloud.list_held(who, *tree, lease) {
+            Ok(pages) => Answer::Listed(PageList::of(pages)),
+            Err(fault) => fault.answer(),
+        },
+        Call::RemoveHeld(name, lease) => match cloud.remove_held(who, *name, lease) {
             Ok(()) => Answer::Done,
             Err(fault) => fault.answer(),
         },

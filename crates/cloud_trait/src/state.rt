@@ -5,10 +5,10 @@ use db_base::names::{ObjName, QueueName};
 /// A landed version of an object.
 #[derive(Debug)]
 pub struct Version {
-    /// Who put it.
+    /// Who put or removed it.
     pub who: Who,
-    /// Its bytes.
-    pub bytes: Blob,
+    /// Its bytes; none where the object was removed.
+    pub bytes: Option<Blob>,
 }
 
 impl Drop for Version {
@@ -50,13 +50,13 @@ pub struct Hold {
 /// Where something landed.
 #[derive(Clone, Copy, Debug, PartialEq, Eq)]
 pub enum Site {
-    /// A put landed in this object.
+    /// A put or a removal landed in this object.
     Object(ObjName),
     /// A send landed in this queue.
     Queue(QueueName),
 }
 
-/// A row of the trace: a put or a send that landed.
+/// A row of the trace: a put, a removal or a send that landed.
 #[derive(Clone, Copy, Debug, PartialEq, Eq)]
 pub struct Landing {
     /// Who made the call.

@@ -111,6 +111,17 @@ pub(crate) fn remove<R: Files>(rt: &R, path: &str) -> Result<(), FolderFault> {
     }
 }
 
+/// An entry of a folder that is read; none where its name is no text, so that it is none of the store's.
+pub(crate) fn named<T: Drop>(entry: io::Result<T>) -> Result<Option<T>, FolderFault> {
+    match entry {
+        Ok(entry) => Ok(Some(entry)),
+        Err(error) => match error.kind() {
+            ErrorKind::InvalidFilename => Ok(None),
+            _ => Err(FolderFault::from(error)),
+        },
+    }
+}
+
 /// Makes a folder, where the one above it is there.
 pub(crate) fn make_folder<R: Files>(rt: &R, path: &str) -> Result<(), FolderFault> {
     let mut builder = DirBuilder::new();

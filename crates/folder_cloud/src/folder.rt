@@ -2,22 +2,26 @@
 
 ghost use Rattle.std.specs.Prelude.{◌≡◌, ◌≤◌, length, IfOk, OnOk, Ok};
 ghost use Rattle.cloud_trait.specs.Claim.{Claim};
+ghost use Rattle.cloud_trait.specs.Listing.{AscendAbove};
 
 use crate::fault::FolderFault;
 use crate::files::{
-    flush_names, keep_folder, look, make_folder, make_new, read, remove, write_over,
+    flush_names, keep_folder, look, make_folder, make_new, named, read, remove, write_over,
 };
 use crate::held::Held;
 use crate::numbers::{hold_bytes, hold_in, id_in, id_name, number_in};
-use crate::rules::{is_held, lease_end, next_number, was_given};
+use crate::rules::{is_held, lease_end, next_number, put_in_order, was_given};
 use cloud_trait::grant::Grant;
 use cloud_trait::lease::Lease;
 use cloud_trait::message::Message;
 use cloud_trait::state::Hold;
 use db_base::blob::Blob;
-use db_base::ids::MsgId;
+use db_base::ids::{MsgId, PageId, TreeId};
 use db_base::names::{Lock, ObjName, QueueName};
+use folder_names::fault::NameFault;
 use folder_names::files::{file_of, folder_of, lock_of};
+use folder_names::objects::page_of;
+use std::alloc::Global;
 use std::fs;
 use std::fs::File;
 use std::io::{ErrorKind, Write};
@@ -154,6 +158,37 @@ impl<R: Files<File = File> + AllocGlobal + Drop> Folder<R> {
         self.write(held, OBJECTS, file.as_str(), bytes)
     }
 
+    /// The pages of a tree, in ascending order.
+    pub fn pages(&self, _held: &Held, tree: TreeId) -> Result<Vec<PageId>, FolderFault>
+        ensures { IfOk result (λ pages. AscendAbove 0 pages.items) }
+    {
+        let mut pages = Vec::new(self.rt.alloc());
+        let path = self.path(OBJECTS, "")?;
+        let rt = &self.rt;
+        for entry in fs::read_dir(&rt, path.as_str())? {
+            if let Some(entry) = named(entry)? {
+                if let Some(page) = page_in(self.rt.alloc(), tree, entry.file_name())? {
+                    pages.push(page)?;
+                }
+            }
+        }
+        put_in_order(&mut pages);
+        Ok(pages)
+    }
+
+    /// Removes an object, where it is there. It is flushed as a put is, since nobody may read it again.
+    pub fn remove(&self, held: &Held, name: &ObjName) -> Result<(), FolderFault> {
+        let file = file_of(self.rt.alloc(), *name)?;
+        let path = self.path(OBJECTS, file.as_str())?;
+        if look(&self.rt, path.as_str())?.is_none() {
+            return Ok(());
+        }
+        let names = self.names(OBJECTS)?;
+        held.mark(OBJECTS)?;
+        remove(&self.rt, path.as_str())?;
+        held.flush(&names)
+    }
+
     // The part of a queue.
     fn queue_part(&self, queue: &QueueName) -> Result<String, FolderFault> {
         let folder = folder_of(self.rt.alloc(), *queue)?;
@@ -211,16 +246,10 @@ impl<R: Files<File = File> + AllocGlobal + Drop> Folder<R> {
             },
         };
         for entry in entries {
-            match entry {
-                Ok(entry) => {
-                    if let Some(id) = id_in(entry.file_name()) {
-                        ids.push(id)?;
-                    }
+            if let Some(entry) = named(entry)? {
+                if let Some(id) = id_in(entry.file_name()) {
+                    ids.push(id)?;
                 }
-                Err(error) => match error.kind() {
-                    ErrorKind::InvalidFilename => {}
-                    _ => return Err(FolderFault::from(error)),
-                },
             }
         }
         ids.sort()?;
@@ -355,5 +384,14 @@ impl<R: Files<File = File> + AllocGlobal + Drop> Folder<R> {
         } else {
             Err(FolderFault::Failed)
         }
+    }
+}
+
+// The page of a tree whose file has this name; none for another name.
+fn page_in(alloc: Global, tree: TreeId, name: &str) -> Result<Option<PageId>, FolderFault> {
+    match page_of(alloc, tree, name) {
+        Ok(page) => Ok(Some(page)),
+        Err(NameFault::NotOurs) => Ok(None),
+        Err(NameFault::Memory) => Err(FolderFault::Memory),
     }
 }

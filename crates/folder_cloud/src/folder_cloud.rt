@@ -17,7 +17,7 @@ use cloud_trait::lease::Lease;
 use cloud_trait::message::Message;
 use cloud_trait::who::Who;
 use db_base::blob::Blob;
-use db_base::ids::MsgId;
+use db_base::ids::{MsgId, PageId, TreeId};
 use db_base::names::{Lock, ObjName, QueueName};
 use db_base::wish::Wish;
 use std::fs::File;
@@ -129,6 +129,27 @@ impl<R: Files<File = File> + AllocGlobal + Drop, K: Ticks + Drop> Cloud for Fold
         second: Option<&Lease>,
     ) -> Result<(), HeldFault> {
         match self.folder.put_held(&name, bytes, first, second) {
+            Ok(()) => Ok(()),
+            Err(HeldStop::Late { end, now }) => Err(HeldFault::Late { end, now }),
+            Err(HeldStop::Fault(fault)) => Err(self.fail_held(fault)),
+        }
+    }
+
+    fn list_held(
+        &mut self,
+        _who: Who,
+        tree: TreeId,
+        lease: &Lease,
+    ) -> Result<Vec<PageId>, HeldFault> {
+        match self.folder.list_held(tree, lease) {
+            Ok(pages) => Ok(pages),
+            Err(HeldStop::Late { end, now }) => Err(HeldFault::Late { end, now }),
+            Err(HeldStop::Fault(fault)) => Err(self.fail_held(fault)),
+        }
+    }
+
+    fn remove_held(&mut self, _who: Who, name: ObjName, lease: &Lease) -> Result<(), HeldFault> {
+        match self.folder.remove_held(&name, lease) {
             Ok(()) => Ok(()),
             Err(HeldStop::Late { end, now }) => Err(HeldFault::Late { end, now }),
             Err(HeldStop::Fault(fault)) => Err(self.fail_held(fault)),

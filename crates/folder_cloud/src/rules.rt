@@ -1,11 +1,13 @@
 //! What is decided by values alone.
 
-ghost use Rattle.std.specs.Prelude.{◌≡◌, ◌≤◌, ◌<◌, ◌+◌, ◌↔◌, ◌⊎◌, IsTrue, IfSome, None, min};
+ghost use Rattle.std.specs.Prelude.{ℕ, ◌≡◌, ◌≤◌, ◌<◌, ◌+◌, ◌↔◌, ◌⊎◌, Contains, IsTrue, IfSome, None, min};
+ghost use Rattle.cloud_trait.specs.Listing.{AscendAbove};
 ghost use Rattle.cloud_trait.specs.State.{end_after, greatest};
 ghost use Rattle.folder_cloud.specs.Rules.{longest, IsHeld, WasGiven};
 
 use cloud_trait::lease::Lease;
 use cloud_trait::state::Hold;
+use db_base::ids::PageId;
 
 /// The longest that a lease lasts, in ticks. No operation asks for longer.
 pub(crate) const LONGEST: u64 = 600;
@@ -42,4 +44,19 @@ pub(crate) fn next_number(counted: u64, newest: u64) -> Option<u64>
         return newest.checked_add(1);
     }
     counted.max(newest).checked_add(1)
+}
+
+/// Puts pages in ascending order, each once. That the least is above 0 is seen where it is read.
+pub(crate) fn put_in_order(pages: &mut Vec<PageId>)
+    ensures ascending { AscendAbove 0 pages.new.items }
+    ensures same { (page : ℕ) → Contains pages.old.items page ↔ Contains pages.new.items page }
+{
+    pages.sort_unstable();
+    pages.dedup();
+    match pages.as_slice() {
+        [] => {}
+        [least, ..] => {
+            let _number = least.get();
+        }
+    }
 }

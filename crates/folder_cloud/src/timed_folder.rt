@@ -1,6 +1,7 @@
 ghost use Rattle.std.specs.Prelude.{◌≡◌, ◌≤◌, ℕ, length, Err, IfOk, IfSome, OnOk, Ok};
 ghost use Rattle.std.specs.Option.{option_copied};
 ghost use Rattle.cloud_trait.specs.Claim.{Claim, IsOver};
+ghost use Rattle.cloud_trait.specs.Listing.{AscendAbove};
 ghost use Rattle.cloud_trait.specs.Weather.{FirstOver};
 
 use crate::clock::Clock;
@@ -13,7 +14,7 @@ use cloud_trait::grant::Grant;
 use cloud_trait::lease::Lease;
 use cloud_trait::message::Message;
 use db_base::blob::Blob;
-use db_base::ids::MsgId;
+use db_base::ids::{MsgId, PageId, TreeId};
 use db_base::names::{Lock, ObjName, QueueName};
 use std::fs::File;
 use std::rt::Files;
@@ -90,6 +91,24 @@ impl<R: Files<File = File> + AllocGlobal + Drop, K: Ticks + Drop> TimedFolder<R,
     {
         let held = self.begin_under(first, second)?;
         self.folder.put(&held, name, bytes)?;
+        Ok(())
+    }
+
+    /// The pages of a tree, in ascending order, under a lease.
+    pub fn list_held(&mut self, tree: TreeId, lease: &Lease) -> Result<Vec<PageId>, HeldStop>
+        ensures ascending { IfOk result (λ pages. AscendAbove 0 pages.items) }
+        ensures late { (end now : ℕ) → result ≡ Err (HeldStop.Late end now) → IsOver now lease.now × (end ≡ lease.now.end) }
+    {
+        let held = self.begin_under(lease, None)?;
+        Ok(self.folder.pages(&held, tree)?)
+    }
+
+    /// Removes an object, where it is there, under a lease.
+    pub fn remove_held(&mut self, name: &ObjName, lease: &Lease) -> Result<(), HeldStop>
+        ensures late { (end now : ℕ) → result ≡ Err (HeldStop.Late end now) → IsOver now lease.now × (end ≡ lease.now.end) }
+    {
+        let held = self.begin_under(lease, None)?;
+        self.folder.remove(&held, name)?;
         Ok(())
     }
 

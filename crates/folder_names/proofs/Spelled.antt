@@ -6,7 +6,8 @@ use Rattle.std.specs.Int.{w64, to_be_bytes, from_be_bytes}
 use Rattle.std.proofs.Math.Nat.{mod-lt}
 use Rattle.std.proofs.lemmas.Nat.{from_be_bytes-to_be_bytes_8}
 use Rattle.db_base.specs.Ids.{IsClient, IsTree, IsPage}
-use Rattle.folder_names.specs.Names.{only, place_bytes, place_text}
+use Rattle.db_base.specs.declared.names.ObjName.TheVariants.{Page}
+use Rattle.folder_names.specs.Names.{file_text, only, place_bytes, place_text}
 use Rattle.words.proofs.Hexadecimal.{bytes_of-hexadecimal}
 
 pub unspelled : (word : List ℕ) → bytes_of word ≡ None → (bytes : List ℕ) → AreBytes bytes → word ≢ hexadecimal bytes
@@ -84,3 +85,12 @@ one_place word bytes tree page t p are is h k e at there =
 
 pub no_numbers : (t p tree page : ℕ) → (IsTree t → IsPage p → ⊥) → (t ≡ tree) × (p ≡ page) → IsTree tree → IsPage page → ⊥
 no_numbers t p tree page not_it same is at = not_it (subst IsTree (sym same.0) is) (subst IsPage (sym same.1) at)
+
+-- ---- the file of a page
+
+-- a file is of a page of one tree alone
+pub one_tree : (t p tree page : ℕ) → IsTree t → IsTree tree → file_text (Page t p) ≡ file_text (Page tree page) → t ≡ tree
+one_tree t p tree page is of e =
+    let same : place_text t p ≡ place_text tree page = ap (drop 5) e in
+    let bytes : place_bytes t p ≡ place_bytes tree page = same_bytes (place_text t p) (place_bytes t p) (place_bytes tree page) (place_are t p is) (place_are tree page of) refl same in
+    ap (head_or 0) (sym (place_is t p) ∙ bytes ∙ place_is tree page)

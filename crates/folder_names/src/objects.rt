@@ -140,3 +140,35 @@ pub fn object_of(alloc: Global, text: &str) -> Result<ObjName, NameFault>
         _ => Err(NameFault::NotOurs),
     }
 }
+
+/// The page that an object is, where it is one of this tree.
+fn page_in(tree: TreeId, name: ObjName) -> Option<PageId>
+    ensures some { (page : ℕ) → result ≡ Some page → name ≡ ObjName.Page tree page }
+    ensures none { result ≡ None → (page : ℕ) → IsObject (ObjName.Page tree page) → file_text name ≢ file_text (ObjName.Page tree page) }
+{
+    match name {
+        ObjName::Head(_) => None,
+        ObjName::Tree(_) => None,
+        ObjName::Page(of, page) => {
+            if of.get() == tree.get() {
+                Some(page)
+            } else {
+                None
+            }
+        }
+    }
+}
+
+/// The page of a tree whose file has this name; NotOurs exactly where no page of the tree has it.
+pub fn page_of(alloc: Global, tree: TreeId, text: &str) -> Result<PageId, NameFault>
+    ensures ok { IfOk result (λ page. text.now ≡ file_text (ObjName.Page tree page)) }
+    ensures none { result ≡ Err NameFault.NotOurs → (page : ℕ) → IsObject (ObjName.Page tree page) → text.now ≢ file_text (ObjName.Page tree page) }
+{
+    match object_of(alloc, text) {
+        Ok(name) => match page_in(tree, name) {
+            Some(page) => Ok(page),
+            None => Err(NameFault::NotOurs),
+        },
+        Err(fault) => Err(fault),
+    }
+}

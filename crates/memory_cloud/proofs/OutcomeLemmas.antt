@@ -12,7 +12,7 @@ use Rattle.std.proofs.lemmas.List.Elements.{All-nil, All-cons, All-take}
 use Rattle.db_base.specs.declared.names.ObjName.{ObjName}
 use Rattle.db_base.specs.declared.names.Lock.{Lock}
 use Rattle.cloud_trait.specs.declared.answer.Answer.{Answer}
-use Rattle.cloud_trait.specs.declared.answer.Answer.TheVariants.{Got, Received, Done, Given, Held, Renewed, Late, Failed, Memory}
+use Rattle.cloud_trait.specs.declared.answer.Answer.TheVariants.{Got, Received, Listed, Done, Given, Held, Renewed, Late, Failed, Memory}
 use Rattle.cloud_trait.specs.declared.state.Posted.{Posted}
 use Rattle.cloud_trait.specs.declared.state.Version.{Version}
 use Rattle.cloud_trait.specs.declared.fault.HeldFault.{HeldFault}
@@ -20,15 +20,15 @@ use Rattle.cloud_trait.specs.declared.fault.HeldFault.TheVariants as held
 use Rattle.cloud_trait.specs.Answers.{held_answer_of, renewed_by}
 use Rattle.cloud_trait.specs.Caller.{Caller}
 use Rattle.cloud_trait.specs.Claim.{Claim, extended}
-use Rattle.cloud_trait.specs.State.{CloudState, Counts, greatest, newest, newest_of, version_at, end_after, lease_given, message_at, called, landed, taken, renewed}
+use Rattle.cloud_trait.specs.State.{CloudState, Counts, greatest, newest, newest_of, version_at, end_after, lease_given, message_at, called, landed, removed, taken, renewed}
 use Rattle.cloud_trait.specs.Seen.{Seen}
 use Rattle.cloud_trait.specs.Delivery.{unmarked, unmarked_from, WasSent}
-use Rattle.cloud_trait.specs.Ask.{Ask, Get, GetHeld, PutHeld, Send, Receive, Delete, Take, Renew, Release, effect, Lands}
+use Rattle.cloud_trait.specs.Ask.{Ask, Get, GetHeld, PutHeld, ListHeld, RemoveHeld, Send, Receive, Delete, Take, Renew, Release, effect, Lands}
 use Rattle.cloud_trait.specs.Weather.{Weather, Fits, Makes, Leaves, Rises, RenewsBoth, RenewsLease}
 use Rattle.cloud_trait.proofs.RowLemmas.{row_rest}
 use Rattle.cloud_trait.proofs.ShowingLemmas.{row_shows}
 use Rattle.memory_cloud.specs.Choice.{chosen}
-use Rattle.memory_cloud.specs.Outcome.{late, may_land, plain_answer, in_time, old_version, positions_of, answer_in, state_in, counts_in, one_fault, one_withheld, one_stale, end_if_over, end_of_second, Obeys, lease_in}
+use Rattle.memory_cloud.specs.Outcome.{late, may_land, in_time, Lists, AnswersPlainly, old_version, positions_of, Answers, state_in, counts_in, one_fault, one_withheld, one_stale, end_if_over, end_of_second, Obeys, lease_in}
 use Rattle.memory_cloud.specs.declared.mood.Mood.{Mood}
 use Rattle.memory_cloud.specs.declared.mood.Mood.TheVariants as mood
 
@@ -150,23 +150,39 @@ take_plain who lock ticks b c rises = over_cases (λ o. IsRow who (Take lock tic
 take-short : {X : Type 0} (n : ℕ) (xs : List X) → length (take n xs) ≤ n
 take-short n xs = omega (arith, length-take n xs)
 
+-- what holds at what a call answers
+answered : (who : Caller) (ask : Ask) (a x : Answer) (c d : Counts) (b t : CloudState) → a ≡ x → IsRow who ask x c d b t → IsRow who ask a c d b t
+answered who ask a x c d b t e row =
+    let P : Answer → Type 0 = λ y. IsRow who ask y c d b t in subst P (sym e) row
+
+-- a listing whose lease lasts
+list_plain : (who : Caller) (tree : ℕ) (l : Claim) (a : Answer) (b : CloudState) (c : Counts) → b.now < l.end → Lists None tree b a → IsRow who (ListHeld tree l) a c c b b
+list_plain who tree l (Listed pages) b c lasts h = quiet who (ListHeld tree l) (Listed pages) c b b h.ascending (λ e. absurd (cc)) (refl, lasts, h)
+list_plain who tree l a b c lasts h = absurd h
+
 -- a plain call
-plain : (who : Caller) (ask : Ask) (b : CloudState) (c : Counts) → IsRow who ask (in_time (late ask b) b.now (plain_answer ask b)) c (counts_in mood.Plain ask b c) b (cond (may_land ask b) (effect who ask b) b)
-plain who (Get name) b c = quiet who (Get name) _ c b b tt (λ e. absurd (cc)) (refl, (length (b.versions name), newest_of-version_at (b.versions name)), inl refl)
-plain who (GetHeld name l) b c = over_cases (λ o. IsRow who (GetHeld name l) (in_time (cond o (Some l.end) None) b.now (Got (newest b name))) c c b (cond (is_none (cond o (Some l.end) None)) b b)) l.end b.now
-    (λ over. quiet who (GetHeld name l) (Late l.end b.now) c b b (over, refl) (λ e. absurd (cc)) (refl, over, refl, refl))
-    (λ lasts. quiet who (GetHeld name l) (Got (newest b name)) c b b tt (λ e. absurd (cc)) (refl, lasts, refl))
-plain who (PutHeld name bytes one two) b c = over_cases (λ o. IsRow who (PutHeld name bytes one two) (in_time (cond o (Some one.end) (end_of_second b.now two)) b.now Done) c c b (cond (is_none (cond o (Some one.end) (end_of_second b.now two))) (landed who name bytes b) b)) one.end b.now
-    (λ over. quiet who (PutHeld name bytes one two) (Late one.end b.now) c b b (inl (over, refl)) (λ e. absurd (cc)) (refl, inl (over, refl), refl))
-    (λ lasts. put_plain who name bytes one two b c lasts)
-plain who (Send queue bytes) b c = quiet who (Send queue bytes) _ c b (effect who (Send queue bytes) b) tt (λ e. absurd (cc)) ((refl, tt), refl)
-plain who (Receive queue most) b c = quiet who (Receive queue most) _ c b b (take-short most (unmarked (b.messages queue))) (λ e. absurd (cc)) (refl, All-take (WasSent (b.messages queue)) most (unmarked (b.messages queue)) (unmarked_from-sent [] (b.messages queue) (b.messages queue) 1 refl refl), inl (IsPermutation-refl (take most (unmarked (b.messages queue)))))
-plain who (Delete queue id) b c = quiet who (Delete queue id) Done c b (effect who (Delete queue id) b) tt (λ e. absurd (cc)) (refl, tt)
-plain who (Take lock ticks) b c = take_plain who lock ticks b c (nat_lt (b.locks lock).generation greatest)
-plain who (Renew l ticks) b c = over_cases (λ o. IsRow who (Renew l ticks) (in_time (cond o (Some l.end) None) b.now (Renewed (end_after b.now ticks))) c c b (cond (is_none (cond o (Some l.end) None)) (effect who (Renew l ticks) b) b)) l.end b.now
-    (λ over. quiet who (Renew l ticks) (Late l.end b.now) c b b (over, refl) (λ e. absurd (cc)) (refl, over, refl, refl))
-    (λ lasts. quiet who (Renew l ticks) (Renewed (end_after b.now ticks)) c b (effect who (Renew l ticks) b) tt (λ e. absurd (cc)) ((refl, lasts), refl))
-plain who (Release l) b c = quiet who (Release l) Done c b (effect who (Release l) b) tt (λ e. absurd (cc)) (refl, tt)
+plain : (who : Caller) (ask : Ask) (a : Answer) (b : CloudState) (c : Counts) → AnswersPlainly ask b a → IsRow who ask a c (counts_in mood.Plain ask b c) b (cond (may_land ask b) (effect who ask b) b)
+plain who (Get name) a b c e = answered who (Get name) a (Got (newest b name)) c c b b e (quiet who (Get name) (Got (newest b name)) c b b tt (λ e. absurd (cc)) (refl, (length (b.versions name), newest_of-version_at (b.versions name)), inl refl))
+plain who (GetHeld name l) a b c e = over_cases (λ o. a ≡ in_time (cond o (Some l.end) None) b.now (Got (newest b name)) → IsRow who (GetHeld name l) a c c b (cond (is_none (cond o (Some l.end) None)) b b)) l.end b.now
+    (λ over e. answered who (GetHeld name l) a (Late l.end b.now) c c b b e (quiet who (GetHeld name l) (Late l.end b.now) c b b (over, refl) (λ e. absurd (cc)) (refl, over, refl, refl)))
+    (λ lasts e. answered who (GetHeld name l) a (Got (newest b name)) c c b b e (quiet who (GetHeld name l) (Got (newest b name)) c b b tt (λ e. absurd (cc)) (refl, lasts, refl))) e
+plain who (PutHeld name bytes one two) a b c e = over_cases (λ o. a ≡ in_time (cond o (Some one.end) (end_of_second b.now two)) b.now Done → IsRow who (PutHeld name bytes one two) a c c b (cond (is_none (cond o (Some one.end) (end_of_second b.now two))) (landed who name bytes b) b)) one.end b.now
+    (λ over e. answered who (PutHeld name bytes one two) a (Late one.end b.now) c c b b e (quiet who (PutHeld name bytes one two) (Late one.end b.now) c b b (inl (over, refl)) (λ e. absurd (cc)) (refl, inl (over, refl), refl)))
+    (λ lasts e. answered who (PutHeld name bytes one two) a (in_time (end_of_second b.now two) b.now Done) c c b (cond (is_none (end_of_second b.now two)) (landed who name bytes b) b) e (put_plain who name bytes one two b c lasts)) e
+plain who (ListHeld tree l) a b c h = over_cases (λ o. Lists (cond o (Some l.end) None) tree b a → IsRow who (ListHeld tree l) a c c b (cond (is_none (cond o (Some l.end) None)) b b)) l.end b.now
+    (λ over e. answered who (ListHeld tree l) a (Late l.end b.now) c c b b e (quiet who (ListHeld tree l) (Late l.end b.now) c b b (over, refl) (λ e. absurd (cc)) (refl, over, refl, refl)))
+    (λ lasts h. list_plain who tree l a b c lasts h) h
+plain who (RemoveHeld name l) a b c e = over_cases (λ o. a ≡ in_time (cond o (Some l.end) None) b.now Done → IsRow who (RemoveHeld name l) a c c b (cond (is_none (cond o (Some l.end) None)) (removed who name b) b)) l.end b.now
+    (λ over e. answered who (RemoveHeld name l) a (Late l.end b.now) c c b b e (quiet who (RemoveHeld name l) (Late l.end b.now) c b b (over, refl) (λ e. absurd (cc)) (refl, over, refl, refl)))
+    (λ lasts e. answered who (RemoveHeld name l) a Done c c b (removed who name b) e (quiet who (RemoveHeld name l) Done c b (removed who name b) tt (λ e. absurd (cc)) (refl, lasts))) e
+plain who (Send queue bytes) a b c e = answered who (Send queue bytes) a _ c c b (effect who (Send queue bytes) b) e (quiet who (Send queue bytes) _ c b (effect who (Send queue bytes) b) tt (λ e. absurd (cc)) ((refl, tt), refl))
+plain who (Receive queue most) a b c e = answered who (Receive queue most) a _ c c b b e (quiet who (Receive queue most) _ c b b (take-short most (unmarked (b.messages queue))) (λ e. absurd (cc)) (refl, All-take (WasSent (b.messages queue)) most (unmarked (b.messages queue)) (unmarked_from-sent [] (b.messages queue) (b.messages queue) 1 refl refl), inl (IsPermutation-refl (take most (unmarked (b.messages queue))))))
+plain who (Delete queue id) a b c e = answered who (Delete queue id) a Done c c b (effect who (Delete queue id) b) e (quiet who (Delete queue id) Done c b (effect who (Delete queue id) b) tt (λ e. absurd (cc)) (refl, tt))
+plain who (Take lock ticks) a b c e = answered who (Take lock ticks) a _ c _ b _ e (take_plain who lock ticks b c (nat_lt (b.locks lock).generation greatest))
+plain who (Renew l ticks) a b c e = over_cases (λ o. a ≡ in_time (cond o (Some l.end) None) b.now (Renewed (end_after b.now ticks)) → IsRow who (Renew l ticks) a c c b (cond (is_none (cond o (Some l.end) None)) (effect who (Renew l ticks) b) b)) l.end b.now
+    (λ over e. answered who (Renew l ticks) a (Late l.end b.now) c c b b e (quiet who (Renew l ticks) (Late l.end b.now) c b b (over, refl) (λ e. absurd (cc)) (refl, over, refl, refl)))
+    (λ lasts e. answered who (Renew l ticks) a (Renewed (end_after b.now ticks)) c c b (effect who (Renew l ticks) b) e (quiet who (Renew l ticks) (Renewed (end_after b.now ticks)) c b (effect who (Renew l ticks) b) tt (λ e. absurd (cc)) ((refl, lasts), refl))) e
+plain who (Release l) a b c e = answered who (Release l) a Done c c b (effect who (Release l) b) e (quiet who (Release l) Done c b (effect who (Release l) b) tt (λ e. absurd (cc)) (refl, tt))
 
 -- a put that is lost, whose first lease lasts
 put_lost : (who : Caller) (name : ObjName) (bytes : List ℕ) (one : Claim) (two : Option Claim) (b : CloudState) (c : Counts) → b.now < one.end → IsRow who (PutHeld name bytes one two) (in_time (end_of_second b.now two) b.now Failed) c (cond (is_none (end_of_second b.now two)) (one_fault c) c) b (cond (is_none (end_of_second b.now two)) (landed who name bytes b) b)
@@ -194,6 +210,12 @@ lost who (GetHeld name l) b c = over_cases (λ o. IsRow who (GetHeld name l) (in
 lost who (PutHeld name bytes one two) b c = over_cases (λ o. IsRow who (PutHeld name bytes one two) (in_time (cond o (Some one.end) (end_of_second b.now two)) b.now Failed) c (cond (is_none (cond o (Some one.end) (end_of_second b.now two))) (one_fault c) c) b (cond (is_none (cond o (Some one.end) (end_of_second b.now two))) (landed who name bytes b) b)) one.end b.now
     (λ over. quiet who (PutHeld name bytes one two) (Late one.end b.now) c b b (inl (over, refl)) (λ e. absurd (cc)) (refl, inl (over, refl), refl))
     (λ lasts. put_lost who name bytes one two b c lasts)
+lost who (ListHeld tree l) b c = over_cases (λ o. IsRow who (ListHeld tree l) (in_time (cond o (Some l.end) None) b.now Failed) c (cond (is_none (cond o (Some l.end) None)) (one_fault c) c) b (cond (is_none (cond o (Some l.end) None)) b b)) l.end b.now
+    (λ over. quiet who (ListHeld tree l) (Late l.end b.now) c b b (over, refl) (λ e. absurd (cc)) (refl, over, refl, refl))
+    (λ lasts. failing who (ListHeld tree l) c b b (inl refl))
+lost who (RemoveHeld name l) b c = over_cases (λ o. IsRow who (RemoveHeld name l) (in_time (cond o (Some l.end) None) b.now Failed) c (cond (is_none (cond o (Some l.end) None)) (one_fault c) c) b (cond (is_none (cond o (Some l.end) None)) (removed who name b) b)) l.end b.now
+    (λ over. quiet who (RemoveHeld name l) (Late l.end b.now) c b b (over, refl) (λ e. absurd (cc)) (refl, over, refl, refl))
+    (λ lasts. failing who (RemoveHeld name l) c b (removed who name b) (inr (refl, lasts)))
 lost who (Send queue bytes) b c = failing who (Send queue bytes) c b (effect who (Send queue bytes) b) (inr (refl, tt))
 lost who (Receive queue most) b c = failing who (Receive queue most) c b b (inl refl)
 lost who (Delete queue id) b c = failing who (Delete queue id) c b (effect who (Delete queue id) b) (inr (refl, tt))
@@ -204,25 +226,28 @@ lost who (Renew l ticks) b c = over_cases (λ o. IsRow who (Renew l ticks) (in_t
 lost who (Release l) b c = failing who (Release l) c b (effect who (Release l) b) (inr (refl, tt))
 
 -- what a call does is a row of the table, in every mood
-row_in : (m : Mood) (who : Caller) (ask : Ask) (b : CloudState) (c : Counts) → IsRow who ask (answer_in m ask b) c (counts_in m ask b c) b (state_in m who ask b)
-row_in mood.Plain who (Take lock ticks) b c = plain who (Take lock ticks) b c
-row_in mood.Fail who ask b c = failing who ask c b b (inl refl)
-row_in mood.Lost who ask b c = lost who ask b c
-row_in mood.Hide who (Receive queue most) b c = withholding who (Receive queue most) (Received []) c b b (omega arith) (λ e. absurd (cc)) (λ e. absurd (cc)) (refl, All-nil (WasSent (b.messages queue)), inr (omega arith))
-row_in mood.Hide who (Take lock ticks) b c = withholding who (Take lock ticks) (Held b.now) c b b tt (λ e. absurd (cc)) (λ e. absurd (cc)) (refl, inr (omega arith))
-row_in (mood.Old n) who (Get name) b c = staling who (Get name) (Got (old_version (b.versions name) n)) c b b tt (λ e. absurd (cc)) (λ e. absurd (cc)) (refl, (min n (length (b.versions name)), refl), inr (omega arith))
-row_in mood.Give who (Receive queue most) b c =
-    withholding who (Receive queue most) (Received (take most (chosen (b.messages queue) (positions_of b.last)))) c b b (take-short most (chosen (b.messages queue) (positions_of b.last))) (λ e. absurd (cc)) (λ e. absurd (cc))
-    (refl, All-take (WasSent (b.messages queue)) most (chosen (b.messages queue) (positions_of b.last)) (chosen-sent (b.messages queue) (positions_of b.last)), inr (omega arith))
-row_in m who ask b c = plain who ask b c
+row_in : (m : Mood) (who : Caller) (ask : Ask) (a : Answer) (b : CloudState) (c : Counts) → Answers m ask b a → IsRow who ask a c (counts_in m ask b c) b (state_in m who ask b)
+row_in mood.Plain who (Take lock ticks) a b c e = plain who (Take lock ticks) a b c e
+row_in mood.Fail who ask a b c e = answered who ask a Failed c (one_fault c) b b e (failing who ask c b b (inl refl))
+row_in mood.Lost who ask a b c e = answered who ask a _ c _ b _ e (lost who ask b c)
+row_in mood.Hide who (Receive queue most) a b c e = answered who (Receive queue most) a (Received []) c (one_withheld c) b b e (withholding who (Receive queue most) (Received []) c b b (omega arith) (λ e. absurd (cc)) (λ e. absurd (cc)) (refl, All-nil (WasSent (b.messages queue)), inr (omega arith)))
+row_in mood.Hide who (Take lock ticks) a b c e = answered who (Take lock ticks) a (Held b.now) c (one_withheld c) b b e (withholding who (Take lock ticks) (Held b.now) c b b tt (λ e. absurd (cc)) (λ e. absurd (cc)) (refl, inr (omega arith)))
+row_in (mood.Old n) who (Get name) a b c e =
+    answered who (Get name) a (Got (old_version (b.versions name) n)) c (one_stale c) b b e
+    (staling who (Get name) (Got (old_version (b.versions name) n)) c b b tt (λ e. absurd (cc)) (λ e. absurd (cc)) (refl, (min n (length (b.versions name)), refl), inr (omega arith)))
+row_in mood.Give who (Receive queue most) a b c e =
+    let x : Answer = Received (take most (chosen (b.messages queue) (positions_of b.last))) in
+    answered who (Receive queue most) a x c (one_withheld c) b b e
+    (withholding who (Receive queue most) x c b b (take-short most (chosen (b.messages queue) (positions_of b.last))) (λ e. absurd (cc)) (λ e. absurd (cc))
+    (refl, All-take (WasSent (b.messages queue)) most (chosen (b.messages queue) (positions_of b.last)) (chosen-sent (b.messages queue) (positions_of b.last)), inr (omega arith)))
+row_in m who ask a b c e = plain who ask a b c e
 
 -- a call that obeys its mood is a row
 obeys_row : (m : Mood) (who : Caller) (ask : Ask) (a : Answer) (c d : Counts) (b t : CloudState) → Obeys m who ask a c d b t → IsRow who ask a c d b t
 obeys_row m who ask a c d b t (inl o) =
-    let P : Answer → Type 0 = λ x. IsRow who ask x c d b t in
-    let Q : CloudState → Type 0 = λ x. IsRow who ask (answer_in m ask b) c d b x in
-    let R : Counts → Type 0 = λ x. IsRow who ask (answer_in m ask b) c x b (state_in m who ask b) in
-    subst P (sym o.0) (subst Q (sym o.1) (subst R (sym o.2) (row_in m who ask b c)))
+    let Q : CloudState → Type 0 = λ x. IsRow who ask a c d b x in
+    let R : Counts → Type 0 = λ x. IsRow who ask a c x b (state_in m who ask b) in
+    subst Q (sym o.1) (subst R (sym o.2) (row_in m who ask a b c o.0))
 obeys_row m who ask a c d b t (inr o) =
     let P : Answer → Type 0 = λ x. IsRow who ask x c d b t in
     let Q : CloudState → Type 0 = λ x. IsRow who ask Memory c d b x in
@@ -262,10 +287,15 @@ renews_lost : (who : Caller) (l : Claim) (ticks : ℕ) (b : CloudState) → Rene
 renews_lost who l ticks b = over_cases (λ o. RenewsRow who ticks l (cond o l (extended l (end_after b.now ticks))) (in_time (cond o (Some l.end) None) b.now Failed) b (cond (is_none (cond o (Some l.end) None)) (renewed l ticks b) b)) l.end b.now
     (λ over. refl) (λ lasts. (refl, inr ((refl, lasts), refl)))
 
-renews_in : (m : Mood) (who : Caller) (l : Claim) (ticks : ℕ) (b : CloudState) → RenewsRow who ticks l (lease_in m l ticks b) (answer_in m (Renew l ticks) b) b (state_in m who (Renew l ticks) b)
-renews_in mood.Fail who l ticks b = (refl, inl (refl, refl))
-renews_in mood.Lost who l ticks b = renews_lost who l ticks b
-renews_in m who l ticks b = renews_plain who l ticks b
+renews_in : (m : Mood) (who : Caller) (l : Claim) (ticks : ℕ) (a : Answer) (b : CloudState) → Answers m (Renew l ticks) b a → RenewsRow who ticks l (lease_in m l ticks b) a b (state_in m who (Renew l ticks) b)
+renews_in mood.Fail who l ticks a b e =
+    let P : Answer → Type 0 = λ x. RenewsRow who ticks l l x b b in subst P (sym e) (refl, inl (refl, refl))
+renews_in mood.Lost who l ticks a b e =
+    let P : Answer → Type 0 = λ x. RenewsRow who ticks l (cond (nat_le l.end b.now) l (extended l (end_after b.now ticks))) x b (cond (is_none (end_if_over b.now l)) (renewed l ticks b) b) in
+    subst P (sym e) (renews_lost who l ticks b)
+renews_in m who l ticks a b e =
+    let P : Answer → Type 0 = λ x. RenewsRow who ticks l (cond (nat_le l.end b.now) l (extended l (end_after b.now ticks))) x b (cond (is_none (end_if_over b.now l)) (renewed l ticks b) b) in
+    subst P (sym e) (renews_plain who l ticks b)
 
 -- the same between the states that are told
 renews_told : (who : Caller) (ticks : ℕ) (l m : Claim) (a : Answer) (c d : Counts) (s t : CloudState) → t.now ≡ s.now → RenewsRow who ticks l m a (called who s.now s) t → RenewsLease who ticks l m a (told c s) (told d t)
@@ -289,9 +319,8 @@ obeys_renews m who l n ticks a c d s t (inl o) never e =
     let r = obeys_row m who (Renew l ticks) a c d (called who s.now s) t (inl o) in
     let still : t.now ≡ s.now = (row_rest who (Renew l ticks) a c d (called who s.now s) t r.row).now in
     let P : Claim → Type 0 = λ x. RenewsRow who ticks l x a (called who s.now s) t in
-    let Q : Answer → Type 0 = λ x. RenewsRow who ticks l (lease_in m l ticks (called who s.now s)) x (called who s.now s) t in
-    let R : CloudState → Type 0 = λ x. RenewsRow who ticks l (lease_in m l ticks (called who s.now s)) (answer_in m (Renew l ticks) (called who s.now s)) (called who s.now s) x in
-    renews_told who ticks l n a c d s t still (subst P (sym e) (subst Q (sym o.0) (subst R (sym o.1) (renews_in m who l ticks (called who s.now s)))))
+    let R : CloudState → Type 0 = λ x. RenewsRow who ticks l (lease_in m l ticks (called who s.now s)) a (called who s.now s) x in
+    renews_told who ticks l n a c d s t still (subst P (sym e) (subst R (sym o.1) (renews_in m who l ticks a (called who s.now s) o.0)))
 
 -- what is seen of a cloud in which foreign bytes were planted, or none
 abbrev seen_in : Bool → Counts → CloudState → Seen

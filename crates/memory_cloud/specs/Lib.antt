@@ -3,3 +3,4 @@ pub mod Maps
 pub mod Memory
 pub mod Mood
 pub mod Outcome
+pub mod Pages

@@ -3,14 +3,15 @@ use Rattle.std.specs.Prelude.{ℕ, ◌≡◌, ◌+◌, ◌&&◌, ◌⊎◌, Bool
 use Rattle.db_base.specs.declared.wish.Wish.{Wish}
 use Rattle.db_base.specs.declared.wish.Wish.TheVariants.{Give}
 use Rattle.cloud_trait.specs.declared.answer.Answer.{Answer}
-use Rattle.cloud_trait.specs.declared.answer.Answer.TheVariants.{Got, Sent, Received, Done, Given, Held, Renewed, Late, Failed, Memory}
+use Rattle.cloud_trait.specs.declared.answer.Answer.TheVariants.{Got, Sent, Received, Listed, Done, Given, Held, Renewed, Late, Failed, Memory}
 use Rattle.cloud_trait.specs.declared.state.Version.{Version}
 use Rattle.cloud_trait.specs.declared.state.Hold.{Hold}
 use Rattle.cloud_trait.specs.Caller.{Caller}
 use Rattle.cloud_trait.specs.Claim.{Claim, extended}
 use Rattle.cloud_trait.specs.State.{CloudState, Counts, greatest, newest, version_at, end_after, lease_given}
 use Rattle.cloud_trait.specs.Delivery.{unmarked}
-use Rattle.cloud_trait.specs.Ask.{Ask, Get, GetHeld, PutHeld, Send, Receive, Delete, Take, Renew, Release, effect}
+use Rattle.cloud_trait.specs.Listing.{IsListing}
+use Rattle.cloud_trait.specs.Ask.{Ask, Get, GetHeld, PutHeld, ListHeld, RemoveHeld, Send, Receive, Delete, Take, Renew, Release, effect}
 use Rattle.memory_cloud.specs.Choice.{chosen}
 use Rattle.memory_cloud.specs.declared.mood.Mood.{Mood}
 use Rattle.memory_cloud.specs.declared.mood.Mood.TheVariants as mood
@@ -32,6 +33,8 @@ end_of_first now one two = cond (nat_le one.end now) (Some one.end) (end_of_seco
 abbrev pub late : Ask → CloudState → Option ℕ
 late (GetHeld name l) b = end_if_over b.now l
 late (PutHeld name bytes one two) b = end_of_first b.now one two
+late (ListHeld tree l) b = end_if_over b.now l
+late (RemoveHeld name l) b = end_if_over b.now l
 late (Renew l ticks) b = end_if_over b.now l
 late ask b = None
 
@@ -48,24 +51,32 @@ abbrev pub may_land : Ask → CloudState → Bool
 may_land (Take lock ticks) b = is_free (b.locks lock) b.now
 may_land ask b = is_none (late ask b)
 
--- what a call under leases that last answers
-abbrev pub plain_answer : Ask → CloudState → Answer
-plain_answer (Get name) b = Got (newest b name)
-plain_answer (GetHeld name l) b = Got (newest b name)
-plain_answer (PutHeld name bytes one two) b = Done
-plain_answer (Send queue bytes) b = Sent (length (b.messages queue) + 1)
-plain_answer (Receive queue most) b = Received (take most (unmarked (b.messages queue)))
-plain_answer (Delete queue id) b = Done
-plain_answer (Take lock ticks) b = cond (is_free (b.locks lock) b.now) (Given (lease_given lock ticks b)) (Held (b.locks lock).until)
-plain_answer (Renew l ticks) b = Renewed (end_after b.now ticks)
-plain_answer (Release l) b = Done
-
 -- Late where a lease is over
 abbrev pub in_time : Option ℕ → ℕ → Answer → Answer
 in_time None now a = a
 in_time (Some e) now a = Late e now
 
--- the n-th version, none for 0, the newest where n is too large
+-- a listing answers Late where its lease is over, and else just the pages of the tree whose newest version has bytes
+abbrev pub Lists : Option ℕ → ℕ → CloudState → Answer → Type 0
+Lists None tree b (Listed pages) = IsListing b tree pages
+Lists None tree b a = ⊥
+Lists (Some e) tree b a = a ≡ Late e b.now
+
+-- what a call answers that goes as it should
+abbrev pub AnswersPlainly : Ask → CloudState → Answer → Type 0
+AnswersPlainly (Get name) b a = a ≡ Got (newest b name)
+AnswersPlainly (GetHeld name l) b a = a ≡ in_time (end_if_over b.now l) b.now (Got (newest b name))
+AnswersPlainly (PutHeld name bytes one two) b a = a ≡ in_time (end_of_first b.now one two) b.now Done
+AnswersPlainly (ListHeld tree l) b a = Lists (end_if_over b.now l) tree b a
+AnswersPlainly (RemoveHeld name l) b a = a ≡ in_time (end_if_over b.now l) b.now Done
+AnswersPlainly (Send queue bytes) b a = a ≡ Sent (length (b.messages queue) + 1)
+AnswersPlainly (Receive queue most) b a = a ≡ Received (take most (unmarked (b.messages queue)))
+AnswersPlainly (Delete queue id) b a = a ≡ Done
+AnswersPlainly (Take lock ticks) b a = a ≡ cond (is_free (b.locks lock) b.now) (Given (lease_given lock ticks b)) (Held (b.locks lock).until)
+AnswersPlainly (Renew l ticks) b a = a ≡ in_time (end_if_over b.now l) b.now (Renewed (end_after b.now ticks))
+AnswersPlainly (Release l) b a = a ≡ Done
+
+-- the bytes of the n-th version, removals counted; none for 0 and of a removal, the newest where n is too large
 abbrev pub old_version : List Version → ℕ → Option (List ℕ)
 old_version vs n = version_at vs (min n (length vs))
 
@@ -80,14 +91,14 @@ positions_of None = []
 positions_of (Some l) = positions_in l.1
 
 -- what the call answers
-abbrev pub answer_in : Mood → Ask → CloudState → Answer
-answer_in mood.Fail ask b = Failed
-answer_in mood.Lost ask b = in_time (late ask b) b.now Failed
-answer_in mood.Hide (Receive queue most) b = Received []
-answer_in mood.Hide (Take lock ticks) b = Held b.now
-answer_in (mood.Old n) (Get name) b = Got (old_version (b.versions name) n)
-answer_in mood.Give (Receive queue most) b = Received (take most (chosen (b.messages queue) (positions_of b.last)))
-answer_in m ask b = in_time (late ask b) b.now (plain_answer ask b)
+abbrev pub Answers : Mood → Ask → CloudState → Answer → Type 0
+Answers mood.Fail ask b a = a ≡ Failed
+Answers mood.Lost ask b a = a ≡ in_time (late ask b) b.now Failed
+Answers mood.Hide (Receive queue most) b a = a ≡ Received []
+Answers mood.Hide (Take lock ticks) b a = a ≡ Held b.now
+Answers (mood.Old n) (Get name) b a = a ≡ Got (old_version (b.versions name) n)
+Answers mood.Give (Receive queue most) b a = a ≡ Received (take most (chosen (b.messages queue) (positions_of b.last)))
+Answers m ask b a = AnswersPlainly ask b a
 
 -- what the call leaves
 abbrev pub state_in : Mood → Caller → Ask → CloudState → CloudState
@@ -121,7 +132,7 @@ counts_in m ask b c = c
 -- a call did what its mood says, or memory ran out and it did nothing
 abbrev pub Obeys : Mood → Caller → Ask → Answer → Counts → Counts → CloudState → CloudState → Type 0
 Obeys m who ask a c d b t =
-    ((a ≡ answer_in m ask b) × (t ≡ state_in m who ask b) × (d ≡ counts_in m ask b c)) ⊎ ((a ≡ Memory) × (t ≡ b) × (d ≡ c))
+    (Answers m ask b a × (t ≡ state_in m who ask b) × (d ≡ counts_in m ask b c)) ⊎ ((a ≡ Memory) × (t ≡ b) × (d ≡ c))
 
 -- what a renewal leaves of the lease
 abbrev pub lease_in : Mood → Claim → ℕ → CloudState → Claim

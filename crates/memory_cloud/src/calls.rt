@@ -2,10 +2,10 @@ ghost use Rattle.std.specs.Prelude.{◌≡◌, ◌<◌, ℕ, Some, Err, OnOk, On
 ghost use Rattle.cloud_trait.specs.State.{greatest, taken, renewed, lease_given, end_after};
 ghost use Rattle.cloud_trait.specs.Claim.{extended};
 ghost use Rattle.std.specs.Option.{option_copied};
-ghost use Rattle.cloud_trait.specs.declared.answer.Answer.TheVariants.{Got, Sent, Received};
+ghost use Rattle.cloud_trait.specs.declared.answer.Answer.TheVariants.{Got, Sent, Received, Listed};
 ghost use Rattle.cloud_trait.specs.Answers.{answer_of, held_answer_of, done_by, granted_by, renewed_by};
 ghost use Rattle.cloud_trait.specs.Caller.{Caller};
-ghost use Rattle.cloud_trait.specs.Ask.{Get, GetHeld, PutHeld, Send, Receive, Delete, Take, Renew, Release};
+ghost use Rattle.cloud_trait.specs.Ask.{Get, GetHeld, PutHeld, ListHeld, RemoveHeld, Send, Receive, Delete, Take, Renew, Release};
 ghost use Rattle.memory_cloud.specs.Memory.{store_state, store_counts};
 ghost use Rattle.memory_cloud.specs.Mood.{HasRoom};
 ghost use Rattle.memory_cloud.specs.Outcome.{Obeys, end_if_over, end_of_first, is_free, is_spent, lease_in};
@@ -20,7 +20,7 @@ use cloud_trait::message::Message;
 use cloud_trait::state::Hold;
 use cloud_trait::who::Who;
 use db_base::blob::Blob;
-use db_base::ids::MsgId;
+use db_base::ids::{MsgId, PageId, TreeId};
 use db_base::names::{Lock, ObjName, QueueName};
 use std::alloc::AllocError;
 
@@ -202,6 +202,102 @@ impl Store {
             return Err(HeldFault::Late { end, now });
         }
         self.land(who, name, bytes)?;
+        Ok(())
+    }
+
+    // A listing of a tree's pages under a lease that has begun.
+    pub fn list_held_begun(
+        &mut self,
+        mood: Mood,
+        tree: TreeId,
+        lease: &Lease,
+    ) -> Result<Vec<PageId>, HeldFault>
+        requires { HasRoom mood (store_counts self.old) }
+        ensures { (who : Caller) → Obeys mood who (ListHeld tree lease.now) (held_answer_of (λ ps. Listed ps.items) result) (store_counts self.old) (store_counts self.new) (store_state self.old) (store_state self.new) }
+    {
+        match mood {
+            Mood::Fail => {
+                self.fault();
+                Err(HeldFault::Failed)
+            }
+            Mood::Lost => self.list_held_lost(tree, lease),
+            Mood::Plain | Mood::Hide | Mood::Old(_) | Mood::Give => self.list_held_plain(
+                tree, lease,
+            ),
+        }
+    }
+
+    fn list_held_lost(&mut self, _tree: TreeId, lease: &Lease) -> Result<Vec<PageId>, HeldFault>
+        requires { (store_counts self.old).faults < greatest }
+        ensures { (who : Caller) → Obeys Mood.Lost who (ListHeld _tree lease.now) (held_answer_of (λ ps. Listed ps.items) result) (store_counts self.old) (store_counts self.new) (store_state self.old) (store_state self.new) }
+    {
+        let now = self.clock;
+        if let Some(end) = end_if_over(now, lease) {
+            return Err(HeldFault::Late { end, now });
+        }
+        self.fault();
+        Err(HeldFault::Failed)
+    }
+
+    fn list_held_plain(&self, tree: TreeId, lease: &Lease) -> Result<Vec<PageId>, HeldFault>
+        ensures { (who : Caller) → Obeys Mood.Plain who (ListHeld tree lease.now) (held_answer_of (λ ps. Listed ps.items) result) (store_counts self.now) (store_counts self.now) (store_state self.now) (store_state self.now) }
+    {
+        let now = self.clock;
+        if let Some(end) = end_if_over(now, lease) {
+            return Err(HeldFault::Late { end, now });
+        }
+        Ok(self.list(tree)?)
+    }
+
+    // A removal that has begun.
+    pub fn remove_held_begun(
+        &mut self,
+        mood: Mood,
+        who: Who,
+        name: &ObjName,
+        lease: &Lease,
+    ) -> Result<(), HeldFault>
+        requires { HasRoom mood (store_counts self.old) }
+        ensures { Obeys mood who (RemoveHeld name.now lease.now) (held_answer_of done_by result) (store_counts self.old) (store_counts self.new) (store_state self.old) (store_state self.new) }
+    {
+        match mood {
+            Mood::Fail => {
+                self.fault();
+                Err(HeldFault::Failed)
+            }
+            Mood::Lost => self.remove_held_lost(who, name, lease),
+            Mood::Plain | Mood::Hide | Mood::Old(_) | Mood::Give => self.remove_held_plain(
+                who, name, lease,
+            ),
+        }
+    }
+
+    fn remove_held_lost(&mut self, who: Who, name: &ObjName, lease: &Lease) -> Result<(), HeldFault>
+        requires { (store_counts self.old).faults < greatest }
+        ensures { Obeys Mood.Lost who (RemoveHeld name.now lease.now) (held_answer_of done_by result) (store_counts self.old) (store_counts self.new) (store_state self.old) (store_state self.new) }
+    {
+        let now = self.clock;
+        if let Some(end) = end_if_over(now, lease) {
+            return Err(HeldFault::Late { end, now });
+        }
+        self.remove(who, name)?;
+        self.fault();
+        Err(HeldFault::Failed)
+    }
+
+    fn remove_held_plain(
+        &mut self,
+        who: Who,
+        name: &ObjName,
+        lease: &Lease,
+    ) -> Result<(), HeldFault>
+        ensures { Obeys Mood.Plain who (RemoveHeld name.now lease.now) (held_answer_of done_by result) (store_counts self.old) (store_counts self.new) (store_state self.old) (store_state self.new) }
+    {
+        let now = self.clock;
+        if let Some(end) = end_if_over(now, lease) {
+            return Err(HeldFault::Late { end, now });
+        }
+        self.remove(who, name)?;
         Ok(())
     }
 

@@ -1,4 +1,4 @@
-ghost use Rattle.std.specs.Prelude.{◌≡◌, ◌++◌, take, OnOk, IfOk};
+ghost use Rattle.std.specs.Prelude.{◌≡◌, ◌++◌, take, is_some, OnOk, IfOk};
 ghost use Rattle.std.specs.Option.{option_copied};
 ghost use Rattle.cloud_trait.specs.Bench.{has_bytes};
 ghost use Rattle.cloud_trait.specs.State.{newest_of, version_at, message_at};
@@ -11,6 +11,33 @@ use db_base::blob::Blob;
 use db_base::ids::MsgId;
 use std::alloc::{AllocError, Global};
 
+// The bytes of a version; none where the object was removed.
+fn bytes_of(version: &Version) -> Option<&[u8]>
+    ensures { option_copied result ≡ version.now.bytes }
+{
+    match &version.bytes {
+        Some(bytes) => Some(bytes.as_slice()),
+        None => None,
+    }
+}
+
+/// The bytes of the newest version.
+pub fn newest_bytes(versions: &[Version]) -> Option<&[u8]>
+    ensures { option_copied result ≡ newest_of versions.now }
+{
+    match versions.last() {
+        Some(version) => bytes_of(version),
+        None => None,
+    }
+}
+
+/// Whether the newest version has bytes.
+pub fn is_there(versions: &[Version]) -> bool
+    ensures { result ≡ is_some (newest_of versions.now) }
+{
+    newest_bytes(versions).is_some()
+}
+
 /// The bytes of the n-th version, from 1.
 pub fn version_bytes(versions: &[Version], n: u64) -> Option<&[u8]>
     ensures { option_copied result ≡ version_at versions.now n }
@@ -19,7 +46,7 @@ pub fn version_bytes(versions: &[Version], n: u64) -> Option<&[u8]>
         return None;
     }
     match versions.get((n - 1) as usize) {
-        Some(version) => Some(version.bytes.as_slice()),
+        Some(version) => bytes_of(version),
         None => None,
     }
 }
@@ -51,18 +78,15 @@ fn copied(alloc: Global, bytes: Option<&[u8]>) -> Result<Option<Blob>, AllocErro
 pub fn copy_newest(alloc: Global, versions: &[Version]) -> Result<Option<Blob>, AllocError>
     ensures { IfOk result (λ v. v ≡ newest_of versions.now) }
 {
-    match versions.last() {
-        Some(version) => Ok(Some(Blob::copy_of(alloc, version.bytes.as_slice())?)),
-        None => Ok(None),
-    }
+    copied(alloc, newest_bytes(versions))
 }
 
 /// Whether the newest version has these bytes.
 pub fn newest_has(versions: &[Version], bytes: &[u8]) -> bool
     ensures { result ≡ has_bytes (newest_of versions.now) bytes.now }
 {
-    match versions.last() {
-        Some(version) => version.bytes.as_slice() == bytes,
+    match newest_bytes(versions) {
+        Some(newest) => newest == bytes,
         None => false,
     }
 }

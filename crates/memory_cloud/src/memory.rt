@@ -80,7 +80,7 @@ impl MemoryCloud {
         Ok(cloud)
     }
 
-    /// The bytes of the n-th version of an object, from 1; none for 0 and past the newest.
+    /// The bytes of the n-th version of an object, from 1; none for 0, past the newest, and where it was removed.
     pub fn version(&self, name: ObjName, n: u64) -> Option<&[u8]>
         ensures { option_copied result ≡ version_at ((state_of self.now).versions name) n }
     {

@@ -1,10 +1,14 @@
-ghost use Rattle.std.specs.Prelude.{◌≡◌, ◌++◌, ◌∷◌, [], OnOk, OnErr};
+ghost use Rattle.std.specs.Prelude.{◌≡◌, ◌++◌, ◌∷◌, [], All, OnOk, OnErr, IfOk};
+ghost use Rattle.db_base.specs.Ids.{IsPage};
 ghost use Rattle.db_base.specs.declared.names.ObjName.{ObjName};
 ghost use Rattle.cloud_trait.specs.Names.{object_cmp};
 ghost use Rattle.cloud_trait.specs.State.{put_at};
 ghost use Rattle.memory_cloud.specs.Maps.{versions_in};
+ghost use Rattle.memory_cloud.specs.Pages.{IsListed, page_at};
 
+use crate::copies;
 use cloud_trait::state::Version;
+use db_base::ids::{PageId, TreeId};
 use db_base::names::ObjName;
 use std::alloc::{AllocError, Global};
 use std::collections::BTreeMap;
@@ -39,5 +43,36 @@ pub fn add_version(
     let mut versions = Vec::new(alloc);
     versions.push(version)?;
     objects.insert(*name, versions)?;
+    Ok(())
+}
+
+/// The pages of a tree whose newest version has bytes, in ascending order: one walk over all objects.
+pub fn pages(alloc: Global, objects: &Objects, tree: TreeId) -> Result<Vec<PageId>, AllocError>
+    ensures { IfOk result (λ v. IsListed objects.now tree v.items) }
+{
+    let mut pages = Vec::new(alloc);
+    for (name, versions) in objects.iter() {
+        push_page(&mut pages, tree, name, versions.as_slice())?;
+    }
+    Ok(pages)
+}
+
+// Adds an object, where it is a page of the tree and its newest version has bytes.
+fn push_page(
+    pages: &mut Vec<PageId>,
+    tree: TreeId,
+    name: &ObjName,
+    versions: &[Version],
+) -> Result<(), AllocError>
+    ensures added { OnOk result (pages.new.items ≡ pages.old.items ++ page_at tree name.now versions.now) }
+    ensures pages { OnOk result (All IsPage (page_at tree name.now versions.now)) }
+{
+    if let ObjName::Page(of, page) = *name {
+        if of.get() == tree.get() && copies::is_there(versions) {
+            // Its number is read for its range: at least 1.
+            let _number = page.get();
+            pages.push(page)?;
+        }
+    }
     Ok(())
 }

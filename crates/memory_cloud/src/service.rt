@@ -1,8 +1,8 @@
 ghost use Rattle.std.specs.Prelude.{◌≡◌, ◌≢◌, ℕ, Some, Err, Option, length, IfOk, min, ◌+◌};
 ghost use Rattle.std.specs.Option.{option_copied};
-ghost use Rattle.cloud_trait.specs.declared.answer.Answer.TheVariants.{Got, Sent, Received};
+ghost use Rattle.cloud_trait.specs.declared.answer.Answer.TheVariants.{Got, Sent, Received, Listed};
 ghost use Rattle.cloud_trait.specs.Answers.{answer_of, held_answer_of, done_by, granted_by, renewed_by};
-ghost use Rattle.cloud_trait.specs.Ask.{Get, GetHeld, PutHeld, Send, Receive, Delete, Take, Renew, Release};
+ghost use Rattle.cloud_trait.specs.Ask.{Get, GetHeld, PutHeld, ListHeld, RemoveHeld, Send, Receive, Delete, Take, Renew, Release};
 ghost use Rattle.cloud_trait.specs.State.{CloudState, called, newest, end_after, greatest};
 ghost use Rattle.cloud_trait.specs.Delivery.{unmarked};
 ghost use Rattle.cloud_trait.specs.Weather.{Makes, RenewsLease};
@@ -20,7 +20,7 @@ use cloud_trait::lease::Lease;
 use cloud_trait::message::Message;
 use cloud_trait::who::Who;
 use db_base::blob::Blob;
-use db_base::ids::MsgId;
+use db_base::ids::{MsgId, PageId, TreeId};
 use db_base::names::{Lock, ObjName, QueueName};
 use db_base::wish::Wish;
 
@@ -72,6 +72,24 @@ impl Cloud for MemoryCloud {
         let mood = self.begin(who);
         self.store
             .put_held_begun(mood, who, &name, bytes, first, second)
+    }
+
+    fn list_held(&mut self, who: Who, tree: TreeId, lease: &Lease) -> Result<Vec<PageId>, HeldFault>
+        ensures made { Makes who (ListHeld tree lease.now) (held_answer_of (λ ps. Listed ps.items) result) (seen_of self.old) (seen_of self.new) }
+        ensures obeys { Obeys (next_mood self.old) who (ListHeld tree lease.now) (held_answer_of (λ ps. Listed ps.items) result) (counts_of self.old) (counts_of self.new) (called who (state_of self.old).now (state_of self.old)) (state_of self.new) }
+        ensures counted { CountsCall self.old self.new }
+    {
+        let mood = self.begin(who);
+        self.store.list_held_begun(mood, tree, lease)
+    }
+
+    fn remove_held(&mut self, who: Who, name: ObjName, lease: &Lease) -> Result<(), HeldFault>
+        ensures made { Makes who (RemoveHeld name lease.now) (held_answer_of done_by result) (seen_of self.old) (seen_of self.new) }
+        ensures obeys { Obeys (next_mood self.old) who (RemoveHeld name lease.now) (held_answer_of done_by result) (counts_of self.old) (counts_of self.new) (called who (state_of self.old).now (state_of self.old)) (state_of self.new) }
+        ensures counted { CountsCall self.old self.new }
+    {
+        let mood = self.begin(who);
+        self.store.remove_held_begun(mood, who, &name, lease)
     }
 
     fn send(&mut self, who: Who, queue: QueueName, bytes: &[u8]) -> Result<MsgId, CloudFault>

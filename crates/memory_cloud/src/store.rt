@@ -9,7 +9,7 @@ use cloud_trait::lease::Lease;
 use cloud_trait::state::{Hold, Landing, Posted, Site, Version};
 use cloud_trait::who::Who;
 use db_base::blob::Blob;
-use db_base::ids::MsgId;
+use db_base::ids::{MsgId, PageId, TreeId};
 use db_base::names::{Lock, ObjName, QueueName};
 use db_base::wish::Wish;
 use std::alloc::{AllocError, Global};
@@ -61,7 +61,8 @@ impl Drop for Store {
 
 impl Store {
     ghost use Rattle.db_base.specs.declared.wish.Wish.TheVariants.{Plain};
-    ghost use Rattle.cloud_trait.specs.State.{IsEmptyCloud, landed, sent, deleted, held_so, moved, released, greatest};
+    ghost use Rattle.cloud_trait.specs.State.{IsEmptyCloud, stored, landed, removed, sent, deleted, held_so, moved, released, greatest};
+    ghost use Rattle.cloud_trait.specs.Listing.{IsListing};
     ghost use Rattle.memory_cloud.specs.Outcome.{one_fault, one_withheld, one_stale, positions_of};
     ghost use Rattle.memory_cloud.specs.Memory.{store_state, store_counts};
 
@@ -96,8 +97,26 @@ impl Store {
         ensures err { OnErr result (store_state self.new ≡ store_state self.old) }
         ensures counts { store_counts self.new ≡ store_counts self.old }
     {
-        let position = objects::versions(&self.objects, name).len() as u64 + 1;
         let bytes = Blob::copy_of(self.alloc, bytes)?;
+        self.add(who, name, Some(bytes))
+    }
+
+    /// Lands a version without bytes as the newest of an object.
+    pub fn remove(&mut self, who: Who, name: &ObjName) -> Result<(), AllocError>
+        ensures ok { OnOk result (store_state self.new ≡ removed who name.now (store_state self.old)) }
+        ensures err { OnErr result (store_state self.new ≡ store_state self.old) }
+        ensures counts { store_counts self.new ≡ store_counts self.old }
+    {
+        self.add(who, name, None)
+    }
+
+    // Lands a version, with bytes or without, as the newest of an object.
+    fn add(&mut self, who: Who, name: &ObjName, bytes: Option<Blob>) -> Result<(), AllocError>
+        ensures ok { OnOk result (store_state self.new ≡ stored who name.now bytes (store_state self.old)) }
+        ensures err { OnErr result (store_state self.new ≡ store_state self.old) }
+        ensures counts { store_counts self.new ≡ store_counts self.old }
+    {
+        let position = objects::versions(&self.objects, name).len() as u64 + 1;
         self.trace.reserve(1)?;
         objects::add_version(self.alloc, &mut self.objects, name, Version { who, bytes })?;
         self.trace.push_reserved(Landing {
@@ -106,6 +125,13 @@ impl Store {
             position,
         });
         Ok(())
+    }
+
+    /// The pages of a tree whose newest version has bytes, in ascending order. Fails for memory alone.
+    pub fn list(&self, tree: TreeId) -> Result<Vec<PageId>, AllocError>
+        ensures { IfOk result (λ v. IsListing (store_state self.now) tree v.items) }
+    {
+        objects::pages(self.alloc, &self.objects, tree)
     }
 
     /// Lands a message at the end of a queue, and gives its number.

@@ -15,6 +15,8 @@ abbrev pub kind_word : CallKind → List ℕ
 kind_word kind.Get = codes "get"
 kind_word kind.GetHeld = codes "get_held"
 kind_word kind.PutHeld = codes "put_held"
+kind_word kind.ListHeld = codes "list_held"
+kind_word kind.RemoveHeld = codes "remove_held"
 kind_word kind.Send = codes "send"
 kind_word kind.Receive = codes "receive"
 kind_word kind.Delete = codes "delete"
@@ -22,11 +24,13 @@ kind_word kind.Take = codes "take"
 kind_word kind.Renew = codes "renew"
 kind_word kind.Release = codes "release"
 
--- the same of a call that was made: there is one kind of put
+-- the same of a call that was made: there is one kind of put, of listing and of removal
 abbrev pub made_word : CallKind → List ℕ
 made_word kind.Get = codes "get"
 made_word kind.GetHeld = codes "get_held"
 made_word kind.PutHeld = codes "put"
+made_word kind.ListHeld = codes "list"
+made_word kind.RemoveHeld = codes "remove"
 made_word kind.Send = codes "send"
 made_word kind.Receive = codes "receive"
 made_word kind.Delete = codes "delete"

@@ -16,6 +16,8 @@ fn kind_word(kind: CallKind) -> &'static str
         CallKind::Get => "get",
         CallKind::GetHeld => "get_held",
         CallKind::PutHeld => "put_held",
+        CallKind::ListHeld => "list_held",
+        CallKind::RemoveHeld => "remove_held",
         CallKind::Send => "send",
         CallKind::Receive => "receive",
         CallKind::Delete => "delete",
@@ -25,12 +27,14 @@ fn kind_word(kind: CallKind) -> &'static str
     }
 }
 
-/// The same of a call that was made, among others of its kind: there is one kind of put.
+/// The same of a call that was made, among others of its kind: there is one kind of put, of listing and of removal.
 pub fn made_word(kind: CallKind) -> &'static str
     ensures { result.now ≡ made_word kind }
 {
     match kind {
         CallKind::PutHeld => "put",
+        CallKind::ListHeld => "list",
+        CallKind::RemoveHeld => "remove",
         other => kind_word(other),
     }
 }

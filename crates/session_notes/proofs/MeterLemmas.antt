@@ -24,7 +24,7 @@ use Rattle.cloud_trait.proofs.EffectLemmas.{effect_messages}
 use Rattle.cloud_trait.proofs.NameLemmas.{queue_cmp-equal}
 use Rattle.cloud_trait.proofs.RowLemmas.{row_by}
 use Rattle.cloud_trait.proofs.StateLemmas.{put_at_by}
-use Rattle.cloud_trait.specs.Ask.{Ask, Get, GetHeld, PutHeld, Send, Receive, Delete, Take, Renew, Release, TouchesNoMessage, effect}
+use Rattle.cloud_trait.specs.Ask.{Ask, Get, GetHeld, PutHeld, ListHeld, RemoveHeld, Send, Receive, Delete, Take, Renew, Release, TouchesNoMessage, effect}
 use Rattle.cloud_trait.specs.Caller.{Caller}
 use Rattle.cloud_trait.specs.Delivery.{unmarked, unmarked_from, IsDelivering}
 use Rattle.cloud_trait.specs.Names.{queue_cmp}
@@ -150,6 +150,8 @@ adds_none (Get (object.Tree tree)) notes other place = omega arith
 adds_none (Get (object.Page tree page)) notes other place = let same = got_same (PagePu tree page) notes place in omega (arith, same)
 adds_none (GetHeld name l) notes other place = omega arith
 adds_none (PutHeld name bytes one two) notes other place = omega arith
+adds_none (ListHeld tree l) notes other place = omega arith
+adds_none (RemoveHeld name l) notes other place = omega arith
 adds_none (Send queue bytes) notes other place = absurd (other queue bytes refl)
 adds_none (Receive queue most) notes other place = omega arith
 adds_none (Delete queue id) notes other place = omega arith
@@ -164,6 +166,8 @@ keeps_sent (Get (object.Tree tree)) notes place = omega arith
 keeps_sent (Get (object.Page tree page)) notes place = let same = got_same (PagePu tree page) notes place in omega (arith, same)
 keeps_sent (GetHeld name l) notes place = omega arith
 keeps_sent (PutHeld name bytes one two) notes place = omega arith
+keeps_sent (ListHeld tree l) notes place = omega arith
+keeps_sent (RemoveHeld name l) notes place = omega arith
 keeps_sent (Send (Atomic client) bytes) notes place = omega arith
 keeps_sent (Send (TreePu tree) bytes) notes place = sent_stays (TreePu tree) notes place
 keeps_sent (Send (PagePu tree page) bytes) notes place = sent_stays (PagePu tree page) notes place
@@ -234,6 +238,8 @@ call_metered who ask a c d b t row notes metered = row_by (IsMetered (with_note 
     lands (Get name) is = quiet (Get name) tt is
     lands (GetHeld name l) is = quiet (GetHeld name l) tt is
     lands (PutHeld name bytes one two) is = quiet (PutHeld name bytes one two) tt is
+    lands (ListHeld tree l) is = quiet (ListHeld tree l) tt is
+    lands (RemoveHeld name l) is = quiet (RemoveHeld name l) tt is
     lands (Send queue bytes) is = sends_metered who queue bytes notes b metered is
     lands (Receive queue most) is = quiet (Receive queue most) tt is
     lands (Delete queue id) is = deletes_metered who queue id notes b metered

@@ -1,6 +1,6 @@
 -- What is kept of a session for the choice of its checkpoints, and how it goes on.
 use Rattle.std.specs.Prelude.{ℕ, ◌≡◌, Bool, true, false, List, [], ◌∷◌, ◌++◌, slice_get, slice_set, Option, Some, None}
-use Rattle.cloud_trait.specs.Ask.{Ask, Get, GetHeld, PutHeld, Send, Receive, Delete, Take, Renew, Release}
+use Rattle.cloud_trait.specs.Ask.{Ask, Get, GetHeld, PutHeld, ListHeld, RemoveHeld, Send, Receive, Delete, Take, Renew, Release}
 use Rattle.db_base.specs.declared.names.ObjName.{ObjName}
 use Rattle.db_base.specs.declared.names.ObjName.TheVariants as object
 use Rattle.db_base.specs.declared.names.QueueName.{QueueName}
@@ -31,6 +31,8 @@ note_of_ask (Get name) = note_of_get name
 note_of_ask (Send queue bytes) = note_of_send queue
 note_of_ask (GetHeld name lease) = None
 note_of_ask (PutHeld name bytes one two) = None
+note_of_ask (ListHeld tree lease) = None
+note_of_ask (RemoveHeld name lease) = None
 note_of_ask (Receive queue most) = None
 note_of_ask (Delete queue id) = None
 note_of_ask (Take lock ticks) = None

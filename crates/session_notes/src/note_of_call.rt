@@ -17,6 +17,8 @@ pub fn note_of_call(call: &Call<'_>) -> Option<Note>
         Call::Send(queue, _) => note_of_send(*queue),
         Call::GetHeld(_, _) => None,
         Call::PutHeld(_, _, _, _) => None,
+        Call::ListHeld(_, _) => None,
+        Call::RemoveHeld(_, _) => None,
         Call::Receive(_, _) => None,
         Call::Delete(_, _) => None,
         Call::Take(_, _) => None,

@@ -6,7 +6,7 @@ use Rattle.traced_cloud.specs.declared.stamp.Stamp.{Stamp}
 use Rattle.traced_cloud.specs.declared.stamp.Stamp.TheVariants.{Version, Head}
 use Rattle.traced_cloud.specs.declared.note.Note.{Note}
 use Rattle.traced_cloud.specs.declared.note.Outcome.{Outcome}
-use Rattle.traced_cloud.specs.declared.note.Outcome.TheVariants.{Read, Absent, Landed, Done, Sent, Received, Given, Held, Renewed, Late, Failed, Memory}
+use Rattle.traced_cloud.specs.declared.note.Outcome.TheVariants.{Read, Absent, Landed, Done, Sent, Received, Listed, Given, Held, Renewed, Late, Failed, Memory}
 
 -- how many messages are wanted, or for how many ticks
 abbrev pub limit_text : Option ℕ → List ℕ
@@ -31,6 +31,7 @@ outcome_text Landed = codes "landed"
 outcome_text Done = codes "done"
 outcome_text (Sent id) = codes "sent" ++ 32 ∷ decimal id
 outcome_text (Received ids) = ids_text ids
+outcome_text (Listed count) = codes "listed" ++ 32 ∷ decimal count
 outcome_text (Given end) = codes "given" ++ 32 ∷ decimal end
 outcome_text (Held until) = codes "held" ++ 32 ∷ decimal until
 outcome_text (Renewed end) = codes "renewed" ++ 32 ∷ decimal end
@@ -57,6 +58,7 @@ lead_text Absent = codes " of"
 lead_text Done = codes " of"
 lead_text (Sent id) = codes " of"
 lead_text (Received ids) = codes " of"
+lead_text (Listed count) = codes " of"
 lead_text (Given end) = codes " of"
 lead_text (Held until) = codes " of"
 lead_text (Renewed end) = codes " of"

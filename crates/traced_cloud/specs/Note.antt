@@ -1,8 +1,8 @@
 -- What is noted of a service call.
-use Rattle.std.specs.Prelude.{ℕ, List, map, Option, Some, None}
+use Rattle.std.specs.Prelude.{ℕ, List, map, length, Option, Some, None}
 use Rattle.std.specs.Option.{option_and_then}
 use Rattle.cloud_trait.specs.Caller.{Caller}
-use Rattle.cloud_trait.specs.Ask.{Ask, Get, GetHeld, PutHeld, Send, Receive, Delete, Take, Renew, Release}
+use Rattle.cloud_trait.specs.Ask.{Ask, Get, GetHeld, PutHeld, ListHeld, RemoveHeld, Send, Receive, Delete, Take, Renew, Release}
 use Rattle.cloud_trait.specs.Call.{kind_of, target_of, bytes_of}
 use Rattle.cloud_trait.specs.declared.call.CallKind.{CallKind}
 use Rattle.cloud_trait.specs.declared.call.CallKind.TheVariants as kind
@@ -16,13 +16,15 @@ use Rattle.cloud_trait.specs.declared.message.Message.{Message}
 use Rattle.traced_cloud.specs.Stamp.{stamp_of}
 use Rattle.traced_cloud.specs.declared.note.Note.{Note}
 use Rattle.traced_cloud.specs.declared.note.Outcome.{Outcome}
-use Rattle.traced_cloud.specs.declared.note.Outcome.TheVariants.{Read, Absent, Landed, Done, Sent, Received, Given, Held, Renewed, Late, Failed, Memory}
+use Rattle.traced_cloud.specs.declared.note.Outcome.TheVariants.{Read, Absent, Landed, Done, Sent, Received, Listed, Given, Held, Renewed, Late, Failed, Memory}
 
 -- how many messages are wanted, or for how many ticks
 abbrev pub limit_of : Ask → Option ℕ
 limit_of (Get name) = None
 limit_of (GetHeld name l) = None
 limit_of (PutHeld name bytes one two) = None
+limit_of (ListHeld tree l) = None
+limit_of (RemoveHeld name l) = None
 limit_of (Send queue bytes) = None
 limit_of (Receive queue most) = Some most
 limit_of (Delete queue id) = None
@@ -40,6 +42,8 @@ abbrev pub done_outcome : CallKind → Outcome
 done_outcome kind.Get = Done
 done_outcome kind.GetHeld = Done
 done_outcome kind.PutHeld = Landed
+done_outcome kind.ListHeld = Done
+done_outcome kind.RemoveHeld = Done
 done_outcome kind.Send = Done
 done_outcome kind.Receive = Done
 done_outcome kind.Delete = Done
@@ -63,6 +67,7 @@ abbrev pub outcome_of : CallKind → Answer → Outcome
 outcome_of k (answer.Got v) = read_outcome v
 outcome_of k (answer.Sent id) = Sent id
 outcome_of k (answer.Received ms) = Received (map (λ (m : Message). m.id) ms)
+outcome_of k (answer.Listed ps) = Listed (length ps)
 outcome_of k answer.Done = done_outcome k
 outcome_of k (answer.Given l) = Given l.end
 outcome_of k (answer.Held until) = Held until
@@ -76,6 +81,7 @@ abbrev pub brought : Answer → Option (List ℕ)
 brought (answer.Got v) = v
 brought (answer.Sent id) = None
 brought (answer.Received ms) = None
+brought (answer.Listed ps) = None
 brought answer.Done = None
 brought (answer.Given l) = None
 brought (answer.Held until) = None

@@ -92,6 +92,7 @@ fn add_outcome(text: &mut Blob, outcome: &Outcome) -> Result<(), Refused>
         Outcome::Done => text.add(b"done"),
         Outcome::Sent(id) => add_counted(text, "sent", id.get()),
         Outcome::Received(ids) => add_ids(text, ids.as_slice()),
+        Outcome::Listed(count) => add_counted(text, "listed", *count),
         Outcome::Given(end) => add_counted(text, "given", *end),
         Outcome::Held(until) => add_counted(text, "held", *until),
         Outcome::Renewed(end) => add_counted(text, "renewed", *end),

@@ -25,12 +25,14 @@ pub enum Outcome {
     Absent,
     /// A put was done.
     Landed,
-    /// A deletion or a release was done.
+    /// A removal, a deletion or a release was done.
     Done,
     /// A send: the new message.
     Sent(MsgId),
     /// A receive: the messages, in order.
     Received(Sequence<MsgId>),
+    /// A listing: how many pages.
+    Listed(u64),
     /// A take: the end of the lease, in ticks.
     Given(u64),
     /// A take of a lock that is held until then, in ticks.
@@ -59,6 +61,7 @@ impl Drop for Outcome {
             Outcome::Done => {}
             Outcome::Sent(_) => {}
             Outcome::Received(_) => {}
+            Outcome::Listed(_) => {}
             Outcome::Given(_) => {}
             Outcome::Held(_) => {}
             Outcome::Renewed(_) => {}

@@ -2,9 +2,9 @@
 
 ghost use Rattle.std.specs.Prelude.{◌≡◌, false, [], IfOk, Option, Some, length};
 ghost use Rattle.std.specs.Option.{option_copied};
-ghost use Rattle.cloud_trait.specs.declared.answer.Answer.TheVariants.{Got, Sent, Received};
+ghost use Rattle.cloud_trait.specs.declared.answer.Answer.TheVariants.{Got, Sent, Received, Listed};
 ghost use Rattle.cloud_trait.specs.Answers.{answer_of, held_answer_of, done_by, granted_by, renewed_by};
-ghost use Rattle.cloud_trait.specs.Ask.{Get, GetHeld, PutHeld, Send, Receive, Delete, Take, Renew, Release};
+ghost use Rattle.cloud_trait.specs.Ask.{Get, GetHeld, PutHeld, ListHeld, RemoveHeld, Send, Receive, Delete, Take, Renew, Release};
 ghost use Rattle.cloud_trait.specs.State.{CloudState, newest};
 ghost use Rattle.cloud_trait.specs.Delivery.{unmarked};
 ghost use Rattle.cloud_trait.specs.Weather.{Makes, RenewsLease};
@@ -22,7 +22,7 @@ use cloud_trait::lease::Lease;
 use cloud_trait::message::Message;
 use cloud_trait::who::Who;
 use db_base::blob::Blob;
-use db_base::ids::MsgId;
+use db_base::ids::{MsgId, PageId, TreeId};
 use db_base::names::{Lock, ObjName, QueueName};
 use db_base::wish::Wish;
 use std::alloc::Global;
@@ -133,6 +133,40 @@ impl<C: Bench> Cloud for NotingCloud<C> {
             }
             Err(fault) => {
                 self.trace.not_put(who, put, bytes, fault);
+                Err(fault)
+            }
+        }
+    }
+
+    fn list_held(&mut self, who: Who, tree: TreeId, lease: &Lease) -> Result<Vec<PageId>, HeldFault>
+        ensures made { Makes who (ListHeld tree lease.now) (held_answer_of (λ ps. Listed ps.items) result) (C.seen self.old.cloud) (C.seen self.new.cloud) }
+        ensures noted { Adds (note_of who (ListHeld tree lease.now) (held_answer_of (λ ps. Listed ps.items) result)) self.old.trace self.new.trace }
+    {
+        let call = Call::ListHeld(copy(&tree), lease);
+        match self.cloud.list_held(who, tree, lease) {
+            Ok(pages) => {
+                self.trace.listed(who, &call, pages.as_slice());
+                Ok(pages)
+            }
+            Err(fault) => {
+                self.trace.failed_held(who, &call, fault);
+                Err(fault)
+            }
+        }
+    }
+
+    fn remove_held(&mut self, who: Who, name: ObjName, lease: &Lease) -> Result<(), HeldFault>
+        ensures made { Makes who (RemoveHeld name lease.now) (held_answer_of done_by result) (C.seen self.old.cloud) (C.seen self.new.cloud) }
+        ensures noted { Adds (note_of who (RemoveHeld name lease.now) (held_answer_of done_by result)) self.old.trace self.new.trace }
+    {
+        let call = Call::RemoveHeld(copy(&name), lease);
+        match self.cloud.remove_held(who, name, lease) {
+            Ok(()) => {
+                self.trace.done(who, &call);
+                Ok(())
+            }
+            Err(fault) => {
+                self.trace.failed_held(who, &call, fault);
                 Err(fault)
             }
         }

@@ -20,7 +20,7 @@ use cloud_trait::grant::Grant;
 use cloud_trait::message::Message;
 use cloud_trait::who::Who;
 use db_base::blob::Blob;
-use db_base::ids::MsgId;
+use db_base::ids::{MsgId, PageId};
 use db_base::names::{Lock, ObjName};
 use std::alloc::Global;
 use std::marker::Model;
@@ -167,6 +167,13 @@ impl Trace {
             Ok(ids) => self.note(who, call, None, Outcome::Received(ids)),
             Err(_) => self.short = true,
         }
+    }
+
+    /// Notes a listing of these pages.
+    pub fn listed(&mut self, who: Who, call: &Call<'_>, pages: &[PageId])
+        ensures { Adds (note_of who (ask_of call.now) (answer.Listed pages.now)) self.old self.new }
+    {
+        self.note(who, call, None, Outcome::Listed(pages.len() as u64));
     }
 
     /// Notes a call that was done.

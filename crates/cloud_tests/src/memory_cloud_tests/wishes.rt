@@ -8,7 +8,8 @@ use cloud_trait::lease::Lease;
 use cloud_trait::message::Message;
 use cloud_trait::perform::{let_go, perform, renew};
 use db_base::blob::Blob;
-use db_base::ids::MsgId;
+use db_base::ids::{MsgId, PageId};
+use db_base::names::ObjName;
 use memory_cloud::memory::MemoryCloud;
 use std::alloc::Global;
 use std::process::Abort;
@@ -19,6 +20,9 @@ enum Asked {
     Get,
     GetHeld,
     PutHeld,
+    ListHeld,
+    ListOther,
+    RemoveHeld,
     Send,
     Receive,
     Delete,
@@ -30,14 +34,15 @@ enum Asked {
     Release,
 }
 
-// What a call is to answer: bytes, a message's number, the numbers of messages, a lease's generation and end, the end of a lock
-// or of a lease, or the end of a lease that is over and the clock.
+// What a call is to answer: bytes, a message's number, the numbers of messages or of pages, a lease's generation and end, the end
+// of a lock or of a lease, or the end of a lease that is over and the clock.
 #[derive(Clone, Copy)]
 enum Wanted {
     Got(&'static [u8]),
     Nothing,
     Sent(u64),
     Received(&'static [u64]),
+    Listed(&'static [u64]),
     Done,
     Given(u64, u64),
     Held(u64),
@@ -46,24 +51,33 @@ enum Wanted {
     Failed,
 }
 
-// What a call answers under each of some mishaps, after so many ticks; whether it lands a third version of the object or a fourth
-// message; and how many messages it leaves, and the ends of the locks of page and tree. The lease of the tree ends after ten ticks.
+// What a call lands: a third version of the object, with bytes or without, or a fourth message.
+#[derive(Clone, Copy)]
+enum Lands {
+    Nothing,
+    Version,
+    Removal,
+    Message,
+}
+
+// What a call answers under each of some mishaps, after so many ticks; what it lands; and how many messages it leaves, and the ends
+// of the locks of page and tree. The lease of the tree ends after ten ticks.
 struct Row {
     asked: Asked,
     ticks: u64,
     mishaps: &'static [Mishap],
     wanted: Wanted,
-    lands: (bool, bool),
+    lands: Lands,
     left: (u64, u64, u64),
 }
 
-static ROWS: [Row; 44] = [
+static ROWS: [Row; 56] = [
     Row {
         asked: Asked::Get,
         ticks: 0,
         mishaps: &[Mishap::Plain, Mishap::Hide, Mishap::Give, Mishap::Newest],
         wanted: Wanted::Got(b"b"),
-        lands: (false, false),
+        lands: Lands::Nothing,
         left: (2, 0, 20),
     },
     Row {
@@ -71,7 +85,7 @@ static ROWS: [Row; 44] = [
         ticks: 0,
         mishaps: &[Mishap::Fail, Mishap::Lost],
         wanted: Wanted::Failed,
-        lands: (false, false),
+        lands: Lands::Nothing,
         left: (2, 0, 20),
     },
     Row {
@@ -79,7 +93,7 @@ static ROWS: [Row; 44] = [
         ticks: 0,
         mishaps: &[Mishap::Old],
         wanted: Wanted::Got(b"a"),
-        lands: (false, false),
+        lands: Lands::Nothing,
         left: (2, 0, 20),
     },
     Row {
@@ -87,7 +101,7 @@ static ROWS: [Row; 44] = [
         ticks: 0,
         mishaps: &[Mishap::Oldest],
         wanted: Wanted::Nothing,
-        lands: (false, false),
+        lands: Lands::Nothing,
         left: (2, 0, 20),
     },
     Row {
@@ -95,7 +109,7 @@ static ROWS: [Row; 44] = [
         ticks: 0,
         mishaps: &[Mishap::Plain, Mishap::Hide, Mishap::Old, Mishap::Give],
         wanted: Wanted::Got(b"b"),
-        lands: (false, false),
+        lands: Lands::Nothing,
         left: (2, 0, 20),
     },
     Row {
@@ -103,7 +117,7 @@ static ROWS: [Row; 44] = [
         ticks: 0,
         mishaps: &[Mishap::Fail, Mishap::Lost],
         wanted: Wanted::Failed,
-        lands: (false, false),
+        lands: Lands::Nothing,
         left: (2, 0, 20),
     },
     Row {
@@ -111,7 +125,7 @@ static ROWS: [Row; 44] = [
         ticks: 10,
         mishaps: &[Mishap::Plain, Mishap::Lost, Mishap::Hide],
         wanted: Wanted::Late(20, 20),
-        lands: (false, false),
+        lands: Lands::Nothing,
         left: (2, 0, 0),
     },
     Row {
@@ -119,7 +133,7 @@ static ROWS: [Row; 44] = [
         ticks: 10,
         mishaps: &[Mishap::Old, Mishap::Give],
         wanted: Wanted::Late(20, 20),
-        lands: (false, false),
+        lands: Lands::Nothing,
         left: (2, 0, 0),
     },
     Row {
@@ -127,7 +141,7 @@ static ROWS: [Row; 44] = [
         ticks: 10,
         mishaps: &[Mishap::Fail],
         wanted: Wanted::Failed,
-        lands: (false, false),
+        lands: Lands::Nothing,
         left: (2, 0, 0),
     },
     Row {
@@ -135,7 +149,7 @@ static ROWS: [Row; 44] = [
         ticks: 0,
         mishaps: &[Mishap::Plain, Mishap::Hide, Mishap::Old, Mishap::Give],
         wanted: Wanted::Done,
-        lands: (true, false),
+        lands: Lands::Version,
         left: (2, 0, 20),
     },
     Row {
@@ -143,7 +157,7 @@ static ROWS: [Row; 44] = [
         ticks: 0,
         mishaps: &[Mishap::Fail],
         wanted: Wanted::Failed,
-        lands: (false, false),
+        lands: Lands::Nothing,
         left: (2, 0, 20),
     },
     Row {
@@ -151,7 +165,7 @@ static ROWS: [Row; 44] = [
         ticks: 0,
         mishaps: &[Mishap::Lost],
         wanted: Wanted::Failed,
-        lands: (true, false),
+        lands: Lands::Version,
         left: (2, 0, 20),
     },
     Row {
@@ -159,7 +173,7 @@ static ROWS: [Row; 44] = [
         ticks: 10,
         mishaps: &[Mishap::Plain, Mishap::Lost, Mishap::Hide],
         wanted: Wanted::Late(20, 20),
-        lands: (false, false),
+        lands: Lands::Nothing,
         left: (2, 0, 0),
     },
     Row {
@@ -167,7 +181,7 @@ static ROWS: [Row; 44] = [
         ticks: 10,
         mishaps: &[Mishap::Old, Mishap::Give],
         wanted: Wanted::Late(20, 20),
-        lands: (false, false),
+        lands: Lands::Nothing,
         left: (2, 0, 0),
     },
     Row {
@@ -175,7 +189,103 @@ static ROWS: [Row; 44] = [
         ticks: 10,
         mishaps: &[Mishap::Fail],
         wanted: Wanted::Failed,
-        lands: (false, false),
+        lands: Lands::Nothing,
+        left: (2, 0, 0),
+    },
+    Row {
+        asked: Asked::ListHeld,
+        ticks: 0,
+        mishaps: &[Mishap::Plain, Mishap::Hide, Mishap::Old, Mishap::Give],
+        wanted: Wanted::Listed(&[1, 2, 3]),
+        lands: Lands::Nothing,
+        left: (2, 0, 20),
+    },
+    Row {
+        asked: Asked::ListHeld,
+        ticks: 0,
+        mishaps: &[Mishap::Fail, Mishap::Lost],
+        wanted: Wanted::Failed,
+        lands: Lands::Nothing,
+        left: (2, 0, 20),
+    },
+    Row {
+        asked: Asked::ListHeld,
+        ticks: 10,
+        mishaps: &[Mishap::Plain, Mishap::Lost, Mishap::Hide],
+        wanted: Wanted::Late(20, 20),
+        lands: Lands::Nothing,
+        left: (2, 0, 0),
+    },
+    Row {
+        asked: Asked::ListHeld,
+        ticks: 10,
+        mishaps: &[Mishap::Old, Mishap::Give],
+        wanted: Wanted::Late(20, 20),
+        lands: Lands::Nothing,
+        left: (2, 0, 0),
+    },
+    Row {
+        asked: Asked::ListHeld,
+        ticks: 10,
+        mishaps: &[Mishap::Fail],
+        wanted: Wanted::Failed,
+        lands: Lands::Nothing,
+        left: (2, 0, 0),
+    },
+    Row {
+        asked: Asked::ListOther,
+        ticks: 0,
+        mishaps: &[Mishap::Plain, Mishap::Oldest, Mishap::Newest],
+        wanted: Wanted::Listed(&[]),
+        lands: Lands::Nothing,
+        left: (2, 0, 20),
+    },
+    Row {
+        asked: Asked::RemoveHeld,
+        ticks: 0,
+        mishaps: &[Mishap::Plain, Mishap::Hide, Mishap::Old, Mishap::Give],
+        wanted: Wanted::Done,
+        lands: Lands::Removal,
+        left: (2, 0, 20),
+    },
+    Row {
+        asked: Asked::RemoveHeld,
+        ticks: 0,
+        mishaps: &[Mishap::Fail],
+        wanted: Wanted::Failed,
+        lands: Lands::Nothing,
+        left: (2, 0, 20),
+    },
+    Row {
+        asked: Asked::RemoveHeld,
+        ticks: 0,
+        mishaps: &[Mishap::Lost],
+        wanted: Wanted::Failed,
+        lands: Lands::Removal,
+        left: (2, 0, 20),
+    },
+    Row {
+        asked: Asked::RemoveHeld,
+        ticks: 10,
+        mishaps: &[Mishap::Plain, Mishap::Lost, Mishap::Hide],
+        wanted: Wanted::Late(20, 20),
+        lands: Lands::Nothing,
+        left: (2, 0, 0),
+    },
+    Row {
+        asked: Asked::RemoveHeld,
+        ticks: 10,
+        mishaps: &[Mishap::Old, Mishap::Give],
+        wanted: Wanted::Late(20, 20),
+        lands: Lands::Nothing,
+        left: (2, 0, 0),
+    },
+    Row {
+        asked: Asked::RemoveHeld,
+        ticks: 10,
+        mishaps: &[Mishap::Fail],
+        wanted: Wanted::Failed,
+        lands: Lands::Nothing,
         left: (2, 0, 0),
     },
     Row {
@@ -183,7 +293,7 @@ static ROWS: [Row; 44] = [
         ticks: 0,
         mishaps: &[Mishap::Plain, Mishap::Hide, Mishap::Old, Mishap::Give],
         wanted: Wanted::Sent(4),
-        lands: (false, true),
+        lands: Lands::Message,
         left: (3, 0, 20),
     },
     Row {
@@ -191,7 +301,7 @@ static ROWS: [Row; 44] = [
         ticks: 0,
         mishaps: &[Mishap::Fail],
         wanted: Wanted::Failed,
-        lands: (false, false),
+        lands: Lands::Nothing,
         left: (2, 0, 20),
     },
     Row {
@@ -199,7 +309,7 @@ static ROWS: [Row; 44] = [
         ticks: 0,
         mishaps: &[Mishap::Lost],
         wanted: Wanted::Failed,
-        lands: (false, true),
+        lands: Lands::Message,
         left: (3, 0, 20),
     },
     Row {
@@ -207,7 +317,7 @@ static ROWS: [Row; 44] = [
         ticks: 0,
         mishaps: &[Mishap::Plain, Mishap::Old],
         wanted: Wanted::Received(&[2, 3]),
-        lands: (false, false),
+        lands: Lands::Nothing,
         left: (2, 0, 20),
     },
     Row {
@@ -215,7 +325,7 @@ static ROWS: [Row; 44] = [
         ticks: 0,
         mishaps: &[Mishap::Fail, Mishap::Lost],
         wanted: Wanted::Failed,
-        lands: (false, false),
+        lands: Lands::Nothing,
         left: (2, 0, 20),
     },
     Row {
@@ -223,7 +333,7 @@ static ROWS: [Row; 44] = [
         ticks: 0,
         mishaps: &[Mishap::Hide],
         wanted: Wanted::Received(&[]),
-        lands: (false, false),
+        lands: Lands::Nothing,
         left: (2, 0, 20),
     },
     Row {
@@ -231,7 +341,7 @@ static ROWS: [Row; 44] = [
         ticks: 0,
         mishaps: &[Mishap::Give],
         wanted: Wanted::Received(&[3, 1]),
-        lands: (false, false),
+        lands: Lands::Nothing,
         left: (2, 0, 20),
     },
     Row {
@@ -239,7 +349,7 @@ static ROWS: [Row; 44] = [
         ticks: 0,
         mishaps: &[Mishap::Plain, Mishap::Hide, Mishap::Old, Mishap::Give],
         wanted: Wanted::Done,
-        lands: (false, false),
+        lands: Lands::Nothing,
         left: (1, 0, 20),
     },
     Row {
@@ -247,7 +357,7 @@ static ROWS: [Row; 44] = [
         ticks: 0,
         mishaps: &[Mishap::Fail],
         wanted: Wanted::Failed,
-        lands: (false, false),
+        lands: Lands::Nothing,
         left: (2, 0, 20),
     },
     Row {
@@ -255,7 +365,7 @@ static ROWS: [Row; 44] = [
         ticks: 0,
         mishaps: &[Mishap::Lost],
         wanted: Wanted::Failed,
-        lands: (false, false),
+        lands: Lands::Nothing,
         left: (1, 0, 20),
     },
     Row {
@@ -263,7 +373,7 @@ static ROWS: [Row; 44] = [
         ticks: 0,
         mishaps: &[Mishap::Plain, Mishap::Hide, Mishap::Old, Mishap::Give],
         wanted: Wanted::Done,
-        lands: (false, false),
+        lands: Lands::Nothing,
         left: (2, 0, 20),
     },
     Row {
@@ -271,7 +381,7 @@ static ROWS: [Row; 44] = [
         ticks: 0,
         mishaps: &[Mishap::Plain, Mishap::Hide, Mishap::Old, Mishap::Give],
         wanted: Wanted::Done,
-        lands: (false, false),
+        lands: Lands::Nothing,
         left: (2, 0, 20),
     },
     Row {
@@ -279,7 +389,7 @@ static ROWS: [Row; 44] = [
         ticks: 0,
         mishaps: &[Mishap::Plain, Mishap::Old, Mishap::Give],
         wanted: Wanted::Given(1, 15),
-        lands: (false, false),
+        lands: Lands::Nothing,
         left: (2, 15, 20),
     },
     Row {
@@ -287,7 +397,7 @@ static ROWS: [Row; 44] = [
         ticks: 0,
         mishaps: &[Mishap::Fail],
         wanted: Wanted::Failed,
-        lands: (false, false),
+        lands: Lands::Nothing,
         left: (2, 0, 20),
     },
     Row {
@@ -295,7 +405,7 @@ static ROWS: [Row; 44] = [
         ticks: 0,
         mishaps: &[Mishap::Lost],
         wanted: Wanted::Failed,
-        lands: (false, false),
+        lands: Lands::Nothing,
         left: (2, 15, 20),
     },
     Row {
@@ -303,7 +413,7 @@ static ROWS: [Row; 44] = [
         ticks: 0,
         mishaps: &[Mishap::Hide],
         wanted: Wanted::Held(10),
-        lands: (false, false),
+        lands: Lands::Nothing,
         left: (2, 0, 20),
     },
     Row {
@@ -311,7 +421,7 @@ static ROWS: [Row; 44] = [
         ticks: 0,
         mishaps: &[Mishap::Plain, Mishap::Old, Mishap::Give],
         wanted: Wanted::Held(20),
-        lands: (false, false),
+        lands: Lands::Nothing,
         left: (2, 0, 20),
     },
     Row {
@@ -319,7 +429,7 @@ static ROWS: [Row; 44] = [
         ticks: 0,
         mishaps: &[Mishap::Fail, Mishap::Lost],
         wanted: Wanted::Failed,
-        lands: (false, false),
+        lands: Lands::Nothing,
         left: (2, 0, 20),
     },
     Row {
@@ -327,7 +437,7 @@ static ROWS: [Row; 44] = [
         ticks: 0,
         mishaps: &[Mishap::Hide],
         wanted: Wanted::Held(10),
-        lands: (false, false),
+        lands: Lands::Nothing,
         left: (2, 0, 20),
     },
     Row {
@@ -335,7 +445,7 @@ static ROWS: [Row; 44] = [
         ticks: 0,
         mishaps: &[Mishap::Plain, Mishap::Hide, Mishap::Old, Mishap::Give],
         wanted: Wanted::Renewed(40),
-        lands: (false, false),
+        lands: Lands::Nothing,
         left: (2, 0, 40),
     },
     Row {
@@ -343,7 +453,7 @@ static ROWS: [Row; 44] = [
         ticks: 0,
         mishaps: &[Mishap::Fail],
         wanted: Wanted::Failed,
-        lands: (false, false),
+        lands: Lands::Nothing,
         left: (2, 0, 20),
     },
     Row {
@@ -351,7 +461,7 @@ static ROWS: [Row; 44] = [
         ticks: 0,
         mishaps: &[Mishap::Lost],
         wanted: Wanted::Failed,
-        lands: (false, false),
+        lands: Lands::Nothing,
         left: (2, 0, 40),
     },
     Row {
@@ -359,7 +469,7 @@ static ROWS: [Row; 44] = [
         ticks: 10,
         mishaps: &[Mishap::Plain, Mishap::Lost, Mishap::Hide],
         wanted: Wanted::Late(20, 20),
-        lands: (false, false),
+        lands: Lands::Nothing,
         left: (2, 0, 0),
     },
     Row {
@@ -367,7 +477,7 @@ static ROWS: [Row; 44] = [
         ticks: 10,
         mishaps: &[Mishap::Old, Mishap::Give],
         wanted: Wanted::Late(20, 20),
-        lands: (false, false),
+        lands: Lands::Nothing,
         left: (2, 0, 0),
     },
     Row {
@@ -375,7 +485,7 @@ static ROWS: [Row; 44] = [
         ticks: 10,
         mishaps: &[Mishap::Fail],
         wanted: Wanted::Failed,
-        lands: (false, false),
+        lands: Lands::Nothing,
         left: (2, 0, 0),
     },
     Row {
@@ -383,7 +493,7 @@ static ROWS: [Row; 44] = [
         ticks: 0,
         mishaps: &[Mishap::Plain, Mishap::Hide, Mishap::Old, Mishap::Give],
         wanted: Wanted::Done,
-        lands: (false, false),
+        lands: Lands::Nothing,
         left: (2, 0, 0),
     },
     Row {
@@ -391,7 +501,7 @@ static ROWS: [Row; 44] = [
         ticks: 0,
         mishaps: &[Mishap::Fail],
         wanted: Wanted::Failed,
-        lands: (false, false),
+        lands: Lands::Nothing,
         left: (2, 0, 20),
     },
     Row {
@@ -399,7 +509,7 @@ static ROWS: [Row; 44] = [
         ticks: 0,
         mishaps: &[Mishap::Lost],
         wanted: Wanted::Failed,
-        lands: (false, false),
+        lands: Lands::Nothing,
         left: (2, 0, 0),
     },
     Row {
@@ -407,7 +517,7 @@ static ROWS: [Row; 44] = [
         ticks: 10,
         mishaps: &[Mishap::Plain, Mishap::Hide, Mishap::Old, Mishap::Give],
         wanted: Wanted::Done,
-        lands: (false, false),
+        lands: Lands::Nothing,
         left: (2, 0, 0),
     },
 ];
@@ -417,6 +527,24 @@ fn is_put<C: Cloud>(cloud: &mut C, names: &Names, lease: &Lease, bytes: &[u8]) -
     cloud
         .put_held(names.who, names.object, bytes, lease, None)
         .is_ok()
+}
+
+// Whether a page of the tree is put under a lease.
+fn is_page_put<C: Cloud>(cloud: &mut C, names: &Names, lease: &Lease, number: u64) -> bool {
+    match PageId::new(number) {
+        Ok(page) => {
+            let name = ObjName::Page(names.of, page);
+            cloud.put_held(names.who, name, b"p", lease, None).is_ok()
+        }
+        Err(_) => false,
+    }
+}
+
+// Whether three pages of the tree are put, not in their order.
+fn are_put<C: Cloud>(cloud: &mut C, names: &Names, lease: &Lease) -> bool {
+    is_page_put(cloud, names, lease, 3)
+        && is_page_put(cloud, names, lease, 1)
+        && is_page_put(cloud, names, lease, 2)
 }
 
 // Whether a message is sent.
@@ -436,13 +564,14 @@ fn are_sent<C: Cloud>(cloud: &mut C, names: &Names) -> bool {
     }
 }
 
-// Fills a cloud, and gives a lease of the tree: at moment 10 there are two versions of the object, three messages of which the
-// first is deleted, and the lease until 20.
+// Fills a cloud, and gives a lease of the tree: at moment 10 there are two versions of the object, three pages of its tree, three
+// messages of which the first is deleted, and the lease until 20.
 fn filled<C: Bench>(cloud: &mut C, names: &Names) -> Option<Lease> {
     cloud.wait(10);
     let lease = taken(cloud, names.who, names.tree, 10)?;
     if is_put(cloud, names, &lease, b"a")
         && is_put(cloud, names, &lease, b"b")
+        && are_put(cloud, names, &lease)
         && are_sent(cloud, names)
     {
         Some(lease)
@@ -459,6 +588,9 @@ fn call<'a>(names: &Names, lease: &'a Lease, asked: Asked) -> Call<'a>
         Asked::Get => Call::Get(names.object),
         Asked::GetHeld => Call::GetHeld(names.object, lease),
         Asked::PutHeld => Call::PutHeld(names.object, b"c", lease, None),
+        Asked::ListHeld => Call::ListHeld(names.of, lease),
+        Asked::ListOther => Call::ListHeld(names.other, lease),
+        Asked::RemoveHeld => Call::RemoveHeld(names.object, lease),
         Asked::Send => Call::Send(names.queue, b"m4"),
         Asked::Receive => Call::Receive(names.queue, 2),
         Asked::Delete => Call::Delete(names.queue, MsgId::new(2)),
@@ -479,7 +611,7 @@ fn made<C: Cloud>(cloud: &mut C, names: &Names, mut lease: Lease, asked: Asked) 
 }
 
 // Whether these bytes were got, none for no object.
-fn are_got(got: &Option<Blob>, wanted: Option<&[u8]>) -> bool {
+pub(super) fn are_got(got: &Option<Blob>, wanted: Option<&[u8]>) -> bool {
     match (got, wanted) {
         (Some(got), Some(wanted)) => got.as_slice() == wanted,
         (None, None) => true,
@@ -497,6 +629,16 @@ fn are_numbered(messages: &[Message], numbers: &[u64]) -> bool {
     messages.len() == numbers.len()
 }
 
+// Whether pages have these numbers, in their order.
+pub(super) fn are_pages(pages: &[PageId], numbers: &[u64]) -> bool {
+    for (page, number) in pages.iter().zip(numbers) {
+        if page.get() != *number {
+            return false;
+        }
+    }
+    pages.len() == numbers.len()
+}
+
 // Whether this was answered.
 fn is_answered(answer: &Answer, wanted: Wanted) -> bool {
     match (answer, wanted) {
@@ -506,6 +648,7 @@ fn is_answered(answer: &Answer, wanted: Wanted) -> bool {
         (Answer::Received(messages), Wanted::Received(numbers)) => {
             are_numbered(messages.as_slice(), numbers)
         }
+        (Answer::Listed(pages), Wanted::Listed(numbers)) => are_pages(pages.as_slice(), numbers),
         (Answer::Done, Wanted::Done) => true,
         (Answer::Given(lease), Wanted::Given(generation, end)) => {
             lease.generation() == generation && lease.end() == end
@@ -520,10 +663,25 @@ fn is_answered(answer: &Answer, wanted: Wanted) -> bool {
     }
 }
 
-// Whether a third version landed, and whether a fourth message did.
-fn has_landed<C: Shown>(cloud: &C, names: &Names, lands: (bool, bool)) -> bool {
-    let (put, sent) = lands;
-    cloud.has_version(names.object, 3) == put && cloud.has_message(names.queue, 4) == sent
+// Whether the newest version of the object has these bytes, or none.
+fn shows<C: Bench>(cloud: &mut C, names: &Names, newest: Option<&[u8]>) -> bool {
+    match cloud.peek(names.object) {
+        Ok(got) => are_got(&got, newest),
+        Err(_) => false,
+    }
+}
+
+// Whether this landed and nothing else.
+fn has_landed<C: Shown>(cloud: &mut C, names: &Names, lands: Lands) -> bool {
+    let (newest, put, sent): (Option<&[u8]>, bool, bool) = match lands {
+        Lands::Nothing => (Some(b"b"), false, false),
+        Lands::Version => (Some(b"c"), true, false),
+        Lands::Removal => (None, false, false),
+        Lands::Message => (Some(b"b"), false, true),
+    };
+    shows(cloud, names, newest)
+        && cloud.has_version(names.object, 3) == put
+        && cloud.has_message(names.queue, 4) == sent
 }
 
 // Whether so many messages and locks up to these ends are left.

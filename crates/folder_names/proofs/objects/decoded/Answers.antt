@@ -1,5 +1,4 @@
-use Rattle.std.proofs.Common.{◌∙◌, sym, ap}
-use Rattle.words.specs.Word.{Reads, bytes_of}
+use Rattle.words.specs.Word.{bytes_of}
 use Rattle.words.proofs.Hexadecimal.{bytes_of-takes}
 use Rattle.folder_names.proofs.Spelled.{unspelled, unread}
 use Rattle.folder_names.proofs.objects.decoded.Goals as goal

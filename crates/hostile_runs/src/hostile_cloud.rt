@@ -11,7 +11,7 @@ use cloud_trait::lease::Lease;
 use cloud_trait::message::Message;
 use cloud_trait::who::Who;
 use db_base::blob::Blob;
-use db_base::ids::MsgId;
+use db_base::ids::{MsgId, PageId, TreeId};
 use db_base::names::{Lock, ObjName, QueueName};
 use std::alloc::Global;
 
@@ -140,6 +140,47 @@ impl Cloud for HostileCloud {
                 self.liar.witness.miss(first.end(), u64::MAX);
                 Err(HeldFault::Late {
                     end: first.end(),
+                    now: u64::MAX,
+                })
+            }
+            _ => Ok(()),
+        }
+    }
+
+    fn list_held(
+        &mut self,
+        _who: Who,
+        _tree: TreeId,
+        lease: &Lease,
+    ) -> Result<Vec<PageId>, HeldFault> {
+        match self.liar.fate() {
+            Fate::Fails => match self.faults.add() {
+                CloudFault::Failed => Err(HeldFault::Failed),
+                CloudFault::Memory => Err(HeldFault::Memory),
+            },
+            Fate::Starves => Err(HeldFault::Memory),
+            Fate::Misses => {
+                self.liar.witness.miss(lease.end(), lease.end());
+                Err(HeldFault::Late {
+                    end: lease.end(),
+                    now: lease.end(),
+                })
+            }
+            fate => Ok(self.liar.listing(fate)?),
+        }
+    }
+
+    fn remove_held(&mut self, _who: Who, _name: ObjName, lease: &Lease) -> Result<(), HeldFault> {
+        match self.liar.fate() {
+            Fate::Fails => match self.faults.add() {
+                CloudFault::Failed => Err(HeldFault::Failed),
+                CloudFault::Memory => Err(HeldFault::Memory),
+            },
+            Fate::Starves => Err(HeldFault::Memory),
+            Fate::Misses => {
+                self.liar.witness.miss(lease.end(), u64::MAX);
+                Err(HeldFault::Late {
+                    end: lease.end(),
                     now: u64::MAX,
                 })
             }

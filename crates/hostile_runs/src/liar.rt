@@ -1,5 +1,6 @@
 //! What the cloud answers: mostly what fits, and at its rate a lie or a fault.
 
+use crate::ascending::Ascending;
 use crate::objects::{HEADS, INDEX_1, INDEX_2, INDEX_ROOT, LIES};
 use crate::witness::Witness;
 use cloud_trait::message::Message;
@@ -103,7 +104,18 @@ fn tree_page(page: u64) -> &'static [u8] {
     }
 }
 
+/// Adds the page of a number to a listing, where there is one and it ascends.
+fn add_page(pages: &mut Ascending, number: u64) -> Result<(), AllocError> {
+    if let Ok(page) = PageId::new(number) {
+        pages.add(page)?;
+    }
+    Ok(())
+}
+
 impl Liar {
+    ghost use Rattle.std.specs.Prelude.{IfOk};
+    ghost use Rattle.cloud_trait.specs.Listing.{AscendAbove};
+
     /// The liar of a number. One of 2, 8, 64 or 1024 calls fares badly.
     pub(crate) fn new(alloc: Global, number: u64) -> Liar {
         Liar {
@@ -225,6 +237,22 @@ impl Liar {
             return self.copy(lie, Fate::Fits);
         }
         self.copy(bytes, fate)
+    }
+
+    /// What a listing answers: some of the first pages, or of a lie any pages, in ascending order.
+    pub(crate) fn listing(&mut self, fate: Fate) -> Result<Vec<PageId>, AllocError>
+        ensures ascending { IfOk result (λ pages. AscendAbove 0 pages.items) }
+    {
+        let mut pages = Ascending::new(self.alloc);
+        for number in 1..17u64 {
+            let any = self.draws.draw();
+            if any % 2 == 0 {
+                add_page(&mut pages, if fate == Fate::Lies { any } else { number })?;
+            }
+        }
+        let pages = pages.into_pages();
+        self.witness.list(pages.len() as u64);
+        Ok(pages)
     }
 
     /// The bytes of a message of this number.

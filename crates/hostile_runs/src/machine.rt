@@ -9,6 +9,7 @@ use cloud_trait::who::Who;
 use commit_run::CommitRun;
 use db_base::ids::{ClientId, TreeId};
 use db_base::trouble::{CommitAnswer, Trouble};
+use orphan_sweep::Sweep;
 use page_cache::PageCache;
 use page_ckpt::PageCkpt;
 use range_scan::RangeScan;
@@ -246,6 +247,29 @@ impl Machine for TreeCkpt {
     // Its bound is by the tree that a state tells, and this one tells none.
     fn most(_witness: &Witness) -> u64 {
         MOST_CALLS
+    }
+
+    fn begin(&mut self, _alloc: Global, _cache: &mut PageCache) -> Turn<u64> {
+        Turn::More
+    }
+
+    fn make<C: Cloud>(
+        &mut self,
+        alloc: Global,
+        cloud: &mut C,
+        who: Who,
+        _cache: &mut PageCache,
+    ) -> Turn<u64> {
+        keeping(self.step(alloc, cloud, who), 0)
+    }
+}
+
+impl Machine for Sweep {
+    fn most(witness: &Witness) -> u64 {
+        witness
+            .pages()
+            .saturating_add(witness.listed())
+            .saturating_add(4)
     }
 
     fn begin(&mut self, _alloc: Global, _cache: &mut PageCache) -> Turn<u64> {

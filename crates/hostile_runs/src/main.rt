@@ -1,6 +1,7 @@
 //! Every machine under a cloud that lies at every call: FIRST and COUNT name the clouds, and a word more has it tell why the machines stopped.
 #![tactic(auto)]
 
+mod ascending;
 mod hostile_cloud;
 mod liar;
 mod looking;

@@ -10,6 +10,7 @@ use db_base::change::Change;
 use db_base::ids::{ClientId, PageId, SessionNo, TreeId};
 use db_base::key::{Key, Payload};
 use head_codec::head::Head;
+use orphan_sweep::Sweep;
 use page_cache::PageCache;
 use page_ckpt::PageCkpt;
 use range_scan::RangeScan;
@@ -189,6 +190,17 @@ fn folds_all<H: Hostile>(
     ends(&mut checkpoint, bench, cloud, cache, tally)
 }
 
+/// Whether a sweep of the tree is right.
+fn sweeps<H: Hostile>(
+    bench: &Bench,
+    cloud: &mut H,
+    cache: &mut PageCache,
+    tally: &mut Tally,
+) -> bool {
+    let mut sweep = Sweep::new(bench.alloc, bench.tree);
+    ends(&mut sweep, bench, cloud, cache, tally)
+}
+
 /// Whether a settling is right.
 fn settles<H: Hostile>(
     bench: &Bench,
@@ -214,6 +226,7 @@ fn all_end<H: Hostile>(
         && opens(bench, cloud, cache, tally)
         && folds(bench, cloud, cache, number, tally)
         && folds_all(bench, cloud, cache, tally)
+        && sweeps(bench, cloud, cache, tally)
         && (number % 7 != 0 || settles(bench, cloud, cache, tally))
 }
 

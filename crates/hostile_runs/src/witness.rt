@@ -34,6 +34,7 @@ pub(crate) struct Witness {
     from_object: usize,
     from_message: usize,
     calls: u64,
+    listed: u64,
     failed: bool,
     starved: bool,
     late: Option<(u64, u64)>,
@@ -202,6 +203,7 @@ impl Witness {
             from_object: 0,
             from_message: 0,
             calls: 0,
+            listed: 0,
             failed: false,
             starved: false,
             late: None,
@@ -215,6 +217,7 @@ impl Witness {
         self.from_object = self.objects.len();
         self.from_message = self.messages.len();
         self.calls = 0;
+        self.listed = 0;
         self.failed = false;
         self.starved = false;
         self.late = None;
@@ -230,6 +233,11 @@ impl Witness {
     pub(crate) fn ask(&mut self, name: ObjName) -> Result<(), AllocError> {
         self.asked.push(name)?;
         Ok(())
+    }
+
+    /// It listed so many pages.
+    pub(crate) fn list(&mut self, count: u64) {
+        self.listed = count;
     }
 
     /// It failed.
@@ -308,6 +316,11 @@ impl Witness {
     /// How many calls it made.
     pub(crate) fn calls(&self) -> u64 {
         self.calls
+    }
+
+    /// How many pages it was shown by a listing.
+    pub(crate) fn listed(&self) -> u64 {
+        self.listed
     }
 
     /// How many distinct pages it came to.

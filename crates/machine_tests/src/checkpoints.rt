@@ -1,6 +1,7 @@
-//! Checkpoints of tree 1 over a cloud in memory.
+//! Checkpoints and sweeps of tree 1 over a cloud in memory.
 
 use crate::machine::Machine;
+use crate::objects::with_64_entries;
 use crate::store::{lock, object, page, put_numbered, queue, send, take, tree, who};
 use crate::story::Story;
 use cloud_trait::cloud::Bench as Schedule;
@@ -8,6 +9,7 @@ use db_base::wish::{Positions, Wish};
 use leaf_view::LeafView;
 use memory_cloud::memory::MemoryCloud;
 use node_codec::{InnerView, TreeView};
+use orphan_sweep::Sweep;
 use page_ckpt::PageCkpt;
 use std::alloc::Global;
 use std::test::Fail;
@@ -16,8 +18,10 @@ use tree_ckpt::TreeCkpt;
 /// What is to come over a call.
 #[derive(Clone, Copy)]
 pub(crate) enum Mishap<'a> {
-    /// It fails.
+    /// It fails, and nothing lands.
     Fails,
+    /// It lands, and answers that it failed.
+    Loses,
     /// So many ticks go by before it.
     Waits(u64),
     /// It is a receive, and brings the messages at these positions.
@@ -32,6 +36,8 @@ pub(crate) type Mishaps<'a> = &'a [(u64, Mishap<'a>)];
 pub(crate) enum Step<'a> {
     /// Puts an object.
     Puts(u64, &'a [u8]),
+    /// Puts the node that has this head and 64 entries.
+    Fills(u64, &'a [u8]),
     /// Sends bytes to a queue.
     Sends(u64, &'a [u8]),
     /// Sends client 1's inserts to the tree's queue: the first number, the first key, and how many.
@@ -48,6 +54,8 @@ pub(crate) enum Step<'a> {
     Crashes(u64, &'a str),
     /// A checkpoint of a page, and what it tells.
     Page(u64, Mishaps<'a>, &'a str),
+    /// A sweep of the tree, and what it tells.
+    Sweeps(Mishaps<'a>, &'a str),
     /// An object has this version.
     Has(u64, u64, Option<&'a [u8]>),
     /// The newest leaf of a page: its version, its right page and how many records it has.
@@ -128,6 +136,7 @@ impl Bench {
     fn step(&mut self, step: Step<'_>) -> Result<(), Fail> {
         match step {
             Step::Puts(number, bytes) => put_numbered(&mut self.cloud, number, bytes),
+            Step::Fills(number, head) => self.fill(number, head),
             Step::Sends(to, bytes) => self.send(to, bytes),
             Step::Inserts(from, key, count) => self.insert(from, key, count),
             Step::Updates(client, number, key, payload) => {
@@ -141,6 +150,7 @@ impl Bench {
             Step::Tree(mishaps, wanted) => self.tree_checkpoint(mishaps, 400, wanted),
             Step::Crashes(call, wanted) => self.tree_checkpoint(&[], call, wanted),
             Step::Page(number, mishaps, wanted) => self.page_checkpoint(number, mishaps, wanted),
+            Step::Sweeps(mishaps, wanted) => self.sweep(mishaps, wanted),
             Step::Has(number, version, bytes) => self.has(number, version, bytes),
             Step::Leaf(number, version, right, count) => {
                 self.leaf(number, version, right, count)
@@ -150,6 +160,11 @@ impl Bench {
             Step::Grows(times) => self.grow(times),
             Step::Node(number, count) => self.node(number, count),
         }
+    }
+
+    fn fill(&mut self, number: u64, head: &[u8]) -> Result<(), Fail> {
+        let node = with_64_entries(self.alloc, head)?;
+        put_numbered(&mut self.cloud, number, node.as_slice())
     }
 
     fn hold(&mut self, number: u64, ticks: u64) -> Result<(), Fail> {
@@ -214,6 +229,7 @@ impl Bench {
     fn befall(&mut self, mishap: &Mishap<'_>) -> Result<(), Fail> {
         match mishap {
             Mishap::Fails => self.cloud.wish(Wish::Fail),
+            Mishap::Loses => self.cloud.wish(Wish::Lost),
             Mishap::Waits(ticks) => self.cloud.wait(*ticks),
             Mishap::Gives(list) => {
                 let positions = Positions::new(self.alloc, list)?;
@@ -244,6 +260,13 @@ impl Bench {
         let mut checkpoint = PageCkpt::new(self.alloc, tree()?, page(number)?);
         let mut story = Story::brief(self.alloc);
         self.make(&mut checkpoint, &mut story, mishaps, 400)?;
+        story.is(wanted)
+    }
+
+    fn sweep(&mut self, mishaps: Mishaps<'_>, wanted: &str) -> Result<(), Fail> {
+        let mut sweep = Sweep::new(self.alloc, tree()?);
+        let mut story = Story::brief(self.alloc);
+        self.make(&mut sweep, &mut story, mishaps, 400)?;
         story.is(wanted)
     }
 

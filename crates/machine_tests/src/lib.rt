@@ -12,6 +12,8 @@ mod machine;
 #[cfg(test)]
 mod objects;
 #[cfg(test)]
+mod orphan_sweep_tests;
+#[cfg(test)]
 mod page_ckpt_tests;
 #[cfg(test)]
 mod recover_run_tests;

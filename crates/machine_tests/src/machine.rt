@@ -1,4 +1,4 @@
-//! Recoveries, settlings and checkpoints as one kind of machine.
+//! Recoveries, settlings, checkpoints and sweeps as one kind of machine.
 
 use crate::store::who;
 use crate::story::Story;
@@ -6,6 +6,7 @@ use cloud_trait::cloud::{Bench, Cloud};
 use cloud_trait::lease::Lease;
 use cloud_trait::who::Who;
 use db_base::wish::{Positions, Wish};
+use orphan_sweep::Sweep;
 use page_ckpt::PageCkpt;
 use recover_run::recover::RecoverRun;
 use settle_run::SettleRun;
@@ -99,6 +100,24 @@ impl Machine for TreeCkpt {
     ) -> Result<bool, Fail> {
         let turn = self.step(alloc, cloud, who);
         story.checkpoint(&turn)
+    }
+}
+
+impl Machine for Sweep {
+    fn tell(&self, story: &mut Story) -> Result<(), Fail> {
+        let _none: Option<Lease> = None;
+        story.call(&self.in_hand())
+    }
+
+    fn make<C: Cloud>(
+        &mut self,
+        alloc: Global,
+        cloud: &mut C,
+        who: Who,
+        story: &mut Story,
+    ) -> Result<bool, Fail> {
+        let turn = self.step(alloc, cloud, who);
+        story.swept(&turn)
     }
 }
 

@@ -1,5 +1,8 @@
 //! Leaves, nodes and tree objects, byte by byte.
 
+use std::alloc::Global;
+use std::test::Fail;
+
 /// Page 1 alone in format 1, with the record a: v.
 pub(crate) const ALONE: &[u8] =
     b"L\x01\x00\x00\x00\x00\x00\x00\x00\x01\x00\x00\x00\x00\x00\x00\x00\x00\x00\x00\x01\x01a\x00\x01v\x00";
@@ -28,6 +31,14 @@ pub(crate) const RIGHT_UPDATED: &[u8] =
 pub(crate) const INNER: &[u8] =
     b"I\x01\x00\x00\x00\x00\x00\x00\x00\x01\x01\x01b\x00\x00\x00\x00\x00\x00\x00\x00\x01\x01b\x00\x00\x00\x00\x00\x00\x00\x05\x00";
 
+/// An inner node of level 1 with the entries from the empty key to page 1 and from b to page 2.
+pub(crate) const TWO_LEAVES: &[u8] =
+    b"I\x01\x00\x00\x00\x00\x00\x00\x00\x01\x01\x00\x00\x00\x00\x00\x00\x00\x00\x00\x01\x00\x00\x00\x00\x00\x00\x00\x00\x01\x01\x01b\x00\x00\x00\x00\x00\x00\x00\x02\x00";
+
+/// A tree object of version 1 with next free page 6, level 2 and the one entry to page 3.
+pub(crate) const HIGH_ROOT: &[u8] =
+    b"T\x01\x00\x00\x00\x00\x00\x00\x00\x01\x00\x00\x00\x00\x00\x00\x00\x06\x02\x00\x01\x00\x00\x00\x00\x00\x00\x00\x00\x03\x00";
+
 /// A tree object of version 1 with next free page 3, level 1 and the one entry to page 1.
 pub(crate) const ROOT: &[u8] =
     b"T\x01\x00\x00\x00\x00\x00\x00\x00\x01\x00\x00\x00\x00\x00\x00\x00\x03\x01\x00\x01\x00\x00\x00\x00\x00\x00\x00\x00\x01\x00";
@@ -39,3 +50,23 @@ pub(crate) const ROOT_65: &[u8] =
 /// The same at the last version but two.
 pub(crate) const ROOT_65_LATE: &[u8] =
     b"T\x01\xff\xff\xff\xff\xff\xff\xff\xfd\x00\x00\x00\x00\x00\x00\x00\x41\x01\x00";
+
+/// A tree object of version 1 with next free page 66, level 2 and the one entry to page 65.
+pub(crate) const ROOT_66: &[u8] =
+    b"T\x01\x00\x00\x00\x00\x00\x00\x00\x01\x00\x00\x00\x00\x00\x00\x00\x42\x02\x00\x01\x00\x00\x00\x00\x00\x00\x00\x00\x41\x00";
+
+/// An inner node of level 1 up to its entries, of version 1 and with no right page.
+pub(crate) const INNER_HEAD: &[u8] =
+    b"I\x01\x00\x00\x00\x00\x00\x00\x00\x01\x01\x00\x00\x00\x00\x00\x00\x00\x00\x00";
+
+/// A tree object or inner node of 64 entries behind this head: page 1, which is absent, and pages 2 to 64 from key f on, to which no test comes.
+pub(crate) fn with_64_entries(alloc: Global, head: &[u8]) -> Result<Vec<u8>, Fail> {
+    let mut bytes = head.to_vec(alloc)?;
+    bytes.extend_from_slice(&[1, 0, 0, 0, 0, 0, 0, 0, 0, 1])?;
+    for byte in 2..65u8 {
+        let key = byte.saturating_add(100);
+        bytes.extend_from_slice(&[1, 1, key, 0, 0, 0, 0, 0, 0, 0, byte])?;
+    }
+    bytes.push(0)?;
+    Ok(bytes)
+}

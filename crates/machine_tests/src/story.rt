@@ -3,6 +3,7 @@
 use cloud_trait::call::{Call, CallKind};
 use cloud_trait::turn::{CkptAnswer, Turn};
 use db_base::trouble::{CommitAnswer, Trouble};
+use orphan_sweep::Swept;
 use recover_run::stage::RecoverAnswer;
 use reply_text::call_text;
 use reply_text::write::trouble_text;
@@ -131,6 +132,23 @@ impl Story {
             Turn::Stopped(trouble) => self.trouble(trouble)?,
         }
         Ok(true)
+    }
+
+    /// Adds the answer of a sweep; true where there is one.
+    pub(crate) fn swept(&mut self, turn: &Turn<Swept>) -> Result<bool, Fail> {
+        match turn {
+            Turn::More => return Ok(false),
+            Turn::Ended(swept) => self.kept(*swept)?,
+            Turn::Stopped(trouble) => self.trouble(trouble)?,
+        }
+        Ok(true)
+    }
+
+    /// Adds the counts of a sweep's end.
+    fn kept(&mut self, swept: Swept) -> Result<(), Fail> {
+        let (kept, removed) = (swept.kept, swept.removed);
+        let text = format!(in self.alloc; "swept {kept} {removed}")?;
+        self.line(text.as_str())
     }
 
     /// Adds the answer of a commit; true where there is one.

@@ -1,6 +1,5 @@
 use crate::checkpoints::{Mishap, Step, play, play_over};
-use crate::objects::{LEFT, RIGHT, ROOT, ROOT_65, ROOT_65_LATE};
-use std::alloc::Global;
+use crate::objects::{LEFT, RIGHT, ROOT, ROOT_65, ROOT_65_LATE, with_64_entries};
 use std::test::Fail;
 
 /// A checkpoint that has no run.
@@ -379,21 +378,9 @@ const LEVELS: &[Step<'static>] = &[
     Step::Root(6, 69, 2),
 ];
 
-/// A tree object of 64 entries behind this head: page 1, which is absent, and pages 2 to 64 from key f on, to which no test comes.
-fn full_root(alloc: Global, head: &[u8]) -> Result<Vec<u8>, Fail> {
-    let mut bytes = head.to_vec(alloc)?;
-    bytes.extend_from_slice(&[1, 0, 0, 0, 0, 0, 0, 0, 0, 1])?;
-    for byte in 2..65u8 {
-        let key = byte.saturating_add(100);
-        bytes.extend_from_slice(&[1, 1, key, 0, 0, 0, 0, 0, 0, 0, byte])?;
-    }
-    bytes.push(0)?;
-    Ok(bytes)
-}
-
 #[test]
 fn cuts_the_root(rt: HostRuntime) -> Result<(), Fail> {
-    let root = full_root(rt.alloc(), ROOT_65)?;
+    let root = with_64_entries(rt.alloc(), ROOT_65)?;
     play_over(rt.alloc(), root.as_slice(), LEVELS)
 }
 
@@ -426,7 +413,7 @@ const LAST_VERSION: &[Step<'static>] = &[
 
 #[test]
 fn stops_behind_the_pieces_of_a_root_at_the_last_version(rt: HostRuntime) -> Result<(), Fail> {
-    let root = full_root(rt.alloc(), ROOT_65_LATE)?;
+    let root = with_64_entries(rt.alloc(), ROOT_65_LATE)?;
     play_over(rt.alloc(), root.as_slice(), LAST_VERSION)
 }
 

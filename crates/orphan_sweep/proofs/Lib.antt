@@ -1,0 +1,11 @@
+pub mod Words
+pub mod Outcomes
+pub mod Lists
+pub mod Reading
+pub mod Leading
+pub mod End
+pub mod Leases
+pub mod Meaning
+pub mod Causes
+pub mod Calm
+pub mod Demands

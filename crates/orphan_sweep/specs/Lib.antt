@@ -1,0 +1,9 @@
+pub mod Causing
+pub mod Ending
+pub mod Meaning
+pub mod Owing
+pub mod Pages
+pub mod Standing
+pub mod Stepped
+pub mod Sweeping
+pub mod Well

@@ -8,5 +8,6 @@ pub mod EmptyChains
 pub mod LeafLanding
 pub mod Laws
 pub mod Grown
+pub mod GoneLemmas
 pub mod CutLemmas
 pub mod Newest

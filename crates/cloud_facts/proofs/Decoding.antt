@@ -2,5 +2,6 @@
 pub mod Reading
 pub mod Landing
 pub mod Newest
+pub mod Versions
 pub mod Values
 pub mod Counting

@@ -3,3 +3,4 @@ pub mod Links
 pub mod Chain
 pub mod Landing
 pub mod Cuts
+pub mod Gones

@@ -159,6 +159,7 @@ deletion_done queue id call.Memory g = absurd (g.2 refl)
 deletion_done queue id (call.Got v) g = absurd g.0
 deletion_done queue id (call.Sent n) g = absurd g.0
 deletion_done queue id (call.Received ms) g = absurd g.0
+deletion_done queue id (call.Listed ps) g = absurd g.0
 deletion_done queue id (call.Given l) g = absurd g.0
 deletion_done queue id (call.Held until) g = absurd g.0
 deletion_done queue id (call.Renewed until) g = absurd g.0

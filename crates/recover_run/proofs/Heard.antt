@@ -9,7 +9,7 @@ use Rattle.db_base.specs.declared.names.ObjName.TheVariants as object
 use Rattle.log_codec.specs.declared.record.AtomicRec.{AtomicRec}
 use Rattle.log_codec.specs.Atomic.{atomic_of}
 use Rattle.cloud_trait.specs.declared.answer.Answer.TheVariants as call
-use Rattle.cloud_trait.specs.Ask.{Get, Renew}
+use Rattle.cloud_trait.specs.Ask.{Get, ListHeld, RemoveHeld, Renew}
 use Rattle.recover_run.specs.Calls.{head_in}
 use Rattle.recover_run.specs.Causing.{ids_in, known_ids, NothingNew}
 use Rattle.recover_run.specs.Counting.{wanted_in, wanted_after, wanted_by, index_in, indices_of, indices_in, known_indices}
@@ -50,6 +50,8 @@ received_fits : (q : Ask) (ms : List Message) → IsNoReceive q → Fits q (call
 received_fits (Get name) ms plain fits = fits
 received_fits (GetHeld name l) ms plain fits = fits
 received_fits (PutHeld name bytes one two) ms plain fits = fits
+received_fits (ListHeld tree l) ms plain fits = fits
+received_fits (RemoveHeld name l) ms plain fits = fits
 received_fits (Send queue bytes) ms plain fits = fits
 received_fits (Receive queue most) ms plain fits = plain
 received_fits (Delete queue id) ms plain fits = fits

@@ -1,4 +1,4 @@
--- Which puts and sends a replay may make, by how the session of each stood at its line, and where the order of a tree comes from.
+-- Which puts, sends and removals a replay may make, by how the session of each stood at its line, and where the order of a tree comes from.
 use Rattle.std.specs.Prelude.{ℕ, suc, ◌≡◌, ◌⊎◌, List, length, Option, Some, None, slice_get, All}
 use Rattle.db_base.specs.declared.names.ObjName.TheVariants as object
 use Rattle.db_base.specs.declared.names.QueueName.{QueueName}
@@ -14,7 +14,7 @@ use Rattle.head_codec.specs.declared.head.Phase.TheVariants as phase
 use Rattle.head_codec.specs.Spelling.{head_of}
 use Rattle.log_codec.specs.declared.record.PuRec.{PuRec}
 use Rattle.log_codec.specs.Pu.{pu_of}
-use Rattle.event_text.specs.declared.event.Event.TheVariants.{Settle, Work}
+use Rattle.event_text.specs.declared.event.Event.TheVariants.{Sweep, Settle, Work}
 use Rattle.txn_buffer.specs.Noted.{Noted}
 use Rattle.history.specs.Legal.{StandsAt}
 use Rattle.report_types.specs.declared.entry.Entry.{Entry}
@@ -63,6 +63,15 @@ pub record IsOfSettler (lines : List Line) (row : Landing) : Type 0 where
   pub line : Line
   pub there : slice_get lines place ≡ Some line
   pub settles : line.event ≡ Settle
+
+-- the row is of the settler, at a line that sweeps the tree
+pub record IsOfSweep (lines : List Line) (row : Landing) (tree : ℕ) : Type 0 where
+  pub session : row.who.session ≡ 0
+  pub place : ℕ
+  pub event : row.who.event ≡ suc place
+  pub line : Line
+  pub there : slice_get lines place ≡ Some line
+  pub sweeps : line.event ≡ Sweep tree
 
 -- the row is of a session's own line that works, by which the session makes the checkpoints that are due to it
 pub record IsOfWork (lines : List Line) (row : Landing) : Type 0 where
@@ -114,6 +123,11 @@ abbrev pub MayPutBytes : List Line → Landing → ℕ → Option (List ℕ) →
 MayPutBytes lines row client (Some bytes) = MayPutHead lines row client (head_of bytes)
 MayPutBytes lines row client None = ⊥
 
+-- a version of a page is of its kind: with bytes it is a put; without, a removal, and the tree is swept
+abbrev pub MayLandPage : List Line → Landing → ℕ → Option (List ℕ) → Type 0
+MayLandPage lines row tree (Some bytes) = MayPutPage lines row tree
+MayLandPage lines row tree None = IsOfSweep lines row tree
+
 -- a send is of its kind, by its queue
 abbrev pub MaySend : List Line → Landing → QueueName → Type 0
 MaySend lines row (Atomic client) = MaySendAtomic lines row client
@@ -124,7 +138,7 @@ MaySend lines row (PagePu tree page) = MaySendPending lines row
 abbrev pub IsOfKindAt : List Line → CloudState → Landing → Site → Type 0
 IsOfKindAt lines t row (Object (object.Head client)) = MayPutBytes lines row client (version_at (t.versions (object.Head client)) row.position)
 IsOfKindAt lines t row (Object (object.Tree tree)) = MayPutRoot lines row tree
-IsOfKindAt lines t row (Object (object.Page tree page)) = MayPutPage lines row tree
+IsOfKindAt lines t row (Object (object.Page tree page)) = MayLandPage lines row tree (version_at (t.versions (object.Page tree page)) row.position)
 IsOfKindAt lines t row (Queue queue) = MaySend lines row queue
 
 -- a row of the trace is of a kind that its session's standing allows

@@ -146,6 +146,7 @@ after_own (event.Run session) reply s = steps reply s
 after_own (event.Crash session done) reply s = crashes reply s
 after_own (event.Wait ticks) reply s = s
 after_own (event.Report tree) reply s = s
+after_own (event.Sweep tree) reply s = s
 after_own event.Settle reply s = s
 
 -- the session that a line names; 0 where it names none
@@ -172,6 +173,7 @@ session_of (event.Run session) = session
 session_of (event.Crash session done) = session
 session_of (event.Wait ticks) = 0
 session_of (event.Report tree) = 0
+session_of (event.Sweep tree) = 0
 session_of event.Settle = 0
 
 -- how a session stands after one more line

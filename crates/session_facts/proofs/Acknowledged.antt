@@ -30,7 +30,7 @@ use Rattle.commit_run.specs.declared.hand.Hand.{Hand}
 use Rattle.commit_run.specs.declared.hand.Hand.TheVariants.{Writes, First, Change}
 use Rattle.commit_writes.specs.Writing.{Writing, writing_next}
 use Rattle.commit_writes.specs.declared.stage.Stage.{Stage}
-use Rattle.commit_writes.specs.declared.stage.Stage.TheVariants.{Opening, Sending, Settling, Deleting}
+use Rattle.commit_writes.specs.declared.stage.Stage.TheVariants.{Sending, Settling, Deleting}
 use Rattle.commit_run.proofs.Wrote as written
 use Rattle.commit_run.proofs.Wrote.{Wrote, wrote_by}
 use Rattle.db_base.specs.declared.trouble.CommitAnswer.{CommitAnswer}
@@ -233,6 +233,7 @@ kept_by_lines entries w s a = on w
     on (work.Closing lease) acts h = subst At (sym acts) tt
     on (work.Renewing home) acts h = subst At (sym acts.0) tt
     on (work.Settling m) acts h = absurd acts
+    on (work.Sweeping m) acts h = absurd acts
     on work.Closed acts h = subst At (sym acts) tt
     on (work.Idle home) acts h = subst At (sym acts.0) tt
     on (work.Broken lease) acts h = subst At (sym acts) tt

@@ -23,7 +23,7 @@ use Rattle.client_work.specs.declared.answer.Answer.TheVariants as answer
 use Rattle.client_work.specs.declared.listing.Listing.{Listing}
 use Rattle.client_work.specs.declared.shown.Shown.{Shown}
 use Rattle.client_work.specs.declared.work.Work.{Work}
-use Rattle.client_work.specs.declared.work.Work.TheVariants.{Closed, Idle, Opening, Committing, Reading, Scanning, Looking, Paging, Folding, Closing, Renewing, Settling, Broken}
+use Rattle.client_work.specs.declared.work.Work.TheVariants.{Closed, Idle, Opening, Committing, Reading, Scanning, Looking, Paging, Folding, Closing, Renewing, Settling, Sweeping, Broken}
 use Rattle.page_cache.specs.Cache.{Cache}
 use Rattle.tree_walk.specs.Walk.{sought}
 use Rattle.client_work.specs.Session.{Follows, StepsAt, ShowsAt, noted_behind, opened_work, committed_work, stopped_work}
@@ -49,6 +49,7 @@ IsReplyTo (answer.Done n) r = r ≡ reply.Done n
 IsReplyTo answer.Value r = (r ≡ reply.NoValue) ⊎ ((payload : List ℕ) × (r ≡ reply.Value payload))
 IsReplyTo answer.Scan r = (pairs : List Pair) × (r ≡ reply.Scan pairs)
 IsReplyTo (answer.Settled n) r = r ≡ reply.Settled n.calls
+IsReplyTo (answer.Swept x) r = r ≡ reply.Swept x.kept x.removed
 IsReplyTo (answer.Commit a) r = r ≡ reply.Commit a
 IsReplyTo (answer.Trouble t) r = (r ≡ reply.Trouble t) × (t ≡ trouble.Memory → ⊥)
 
@@ -93,6 +94,7 @@ goes_as who before after buffer (Folding home f) new c d shows s p shown acts =
 goes_as who before after buffer (Closing lease) new c d shows s p shown acts = absurd p
 goes_as who before after buffer (Renewing home) new c d shows s p shown acts = absurd p
 goes_as who before after buffer (Settling m) new c d shows s p shown acts = absurd acts
+goes_as who before after buffer (Sweeping m) new c d shows s p shown acts = absurd acts
 goes_as who before after buffer Closed new c d shows s p shown acts = absurd p
 goes_as who before after buffer (Idle home) new c d shows s p shown acts = absurd p
 goes_as who before after buffer (Broken lease) new c d shows s p shown acts = absurd p
@@ -109,6 +111,7 @@ goes_noted who before after (Folding home f) new buffer p = refl
 goes_noted who before after (Closing lease) new buffer p = absurd p
 goes_noted who before after (Renewing home) new buffer p = refl
 goes_noted who before after (Settling m) new buffer p = refl
+goes_noted who before after (Sweeping m) new buffer p = refl
 goes_noted who before after Closed new buffer p = refl
 goes_noted who before after (Idle home) new buffer p = refl
 goes_noted who before after (Broken lease) new buffer p = refl
@@ -230,6 +233,7 @@ ends_as who before after (Renewing home) new s (answer.Trouble t) r p is acts =
     (acts.1 ∙ sym (ap (λ (h : Home). h.client) p.1.home)) refl
 ends_as who before after (Renewing home) new s a r p is acts = absurd p
 ends_as who before after (Settling m) new s a r p is acts = absurd acts
+ends_as who before after (Sweeping m) new s a r p is acts = absurd acts
 ends_as who before after Closed new s a r p is acts = absurd p
 ends_as who before after (Idle home) new s a r p is acts = absurd p
 ends_as who before after (Broken lease) new s a r p is acts = absurd p

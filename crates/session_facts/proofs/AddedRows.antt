@@ -6,7 +6,7 @@ use Rattle.std.proofs.lemmas.List.Elements.{All-nil, All-push, All-same, All-wea
 use Rattle.cloud_trait.specs.declared.state.Landing.{Landing}
 use Rattle.cloud_trait.specs.declared.state.Site.TheVariants.{Object, Queue}
 use Rattle.cloud_trait.specs.declared.turn.Turn.{Turn}
-use Rattle.cloud_trait.specs.Ask.{Ask, Get, GetHeld, PutHeld, Send, Receive, Delete, Take, Renew, Release, effect}
+use Rattle.cloud_trait.specs.Ask.{Ask, Get, GetHeld, PutHeld, ListHeld, RemoveHeld, Send, Receive, Delete, Take, Renew, Release, effect}
 use Rattle.cloud_trait.specs.Caller.{Caller}
 use Rattle.cloud_trait.specs.Seen.{Seen}
 use Rattle.cloud_trait.specs.State.{CloudState, called}
@@ -22,7 +22,8 @@ use Rattle.replay_meaning.specs.Kinds.{IsOfKind}
 use Rattle.session_facts.specs.RowKinds.Asks.{MayAsk}
 use Rattle.session_facts.specs.Added.{AddsKinds, AddsTo}
 use Rattle.session_facts.specs.Facts.{IsPlaced, WorksAs}
-use Rattle.session_facts.proofs.CallKinds.{HasCheckpoint, IsSettling, IsSettlersRow, IsWorkersRow, checkpoint_asks, settle_asks, call_kind}
+use Rattle.session_facts.proofs.CallKinds.{HasCheckpoint, IsWorkersRow, checkpoint_asks, errand_asks, call_kind}
+use Rattle.session_facts.specs.Errands.{Errand, settles, sweeps, event_for, session_for, WorksOn, IsRowOf, AreRowsOf}
 use Rattle.recover_run.specs.declared.home.Home.{Home}
 use Rattle.session_facts.proofs.CommittedLemmas.{placed_effect}
 use Rattle.session_facts.proofs.LineRows.{kinds_effect, rows_line, rows_same}
@@ -80,11 +81,15 @@ pub effect_rows : (who : Caller) (ask : Ask) (b : CloudState) (before added : Li
 effect_rows who (PutHeld name bytes one two) b before added e =
     let row : Landing = record { who = who; site = Object name; position = length (b.versions name) + 1 } in
     ap (λ rows. rows ++ row ∷ []) e ∙ append_assoc before added (row ∷ [])
+effect_rows who (RemoveHeld name l) b before added e =
+    let row : Landing = record { who = who; site = Object name; position = length (b.versions name) + 1 } in
+    ap (λ rows. rows ++ row ∷ []) e ∙ append_assoc before added (row ∷ [])
 effect_rows who (Send queue bytes) b before added e =
     let row : Landing = record { who = who; site = Queue queue; position = length (b.messages queue) + 1 } in
     ap (λ rows. rows ++ row ∷ []) e ∙ append_assoc before added (row ∷ [])
 effect_rows who (Get name) b before added e = e
 effect_rows who (GetHeld name l) b before added e = e
+effect_rows who (ListHeld tree l) b before added e = e
 effect_rows who (Receive queue most) b before added e = e
 effect_rows who (Delete queue id) b before added e = e
 effect_rows who (Take lock ticks) b before added e = e
@@ -99,6 +104,8 @@ effect_same who (PutHeld name bytes one two) b rows = refl
 effect_same who (Send queue bytes) b rows = refl
 effect_same who (Get name) b rows = refl
 effect_same who (GetHeld name l) b rows = refl
+effect_same who (ListHeld tree l) b rows = refl
+effect_same who (RemoveHeld name l) b rows = refl
 effect_same who (Receive queue most) b rows = refl
 effect_same who (Delete queue id) b rows = refl
 effect_same who (Take lock ticks) b rows = refl
@@ -111,9 +118,11 @@ By n row = row.who.event ≤ n
 -- a row of a call at event n landed by event n
 early_effect : (n : ℕ) (who : Caller) (ask : Ask) (b : CloudState) → who.event ≤ n → All (By n) b.trace → All (By n) (effect who ask b).trace
 early_effect n who (PutHeld name bytes one two) b le h = All-push (By n) b.trace (record { who = who; site = Object name; position = length (b.versions name) + 1 }) h le
+early_effect n who (RemoveHeld name l) b le h = All-push (By n) b.trace (record { who = who; site = Object name; position = length (b.versions name) + 1 }) h le
 early_effect n who (Send queue bytes) b le h = All-push (By n) b.trace (record { who = who; site = Queue queue; position = length (b.messages queue) + 1 }) h le
 early_effect n who (Get name) b le h = h
 early_effect n who (GetHeld name l) b le h = h
+early_effect n who (ListHeld tree l) b le h = h
 early_effect n who (Receive queue most) b le h = h
 early_effect n who (Delete queue id) b le h = h
 early_effect n who (Take lock ticks) b le h = h
@@ -171,12 +180,12 @@ session_adds lines who before after start x w new turn event told acts p h =
     call_adds (length lines + 1) lines who before after start x w new turn (omega (arith, event)) told
     (λ ask hand. call_kind lines who w ask event acts (sound_of who before after w new turn p) hand) p h
 
--- and a settling within its line, which is one of the lines
-pub settler_adds : (n : ℕ) (lines : List Line) (who : Caller) (before after : Seen) (start x : CloudState) (w new : Work) (turn : Turn Answer) → who.event ≤ n
-    → before.state ≡ Some x → IsSettling w → IsSettlersRow lines who → StepsAt who before after w new turn → AddsKinds n lines start x → AddsTo n lines start after
-settler_adds n lines who before after start x w new turn le told settles settler p h =
+-- and session 0 on an errand within its line, which is one of the lines
+pub errand_adds : (errand : Errand) (n : ℕ) (lines : List Line) (who : Caller) (before after : Seen) (start x : CloudState) (w new : Work) (turn : Turn Answer) → who.event ≤ n
+    → before.state ≡ Some x → WorksOn errand w → AreRowsOf errand lines who → StepsAt who before after w new turn → AddsKinds n lines start x → AddsTo n lines start after
+errand_adds errand n lines who before after start x w new turn le told works own p h =
     call_adds n lines who before after start x w new turn le told
-    (λ ask hand row is. settle_asks lines row w settles (settler row is) (sound_of who before after w new turn p) ask hand) p h
+    (λ ask hand row is. errand_asks errand lines row w works (own row is) (sound_of who before after w new turn p) ask hand) p h
 
 -- and a checkpoint within a line that works, which is one of the lines
 pub worker_adds : (n : ℕ) (lines : List Line) (who : Caller) (home : Home) (before after : Seen) (start x : CloudState) (w new : Work) (turn : Turn Answer) → who.event ≤ n

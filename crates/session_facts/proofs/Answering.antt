@@ -20,6 +20,7 @@ may_by_lines (work.Folding home f) s t acts may = subst (λ (p : Posture). MayTr
 may_by_lines (work.Closing lease) s t acts may = subst (λ (p : Posture). MayTrouble p t) (sym acts) may
 may_by_lines (work.Renewing home) s t acts may = subst (λ (p : Posture). MayTrouble p t) (sym acts.0) may
 may_by_lines (work.Settling m) s t acts may = absurd acts
+may_by_lines (work.Sweeping m) s t acts may = absurd acts
 may_by_lines work.Closed s t acts may = absurd may
 may_by_lines (work.Idle home) s t acts may = absurd may
 may_by_lines (work.Broken lease) s t acts may = absurd may

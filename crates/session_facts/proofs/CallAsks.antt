@@ -3,7 +3,7 @@ use Rattle.std.proofs.Common.{◌≡◌, ◌⊎◌, ℕ, List, [], ◌∷◌, le
 use Rattle.std.specs.Prelude.{slice_get, unwrap_or}
 use Rattle.db_base.specs.declared.names.ObjName.TheVariants as object
 use Rattle.cloud_trait.specs.declared.state.Landing.{Landing}
-use Rattle.cloud_trait.specs.Ask.{Ask, Get, GetHeld, PutHeld, Send, Receive, Delete, Take, Renew, Release}
+use Rattle.cloud_trait.specs.Ask.{Ask, Get, GetHeld, PutHeld, ListHeld, RemoveHeld, Send, Receive, Delete, Take, Renew, Release}
 use Rattle.cloud_trait.specs.Claim.{Claim}
 use Rattle.head_codec.specs.declared.head.Head.{Head}
 use Rattle.head_codec.specs.declared.head.Phase.{Phase}
@@ -41,7 +41,7 @@ use Rattle.settle_run.specs.declared.part.Part.TheVariants.{Client, Tree, Page}
 use Rattle.settle_run.specs.Parts.{part_ask, IsSoundPart}
 use Rattle.settle_run.specs.Settling.{Settling as SettlingState, settle_ask}
 use Rattle.client_work.specs.declared.work.Work.{Work}
-use Rattle.client_work.specs.declared.work.Work.TheVariants.{Closed, Idle, Opening, Committing, Reading, Scanning, Looking, Paging, Folding, Closing, Renewing, Settling, Broken}
+use Rattle.client_work.specs.declared.work.Work.TheVariants.{Closed, Idle, Opening, Committing, Reading, Scanning, Looking, Paging, Folding, Closing, Renewing, Settling, Sweeping, Broken}
 use Rattle.client_work.specs.Session.{ask_of_work}
 use Rattle.session_facts.specs.RowKinds.Asks.{MayAsk, MayAskBeside}
 use Rattle.session_facts.specs.Sessions.Puts.{IsSoundWork}
@@ -62,9 +62,11 @@ both : (lines : List Line) (row : Landing) (ask : Ask) → MayPut lines row ask 
 both lines row (PutHeld (object.Head client) bytes one two) head beside = head
 both lines row (PutHeld (object.Tree tree) bytes one two) head beside = beside
 both lines row (PutHeld (object.Page tree page) bytes one two) head beside = beside
+both lines row (RemoveHeld name l) head beside = beside
 both lines row (Send queue bytes) head beside = beside
 both lines row (Get name) head beside = tt
 both lines row (GetHeld name l) head beside = tt
+both lines row (ListHeld tree l) head beside = tt
 both lines row (Receive queue most) head beside = tt
 both lines row (Delete queue id) head beside = tt
 both lines row (Take lock ticks) head beside = tt
@@ -250,6 +252,7 @@ module _ (lines : List Line) (row : Landing) where
   work_asks (Paging home p) acts sound ask e = of_hand (paging_ask p) ask e (paging_asks lines row p (inl (p.page, acts.0)))
   work_asks (Folding home f) acts sound ask e = of_hand (making_ask f) ask e (work_may f.tree f.work (own_root f.tree f.work acts.2 (inl acts.0)))
   work_asks (Settling m) acts sound ask e = absurd acts
+  work_asks (Sweeping m) acts sound ask e = absurd acts
   work_asks (Closing l) acts sound ask e = of_hand (Release l) ask e tt
   work_asks (Renewing home) acts sound ask e = of_hand (Renew home.lease 600) ask e tt
   work_asks Closed acts sound ask e = absurd (cc)

@@ -3,7 +3,7 @@ use Rattle.std.proofs.Common.{◌≡◌, ◌+◌, ◌-◌, ◌⊎◌, ℕ, List,
 use Rattle.std.specs.Prelude.{All, slice_get}
 use Rattle.db_base.specs.declared.names.ObjName.TheVariants as object
 use Rattle.cloud_trait.specs.declared.state.Landing.{Landing}
-use Rattle.cloud_trait.specs.Ask.{Ask, Get, GetHeld, PutHeld, Send, Receive, Delete, Take, Renew, Release}
+use Rattle.cloud_trait.specs.Ask.{Ask, Get, GetHeld, PutHeld, ListHeld, RemoveHeld, Send, Receive, Delete, Take, Renew, Release}
 use Rattle.cloud_trait.specs.Caller.{Caller}
 use Rattle.cloud_trait.specs.Seen.{Seen}
 use Rattle.cloud_trait.specs.declared.turn.Turn.TheVariants.{More, Ended}
@@ -11,7 +11,7 @@ use Rattle.cloud_trait.specs.State.{CloudState}
 use Rattle.client_work.specs.declared.work.Work.{Work}
 use Rattle.client_work.specs.declared.answer.Answer.{Answer}
 use Rattle.client_work.specs.declared.answer.Answer.TheVariants as answer
-use Rattle.client_work.specs.declared.work.Work.TheVariants.{Idle, Paging, Folding, Settling}
+use Rattle.client_work.specs.declared.work.Work.TheVariants.{Idle, Paging, Folding, Settling, Sweeping}
 use Rattle.client_work.specs.Session.{StepsAt, ask_of_work, opens_of, committing_of, stopped_work}
 use Rattle.db_base.specs.declared.trouble.Trouble.{Trouble}
 use Rattle.db_base.specs.declared.trouble.Trouble.TheVariants as trouble
@@ -26,47 +26,52 @@ use Rattle.session_facts.specs.RowKinds.Asks.{MayAsk}
 use Rattle.session_facts.specs.RowKinds.New.{IsNew}
 use Rattle.session_facts.proofs.RowKinds.Opens.{work_is_new}
 use Rattle.page_cache.specs.Cache.{Cache}
+use Rattle.orphan_sweep.specs.Sweeping.{sweep_ask}
 use Rattle.settle_run.specs.Settling.{settle_ask}
 use Rattle.replay_meaning.specs.Standing.{Line, standing, standing_of_row}
 use Rattle.replay_meaning.specs.Committed.{committed}
-use Rattle.replay_meaning.specs.Kinds.{IsOfSettler, IsOfWork, IsOfKind, LandsOpen}
+use Rattle.replay_meaning.specs.Kinds.{IsOfSweep, IsOfWork, IsOfKind, LandsOpen}
 use Rattle.session_facts.specs.Sessions.Puts.{IsSoundWork, Commits, PutsHead}
 use Rattle.session_facts.specs.Sessions.Sessions.{KnowsWork}
 use Rattle.session_facts.proofs.Sessions.HeadPuts.{head_put}
 use Rattle.cloud_facts.specs.Book.Records.{entries_of}
 use Rattle.cloud_facts.specs.Book.Tally.{Store}
 use Rattle.session_facts.specs.Facts.{WorksAs}
+use Rattle.session_facts.specs.Errands.{Errand, settles, sweeps, WorksOn, IsRowOf}
 use Rattle.session_facts.specs.Running.{PutsSettled}
 use Rattle.session_facts.proofs.CallAsks.{settling_may, page_at_work, tree_at_work, work_asks}
 use Rattle.session_facts.proofs.CommittedLemmas.{now_standing}
 use Rattle.session_facts.proofs.SettlingHeads.{settling_stays}
+use Rattle.session_facts.proofs.Sweeps.Asks.{sweep_may, same_tree}
 use Rattle.session_facts.proofs.Once.{at_place, not_opened, OpensUnopened}
 
--- the settler is at work, and puts no head but settled ones
-abbrev pub IsSettling : Work → Type 0
-IsSettling (Settling m) = PutsSettled m.part
-IsSettling w = ⊥
+-- ---- session 0 on an errand
 
--- a row of this caller is the settler's, of a line that settles
-abbrev pub IsSettlersRow : List Line → Caller → Type 0
-IsSettlersRow lines who = (row : Landing) → row.who ≡ who → IsOfSettler lines row
+same_ask : {A : Type 0} (a b : A) → Some a ≡ Some b → a ≡ b
+same_ask a b e = cc (e)
 
--- a settling commits nothing
-pub settles_none : (w : Work) → IsSettling w → committing_of w ≡ None
-settles_none (Settling m) settles = refl
-settles_none w settles = absurd settles
+-- it commits nothing
+pub errand_none : (errand : Errand) (w : Work) → WorksOn errand w → committing_of w ≡ None
+errand_none settles (Settling m) works = refl
+errand_none (sweeps tree) (Sweeping m) works = refl
+errand_none errand w works = absurd works
 
--- the call of a settling at work, for a row of the settler's
-pub settle_asks : (lines : List Line) (row : Landing) (w : Work) → IsSettling w → IsOfSettler lines row → IsSoundWork w → (ask : Ask) → ask_of_work w ≡ Some ask → MayAsk lines row ask
-settle_asks lines row (Settling m) settles own sound ask e =
-    let is : settle_ask m ≡ ask = cc in
-    subst (MayAsk lines row) is (settling_may lines row m settles sound own)
-settle_asks lines row w settles own sound ask e = absurd settles
+-- its call in hand, for a row of its own
+pub errand_asks : (errand : Errand) (lines : List Line) (row : Landing) (w : Work) → WorksOn errand w → IsRowOf errand lines row → IsSoundWork w → (ask : Ask) → ask_of_work w ≡ Some ask
+    → MayAsk lines row ask
+errand_asks settles lines row (Settling m) works own sound ask e =
+    subst (MayAsk lines row) (same_ask (settle_ask m) ask e) (settling_may lines row m works sound own)
+errand_asks (sweeps tree) lines row (Sweeping m) works own sound ask e =
+    subst (MayAsk lines row) (same_ask (sweep_ask m) ask e) (sweep_may lines row m (subst (IsOfSweep lines row) (sym works) own))
+errand_asks errand lines row w works own sound ask e = absurd works
 
--- a settling that goes on is one
-pub settling_goes : (who : Caller) (before after : Seen) (w new : Work) → StepsAt who before after w new More → IsSettling w → IsSettling new
-settling_goes who before after (Settling m) new p is = subst IsSettling (sym p.1.2) (settling_stays m p.1.0 p.1.1.did.answer p.1.1.did.took is)
-settling_goes who before after w new p is = absurd is
+-- it goes on with it
+pub errand_goes : (errand : Errand) (who : Caller) (before after : Seen) (w new : Work) → StepsAt who before after w new More → WorksOn errand w → WorksOn errand new
+errand_goes settles who before after (Settling m) new p works =
+    subst (WorksOn settles) (sym p.1.2) (settling_stays m p.1.0 p.1.1.did.answer p.1.1.did.took works)
+errand_goes (sweeps tree) who before after (Sweeping m) new p works =
+    subst (WorksOn (sweeps tree)) (sym p.2) (same_tree m p.1.did.answer p.0 p.1.did.took ∙ works)
+errand_goes errand who before after w new p works = absurd works
 
 -- a checkpoint beside an open client is in hand
 abbrev pub HasCheckpoint : Home → Work → Type 0
@@ -159,6 +164,8 @@ call_opens lines t st now c part w (PutHeld (object.Tree tree) bytes one two) so
 call_opens lines t st now c part w (PutHeld (object.Page tree page) bytes one two) so kinds k sound e = tt
 call_opens lines t st now c part w (Get name) so kinds k sound e = tt
 call_opens lines t st now c part w (GetHeld name l) so kinds k sound e = tt
+call_opens lines t st now c part w (ListHeld tree l) so kinds k sound e = tt
+call_opens lines t st now c part w (RemoveHeld name l) so kinds k sound e = tt
 call_opens lines t st now c part w (Send queue bytes) so kinds k sound e = tt
 call_opens lines t st now c part w (Receive queue most) so kinds k sound e = tt
 call_opens lines t st now c part w (Delete queue id) so kinds k sound e = tt

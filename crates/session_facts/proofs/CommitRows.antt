@@ -19,7 +19,7 @@ use Rattle.cloud_trait.specs.Caller.{Caller}
 use Rattle.cloud_trait.specs.Claim.{Claim}
 use Rattle.cloud_trait.specs.Names.{object_cmp}
 use Rattle.cloud_trait.specs.State.{CloudState, Counts, called, landed, newest, newest_of}
-use Rattle.cloud_trait.specs.Ask.{Ask, Get, GetHeld, PutHeld, Send, Receive, Delete, Take, Renew, Release, Permits, effect}
+use Rattle.cloud_trait.specs.Ask.{Ask, Get, GetHeld, PutHeld, ListHeld, RemoveHeld, Send, Receive, Delete, Take, Renew, Release, Permits, effect}
 use Rattle.cloud_trait.specs.Weather.{Leaves}
 use Rattle.cloud_trait.proofs.NameLemmas.{object_cmp-total}
 use Rattle.cloud_trait.proofs.RowLemmas.{row_by}
@@ -29,7 +29,7 @@ use Rattle.cloud_facts.specs.Decoding.Kinds.{MomentsDiffer}
 use Rattle.cloud_facts.proofs.Decoding.Newest.{newest_last}
 use Rattle.history.specs.Audited.{Audited, committed_entry}
 use Rattle.client_work.specs.declared.work.Work.{Work}
-use Rattle.client_work.specs.declared.work.Work.TheVariants.{Closed, Idle, Opening, Committing, Reading, Scanning, Looking, Paging, Folding, Closing, Renewing, Settling, Broken}
+use Rattle.client_work.specs.declared.work.Work.TheVariants.{Closed, Idle, Opening, Committing, Reading, Scanning, Looking, Paging, Folding, Closing, Renewing, Settling, Sweeping, Broken}
 use Rattle.client_work.specs.Session.{ask_of_work, committing_of, opens_of}
 use Rattle.replay_meaning.specs.Standing.{Line, Standing, standing}
 use Rattle.replay_meaning.specs.Committed.{committed, entries_of_bytes, entries_of_head, entries_of_phase, changes_at}
@@ -53,15 +53,14 @@ lacks_bytes (Some b) bytes differ = on (bytes_eq b bytes) refl
     on false e = refl
 
 -- a head that landed behind its own bytes would be of the moment before
-not_behind_itself : (client : ℕ) (vs : List Version) (v : Version) (head : Head) → MomentsDiffer (object.Head client) (vs ++ v ∷ []) → head_of v.bytes ≡ Some head
-    → newest_of vs ≡ Some v.bytes → ⊥
-not_behind_itself client vs v head differ spells same =
-    let last = newest_last vs v.bytes same in
+not_behind_itself : (client : ℕ) (vs : List Version) (v : Version) (bytes : List ℕ) (head : Head) → v.bytes ≡ Some bytes → MomentsDiffer (object.Head client) (vs ++ v ∷ [])
+    → head_of bytes ≡ Some head → newest_of vs ≡ Some bytes → ⊥
+not_behind_itself client vs v bytes head has differ spells same =
+    let last = newest_last vs bytes same in
     let within : length vs - 1 < length vs = slice_get_within vs (length vs - 1) last.0 last.1 in
-    differ (length vs - 1) last.0 v
+    differ (length vs - 1) last.0 v bytes bytes
     (slice_get-append_left vs (v ∷ []) (length vs - 1) within ∙ last.1)
-    (slice_get-push vs v (length vs - 1 + 1) (omega arith)) head head
-    (ap head_of last.2 ∙ spells) spells (record { epoch = refl; txn = refl; phase = refl })
+    (slice_get-push vs v (length vs - 1 + 1) (omega arith)) last.2 has head head spells spells (record { epoch = refl; txn = refl; phase = refl })
 
 -- ---- what a call commits
 
@@ -94,6 +93,8 @@ no_head_row lines who (PutHeld (object.Tree tree) bytes one two) h = refl
 no_head_row lines who (PutHeld (object.Page tree page) bytes one two) h = refl
 no_head_row lines who (Get name) h = refl
 no_head_row lines who (GetHeld name l) h = refl
+no_head_row lines who (ListHeld tree l) h = refl
+no_head_row lines who (RemoveHeld name l) h = refl
 no_head_row lines who (Send queue bytes) h = refl
 no_head_row lines who (Receive queue most) h = refl
 no_head_row lines who (Delete queue id) h = refl
@@ -107,6 +108,8 @@ no_head_noted w (PutHeld (object.Tree tree) bytes one two) a h = refl
 no_head_noted w (PutHeld (object.Page tree page) bytes one two) a h = refl
 no_head_noted w (Get name) a h = refl
 no_head_noted w (GetHeld name l) a h = refl
+no_head_noted w (ListHeld tree l) a h = refl
+no_head_noted w (RemoveHeld name l) a h = refl
 no_head_noted w (Send queue bytes) a h = refl
 no_head_noted w (Receive queue most) a h = refl
 no_head_noted w (Delete queue id) a h = refl
@@ -140,6 +143,7 @@ working_changes (Reading home m) s changes acts e = absurd (cc)
 working_changes (Scanning home m) s changes acts e = absurd (cc)
 working_changes (Looking home m) s changes acts e = absurd (cc)
 working_changes (Settling m) s changes acts e = absurd (cc)
+working_changes (Sweeping m) s changes acts e = absurd (cc)
 working_changes Closed s changes acts e = absurd (cc)
 working_changes (Idle home) s changes acts e = absurd (cc)
 working_changes (Broken lease) s changes acts e = absurd (cc)
@@ -182,6 +186,8 @@ ask_commits lines who w (PutHeld (object.Tree tree) bytes one two) stood puts = 
 ask_commits lines who w (PutHeld (object.Page tree page) bytes one two) stood puts = no_head lines who w (PutHeld (object.Page tree page) bytes one two) tt
 ask_commits lines who w (Get name) stood puts = no_head lines who w (Get name) tt
 ask_commits lines who w (GetHeld name l) stood puts = no_head lines who w (GetHeld name l) tt
+ask_commits lines who w (ListHeld tree l) stood puts = no_head lines who w (ListHeld tree l) tt
+ask_commits lines who w (RemoveHeld name l) stood puts = no_head lines who w (RemoveHeld name l) tt
 ask_commits lines who w (Send queue bytes) stood puts = no_head lines who w (Send queue bytes) tt
 ask_commits lines who w (Receive queue most) stood puts = no_head lines who w (Receive queue most) tt
 ask_commits lines who w (Delete queue id) stood puts = no_head lines who w (Delete queue id) tt
@@ -223,7 +229,7 @@ taken lines who w ask answer c d s u a l placed so decodes (some client bytes on
     more = noted_at w (PutHeld (object.Head client) bytes one two) a
 
     v : Version
-    v = record { who = who; bytes = bytes }
+    v = record { who = who; bytes = Some bytes }
 
     Noted : CloudState → Type 0
     Noted t = (cond (not (has_bytes (newest s (object.Head client)) bytes) && has_bytes (newest t (object.Head client)) bytes) more a).committed ≡ committed lines t
@@ -241,7 +247,7 @@ taken lines who w ask answer c d s u a l placed so decodes (some client bytes on
     fresh : MomentsDiffer (object.Head client) ((landed who (object.Head client) bytes b).versions (object.Head client)) → has_bytes (newest s (object.Head client)) bytes ≡ false
     fresh apart =
         lacks_bytes (newest s (object.Head client)) bytes
-        (not_behind_itself client (s.versions (object.Head client)) v put.head (subst (MomentsDiffer (object.Head client)) grown apart) put.spells)
+        (not_behind_itself client (s.versions (object.Head client)) v bytes put.head refl (subst (MomentsDiffer (object.Head client)) grown apart) put.spells)
 
     lands : Permits (PutHeld (object.Head client) bytes one two) b → Has (landed who (object.Head client) bytes b)
     lands permits = λ apart.

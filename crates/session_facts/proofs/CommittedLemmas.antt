@@ -1,7 +1,7 @@
 -- What a call that lands, and one more line, add to the committed entries.
 use Rattle.std.proofs.Common.{◌≡◌, ◌≤◌, ◌<◌, ◌+◌, ◌-◌, ℕ, zero, suc, List, [], ◌∷◌, ◌++◌, length, take, Some, refl, ap, ap₂, sym, subst, ◌∙◌, arith, false, ne_eqb}
 use Rattle.std.specs.Prelude.{All, slice_get, cond, Option, None}
-use Rattle.std.specs.Option.{option_map}
+use Rattle.std.specs.Option.{option_and_then}
 use Rattle.std.specs.Bool.{◌==◌}
 use Rattle.std.specs.List.{flat_map}
 use Rattle.std.proofs.lemmas.List.{append-nil, length-append, take_all, take-append-le}
@@ -17,11 +17,11 @@ use Rattle.cloud_trait.specs.declared.state.Posted.{Posted}
 use Rattle.cloud_trait.specs.declared.state.Site.{Site}
 use Rattle.cloud_trait.specs.declared.state.Site.TheVariants.{Object, Queue}
 use Rattle.cloud_trait.specs.declared.state.Version.{Version}
-use Rattle.cloud_trait.specs.Ask.{Ask, Get, GetHeld, PutHeld, Send, Receive, Delete, Take, Renew, Release, effect, PutsNothing, LandsNoRow}
+use Rattle.cloud_trait.specs.Ask.{Ask, Get, GetHeld, PutHeld, ListHeld, RemoveHeld, Send, Receive, Delete, Take, Renew, Release, effect, PutsNothing, LandsNoRow}
 use Rattle.cloud_trait.specs.Caller.{Caller}
 use Rattle.cloud_trait.specs.Claim.{Claim}
 use Rattle.cloud_trait.specs.Names.{object_cmp}
-use Rattle.cloud_trait.specs.State.{CloudState, IsEmptyCloud, version_at, called, landed, sent}
+use Rattle.cloud_trait.specs.State.{CloudState, IsEmptyCloud, version_at, called, landed, removed, stored, sent}
 use Rattle.cloud_trait.specs.Upto.{IsUpto}
 use Rattle.cloud_trait.proofs.NameLemmas.{object_cmp-equal, object_cmp-total}
 use Rattle.cloud_trait.proofs.StateLemmas.{put_at_by, put_at_same, slice_get-push}
@@ -43,27 +43,27 @@ slice_get-append_left [] ys i h = absurd (omega arith)
 slice_get-append_left (x ∷ xs) ys zero h = refl
 slice_get-append_left (x ∷ xs) ys (suc i) h = slice_get-append_left xs ys i (omega arith)
 
-version_at-push : (vs : List Version) (v : Version) → version_at (vs ++ v ∷ []) (length vs + 1) ≡ Some v.bytes
+version_at-push : (vs : List Version) (v : Version) → version_at (vs ++ v ∷ []) (length vs + 1) ≡ v.bytes
 version_at-push vs v =
     let zero_not : (length vs + 1 == 0) ≡ false = ne_eqb (length vs + 1) 0 (λ e. omega arith) in
     let last : length vs + 1 - 1 ≡ length vs = omega arith in
-    rw zero_not (ap (option_map (λ (x : Version). x.bytes)) (slice_get-push vs v (length vs + 1 - 1) last))
+    rw zero_not (ap (option_and_then (λ (x : Version). x.bytes)) (slice_get-push vs v (length vs + 1 - 1) last))
 
 -- the versions that are there stay
 version_at-push_old : (vs : List Version) (v : Version) (k : ℕ) → k ≤ length vs → version_at (vs ++ v ∷ []) k ≡ version_at vs k
 version_at-push_old vs v zero h = refl
 version_at-push_old vs v (suc i) h =
     let before : suc i - 1 < length vs = omega arith in
-    ap (λ (o : Option Version). cond (suc i == 0) None (option_map (λ (x : Version). x.bytes) o)) (slice_get-append_left vs (v ∷ []) (suc i - 1) before)
+    ap (λ (o : Option Version). cond (suc i == 0) None (option_and_then (λ (x : Version). x.bytes) o)) (slice_get-append_left vs (v ∷ []) (suc i - 1) before)
 
--- the version that landed, and those before it
-pub new_version : (who : Caller) (name : ObjName) (bytes : List ℕ) (b : CloudState) → version_at ((landed who name bytes b).versions name) (length (b.versions name) + 1) ≡ Some bytes
+-- the version that landed, with bytes or without, and those before it
+pub new_version : (who : Caller) (name : ObjName) (bytes : Option (List ℕ)) (b : CloudState) → version_at ((stored who name bytes b).versions name) (length (b.versions name) + 1) ≡ bytes
 new_version who name bytes b =
     ap (λ vs. version_at vs (length (b.versions name) + 1)) (put_at_same object_cmp object_cmp-total b.versions name (b.versions name ++ record { who = who; bytes = bytes } ∷ []))
     ∙ version_at-push (b.versions name) (record { who = who; bytes = bytes })
 
-pub kept_version : (who : Caller) (name : ObjName) (bytes : List ℕ) (b : CloudState) (position : ℕ) (q : ObjName) → position ≤ length (b.versions q)
-    → version_at ((landed who name bytes b).versions q) position ≡ version_at (b.versions q) position
+pub kept_version : (who : Caller) (name : ObjName) (bytes : Option (List ℕ)) (b : CloudState) (position : ℕ) (q : ObjName) → position ≤ length (b.versions q)
+    → version_at ((stored who name bytes b).versions q) position ≡ version_at (b.versions q) position
 kept_version who name bytes b position q =
     put_at_by (λ p vs. position ≤ length (b.versions p) → version_at vs position ≡ version_at (b.versions p) position) object_cmp object_cmp-equal b.versions name (b.versions name ++ record { who = who; bytes = bytes } ∷ [])
     (version_at-push_old (b.versions name) (record { who = who; bytes = bytes }) position) (λ p h. refl) q
@@ -96,40 +96,53 @@ committed_sent lines who queue bytes b =
     committed_push lines b.versions b.trace (record { who = who; site = Queue queue; position = length (b.messages queue) + 1 })
 
 -- what a row that is placed commits stays under more versions
-site_entries_kept : (changes : List Noted) (who : Caller) (name : ObjName) (bytes : List ℕ) (b : CloudState) (position : ℕ) (site : Site)
-    → IsPlacedAt b.versions position site → site_entries changes (landed who name bytes b).versions position site ≡ site_entries changes b.versions position site
+site_entries_kept : (changes : List Noted) (who : Caller) (name : ObjName) (bytes : Option (List ℕ)) (b : CloudState) (position : ℕ) (site : Site)
+    → IsPlacedAt b.versions position site → site_entries changes (stored who name bytes b).versions position site ≡ site_entries changes b.versions position site
 site_entries_kept changes who name bytes b position (Object (object.Head client)) h =
     ap (λ v. entries_of_bytes client v changes) (kept_version who name bytes b position (object.Head client) h)
 site_entries_kept changes who name bytes b position (Object (object.Tree tree)) h = refl
 site_entries_kept changes who name bytes b position (Object (object.Page tree page)) h = refl
 site_entries_kept changes who name bytes b position (Queue queue) h = refl
 
-committed_kept : (lines : List Line) (who : Caller) (name : ObjName) (bytes : List ℕ) (b : CloudState) (rows : List Landing) → All (IsPlaced b.versions) rows
-    → committed_by lines (landed who name bytes b).versions rows ≡ committed_by lines b.versions rows
+committed_kept : (lines : List Line) (who : Caller) (name : ObjName) (bytes : Option (List ℕ)) (b : CloudState) (rows : List Landing) → All (IsPlaced b.versions) rows
+    → committed_by lines (stored who name bytes b).versions rows ≡ committed_by lines b.versions rows
 committed_kept lines who name bytes b rows h =
-    flat_map-agree (row_entries lines (landed who name bytes b).versions) (row_entries lines b.versions) rows
-    (All-weaker (IsPlaced b.versions) (λ row. row_entries lines (landed who name bytes b).versions row ≡ row_entries lines b.versions row)
+    flat_map-agree (row_entries lines (stored who name bytes b).versions) (row_entries lines b.versions) rows
+    (All-weaker (IsPlaced b.versions) (λ row. row_entries lines (stored who name bytes b).versions row ≡ row_entries lines b.versions row)
     (λ row g. site_entries_kept (changes_of_row lines row) who name bytes b row.position row.site g) rows h)
 
 -- what the new row commits
 new_entries : (lines : List Line) (who : Caller) (name : ObjName) (bytes : List ℕ) (one : Claim) (two : Option Claim) (b : CloudState)
     → row_entries lines (landed who name bytes b).versions (record { who = who; site = Object name; position = length (b.versions name) + 1 }) ≡ put_entries lines who (PutHeld name bytes one two)
 new_entries lines who (object.Head client) bytes one two b =
-    ap (λ v. entries_of_bytes client v (changes_at (standing (take (who.event - 1) lines) who.session).posture)) (new_version who (object.Head client) bytes b)
+    ap (λ v. entries_of_bytes client v (changes_at (standing (take (who.event - 1) lines) who.session).posture)) (new_version who (object.Head client) (Some bytes) b)
 new_entries lines who (object.Tree tree) bytes one two b = refl
 new_entries lines who (object.Page tree page) bytes one two b = refl
 
-committed_landed : (lines : List Line) (who : Caller) (name : ObjName) (bytes : List ℕ) (one : Claim) (two : Option Claim) (b : CloudState) → All (IsPlaced b.versions) b.trace
-    → committed lines (landed who name bytes b) ≡ committed lines b ++ put_entries lines who (PutHeld name bytes one two)
-committed_landed lines who name bytes one two b h =
-    committed_push lines (landed who name bytes b).versions b.trace (record { who = who; site = Object name; position = length (b.versions name) + 1 })
-    ∙ ap₂ (λ xs ys. xs ++ ys) (committed_kept lines who name bytes b b.trace h) (new_entries lines who name bytes one two b)
+-- a removal commits nothing
+no_entries : (lines : List Line) (who : Caller) (name : ObjName) (b : CloudState)
+    → row_entries lines (removed who name b).versions (record { who = who; site = Object name; position = length (b.versions name) + 1 }) ≡ []
+no_entries lines who (object.Head client) b =
+    ap (λ v. entries_of_bytes client v (changes_at (standing (take (who.event - 1) lines) who.session).posture)) (new_version who (object.Head client) None b)
+no_entries lines who (object.Tree tree) b = refl
+no_entries lines who (object.Page tree page) b = refl
+
+-- a version that landed commits what its row does
+committed_stored : (lines : List Line) (who : Caller) (name : ObjName) (bytes : Option (List ℕ)) (b : CloudState) (more : List Entry) → All (IsPlaced b.versions) b.trace
+    → row_entries lines (stored who name bytes b).versions (record { who = who; site = Object name; position = length (b.versions name) + 1 }) ≡ more
+    → committed lines (stored who name bytes b) ≡ committed lines b ++ more
+committed_stored lines who name bytes b more h e =
+    committed_push lines (stored who name bytes b).versions b.trace (record { who = who; site = Object name; position = length (b.versions name) + 1 })
+    ∙ ap₂ (λ xs ys. xs ++ ys) (committed_kept lines who name bytes b b.trace h) e
 
 pub committed_effect : (lines : List Line) (who : Caller) (ask : Ask) (b : CloudState) → All (IsPlaced b.versions) b.trace → committed lines (effect who ask b) ≡ committed lines b ++ put_entries lines who ask
-committed_effect lines who (PutHeld name bytes one two) b h = committed_landed lines who name bytes one two b h
+committed_effect lines who (PutHeld name bytes one two) b h =
+    committed_stored lines who name (Some bytes) b (put_entries lines who (PutHeld name bytes one two)) h (new_entries lines who name bytes one two b)
+committed_effect lines who (RemoveHeld name l) b h = committed_stored lines who name None b [] h (no_entries lines who name b)
 committed_effect lines who (Send queue bytes) b h = committed_sent lines who queue bytes b
 committed_effect lines who (Get name) b h = sym (append-nil (committed lines b))
 committed_effect lines who (GetHeld name l) b h = sym (append-nil (committed lines b))
+committed_effect lines who (ListHeld tree l) b h = sym (append-nil (committed lines b))
 committed_effect lines who (Receive queue most) b h = sym (append-nil (committed lines b))
 committed_effect lines who (Delete queue id) b h = committed_rest lines who (Delete queue id) b tt tt
 committed_effect lines who (Take lock ticks) b h = committed_rest lines who (Take lock ticks) b tt tt
@@ -145,17 +158,24 @@ placed_same s u rows v h = let P : Versions → Type 0 = λ f. All (IsPlaced f) 
 pub placed_called : (who : Caller) (t : ℕ) (s : CloudState) → All (IsPlaced s.versions) s.trace → All (IsPlaced (called who t s).versions) (called who t s).trace
 placed_called who t s h = placed_same s (called who t s) s.trace refl h
 
-placed_at_kept : (who : Caller) (name : ObjName) (bytes : List ℕ) (b : CloudState) (position : ℕ) (site : Site) → IsPlacedAt b.versions position site → IsPlacedAt (landed who name bytes b).versions position site
+placed_at_kept : (who : Caller) (name : ObjName) (bytes : Option (List ℕ)) (b : CloudState) (position : ℕ) (site : Site) → IsPlacedAt b.versions position site → IsPlacedAt (stored who name bytes b).versions position site
 placed_at_kept who name bytes b position (Object q) h =
     put_at_by (λ p vs. position ≤ length (b.versions p) → position ≤ length vs) object_cmp object_cmp-equal b.versions name (b.versions name ++ record { who = who; bytes = bytes } ∷ [])
     (λ g. omega (arith, length-append (b.versions name) (record { who = who; bytes = bytes } ∷ []))) (λ p g. g) q h
 placed_at_kept who name bytes b position (Queue queue) h = tt
 
-new_placed : (who : Caller) (name : ObjName) (bytes : List ℕ) (b : CloudState) → length (b.versions name) + 1 ≤ length ((landed who name bytes b).versions name)
+new_placed : (who : Caller) (name : ObjName) (bytes : Option (List ℕ)) (b : CloudState) → length (b.versions name) + 1 ≤ length ((stored who name bytes b).versions name)
 new_placed who name bytes b =
-    let e : length ((landed who name bytes b).versions name) ≡ length (b.versions name ++ record { who = who; bytes = bytes } ∷ []) =
+    let e : length ((stored who name bytes b).versions name) ≡ length (b.versions name ++ record { who = who; bytes = bytes } ∷ []) =
     ap length (put_at_same object_cmp object_cmp-total b.versions name (b.versions name ++ record { who = who; bytes = bytes } ∷ [])) in
     omega (arith, length-append (b.versions name) (record { who = who; bytes = bytes } ∷ []))
+
+stored_placed : (who : Caller) (name : ObjName) (bytes : Option (List ℕ)) (b : CloudState) → All (IsPlaced b.versions) b.trace
+    → All (IsPlaced (stored who name bytes b).versions) (stored who name bytes b).trace
+stored_placed who name bytes b h =
+    All-push (IsPlaced (stored who name bytes b).versions) b.trace (record { who = who; site = Object name; position = length (b.versions name) + 1 })
+    (All-weaker (IsPlaced b.versions) (IsPlaced (stored who name bytes b).versions) (λ row. placed_at_kept who name bytes b row.position row.site) b.trace h)
+    (new_placed who name bytes b)
 
 -- a call that puts nothing and leaves no row
 placed_rest : (who : Caller) (ask : Ask) (b : CloudState) → PutsNothing ask → LandsNoRow ask → All (IsPlaced b.versions) b.trace → All (IsPlaced (effect who ask b).versions) (effect who ask b).trace
@@ -163,15 +183,14 @@ placed_rest who ask b p r h =
     placed_same b (effect who ask b) (effect who ask b).trace (effect_versions who ask b p) (All-same (IsPlaced b.versions) (effect who ask b).trace b.trace (effect_trace who ask b r) h)
 
 pub placed_effect : (who : Caller) (ask : Ask) (b : CloudState) → All (IsPlaced b.versions) b.trace → All (IsPlaced (effect who ask b).versions) (effect who ask b).trace
-placed_effect who (PutHeld name bytes one two) b h =
-    All-push (IsPlaced (landed who name bytes b).versions) b.trace (record { who = who; site = Object name; position = length (b.versions name) + 1 })
-    (All-weaker (IsPlaced b.versions) (IsPlaced (landed who name bytes b).versions) (λ row. placed_at_kept who name bytes b row.position row.site) b.trace h)
-    (new_placed who name bytes b)
+placed_effect who (PutHeld name bytes one two) b h = stored_placed who name (Some bytes) b h
+placed_effect who (RemoveHeld name l) b h = stored_placed who name None b h
 placed_effect who (Send queue bytes) b h =
     All-push (IsPlaced (sent who queue bytes b).versions) b.trace (record { who = who; site = Queue queue; position = length (b.messages queue) + 1 })
     (placed_same b (sent who queue bytes b) b.trace refl h) tt
 placed_effect who (Get name) b h = h
 placed_effect who (GetHeld name l) b h = h
+placed_effect who (ListHeld tree l) b h = h
 placed_effect who (Receive queue most) b h = h
 placed_effect who (Delete queue id) b h = placed_rest who (Delete queue id) b tt tt h
 placed_effect who (Take lock ticks) b h = placed_rest who (Take lock ticks) b tt tt h

@@ -8,7 +8,6 @@ use Rattle.leaf_fold.specs.declared.folding.Left.TheVariants as left
 use Rattle.session_facts.proofs.TreeCheckpoints.Upward.{StaysIn, rise_stays, rising_stays_in}
 use Rattle.tree_parts.specs.declared.chart.Chart.{Chart}
 use Rattle.tree_descent.specs.declared.descent.Descent.{Descent}
-use Rattle.tree_descent.specs.declared.fork.Fork.TheVariants.{Right}
 use Rattle.tree_descent.specs.Descent.{begun, descent_next}
 use Rattle.tree_rising.specs.declared.rising.Rising.{Rising as Up}
 use Rattle.tree_rising.specs.Rising.{begun as up_begun, rise, rising_next}

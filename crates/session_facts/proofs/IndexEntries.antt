@@ -63,7 +63,7 @@ module _ (n : ℕ) (lines : List Line) (sessions : Sessions) (audit : Audited) (
   -- the index finds what it comes to
   found : (tree : ℕ) → IsTree tree → (key : List ℕ) → Finds t tree key (fold (ordered tree) tree key)
   found tree is key =
-      let read : IsRead t tree (leaves_in st tree) (st.tally.value tree) = store_reads t st tree refl h.stand.cloud.holds.chains is h.stand.cloud.decodes in
+      let read : IsRead t tree (leaves_in st tree) (st.tally.value tree) = store_reads t st tree refl h.stand.cloud.holds.chains h.stand.cloud.holds.gones is h.stand.cloud.decodes in
       subst (Finds t tree key) ((report tree).folded key) (read.found key)
 
   -- an order of all that was committed comes to what is found

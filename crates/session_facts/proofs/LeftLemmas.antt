@@ -1,6 +1,7 @@
 -- Where a report counts no open head and no message that waits, nothing of its tree is left.
-use Rattle.std.proofs.Common.{◌≡◌, ◌+◌, ◌<◌, ◌≤◌, ℕ, zero, suc, List, [], ◌∷◌, length, min, Some, None, Option, refl, sym, ap, subst, ◌∙◌, ◌⊎◌, inl, inr, Bool, true, false, arith, cond}
+use Rattle.std.proofs.Common.{◌≡◌, ◌+◌, ◌<◌, ◌≤◌, ℕ, zero, suc, List, [], ◌∷◌, length, map, min, Some, None, Option, refl, sym, ap, subst, ◌∙◌, ◌⊎◌, inl, inr, Bool, true, false, arith, cond}
 use Rattle.std.specs.Prelude.{◌==◌, ◌&&◌, ◌||◌, slice_get, unwrap_or}
+use Rattle.std.specs.Option.{option_and_then}
 use Rattle.std.specs.List.{list_any}
 use Rattle.std.proofs.lemmas.Bool.{cases_lt, eqb-true, eq-eqb, and_from, and_parts}
 use Rattle.cloud_facts.specs.Chains.Chain.{ChainHolds}
@@ -8,9 +9,10 @@ use Rattle.cloud_facts.specs.Chains.Links.{top_of}
 use Rattle.db_base.specs.Ids.{IsClient, IsTree as IsTreeId}
 use Rattle.db_base.specs.declared.names.ObjName.TheVariants as object
 use Rattle.cloud_trait.specs.declared.state.Posted.{Posted}
+use Rattle.cloud_trait.specs.declared.state.Version.{Version}
 use Rattle.cloud_trait.specs.Delivery.{unmarked, unmarked_from}
-use Rattle.cloud_trait.specs.State.{CloudState, newest, greatest}
-use Rattle.cloud_facts.proofs.Decoding.Newest.{last_map, newest_last}
+use Rattle.cloud_trait.specs.State.{CloudState, newest, newest_of, greatest}
+use Rattle.cloud_facts.proofs.Decoding.Newest.{IsLast, last_cases, last_map, newest_last}
 use Rattle.cloud_facts.proofs.Decoding.Reading.{root_reads}
 use Rattle.head_codec.specs.declared.head.Head.{Head}
 use Rattle.head_codec.specs.declared.head.Phase.{Phase}
@@ -22,9 +24,8 @@ use Rattle.cloud_facts.specs.Lefts.Left.{NothingLeft}
 use Rattle.log_codec.specs.declared.record.AtomicRec.{AtomicRec}
 use Rattle.log_codec.specs.declared.record.PuRec.{PuRec}
 use Rattle.cloud_facts.proofs.Calls.Heads.{newest_head}
-use Rattle.cloud_facts.proofs.Calls.Pages.{no_root}
 use Rattle.node_codec.proofs.TreeLemmas.{tree_fits}
-use Rattle.node_codec.specs.Tree.{Tree, IsTree, empty_tree}
+use Rattle.node_codec.specs.Tree.{Tree, empty_tree, tree_of}
 use Rattle.cloud_facts.specs.Numbers.Numbers.{Numbers}
 use Rattle.report_types.specs.declared.entry.Entry.{Entry}
 use Rattle.cloud_facts.specs.Book.Book.{Book}
@@ -72,16 +73,25 @@ same_queue : (tree page : ℕ) → queue_of tree page ≡ queue_at tree page
 same_queue tree zero = refl
 same_queue tree (suc page) = refl
 
+-- a tree without newest bytes has the empty root
+none_root : (vs : List Version) → newest_of vs ≡ None → top_of (map root_in vs) ≡ empty_tree
+none_root vs none = on (last_cases vs)
+  where
+    on : (vs ≡ []) ⊎ ((v : Version) × IsLast vs v) → top_of (map root_in vs) ≡ empty_tree
+    on (inl e) = ap (λ (ws : List Version). top_of (map root_in ws)) e
+    on (inr (v, last)) =
+        let bytes : v.bytes ≡ None = sym (ap (option_and_then (λ (w : Version). w.bytes)) last) ∙ none in
+        last_map root_in empty_tree vs v last ∙ ap (λ (o : Option (List ℕ)). unwrap_or (option_and_then tree_of o) empty_tree) bytes
+
 -- the page that a report counts up to is the next free one of the newest root
 next_is : (s : CloudState) (tree next : ℕ) → IsNextPage (newest s (object.Tree tree)) next → (top_of (roots_of s tree)).next ≡ next
 next_is s tree next is = on (newest s (object.Tree tree)) refl is
   where
     on : (v : Option (List ℕ)) → newest s (object.Tree tree) ≡ v → IsNextPage v next → (top_of (roots_of s tree)).next ≡ next
-    on None e p = ap (λ (t : Tree). t.next) (no_root s tree e) ∙ sym p
+    on None e p = ap (λ (t : Tree). t.next) (none_root (s.versions (object.Tree tree)) e) ∙ sym p
     on (Some bytes) e p =
         let last = newest_last (s.versions (object.Tree tree)) bytes e in
-        let spells : IsTree last.0.bytes p.0 = subst (λ (b : List ℕ). IsTree b p.0) (sym last.2) p.1 in
-        ap (λ (t : Tree). t.next) (last_map root_in empty_tree (s.versions (object.Tree tree)) last.0 last.1 ∙ root_reads last.0 p.0 spells) ∙ sym p.2
+        ap (λ (t : Tree). t.next) (last_map root_in empty_tree (s.versions (object.Tree tree)) last.0 last.1 ∙ root_reads last.0 bytes p.0 last.2 p.1) ∙ sym p.2
 
 -- a record goes to the tree's queue, or to that of a leaf, whose page is below the next free one
 routed_below : (book : Book) (order : List Entry) (s : CloudState) (r : AtomicRec) (next : ℕ) → ChainHolds (store_of book order s) → IsTreeId r.tree → IsRouted book r

@@ -1,5 +1,5 @@
 -- A commit that is answered `not-committed` left nothing among what was committed.
-use Rattle.std.proofs.Common.{◌≡◌, ◌+◌, ℕ, zero, suc, Bool, true, false, List, [], ◌∷◌, ◌++◌, Option, Some, Ok, Err, refl, sym, ap, subst, ◌∙◌, arith}
+use Rattle.std.proofs.Common.{◌≡◌, ℕ, zero, suc, Bool, true, false, List, [], ◌∷◌, ◌++◌, Option, Some, Ok, Err, refl, sym, ap, subst, ◌∙◌, arith}
 use Rattle.std.specs.Prelude.{All, map, slice_get}
 use Rattle.std.proofs.lemmas.List.{append-nil}
 use Rattle.client_work.specs.Session.{Acting, StepsSession, StepsCommit, ShowsAt}
@@ -31,7 +31,7 @@ use Rattle.commit_run.specs.declared.hand.Hand.TheVariants.{Writes, First, Chang
 use Rattle.commit_writes.specs.Writing.{ask_at as written_ask}
 use Rattle.commit_writes.specs.Writing.{Writing, head_ask, next_at}
 use Rattle.commit_writes.specs.declared.stage.Stage.{Stage}
-use Rattle.commit_writes.specs.declared.stage.Stage.TheVariants.{Logging, Opening, Settling}
+use Rattle.commit_writes.specs.declared.stage.Stage.TheVariants.{Logging, Opening}
 use Rattle.commit_run.proofs.Outcomes as step
 use Rattle.commit_run.proofs.Outcomes.{NextRun, Leads, turned_leads}
 use Rattle.commit_run.proofs.Wrote as written
@@ -290,6 +290,7 @@ module _ (n : ℕ) (lines : List Line) (who : Caller) (before after : Seen) (x y
       on (work.Closing lease) is acts shows = subst At (sym acts) tt
       on (work.Renewing home) is acts shows = subst At (sym acts.0) tt
       on (work.Settling m) is acts shows = absurd acts
+      on (work.Sweeping m) is acts shows = absurd acts
       on work.Closed is acts shows = subst At (sym acts) tt
       on (work.Idle home) is acts shows = subst At (sym acts.0) tt
       on (work.Broken lease) is acts shows = subst At (sym acts) tt

@@ -4,11 +4,13 @@ pub mod Looks
 pub mod Openings
 pub mod Commits
 pub mod CommitRuns
+pub mod BesideHome
 pub mod Runs
 pub mod Trees
 pub mod TreeCheckpoints
 pub mod PageCheckpoints
 pub mod Settlings
+pub mod Sweeps
 pub mod Settled
 pub mod Sessions
 pub mod RowKinds

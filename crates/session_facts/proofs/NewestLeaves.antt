@@ -21,7 +21,9 @@ use Rattle.cloud_facts.proofs.Meanings.Walking.{IsBefore, ends_at}
 use Rattle.cloud_facts.specs.Book.Book.{Link}
 use Rattle.cloud_facts.specs.Book.Records.{IsIn, key_in}
 use Rattle.cloud_facts.specs.Book.Tally.{Store}
-use Rattle.cloud_facts.specs.Book.Telling.{newest_leaf, nodes_of, page_from, roots_of}
+use Rattle.cloud_facts.specs.Book.Telling.{newest_leaf, nodes_of, gone_of, page_from, roots_of}
+use Rattle.cloud_facts.specs.Chains.Gones.{AreKept}
+use Rattle.cloud_facts.proofs.Chains.GoneLemmas.{links_kept}
 use Rattle.cloud_facts.specs.Chains.Chain.{IsChained}
 use Rattle.cloud_facts.specs.Chains.Links.{low_after}
 use Rattle.cloud_facts.specs.Decoding.Decodes.{Decodes}
@@ -146,7 +148,7 @@ applied_same entries s t versions messages tree all = record {
 -- ---- the leaf for a key
 
 module _ (s : CloudState) (tree : ℕ) (chain : ℕ → List Link) (done : List ℕ → ℕ → ℕ → ℕ) (cursor : ℕ → ℕ)
-    (h : IsChained chain (nodes_of s tree) (roots_of s tree) done cursor) (d : Decodes s) where
+    (h : IsChained chain (nodes_of s tree) (roots_of s tree) done cursor) (kept : AreKept chain (gone_of s tree)) (d : Decodes s) where
   abbrev leaf : ℕ → Leaf
   leaf page = newest_leaf (nodes_of s) tree page
 
@@ -157,7 +159,7 @@ module _ (s : CloudState) (tree : ℕ) (chain : ℕ → List Link) (done : List 
   -- the newest leaf of a page of the leaf chain is the one for each key that it holds
   held_by : (link : Link) → IsIn (chain 0) link → (key : List ℕ) → holds (leaf link.page) key ≡ true → page_from 1 key (chain 0) ≡ link.page
   held_by link linked key held =
-      let at = leaf_at s tree chain done cursor h d linked.0 link linked.1 in
+      let at = leaf_at s tree chain done cursor h kept d linked.0 link linked.1 in
       let range = and_parts (not (bytes_below key (leaf link.page).low)) (below_bound key (leaf link.page).high) held in
       let from : bytes_below key link.low ≡ false = ap (bytes_below key) (sym at.low) ∙ not-true (bytes_below key (leaf link.page).low) range.0 in
       ends_at key 1 None (chain 0) (h.levels.ascends 0) linked.0 link linked.1 from
@@ -179,10 +181,13 @@ module _ (n : ℕ) (lines : List Line) (sessions : Sessions) (audit : Audited) (
       → IsChained (st.book.chain tree) (nodes_of s tree) (roots_of s tree) (st.tally.done tree) (st.tally.cursor tree 0)
   chained tree is = h.stand.cloud.holds.chains tree is
 
+  kept_links : (tree : ℕ) → AreKept (st.book.chain tree) (gone_of s tree)
+  kept_links tree = links_kept st h.stand.cloud.holds.gones tree
+
   -- ---- the contents of a tree
 
   read_all : (tree : ℕ) → IsTree tree → IsRead s tree (leaves_in st tree) (st.tally.value tree)
-  read_all tree is = store_reads s st tree refl h.stand.cloud.holds.chains is h.stand.cloud.decodes
+  read_all tree is = store_reads s st tree refl h.stand.cloud.holds.chains h.stand.cloud.holds.gones is h.stand.cloud.decodes
 
   -- the records of all leaves are the contents
   pub contents_are : (tree : ℕ) → IsTree tree → (records : List Stored) → Walked s tree 0 records → AreContents s tree records
@@ -213,12 +218,12 @@ module _ (n : ℕ) (lines : List Line) (sessions : Sessions) (audit : Audited) (
     at_key : (key : List ℕ) → holds here key ≡ true → newest_leaf (nodes_of s) tree (page_from 1 key (st.book.chain tree 0)) ≡ here
     at_key key held =
         ap (newest_leaf (nodes_of s) tree)
-        (held_by s tree (st.book.chain tree) (st.tally.done tree) (st.tally.cursor tree 0) (chained tree is) h.stand.cloud.decodes link linked key held)
+        (held_by s tree (st.book.chain tree) (st.tally.done tree) (st.tally.cursor tree 0) (chained tree is) (kept_links tree) h.stand.cloud.decodes link linked key held)
 
     found_in : (key : List ℕ) → holds here key ≡ true → Finds s tree key (value_of key here.records)
     found_in key held =
         subst (λ (l : Leaf). Finds s tree key (value_of key l.records)) (at_key key held)
-        (finds s tree (st.book.chain tree) (st.tally.done tree) (st.tally.cursor tree 0) (chained tree is) h.stand.cloud.decodes key)
+        (finds s tree (st.book.chain tree) (st.tally.done tree) (st.tally.cursor tree 0) (chained tree is) (kept_links tree) h.stand.cloud.decodes key)
 
     applied_in : NothingLeft st tree → (r : AtomicRec) → IsIn h.book.log r → r.tree ≡ tree → holds here (key_in r) ≡ true
         → r.number ≤ number_of here.done r.page r.client
@@ -243,7 +248,7 @@ module _ (n : ℕ) (lines : List Line) (sessions : Sessions) (audit : Audited) (
     newest_read : as_leaf (Some (newest s (object.Page tree link.page))) ≡ Some here
     newest_read =
         let at =
-        leaf_at s tree (st.book.chain tree) (st.tally.done tree) (st.tally.cursor tree 0) (chained tree is) h.stand.cloud.decodes linked.0 link linked.1 in
+        leaf_at s tree (st.book.chain tree) (st.tally.done tree) (st.tally.cursor tree 0) (chained tree is) (kept_links tree) h.stand.cloud.decodes linked.0 link linked.1 in
         read_leaf tree link.page (newest s (object.Page tree link.page)) here at.newest
 
   -- ---- a call of a look-up

@@ -1,5 +1,5 @@
 -- No transaction opens twice: a head that opens one is put where nothing of it was committed.
-use Rattle.std.proofs.Common.{◌≡◌, ◌≤◌, ◌+◌, ℕ, zero, suc, List, [], ◌∷◌, ◌++◌, length, map, Option, Some, refl, sym, ap, subst, ◌∙◌, inl, inr, ◌⊎◌, arith}
+use Rattle.std.proofs.Common.{◌≡◌, ◌≤◌, ◌+◌, ℕ, zero, suc, List, [], ◌∷◌, ◌++◌, length, map, Option, Some, None, refl, sym, ap, subst, ◌∙◌, inl, inr, ◌⊎◌, arith}
 use Rattle.std.specs.Prelude.{All, slice_get}
 use Rattle.std.specs.List.{flat_map}
 use Rattle.std.proofs.lemmas.List.Elements.{All-head, All-tail}
@@ -8,10 +8,10 @@ use Rattle.db_base.specs.declared.names.ObjName.TheVariants as object
 use Rattle.cloud_trait.specs.declared.state.Landing.{Landing}
 use Rattle.cloud_trait.specs.declared.state.Site.{Site}
 use Rattle.cloud_trait.specs.declared.state.Site.TheVariants.{Object, Queue}
-use Rattle.cloud_trait.specs.Ask.{Ask, Get, GetHeld, PutHeld, Send, Receive, Delete, Take, Renew, Release, effect}
+use Rattle.cloud_trait.specs.Ask.{Ask, Get, GetHeld, PutHeld, ListHeld, RemoveHeld, Send, Receive, Delete, Take, Renew, Release, effect}
 use Rattle.cloud_trait.specs.Caller.{Caller}
 use Rattle.cloud_trait.specs.Claim.{Claim}
-use Rattle.cloud_trait.specs.State.{CloudState, IsEmptyCloud, version_at, landed, sent}
+use Rattle.cloud_trait.specs.State.{CloudState, IsEmptyCloud, version_at, landed, removed, stored, sent}
 use Rattle.cloud_trait.proofs.EffectLemmas.{effect_versions, effect_trace}
 use Rattle.head_codec.specs.declared.head.Head.{Head}
 use Rattle.head_codec.specs.declared.head.Phase.TheVariants as phase
@@ -163,8 +163,8 @@ module _ (rows : List Landing) (row : Landing) (s t : CloudState) (trace : t.tra
       on (inr p) (inr q) = last_place rows row i p.0 a p.1 p.2 ∙ sym (last_place rows row j q.0 b q.1 q.2)
 
 -- a row that was placed put the same before
-pub put_kept : (who : Caller) (name : ObjName) (bytes : List ℕ) (b : CloudState) (row : Landing) (client : ℕ) (head : Head) → IsPlaced b.versions row
-    → LandsOpen (landed who name bytes b) row client head → LandsOpen b row client head
+pub put_kept : (who : Caller) (name : ObjName) (bytes : Option (List ℕ)) (b : CloudState) (row : Landing) (client : ℕ) (head : Head) → IsPlaced b.versions row
+    → LandsOpen (stored who name bytes b) row client head → LandsOpen b row client head
 put_kept who name bytes b row client head placed o =
     let within : row.position ≤ length (b.versions (object.Head client)) = subst (IsPlacedAt b.versions row.position) o.site placed in
     record {
@@ -176,17 +176,30 @@ put_kept who name bytes b row client head placed o =
       opens = o.opens;
     }
 
+pub own_client : (m n : ℕ) → (let a : Site = Object (object.Head m) in a ≡ Object (object.Head n)) → m ≡ n
+own_client m n e = cc
+
+-- the version behind a row that opens a head has its bytes
+pub opened_bytes : (who : Caller) (name : ObjName) (bytes : Option (List ℕ)) (b : CloudState) (client : ℕ) (x : Head)
+    → (o : LandsOpen (stored who name bytes b) (record { who = who; site = Object name; position = length (b.versions name) + 1 }) client x) → bytes ≡ Some o.bytes
+opened_bytes who (object.Head own) bytes b client x o =
+    sym (new_version who (object.Head own) bytes b)
+    ∙ ap (λ c. version_at ((stored who (object.Head own) bytes b).versions (object.Head c)) (length (b.versions (object.Head own)) + 1)) (own_client own client o.site) ∙ o.put
+opened_bytes who (object.Tree tree) bytes b client x o = let never : Object (object.Tree tree) ≡ Object (object.Head client) = o.site in absurd (cc)
+opened_bytes who (object.Page tree page) bytes b client x o = let never : Object (object.Page tree page) ≡ Object (object.Head client) = o.site in absurd (cc)
+
+-- the row of a removal opens none
+pub removes_none : (who : Caller) (name : ObjName) (b : CloudState) (client : ℕ) (x : Head)
+    → LandsOpen (removed who name b) (record { who = who; site = Object name; position = length (b.versions name) + 1 }) client x → ⊥
+removes_none who name b client x o = let never : None ≡ Some o.bytes = opened_bytes who name None b client x o in absurd (cc)
+
 -- the row of a put opens what its bytes spell
 put_opens : (who : Caller) (name : ObjName) (bytes : List ℕ) (one : Claim) (two : Option Claim) (b : CloudState) (client : ℕ) (x : Head) → OpensUnopened b (PutHeld name bytes one two)
     → LandsOpen (landed who name bytes b) (record { who = who; site = Object name; position = length (b.versions name) + 1 }) client x → IsUnopened b client x
 put_opens who (object.Head own) bytes one two b client x new o =
-    let same : own ≡ client = own_client own client o.site in
-    let put : Some bytes ≡ Some o.bytes = sym (new_version who (object.Head own) bytes b) ∙ ap (λ c. version_at ((landed who (object.Head own) bytes b).versions (object.Head c)) (length (b.versions (object.Head own)) + 1)) same ∙ o.put in
+    let put : Some bytes ≡ Some o.bytes = opened_bytes who (object.Head own) (Some bytes) b client x o in
     let is : bytes ≡ o.bytes = cc in
-    subst (λ c. IsUnopened b c x) same (new x o.count (ap head_of is ∙ o.spells) o.opens)
-  where
-    own_client : (m n : ℕ) → (let a : Site = Object (object.Head m) in a ≡ Object (object.Head n)) → m ≡ n
-    own_client m n e = cc
+    subst (λ c. IsUnopened b c x) (own_client own client o.site) (new x o.count (ap head_of is ∙ o.spells) o.opens)
 put_opens who (object.Tree tree) bytes one two b client x new o = let never : Object (object.Tree tree) ≡ Object (object.Head client) = o.site in absurd (cc)
 put_opens who (object.Page tree page) bytes one two b client x new o = let never : Object (object.Page tree page) ≡ Object (object.Head client) = o.site in absurd (cc)
 
@@ -194,14 +207,19 @@ put_opens who (object.Page tree page) bytes one two b client x new o = let never
 pub once_effect : (who : Caller) (ask : Ask) (b : CloudState) → All (IsPlaced b.versions) b.trace → OpensUnopened b ask → OpensOnce b → OpensOnce (effect who ask b)
 once_effect who (PutHeld name bytes one two) b placed new once =
     once_more b.trace (record { who = who; site = Object name; position = length (b.versions name) + 1 }) b (landed who name bytes b) refl refl
-    (λ i a client x at. put_kept who name bytes b a client x (at_place (IsPlaced b.versions) b.trace i a placed at))
+    (λ i a client x at. put_kept who name (Some bytes) b a client x (at_place (IsPlaced b.versions) b.trace i a placed at))
     (λ client x. put_opens who name bytes one two b client x new) once
+once_effect who (RemoveHeld name l) b placed new once =
+    once_more b.trace (record { who = who; site = Object name; position = length (b.versions name) + 1 }) b (removed who name b) refl refl
+    (λ i a client x at. put_kept who name None b a client x (at_place (IsPlaced b.versions) b.trace i a placed at))
+    (λ client x o. absurd (removes_none who name b client x o)) once
 once_effect who (Send queue bytes) b placed new once =
     once_more b.trace (record { who = who; site = Queue queue; position = length (b.messages queue) + 1 }) b (sent who queue bytes b) refl refl
     (λ i a client x at. lands_same b (sent who queue bytes b) a client x refl)
     (λ client x o. absurd (sends_none (sent who queue bytes b) _ client x queue refl o)) once
 once_effect who (Get name) b placed new once = once
 once_effect who (GetHeld name l) b placed new once = once
+once_effect who (ListHeld tree l) b placed new once = once
 once_effect who (Receive queue most) b placed new once = once
 once_effect who (Delete queue id) b placed new once = once_same b (effect who (Delete queue id) b) refl refl once
 once_effect who (Take lock ticks) b placed new once = once_same b (effect who (Take lock ticks) b) refl refl once

@@ -11,16 +11,15 @@ use Rattle.db_base.specs.declared.trouble.Trouble.TheVariants as trouble
 use Rattle.db_base.specs.declared.trouble.CommitAnswer.{CommitAnswer}
 use Rattle.db_base.specs.declared.trouble.CommitAnswer.TheVariants.{Committed, NotCommitted, InDoubt, CommittedOpen}
 use Rattle.cloud_trait.specs.declared.state.Landing.{Landing}
-use Rattle.cloud_trait.specs.declared.state.Site.{Site}
 use Rattle.cloud_trait.specs.declared.state.Site.TheVariants.{Object, Queue}
 use Rattle.cloud_trait.specs.declared.turn.Turn.{Turn}
 use Rattle.cloud_trait.specs.declared.turn.Turn.TheVariants.{More, Ended, Stopped}
-use Rattle.cloud_trait.specs.Ask.{Ask, Get, GetHeld, PutHeld, Send, Receive, Delete, Take, Renew, Release, effect}
+use Rattle.cloud_trait.specs.Ask.{Ask, Get, GetHeld, PutHeld, ListHeld, RemoveHeld, Send, Receive, Delete, Take, Renew, Release, effect}
 use Rattle.cloud_trait.specs.Caller.{Caller}
 use Rattle.cloud_trait.specs.Claim.{Claim}
 use Rattle.cloud_trait.specs.Machine.{Goes, Ends}
 use Rattle.cloud_trait.specs.Seen.{Seen}
-use Rattle.cloud_trait.specs.State.{CloudState, called, version_at, landed, sent}
+use Rattle.cloud_trait.specs.State.{CloudState, called, landed, removed, sent}
 use Rattle.cloud_trait.specs.Weather.{Leaves}
 use Rattle.cloud_trait.proofs.EffectLemmas.{effect_versions, effect_trace}
 use Rattle.cloud_trait.proofs.RowLemmas.{row_by}
@@ -47,7 +46,7 @@ use Rattle.client_work.specs.declared.answer.Answer.TheVariants as answer
 use Rattle.client_work.specs.declared.listing.Listing.{Listing}
 use Rattle.client_work.specs.declared.shown.Shown.{Shown}
 use Rattle.client_work.specs.declared.work.Work.{Work}
-use Rattle.client_work.specs.declared.work.Work.TheVariants.{Closed, Idle, Opening, Committing, Reading, Scanning, Looking, Paging, Folding, Closing, Renewing, Settling, Broken}
+use Rattle.client_work.specs.declared.work.Work.TheVariants.{Closed, Idle, Opening, Committing, Reading, Scanning, Looking, Paging, Folding, Closing, Renewing, Settling, Sweeping, Broken}
 use Rattle.client_work.specs.Session.{Acting, closed_session, opening_of, Follows, StepsAt, ask_of_work, opened_work, committed_work, stopped_work}
 use Rattle.recover_run.specs.declared.stage.RecoverAnswer.TheVariants as opening
 use Rattle.session_facts.specs.RowKinds.Asks.{MayAsk}
@@ -60,11 +59,12 @@ use Rattle.session_facts.specs.Sessions.Sessions.{Sessions}
 use Rattle.session_facts.specs.Running.{WritesAt, RunsAt}
 use Rattle.session_facts.specs.Opened.{first_at, first_in, first_of, later_at, later_in, later_of, TakesAt, TakesIn, TakesNumber, IsBelow, IsOpenedBy, MayHaveOpened, MayOpen, WorksFor, AllOpened, with_rows, AddsOpened, AddsOpenedTo, AddsNoneTwice, MayBeThere, AddsApart}
 use Rattle.session_facts.proofs.AddedRows.{effect_rows, effect_same}
-use Rattle.session_facts.proofs.CallKinds.{HasCheckpoint, IsSettling, IsSettlersRow, checkpoint_asks, settle_asks, call_kind}
+use Rattle.session_facts.proofs.CallKinds.{HasCheckpoint, checkpoint_asks, errand_asks, call_kind}
+use Rattle.session_facts.specs.Errands.{Errand, settles, sweeps, event_for, session_for, WorksOn, IsRowOf, AreRowsOf}
 use Rattle.event_text.specs.declared.event.Event.TheVariants as event
 use Rattle.reply_text.specs.declared.reply.Reply.TheVariants as reply
-use Rattle.session_facts.proofs.CommittedLemmas.{placed_effect, new_version, now_standing}
-use Rattle.session_facts.proofs.Once.{at_place, lands_same, sends_none, put_kept, once_same, once_effect, OpensUnopened}
+use Rattle.session_facts.proofs.CommittedLemmas.{placed_effect, now_standing}
+use Rattle.session_facts.proofs.Once.{at_place, lands_same, sends_none, put_kept, own_client, opened_bytes, removes_none, once_same, once_effect, OpensUnopened}
 use Rattle.session_facts.proofs.OpenedRuns.{RunsFrom, run_goes_from}
 use Rattle.session_facts.proofs.OpeningSteps.{OpensFor, opens_on}
 use Rattle.session_facts.proofs.RunSteps.{RunsFor, AnyAnswer, runs_on}
@@ -97,13 +97,9 @@ module _ (Is : ℕ → Head → Type 0) where
       → ((own : ℕ) (head : Head) → PutsOpen (PutHeld name bytes one two) own head → Is own head)
       → LandsOpen (landed who name bytes b) (record { who = who; site = Object name; position = length (b.versions name) + 1 }) client x → Is client x
   put_is who (object.Head own) bytes one two b client x puts o =
-      let same : own ≡ client = own_client own client o.site in
-      let put : Some bytes ≡ Some o.bytes = sym (new_version who (object.Head own) bytes b) ∙ ap (λ c. version_at ((landed who (object.Head own) bytes b).versions (object.Head c)) (length (b.versions (object.Head own)) + 1)) same ∙ o.put in
+      let put : Some bytes ≡ Some o.bytes = opened_bytes who (object.Head own) (Some bytes) b client x o in
       let is : bytes ≡ o.bytes = cc in
-      subst (λ c. Is c x) same (puts own x (refl, ap head_of is ∙ o.spells, o.count, o.opens))
-    where
-      own_client : (m n : ℕ) → (let a : Site = Object (object.Head m) in a ≡ Object (object.Head n)) → m ≡ n
-      own_client m n e = cc
+      subst (λ c. Is c x) (own_client own client o.site) (puts own x (refl, ap head_of is ∙ o.spells, o.count, o.opens))
   put_is who (object.Tree tree) bytes one two b client x puts o = let never : Object (object.Tree tree) ≡ Object (object.Head client) = o.site in absurd (cc)
   put_is who (object.Page tree page) bytes one two b client x puts o = let never : Object (object.Page tree page) ≡ Object (object.Head client) = o.site in absurd (cc)
 
@@ -111,14 +107,19 @@ module _ (Is : ℕ → Head → Type 0) where
       → AllOpened Is b → AllOpened Is (effect who ask b)
   all_effect who (PutHeld name bytes one two) b placed puts h =
       all_more b.trace (record { who = who; site = Object name; position = length (b.versions name) + 1 }) b (landed who name bytes b) refl refl
-      (λ i a client x at. put_kept who name bytes b a client x (at_place (IsPlaced b.versions) b.trace i a placed at))
+      (λ i a client x at. put_kept who name (Some bytes) b a client x (at_place (IsPlaced b.versions) b.trace i a placed at))
       (λ client x. put_is who name bytes one two b client x puts) h
+  all_effect who (RemoveHeld name l) b placed puts h =
+      all_more b.trace (record { who = who; site = Object name; position = length (b.versions name) + 1 }) b (removed who name b) refl refl
+      (λ i a client x at. put_kept who name None b a client x (at_place (IsPlaced b.versions) b.trace i a placed at))
+      (λ client x o. absurd (removes_none who name b client x o)) h
   all_effect who (Send queue bytes) b placed puts h =
       all_more b.trace (record { who = who; site = Queue queue; position = length (b.messages queue) + 1 }) b (sent who queue bytes b) refl refl
       (λ i a client x at. lands_same b (sent who queue bytes b) a client x refl)
       (λ client x o. absurd (sends_none (sent who queue bytes b) _ client x queue refl o)) h
   all_effect who (Get name) b placed puts h = h
   all_effect who (GetHeld name l) b placed puts h = h
+  all_effect who (ListHeld tree l) b placed puts h = h
   all_effect who (Receive queue most) b placed puts h = h
   all_effect who (Delete queue id) b placed puts h = all_same b (effect who (Delete queue id) b) refl refl h
   all_effect who (Take lock ticks) b placed puts h = all_same b (effect who (Take lock ticks) b) refl refl h
@@ -135,6 +136,8 @@ unopened Is b (PutHeld (object.Page tree page) bytes one two) h fresh = tt
 unopened Is b (Send queue bytes) h fresh = tt
 unopened Is b (Get name) h fresh = tt
 unopened Is b (GetHeld name l) h fresh = tt
+unopened Is b (ListHeld tree l) h fresh = tt
+unopened Is b (RemoveHeld name l) h fresh = tt
 unopened Is b (Receive queue most) h fresh = tt
 unopened Is b (Delete queue id) h fresh = tt
 unopened Is b (Take lock ticks) h fresh = tt
@@ -206,6 +209,8 @@ commits_to lines row (PutHeld (object.Page tree page) bytes one two) client head
 commits_to lines row (Send queue bytes) client head may puts = absurd puts
 commits_to lines row (Get name) client head may puts = absurd puts
 commits_to lines row (GetHeld name l) client head may puts = absurd puts
+commits_to lines row (ListHeld tree l) client head may puts = absurd puts
+commits_to lines row (RemoveHeld name l) client head may puts = absurd puts
 commits_to lines row (Receive queue most) client head may puts = absurd puts
 commits_to lines row (Delete queue id) client head may puts = absurd puts
 commits_to lines row (Take lock ticks) client head may puts = absurd puts
@@ -277,6 +282,7 @@ opened_stays (Renewing home) head h = h
 opened_stays Closed head h = h
 opened_stays (Closing lease) head h = h
 opened_stays (Settling m) head h = h
+opened_stays (Sweeping m) head h = h
 opened_stays (Broken lease) head h = h
 
 -- the head is one that the session may open with its call, for its own client, and none that it opened before
@@ -311,6 +317,7 @@ call_new w s ask client head acts for takes sound e puts = on w acts for.commits
     on Closed acts (changes, commits) takes sound e = absurd (cc)
     on (Closing lease) acts (changes, commits) takes sound e = absurd (cc)
     on (Settling m) acts commits takes sound e = absurd acts
+    on (Sweeping m) acts commits takes sound e = absurd acts
     on (Broken lease) acts (changes, commits) takes sound e = absurd (cc)
 
 -- ---- where a step leads
@@ -428,17 +435,22 @@ step_leads who before after (Renewing home) new (Ended (answer.Trouble k)) s act
     own_leads home (stopped_work k p.0) new p.2 (subst (λ (z : Home). LeadsHome home (stopped_work k z)) (sym p.1.home) (stopped_leads k (record home { lease = p.0.lease })))
 step_leads who before after (Renewing home) new turn s acts p = absurd p
 step_leads who before after (Settling m) new turn s acts p = absurd acts
+step_leads who before after (Sweeping m) new turn s acts p = absurd acts
 step_leads who before after Closed new turn s acts p = absurd p
 step_leads who before after (Idle home) new turn s acts p = absurd p
 step_leads who before after (Broken lease) new turn s acts p = absurd p
 
--- what the settler leads to works for no client
-settles_lead : (who : Caller) (before after : Seen) (w new : Work) (turn : Turn Answer) → IsSettling w → StepsAt who before after w new turn → LeadsFrom w new
-settles_lead who before after (Settling m) new More settles (sound, p) = away_leads _ _ (Settling p.0) new p.2 (λ head. tt) tt (λ client h. h)
-settles_lead who before after (Settling m) new (Ended (answer.Settled n)) settles (sound, p) = closed_leads _ _ new p.2
-settles_lead who before after (Settling m) new (Ended (answer.Trouble k)) settles (sound, p) = closed_leads _ _ new p.2
-settles_lead who before after (Settling m) new turn settles p = absurd p.1
-settles_lead who before after w new turn settles p = absurd settles
+-- what session 0 on an errand leads to works for no client
+errand_leads : (errand : Errand) (who : Caller) (before after : Seen) (w new : Work) (turn : Turn Answer) → WorksOn errand w → StepsAt who before after w new turn → LeadsFrom w new
+errand_leads settles who before after (Settling m) new More works (sound, p) = away_leads _ _ (Settling p.0) new p.2 (λ head. tt) tt (λ client h. h)
+errand_leads settles who before after (Settling m) new (Ended (answer.Settled n)) works (sound, p) = closed_leads _ _ new p.2
+errand_leads settles who before after (Settling m) new (Ended (answer.Trouble k)) works (sound, p) = closed_leads _ _ new p.2
+errand_leads settles who before after (Settling m) new turn works p = absurd p.1
+errand_leads (sweeps tree) who before after (Sweeping m) new More works p = away_leads _ _ (Sweeping p.0) new p.2 (λ head. tt) tt (λ client h. h)
+errand_leads (sweeps tree) who before after (Sweeping m) new (Ended (answer.Swept x)) works p = closed_leads _ _ new p.2
+errand_leads (sweeps tree) who before after (Sweeping m) new (Ended (answer.Trouble k)) works p = closed_leads _ _ new p.2
+errand_leads (sweeps tree) who before after (Sweeping m) new turn works p = absurd p
+errand_leads errand who before after w new turn works p = absurd works
 
 -- what a checkpoint leads to works for the client that it worked for
 checkpoint_leads : (who : Caller) (before after : Seen) (home : Home) (w new : Work) (turn : Turn Answer) → HasCheckpoint home w → StepsAt who before after w new turn → LeadsFrom w new
@@ -693,12 +705,12 @@ session_apart Was lines who before after start f b turn event acts p h =
         let commits = commits_to lines row call.ask client head (call_kind lines who w call.ask event acts sound call.hand row refl) puts in
         call_new w (standing lines who.session) call.ask client head acts (subst (CommitsFor client) (now_standing lines who event) commits) (h.takes who.session) sound call.hand puts
 
--- a step of the settler, which puts no open head
-pub settler_apart : (Was : ℕ → Type 0) (lines : List Line) (line : Line) (who : Caller) (before after : Seen) (start : CloudState) (f : Sessions) (b : Acting) (turn : Turn Answer)
-    → who.event ≡ length lines + 1 → IsSettling (f who.session).work → IsSettlersRow (lines ++ line ∷ []) who → (standing lines who.session).posture ≡ NotOpen
+-- a step of session 0 on an errand, which puts no open head
+pub errand_apart : (errand : Errand) (Was : ℕ → Type 0) (lines : List Line) (line : Line) (who : Caller) (before after : Seen) (start : CloudState) (f : Sessions) (b : Acting) (turn : Turn Answer)
+    → who.event ≡ length lines + 1 → WorksOn errand (f who.session).work → AreRowsOf errand (lines ++ line ∷ []) who → (standing lines who.session).posture ≡ NotOpen
     → StepsAt who before after (f who.session).work b.work turn → AddsApart Was start f before → AddsApart Was start (at who.session b f) after
-settler_apart Was lines line who before after start f b turn event settles own closed p h =
-    called_apart Was who before after start f b (settles_lead who before after w b.work turn settles p) call opens h
+errand_apart errand Was lines line who before after start f b turn event works own closed p h =
+    called_apart Was who before after start f b (errand_leads errand who before after w b.work turn works p) call opens h
   where
     w : Work
     w = (f who.session).work
@@ -717,7 +729,7 @@ settler_apart Was lines line who before after start f b turn event settles own c
     opens : (client : ℕ) (head : Head) → PutsOpen call.ask client head → OpensNew w client head
     opens client head puts =
         let row : Landing = record { who = who; site = Object (object.Head client); position = 0 } in
-        let may = settle_asks (lines ++ line ∷ []) row w settles (own row refl) (sound_of who before after w b.work turn p) call.ask call.hand in
+        let may = errand_asks errand (lines ++ line ∷ []) row w works (own row refl) (sound_of who before after w b.work turn p) call.ask call.hand in
         let commits = commits_to (lines ++ line ∷ []) row call.ask client head may puts in
         absurd (never client (standing lines who.session) closed (subst (CommitsFor client) before_line commits))
 

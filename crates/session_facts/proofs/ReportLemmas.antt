@@ -25,7 +25,7 @@ use Rattle.cloud_facts.specs.Tellings.Told.{store_of}
 use Rattle.world_audit.specs.Counts.{heads_upto, AreWaiting}
 use Rattle.cloud_facts.specs.Calls.Looks.{audit_of}
 use Rattle.session_facts.specs.Sessions.Sessions.{Sessions, SessionsStand}
-use Rattle.session_facts.proofs.Sessions.Laws.{reports as reports_well, chains, decodes, numbers}
+use Rattle.session_facts.proofs.Sessions.Laws.{reports as reports_well, chains, gones, decodes, numbers}
 use Rattle.replay_meaning.specs.Standing.{Line}
 use Rattle.replay_meaning.specs.Committed.{committed}
 use Rattle.replay_meaning.specs.Kinds.{KeepsKinds}
@@ -79,7 +79,7 @@ shown_right n lines tree book order sessions t r stand cloud reported is shown =
     read : IsRead t tree w.leaves (st.tally.value tree)
     read =
         all_leaves t tree (leaves_in st tree) w.leaves (st.tally.value tree)
-        (store_reads t st tree refl (chains book order t sessions stand) is (decodes book order t sessions stand)) w.lead
+        (store_reads t st tree refl (chains book order t sessions stand) (gones book order t sessions stand) is (decodes book order t sessions stand)) w.lead
 
     found : (key : List ℕ) → Finds t tree key (value_at key r.contents)
     found key = subst (λ (ps : List Stored). Finds t tree key (value_at key ps)) (sym w.are) (finds_contents t tree w.leaves (st.tally.value tree) read key)

@@ -19,6 +19,8 @@ pub mod ScanningSteps
 pub mod LookingSteps
 pub mod SettlingSteps
 pub mod SettlingExplaining
+pub mod SweepingSteps
+pub mod SweepingExplaining
 pub mod Quiet
 pub mod Waiting
 pub mod Calling

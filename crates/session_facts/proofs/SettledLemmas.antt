@@ -1,9 +1,9 @@
 -- Where heads are settled and queues are empty, a report counts nothing.
-use Rattle.std.proofs.Common.{◌≡◌, ◌-◌, ◌≤◌, ℕ, zero, suc, List, [], length, min, Option, Some, None, refl, sym, ap, subst, ◌∙◌, arith, cond}
+use Rattle.std.proofs.Common.{◌≡◌, ◌≤◌, ℕ, zero, suc, List, [], length, min, Option, Some, None, refl, sym, ap, subst, ◌∙◌, arith, cond}
 use Rattle.std.specs.Prelude.{◌&&◌, unwrap_or}
 use Rattle.std.specs.List.{list_any}
 use Rattle.cloud_facts.proofs.Calls.Heads.{head_at, newest_head}
-use Rattle.cloud_facts.proofs.Decoding.Newest.{newest_last}
+use Rattle.cloud_facts.proofs.Decoding.Values.{newest_decodes}
 use Rattle.cloud_facts.specs.Decoding.Decodes.{Decodes}
 use Rattle.cloud_facts.specs.Book.Telling.{head_in as head_of_version, last_or, queue_of}
 use Rattle.cloud_trait.specs.Delivery.{unmarked}
@@ -14,7 +14,6 @@ use Rattle.head_codec.specs.Head.{empty_head}
 use Rattle.head_codec.specs.declared.head.Head.{Head}
 use Rattle.head_codec.specs.declared.head.Phase.{Phase}
 use Rattle.head_codec.specs.declared.head.Phase.TheVariants.{Settled}
-use Rattle.node_codec.specs.Tree.{IsTree}
 use Rattle.report_types.specs.declared.entry.Entry.{Entry}
 use Rattle.std.specs.Prelude.{map}
 use Rattle.world_audit.specs.Counts.{is_of, is_under_way, open_count, open_at, head_in, heads_upto, queue_at, messages_below, IsNextPage, AreWaiting}
@@ -66,7 +65,5 @@ none_wait s tree decodes none = on (newest s (object.Tree tree)) refl
     on : (v : Option (List ℕ)) → newest s (object.Tree tree) ≡ v → AreWaiting s tree 0
     on None e = with_next 2 (subst (λ (v : Option (List ℕ)). IsNextPage v 2) (sym e) refl)
     on (Some bytes) e =
-        let last = newest_last (s.versions (object.Tree tree)) bytes e in
-        let kind = decodes.versions (object.Tree tree) (length (s.versions (object.Tree tree)) - 1) last.0 last.1 in
-        with_next kind.0.next
-        (subst (λ (v : Option (List ℕ)). IsNextPage v kind.0.next) (sym e) (kind.0, subst (λ (b : List ℕ). IsTree b kind.0) last.2 kind.1, refl))
+        let kind = newest_decodes s (object.Tree tree) bytes decodes e in
+        with_next kind.0.next (subst (λ (v : Option (List ℕ)). IsNextPage v kind.0.next) (sym e) (kind.0, kind.1, refl))

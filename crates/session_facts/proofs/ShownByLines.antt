@@ -4,7 +4,7 @@ use Rattle.client_work.specs.Session.{Acting, ShowsList, StepsAt, StepsSession, 
 use Rattle.client_work.specs.declared.answer.Answer.{Answer}
 use Rattle.client_work.specs.declared.answer.Answer.TheVariants as answer
 use Rattle.client_work.specs.declared.work.Work.{Work}
-use Rattle.client_work.specs.declared.work.Work.TheVariants.{Reading, Scanning, Looking, Settling}
+use Rattle.client_work.specs.declared.work.Work.TheVariants.{Reading, Scanning, Looking, Settling, Sweeping}
 use Rattle.cloud_facts.specs.Book.Messages.{IsLogMessage}
 use Rattle.cloud_facts.specs.Book.Records.{IsIn, entry_of}
 use Rattle.cloud_facts.specs.Book.Tally.{Store}
@@ -109,15 +109,17 @@ module _ (n : ℕ) (lines : List Line) (sessions : Sessions) (audit : Audited) (
     shown_by_lines (Ended answer.Scan) acts p = lists acts p.whole
     shown_by_lines turn acts p = tt
 
--- ---- a settling, whatever the cloud tells
+-- ---- session 0, whatever the cloud tells
 
--- what is at work settles
+-- what is at work is its own: it settles, or it sweeps a tree
 abbrev pub IsSettler : Work → Type 0
 IsSettler (Settling m) = Unit {0}
+IsSettler (Sweeping m) = Unit {0}
 IsSettler w = ⊥
 
 pub settler_goes : (who : Caller) (before after : Seen) (w new : Work) → IsSettler w → StepsAt who before after w new More → IsSettler new
 settler_goes who before after (Settling m) new is p = subst IsSettler (sym p.1.2) tt
+settler_goes who before after (Sweeping m) new is p = subst IsSettler (sym p.2) tt
 settler_goes who before after w new is p = absurd is
 
 -- it shows neither

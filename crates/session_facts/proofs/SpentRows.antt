@@ -1,16 +1,17 @@
 -- A counter of versions, epochs or numbers is spent behind 2^56 puts and sends, each of which raises it by at most 200; one of pages behind 2^31, each of
 -- which raises it by at most four for each before it.
 use Rattle.std.proofs.Common.{◌≡◌, ◌+◌, ◌-◌, ◌*◌, ◌^◌, ◌<◌, ◌≤◌, ◌⊎◌, inl, inr, ℕ, Bool, List, length, Some, sym, ap, subst, ◌∙◌, arith}
+use Rattle.std.specs.Option.{option_and_then}
 use Rattle.std.proofs.lemmas.Bool.{cases_lt}
 use Rattle.std.proofs.lemmas.Nat.{mul-le}
 use Rattle.cloud_facts.proofs.Book.Lengths.{image}
 use Rattle.cloud_facts.proofs.Book.Places.{get_within}
 use Rattle.cloud_facts.proofs.Calls.Rows.{versions_within}
-use Rattle.cloud_facts.proofs.Decoding.Reading.{head_reads, node_reads, root_reads}
+use Rattle.cloud_facts.proofs.Decoding.Newest.{has_nth, never_gone}
+use Rattle.cloud_facts.proofs.Decoding.Reading.{root_reads}
 use Rattle.cloud_facts.specs.Book.Book.{Book}
 use Rattle.cloud_facts.specs.Book.Records.{IsIn, StandsAt}
-use Rattle.cloud_facts.specs.Book.Tally.{version_of}
-use Rattle.cloud_facts.specs.Book.Telling.{node_in, root_in, roots_of}
+use Rattle.cloud_facts.specs.Book.Telling.{root_in, roots_of}
 use Rattle.cloud_facts.specs.Calls.Standing.{StandsUnder}
 use Rattle.cloud_facts.specs.Decoding.Decodes.{Decodes}
 use Rattle.cloud_facts.specs.Decoding.Kinds.{CountsWithin}
@@ -28,6 +29,7 @@ use Rattle.history.specs.Audited.{Audited}
 use Rattle.node_codec.specs.Tree.{Tree, empty_tree}
 use Rattle.replay_meaning.specs.Standing.{Line}
 use Rattle.report_types.specs.declared.entry.Entry.{Entry}
+use Rattle.session_facts.proofs.Runs.Leaves.{node_numbered}
 use Rattle.session_facts.specs.Facts.{Stands}
 use Rattle.session_facts.specs.Late.{TakesMany, IsLate, SpendsLate}
 use Rattle.session_facts.specs.Sessions.Sessions.{Sessions}
@@ -61,10 +63,13 @@ module _ (book : Book) (order : List Entry) (t : CloudState) (stands : StandsUnd
       omega (arith, below, within)
 
   -- a landed head counts within the rows
-  head_within : (client place : ℕ) (v : Version) (h : Head) → StandsAt (t.versions (object.Head client)) place v → head_of v.bytes ≡ Some h → CountsWithin (place + 1) h
+  head_within : (client place : ℕ) (v : Version) (h : Head) → StandsAt (t.versions (object.Head client)) place v → option_and_then head_of v.bytes ≡ Some h → CountsWithin (place + 1) h
   head_within client place v h there reads =
-      let k = decodes.versions (object.Head client) place v there in
-      subst (λ (g : Head). CountsWithin (place + 1) g) (sym (head_reads v k.0 k.1) ∙ head_reads v h reads) k.2
+      let heads = decodes.versions (object.Head client) in
+      let k = has_nth (object.Head client) (t.versions (object.Head client)) place v heads (never_gone (object.Head client) (t.versions (object.Head client)) (λ no. no) heads) there in
+      let both : Some k.2.0 ≡ Some h = sym k.2.1 ∙ sym (ap (option_and_then head_of) k.1) ∙ reads in
+      let same : k.2.0 ≡ h = cc in
+      subst (λ (g : Head). CountsWithin (place + 1) g) same k.2.2
 
   epoch_rows : HasLastEpoch t → 2 ^ 56 ≤ length t.trace
   epoch_rows it =
@@ -83,11 +88,9 @@ module _ (book : Book) (order : List Entry) (t : CloudState) (stands : StandsUnd
   page_rows : (tree : ℕ) → HasLastPage t tree → 2 ^ 56 ≤ length t.trace
   page_rows tree it =
       let name = object.Page tree it.page in
-      let v = image node_in (t.versions name) it.node it.landed in
-      let k = decodes.versions name v.1.0 v.0 v.1.1 in
-      let same : it.node ≡ k.0 = sym v.2 ∙ node_reads v.0 k.0 k.1 in
-      let number : version_of it.node ≡ v.1.0 + 1 = ap version_of same ∙ k.2 in
-      let within = place_within name v.1.0 v.0 v.1.1 in
+      let n = node_numbered tree it.page (t.versions name) it.node (decodes.versions name) it.landed in
+      let number = n.3 in
+      let within = place_within name n.0 n.1 n.2 in
       let last = it.last in
       omega (arith, number, within, last)
 
@@ -95,9 +98,9 @@ module _ (book : Book) (order : List Entry) (t : CloudState) (stands : StandsUnd
   root_rows tree it =
       let name = object.Tree tree in
       let v = image root_in (t.versions name) it.root it.landed in
-      let k = decodes.versions name v.1.0 v.0 v.1.1 in
-      let same : it.root ≡ k.0 = sym v.2 ∙ root_reads v.0 k.0 k.1 in
-      let number : it.root.version ≡ v.1.0 + 1 = ap (λ (r : Tree). r.version) same ∙ k.2 in
+      let k = has_nth name (t.versions name) v.1.0 v.0 (decodes.versions name) (never_gone name (t.versions name) (λ no. no) (decodes.versions name)) v.1.1 in
+      let same : it.root ≡ k.2.0 = sym v.2 ∙ root_reads v.0 k.0 k.2.0 k.1 k.2.1 in
+      let number : it.root.version ≡ v.1.0 + 1 = ap (λ (r : Tree). r.version) same ∙ k.2.2 in
       let within = place_within name v.1.0 v.0 v.1.1 in
       let last = it.last in
       omega (arith, number, within, last)

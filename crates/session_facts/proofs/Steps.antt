@@ -27,7 +27,7 @@ use Rattle.client_work.specs.declared.answer.Answer.TheVariants as answer
 use Rattle.client_work.specs.declared.listing.Listing.{Listing}
 use Rattle.client_work.specs.declared.shown.Shown.{Shown}
 use Rattle.client_work.specs.declared.work.Work.{Work}
-use Rattle.client_work.specs.declared.work.Work.TheVariants.{Closed, Idle, Opening, Committing, Reading, Scanning, Looking, Paging, Folding, Closing, Renewing, Settling, Broken}
+use Rattle.client_work.specs.declared.work.Work.TheVariants.{Closed, Idle, Opening, Committing, Reading, Scanning, Looking, Paging, Folding, Closing, Renewing, Settling, Sweeping, Broken}
 use Rattle.client_work.specs.Session.{Acting, Follows, StepsSession, StepsAt, ask_of_work, committing_of}
 use Rattle.txn_buffer.specs.Noted.{Noted}
 use Rattle.replay_meaning.specs.Standing.{Line, standing}
@@ -43,13 +43,15 @@ use Rattle.session_facts.proofs.Sessions.Calling.{session_keeps}
 use Rattle.session_facts.proofs.Sessions.HeadPuts.{head_put}
 use Rattle.session_facts.proofs.Sessions.Laws.{rest_keeps, decodes}
 use Rattle.session_facts.specs.Facts.{IsPlaced, WorksAs, CloudHolds}
-use Rattle.session_facts.proofs.CallKinds.{HasCheckpoint, IsSettling, IsSettlersRow, IsWorkersRow, checkpoint_asks, checkpoint_none, settles_none, settle_asks, call_kind, call_opens}
+use Rattle.session_facts.proofs.CallKinds.{HasCheckpoint, IsWorkersRow, checkpoint_asks, checkpoint_none, errand_none, errand_asks, call_kind, call_opens}
+use Rattle.session_facts.specs.Errands.{Errand, settles, sweeps, event_for, session_for, WorksOn, IsRowOf, AreRowsOf}
 use Rattle.session_facts.proofs.CommitRows.{CommitsAs, stood_on, ask_commits, audited_commits}
 use Rattle.session_facts.proofs.CommittedLemmas.{placed_effect, placed_called}
 use Rattle.session_facts.proofs.Once.{OpensUnopened, once_same, once_effect}
 use Rattle.session_facts.proofs.LineRows.{kinds_same, kinds_effect}
 use Rattle.attr_index.specs.Look.{look_ask}
 use Rattle.range_scan.specs.Scan.{scan_ask}
+use Rattle.orphan_sweep.specs.Sweeping.{sweep_ask}
 use Rattle.settle_run.specs.Settling.{settle_ask}
 use Rattle.tree_walk.specs.Walk.{walk_ask}
 use Rattle.session_facts.proofs.OrderLemmas.{reported_more}
@@ -100,6 +102,10 @@ made_call who before after (Settling m) new More p = record { ask = settle_ask m
 made_call who before after (Settling m) new (Ended (answer.Settled n)) p = record { ask = settle_ask m; answer = p.1.1.did.answer; hand = refl; made = p.1.1.did.made }
 made_call who before after (Settling m) new (Ended (answer.Trouble k)) p = record { ask = settle_ask m; answer = p.1.1.did.answer; hand = refl; made = p.1.1.did.made }
 made_call who before after (Settling m) new turn p = absurd p.1
+made_call who before after (Sweeping m) new More p = record { ask = sweep_ask m; answer = p.1.did.answer; hand = refl; made = p.1.did.made }
+made_call who before after (Sweeping m) new (Ended (answer.Swept x)) p = record { ask = sweep_ask m; answer = p.1.did.answer; hand = refl; made = p.1.did.made }
+made_call who before after (Sweeping m) new (Ended (answer.Trouble k)) p = record { ask = sweep_ask m; answer = p.1.did.answer; hand = refl; made = p.1.did.made }
+made_call who before after (Sweeping m) new turn p = absurd p
 made_call who before after Closed new turn p = absurd p
 made_call who before after (Idle home) new turn p = absurd p
 made_call who before after (Broken lease) new turn p = absurd p
@@ -122,6 +128,7 @@ never_stops who before after (Folding home f) new t p = p
 never_stops who before after (Closing lease) new t p = p
 never_stops who before after (Renewing home) new t p = p
 never_stops who before after (Settling m) new t p = p.1
+never_stops who before after (Sweeping m) new t p = p
 never_stops who before after Closed new t p = p
 never_stops who before after (Idle home) new t p = p
 never_stops who before after (Broken lease) new t p = p
@@ -138,6 +145,7 @@ sound_of who before after (Folding home f) new turn p = tt
 sound_of who before after (Closing lease) new turn p = tt
 sound_of who before after (Renewing home) new turn p = tt
 sound_of who before after (Settling m) new turn p = p.0
+sound_of who before after (Sweeping m) new turn p = tt
 sound_of who before after Closed new turn p = absurd p
 sound_of who before after (Idle home) new turn p = absurd p
 sound_of who before after (Broken lease) new turn p = absurd p
@@ -268,12 +276,12 @@ call_holds lines who before after x sessions new turn a b blind blind_after even
       kind = call_kind lines who w ask event acts sound hand;
     }
 
--- a call of the settler up to event n, where the line that settles is one of the lines
-pub settle_holds : (n : ℕ) (lines : List Line) (who : Caller) (before after : Seen) (x : CloudState) (sessions : Sessions) (new : Acting) (turn : Turn Answer) (a b : Audited) (blind blind_after : Bool)
-    → who.event ≤ n → before.state ≡ Some x → CloudHolds n lines sessions a blind x → IsSettling (sessions who.session).work → IsSettlersRow lines who
+-- a call of session 0 on an errand up to event n, where the line that asks it is one of the lines
+pub errand_holds : (errand : Errand) (n : ℕ) (lines : List Line) (who : Caller) (before after : Seen) (x : CloudState) (sessions : Sessions) (new : Acting) (turn : Turn Answer) (a b : Audited) (blind blind_after : Bool)
+    → who.event ≤ n → before.state ≡ Some x → CloudHolds n lines sessions a blind x → WorksOn errand (sessions who.session).work → AreRowsOf errand lines who
     → StepsSession who before after (sessions who.session) new (Ok turn) → Sees x after (sessions who.session).work a b blind blind_after
     → CallLeavesUpto n lines after sessions who.session new b blind_after
-settle_holds n lines who before after x sessions new turn a b blind blind_after event told h settles settler p sees =
+errand_holds errand n lines who before after x sessions new turn a b blind blind_after event told h works own p sees =
     call_leaves n lines who before after x sessions new turn a b blind blind_after event told h by p sees
   where
     w : Work
@@ -283,7 +291,7 @@ settle_holds n lines who before after x sessions new turn a b blind blind_after 
     sound = sound_of who before after w new.work turn p.work
 
     commits_none : (changes : List Noted) → committing_of w ≡ Some changes → ⊥
-    commits_none changes e = never (sym (settles_none w settles) ∙ e)
+    commits_none changes e = never (sym (errand_none errand w works) ∙ e)
       where
         never : (let none : Option (List Noted) = None in none ≡ Some changes) → ⊥
         never h = absurd (cc)
@@ -293,7 +301,7 @@ settle_holds n lines who before after x sessions new turn a b blind blind_after 
       commits = ask_commits lines who w ask (λ changes e. absurd (commits_none changes e))
           (λ client bytes one two is. head_put (store_of h.book h.order x) x.now (sessions who.session).cache w (h.stand.parts who.session) (h.stand.each who.session).work
           sound client bytes one two (hand ∙ ap (λ a. Some a) is));
-      kind = λ row is. settle_asks lines row w settles (settler row is) sound ask hand;
+      kind = λ row is. errand_asks errand lines row w works (own row is) sound ask hand;
     }
 
 -- a call of a checkpoint up to event n, where the line that works is one of the lines

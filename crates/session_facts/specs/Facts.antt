@@ -63,7 +63,7 @@ Reported lines order = (k : ℕ) (line : Line) → slice_get lines k ≡ Some li
 
 -- ---- how a session stands by the lines
 
--- a session's work is what the lines say that it has in hand, and under way; a settling is no session's of the lines
+-- a session's work is what the lines say that it has in hand, and under way; a settling and a sweep are no session's of the lines
 abbrev pub WorksAs : Work → Standing → Type 0
 WorksAs work.Closed s = s.posture ≡ Closed
 WorksAs (work.Idle home) s = (s.posture ≡ Idle) × (s.client ≡ home.client)
@@ -77,6 +77,7 @@ WorksAs (work.Folding home f) s = (s.posture ≡ Working (FoldingTree f.tree)) �
 WorksAs (work.Closing lease) s = s.posture ≡ Working Closing
 WorksAs (work.Renewing home) s = (s.posture ≡ Working Renewing) × (s.client ≡ home.client)
 WorksAs (work.Settling m) s = ⊥
+WorksAs (work.Sweeping m) s = ⊥
 WorksAs (work.Broken lease) s = s.posture ≡ Broken
 
 pub record ActsAs (session : Acting) (s : Standing) : Type 0 where

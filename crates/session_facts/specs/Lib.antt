@@ -10,10 +10,12 @@ pub mod Trees
 pub mod TreeCheckpoints
 pub mod PageCheckpoints
 pub mod Settlings
+pub mod Sweeps
 pub mod Settled
 pub mod Sessions
 pub mod RowKinds
 pub mod Running
+pub mod Errands
 pub mod Counted
 pub mod Facts
 pub mod Answers

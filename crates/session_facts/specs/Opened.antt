@@ -12,7 +12,7 @@ use Rattle.commit_run.specs.declared.hand.Hand.{Hand}
 use Rattle.commit_run.specs.declared.hand.Hand.TheVariants.{Writes, First, Change}
 use Rattle.commit_run.specs.Run.{Run, home_of}
 use Rattle.client_work.specs.declared.work.Work.{Work}
-use Rattle.client_work.specs.declared.work.Work.TheVariants.{Closed, Idle, Opening, Committing, Reading, Scanning, Looking, Paging, Folding, Closing, Renewing, Settling, Broken}
+use Rattle.client_work.specs.declared.work.Work.TheVariants.{Closed, Idle, Opening, Committing, Reading, Scanning, Looking, Paging, Folding, Closing, Renewing, Settling, Sweeping, Broken}
 use Rattle.replay_meaning.specs.Kinds.{LandsOpen, OpensOnce}
 use Rattle.session_facts.specs.Facts.{IsPlaced}
 use Rattle.session_facts.specs.Sessions.Sessions.{Sessions}
@@ -88,6 +88,7 @@ MayHaveOpened (Renewing home) head = IsOpenedBy home head
 MayHaveOpened Closed head = Unit {0}
 MayHaveOpened (Closing lease) head = Unit {0}
 MayHaveOpened (Settling m) head = Unit {0}
+MayHaveOpened (Sweeping m) head = Unit {0}
 MayHaveOpened (Broken lease) head = Unit {0}
 
 -- and behind its call in hand
@@ -111,6 +112,7 @@ WorksFor client (Renewing home) = home.client ≡ client
 WorksFor client Closed = ⊥
 WorksFor client (Closing lease) = ⊥
 WorksFor client (Settling m) = ⊥
+WorksFor client (Sweeping m) = ⊥
 WorksFor client (Broken lease) = ⊥
 
 -- ---- the rows of a trace

@@ -6,7 +6,7 @@ use Rattle.cloud_trait.specs.declared.answer.Answer.TheVariants.{Failed, Given}
 use Rattle.cloud_trait.specs.declared.turn.CkptAnswer.{CkptAnswer}
 use Rattle.cloud_trait.specs.declared.turn.Turn.{Turn}
 use Rattle.cloud_trait.specs.declared.turn.Turn.TheVariants.{More, Ended, Stopped}
-use Rattle.cloud_trait.specs.Ask.{Ask, Get, GetHeld, PutHeld, Send, Receive, Delete, Take, Renew, Release}
+use Rattle.cloud_trait.specs.Ask.{Ask, Get, GetHeld, PutHeld, ListHeld, RemoveHeld, Send, Receive, Delete, Take, Renew, Release}
 use Rattle.cloud_trait.specs.Claim.{Claim}
 use Rattle.cloud_trait.specs.Machine.{Next, Goes, Ends, Stops, LeadsBy, Took, Deed, IsMade}
 use Rattle.cloud_trait.specs.Weather.{Fits}
@@ -117,6 +117,8 @@ same_after (Release l) a (c ∷ cs) = refl
 same_after (Get name) a cs = refl
 same_after (GetHeld name l) a cs = refl
 same_after (PutHeld name bytes one two) a cs = refl
+same_after (ListHeld tree l) a cs = refl
+same_after (RemoveHeld name l) a cs = refl
 same_after (Send queue bytes) a cs = refl
 same_after (Receive queue most) a cs = refl
 same_after (Delete queue id) a cs = refl

@@ -2,7 +2,7 @@
 use Rattle.std.proofs.Common.{◌≡◌, ℕ, List, [], ◌∷◌, ◌++◌, refl, sym, ap, subst, ◌∙◌}
 use Rattle.db_base.specs.declared.names.QueueName.TheVariants as queue
 use Rattle.cloud_trait.specs.declared.answer.Answer.TheVariants as call
-use Rattle.cloud_trait.specs.Ask.{Get, GetHeld, PutHeld, Send, Receive, Delete, Take, Renew, Release}
+use Rattle.cloud_trait.specs.Ask.{Get, GetHeld, PutHeld, ListHeld, RemoveHeld, Send, Receive, Delete, Take, Renew, Release}
 use Rattle.ckpt_parts.specs.Intakes.{ids_of}
 use Rattle.tree_ckpt.specs.Making.{Making, new_making, making_ask, received_after, MakingLeads}
 use Rattle.tree_ckpt.specs.Standing.{Went}
@@ -35,6 +35,8 @@ never_received : (ask : Ask) (ms : List Message) → IsOther ask → Fits ask (c
 never_received (Get name) ms other fits = fits
 never_received (GetHeld name l) ms other fits = fits
 never_received (PutHeld name bytes one two) ms other fits = fits
+never_received (ListHeld tree l) ms other fits = fits
+never_received (RemoveHeld name l) ms other fits = fits
 never_received (Send queue bytes) ms other fits = fits
 never_received (Receive queue most) ms other fits = other
 never_received (Delete queue id) ms other fits = fits
@@ -50,6 +52,8 @@ other_at_work : (ask : Ask) → IsAtWork ask → IsOther ask
 other_at_work (Get name) h = tt
 other_at_work (GetHeld name l) h = tt
 other_at_work (PutHeld name bytes one two) h = tt
+other_at_work (ListHeld tree l) h = tt
+other_at_work (RemoveHeld name l) h = tt
 other_at_work (Send queue bytes) h = tt
 other_at_work (Receive queue most) h = h
 other_at_work (Delete queue id) h = tt

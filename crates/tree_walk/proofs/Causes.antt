@@ -61,6 +61,7 @@ nothing_got name answer.Failed t fits e = inr (cc (e), refl)
 nothing_got name answer.Memory t fits e = inl (cc (e))
 nothing_got name (answer.Sent id) t fits e = absurd fits
 nothing_got name (answer.Received ms) t fits e = absurd fits
+nothing_got name (answer.Listed ps) t fits e = absurd fits
 nothing_got name answer.Done t fits e = absurd fits
 nothing_got name (answer.Given l) t fits e = absurd fits
 nothing_got name (answer.Held until) t fits e = absurd fits

@@ -9,7 +9,7 @@ use Rattle.client_work.specs.declared.op.Op.{Op}
 use Rattle.client_work.specs.declared.op.Op.TheVariants as op
 use Rattle.client_work.specs.declared.shown.Shown.{Shown}
 use Rattle.client_work.specs.declared.work.Work.{Work}
-use Rattle.client_work.specs.declared.work.Work.TheVariants.{Closed, Idle, Opening, Committing, Reading, Scanning, Looking, Paging, Folding, Closing, Renewing, Settling, Broken}
+use Rattle.client_work.specs.declared.work.Work.TheVariants.{Closed, Idle, Opening, Committing, Reading, Scanning, Looking, Paging, Folding, Closing, Renewing, Settling, Sweeping, Broken}
 use Rattle.attr_index.specs.Look.{Query}
 use Rattle.client_work.specs.Session.{LooksOf, Acting, Begins, CommitsNoted, CommitsOf, Follows, ListsLeaf, ReadsOf, StepsAt, StepsCommit, ask_of_work, committed_work, stopped_work}
 use Rattle.cloud_trait.specs.Caller.{Caller}
@@ -130,6 +130,7 @@ step_spends n who before after (Opening m) new turn p few = absurd few
 step_spends n who before after (Paging home m) new turn p few = absurd few
 step_spends n who before after (Folding home m) new turn p few = absurd few
 step_spends n who before after (Settling m) new turn p few = absurd few
+step_spends n who before after (Sweeping m) new turn p few = absurd few
 
 -- ---- a begin
 

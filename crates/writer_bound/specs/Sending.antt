@@ -1,7 +1,7 @@
 -- How many messages what a session has in hand may still send to the pending update queues.
 use Rattle.std.specs.Prelude.{ℕ, ◌-◌, ◌≤◌, length, Option, Some, None}
 use Rattle.client_work.specs.declared.work.Work.{Work}
-use Rattle.client_work.specs.declared.work.Work.TheVariants.{Closed, Idle, Opening, Committing, Reading, Scanning, Looking, Paging, Folding, Closing, Renewing, Settling, Broken}
+use Rattle.client_work.specs.declared.work.Work.TheVariants.{Closed, Idle, Opening, Committing, Reading, Scanning, Looking, Paging, Folding, Closing, Renewing, Settling, Sweeping, Broken}
 use Rattle.cloud_trait.specs.Ask.{Ask}
 use Rattle.commit_run.specs.declared.hand.Hand.{Hand}
 use Rattle.commit_run.specs.declared.hand.Hand.TheVariants.{Writes, First, Change}
@@ -46,6 +46,7 @@ SendsAtMost n (Opening r) = ⊥
 SendsAtMost n (Paging home p) = ⊥
 SendsAtMost n (Folding home m) = ⊥
 SendsAtMost n (Settling m) = ⊥
+SendsAtMost n (Sweeping m) = ⊥
 
 -- whether a call sends such a message
 abbrev pub ask_sends : Ask → ℕ

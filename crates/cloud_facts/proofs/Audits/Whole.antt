@@ -9,8 +9,10 @@ use Rattle.leaf_view.specs.Leaf.{Leaf}
 use Rattle.cloud_facts.specs.Book.Book.{Link}
 use Rattle.cloud_facts.specs.Book.Records.{StandsAt, IsIn}
 use Rattle.cloud_facts.specs.Book.Tally.{Tally, Store}
-use Rattle.cloud_facts.specs.Book.Telling.{tally_of, newest_leaf, newest_root, nodes_of, roots_of}
+use Rattle.cloud_facts.specs.Book.Telling.{tally_of, newest_leaf, newest_root, nodes_of, roots_of, gone_of}
 use Rattle.cloud_facts.specs.Chains.Chain.{IsChained, ChainHolds}
+use Rattle.cloud_facts.specs.Chains.Gones.{Gones, AreKept}
+use Rattle.cloud_facts.proofs.Chains.GoneLemmas.{links_kept}
 use Rattle.cloud_facts.specs.Chains.Links.{page_after, low_after, Ascends}
 use Rattle.cloud_facts.proofs.Chains.Pieces.{in_front}
 use Rattle.cloud_facts.specs.Decoding.Decodes.{Decodes}
@@ -25,7 +27,7 @@ use Rattle.cloud_facts.specs.Audits.Slip.{IsSlip}
 use Rattle.cloud_facts.proofs.Audits.Visits.{AreAt, meets, visited, front_below, no_stop}
 
 module _ (s : CloudState) (tree : ℕ) (chain : ℕ → List Link) (done : List ℕ → ℕ → ℕ → ℕ) (cursor : ℕ → ℕ)
-    (h : IsChained chain (nodes_of s tree) (roots_of s tree) done cursor) (d : Decodes s) where
+    (h : IsChained chain (nodes_of s tree) (roots_of s tree) done cursor) (kept : AreKept chain (gone_of s tree)) (d : Decodes s) where
   abbrev leaf : ℕ → Leaf
   leaf page = newest_leaf (nodes_of s) tree page
 
@@ -44,7 +46,7 @@ module _ (s : CloudState) (tree : ℕ) (chain : ℕ → List Link) (done : List 
       there = subst (λ (ls : List Link). StandsAt ls (length front) y) (sym is) (stands_behind front rest y)
 
       at : IsLeafAt s tree leaf y (slice_get (chain 0) (suc (length front)))
-      at = leaf_at s tree chain done cursor h d (length front) y there
+      at = leaf_at s tree chain done cursor h kept d (length front) y there
 
       reads : IsReadAs tree page (newest s (object.Page tree page)) (Ok (leaf page))
       reads = subst (λ (p : ℕ). IsReadAs tree p (newest s (object.Page tree p)) (Ok (leaf p))) (sym page_is) at.newest
@@ -56,7 +58,7 @@ module _ (s : CloudState) (tree : ℕ) (chain : ℕ → List Link) (done : List 
       first = sym (ap (λ (ls : List Link). page_after (slice_get ls 0)) (sym is ∙ h.levels.leaves.1))
 
       each : AreAt s tree leaf (front ++ y ∷ rest)
-      each = subst (AreAt s tree leaf) is (leaf_at s tree chain done cursor h d)
+      each = subst (AreAt s tree leaf) is (leaf_at s tree chain done cursor h kept d)
 
       new : IsIn pages page → ⊥
       new k =
@@ -73,13 +75,13 @@ module _ (s : CloudState) (tree : ℕ) (chain : ℕ → List Link) (done : List 
       comes = stops.comes
 
       way : IsAlong leaf (chain 0) comes.leaves stops.page
-      way = leads_along s tree chain done cursor h d comes.leaves stops.page comes.lead
+      way = leads_along s tree chain done cursor h kept d comes.leaves stops.page comes.lead
 
       begins : low_after (slice_get (way.front ++ way.rest) 0) ≡ Some []
       begins = ap (λ (ls : List Link). low_after (slice_get ls 0)) (sym way.is ∙ h.levels.leaves.1)
 
       low : low_after (slice_get way.rest 0) ≡ Some stops.low
-      low = meets s tree leaf way.front way.rest (subst (AreAt s tree leaf) way.is (leaf_at s tree chain done cursor h d)) [] stops.low begins
+      low = meets s tree leaf way.front way.rest (subst (AreAt s tree leaf) way.is (leaf_at s tree chain done cursor h kept d)) [] stops.low begins
           (subst (λ (ls : List Leaf). Meet [] ls stops.low) way.leaves_are comes.meet)
 
       on : (rest : List Link) → way.rest ≡ rest → ⊥
@@ -97,16 +99,17 @@ no_root_stops s tree trouble d stops = stops.none (newest_root (roots_of s) tree
 
 -- no part of the tree is damaged
 pub no_damage : (s : CloudState) (tree : ℕ) (chain : ℕ → List Link) (done : List ℕ → ℕ → ℕ → ℕ) (cursor : ℕ → ℕ)
-    → IsChained chain (nodes_of s tree) (roots_of s tree) done cursor → Decodes s → (trouble : Trouble) → FirstDamage s tree trouble → ⊥
-no_damage s tree chain done cursor h d trouble (inl stops) = no_chain_stops s tree chain done cursor h d trouble stops
-no_damage s tree chain done cursor h d trouble (inr (inl p)) = no_head_stops s trouble d p.1
-no_damage s tree chain done cursor h d trouble (inr (inr p)) = no_root_stops s tree trouble d p.2
+    → IsChained chain (nodes_of s tree) (roots_of s tree) done cursor → AreKept chain (gone_of s tree) → Decodes s → (trouble : Trouble) → FirstDamage s tree trouble → ⊥
+no_damage s tree chain done cursor h kept d trouble (inl stops) = no_chain_stops s tree chain done cursor h kept d trouble stops
+no_damage s tree chain done cursor h kept d trouble (inr (inl p)) = no_head_stops s trouble d p.1
+no_damage s tree chain done cursor h kept d trouble (inr (inr p)) = no_root_stops s tree trouble d p.2
 
 -- a report of a cloud that tells a store whose chains hold stops only where a look failed or memory ran out
-pub only_slips : (s : CloudState) (st : Store) (tree : ℕ) → tally_of st.book s ≡ st.tally → ChainHolds st → IsTree tree → Decodes s → (trouble : Trouble)
+pub only_slips : (s : CloudState) (st : Store) (tree : ℕ) → tally_of st.book s ≡ st.tally → ChainHolds st → Gones st → IsTree tree → Decodes s → (trouble : Trouble)
     → Stopped s tree trouble → IsSlip trouble
-only_slips s st tree e h is d trouble (inl failed) = inl failed
-only_slips s st tree e h is d trouble (inr (inl memory)) = inr memory
-only_slips s st tree e h is d trouble (inr (inr damage)) =
+only_slips s st tree e h gones is d trouble (inl failed) = inl failed
+only_slips s st tree e h gones is d trouble (inr (inl memory)) = inr memory
+only_slips s st tree e h gones is d trouble (inr (inr damage)) =
     absurd (no_damage s tree (st.book.chain tree) ((tally_of st.book s).done tree) ((tally_of st.book s).cursor tree 0)
-    (subst (λ (t : Tally). IsChained (st.book.chain tree) (t.nodes tree) (t.roots tree) (t.done tree) (t.cursor tree 0)) (sym e) (h tree is)) d trouble damage)
+    (subst (λ (t : Tally). IsChained (st.book.chain tree) (t.nodes tree) (t.roots tree) (t.done tree) (t.cursor tree 0)) (sym e) (h tree is))
+    (subst (λ (t : Tally). AreKept (st.book.chain tree) (t.gone tree)) (sym e) (links_kept st gones tree)) d trouble damage)

@@ -17,7 +17,7 @@ use Rattle.log_codec.specs.declared.record.AtomicRec.{AtomicRec}
 use Rattle.node_codec.specs.Inner.{Inner}
 use Rattle.node_codec.specs.Tree.{Tree, empty_tree}
 use Rattle.cloud_facts.specs.Book.Book.{Link, with_pieces}
-use Rattle.cloud_facts.specs.Book.Effects.{after_head, after_logged, after_posted, after_log_mark, after_post_mark, after_leaf, after_page, after_inner, after_root, after_raise, Taking, done_after, cursor_after}
+use Rattle.cloud_facts.specs.Book.Effects.{after_head, after_logged, after_posted, after_log_mark, after_post_mark, after_leaf, after_page, after_inner, after_root, after_raise, after_removal, Taking, done_after, cursor_after}
 use Rattle.cloud_facts.specs.Book.Growth.{Grows, IsLater}
 use Rattle.cloud_facts.specs.Book.Premises.{CoversApplied}
 use Rattle.cloud_facts.specs.Book.Records.{IsIn, IsApplied, key_in}
@@ -41,6 +41,7 @@ grows_itself st = record {
   cursor = λ tree page client is. omega arith;
   nodes = λ tree page. begins_itself (st.tally.nodes tree page);
   roots = λ tree. begins_itself (st.tally.roots tree);
+  gone = λ a b is. is;
   next = λ tree. omega arith;
   unlinked = λ tree page some none. refl;
 }
@@ -60,6 +61,7 @@ head_grows st client head more later = record {
   cursor = λ tree page c is. omega arith;
   nodes = λ tree page. begins_itself (st.tally.nodes tree page);
   roots = λ tree. begins_itself (st.tally.roots tree);
+  gone = λ a b is. is;
   next = λ tree. omega arith;
   unlinked = λ tree page some none. refl;
 }
@@ -80,6 +82,7 @@ with_logged_grows st client posts begins = record {
   cursor = λ tree page c is. omega arith;
   nodes = λ tree page. begins_itself (st.tally.nodes tree page);
   roots = λ tree. begins_itself (st.tally.roots tree);
+  gone = λ a b is. is;
   next = λ tree. omega arith;
   unlinked = λ tree page some none. refl;
 }
@@ -97,6 +100,7 @@ with_posts_grows st tree page posts begins = record {
   cursor = λ t q c is. omega arith;
   nodes = λ t q. begins_itself (st.tally.nodes t q);
   roots = λ t. begins_itself (st.tally.roots t);
+  gone = λ a b is. is;
   next = λ t. omega arith;
   unlinked = λ t q some none. refl;
 }
@@ -184,6 +188,7 @@ leaf_grows st p link is page_is = record {
   cursor = λ tree page client is. cursor_rises p st.tally.cursor tree page client;
   nodes = at2_by (λ t q ns. BeginsWith (st.tally.nodes t q) ns) p.tree p.page _ st.tally.nodes (_, refl) (λ t q. begins_itself (st.tally.nodes t q));
   roots = λ tree. begins_itself (st.tally.roots tree);
+  gone = λ a b is. is;
   next = λ tree. omega arith;
   unlinked = λ tree page some none. other_page st.tally.nodes p.tree p.page _ tree page (λ t q. none_of tree page none t q);
 }
@@ -213,6 +218,7 @@ page_grows st tree page node own rises first = record {
   cursor = λ t q client is. at2_by (λ t q f. st.tally.cursor t q client ≤ f client) tree page own st.tally.cursor (rises client is) (λ t q. omega arith) t q;
   nodes = at2_by (λ t q ns. BeginsWith (st.tally.nodes t q) ns) tree page _ st.tally.nodes (_, refl) (λ t q. begins_itself (st.tally.nodes t q));
   roots = λ t. begins_itself (st.tally.roots t);
+  gone = λ a b is. is;
   next = λ t. omega arith;
   unlinked = λ t q some none. other_page st.tally.nodes tree page (node ∷ []) t q (λ a b. some (subst (λ k. st.tally.nodes k q ≡ []) (sym a) (subst (λ k. st.tally.nodes tree k ≡ []) (sym b) first)));
 }
@@ -230,6 +236,7 @@ inner_grows st tree page inner pieces link is page_is = record {
   cursor = λ t q client is. omega arith;
   nodes = at2_by (λ t q ns. BeginsWith (st.tally.nodes t q) ns) tree page _ st.tally.nodes (_, refl) (λ t q. begins_itself (st.tally.nodes t q));
   roots = λ t. begins_itself (st.tally.roots t);
+  gone = λ a b is. is;
   next = λ t. omega arith;
   unlinked = λ t q some none. other_page st.tally.nodes tree page _ t q (λ a b. none_of t q none a b);
 }
@@ -267,6 +274,7 @@ root_grows st tree root covers more = record {
   cursor = cursor_grows st tree root covers;
   nodes = λ t q. begins_itself (st.tally.nodes t q);
   roots = at_by (λ t rs. BeginsWith (st.tally.roots t) rs) tree _ st.tally.roots (_, refl) (λ t. begins_itself (st.tally.roots t));
+  gone = λ a b is. is;
   next = at_by (λ t rs. (top_of (st.tally.roots t)).next ≤ (top_of rs).next) tree _ st.tally.roots (next_grows (st.tally.roots tree) root more) (λ t. omega arith);
   unlinked = λ t q some none. refl;
 }
@@ -285,12 +293,32 @@ raise_grows st tree root level links covers more empty = let g = root_grows st t
   cursor = g.cursor;
   nodes = g.nodes;
   roots = g.roots;
+  gone = g.gone;
   next = g.next;
   unlinked = λ t q some no. refl;
 }
   where
     none : (link : Link) → IsIn (st.book.chain tree level) link → ⊥
     none link is = nowhere link is.0 (subst (λ ls. slice_get ls is.0 ≡ Some link) empty is.1)
+
+-- ---- removed pages
+
+pub removal_grows : (st : Store) (tree page : ℕ) → Grows st (after_removal tree page st)
+removal_grows st tree page = let g = grows_itself st in record {
+  log = g.log;
+  order = g.order;
+  links = g.links;
+  heads = g.heads;
+  logged = g.logged;
+  posts = g.posts;
+  done = g.done;
+  cursor = g.cursor;
+  nodes = g.nodes;
+  roots = g.roots;
+  gone = λ t q. at2_by (λ t q b. st.tally.gone t q ≡ true → b ≡ true) tree page true st.tally.gone (λ is. refl) (λ t q is. is) t q;
+  next = g.next;
+  unlinked = g.unlinked;
+}
 
 -- ---- what is known of what grows
 

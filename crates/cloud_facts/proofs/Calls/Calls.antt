@@ -4,7 +4,7 @@ use Rattle.db_base.specs.declared.names.ObjName.{ObjName}
 use Rattle.db_base.specs.declared.names.QueueName.{QueueName}
 use Rattle.db_base.specs.declared.trouble.Trouble.TheVariants as trouble
 use Rattle.cloud_trait.specs.declared.answer.Answer.{Answer}
-use Rattle.cloud_trait.specs.declared.answer.Answer.TheVariants.{Got, Sent, Received, Done, Given, Held, Renewed, Late, Failed, Memory}
+use Rattle.cloud_trait.specs.declared.answer.Answer.TheVariants.{Got, Sent, Received, Listed, Done, Given, Held, Renewed, Late, Failed, Memory}
 use Rattle.cloud_trait.specs.Claim.{Claim, Lasts}
 use Rattle.cloud_trait.specs.Views.{done_of, sent_of}
 use Rattle.cloud_trait.specs.Ask.{Ask, PutHeld, Send, Delete, Permits, Lands}
@@ -43,6 +43,7 @@ put_cases who name bytes one two Failed s t c = on c.row
 put_cases who name bytes one two (Got v) s t c = absurd c.row
 put_cases who name bytes one two (Sent id) s t c = absurd c.row
 put_cases who name bytes one two (Received ms) s t c = absurd c.row
+put_cases who name bytes one two (Listed ps) s t c = absurd c.row
 put_cases who name bytes one two (Given l) s t c = absurd c.row
 put_cases who name bytes one two (Held until) s t c = absurd c.row
 put_cases who name bytes one two (Renewed e) s t c = absurd c.row
@@ -62,6 +63,7 @@ send_cases who queue bytes Done s t c = absurd c.row
 send_cases who queue bytes (Late e n) s t c = absurd c.row
 send_cases who queue bytes (Got v) s t c = absurd c.row
 send_cases who queue bytes (Received ms) s t c = absurd c.row
+send_cases who queue bytes (Listed ps) s t c = absurd c.row
 send_cases who queue bytes (Given l) s t c = absurd c.row
 send_cases who queue bytes (Held until) s t c = absurd c.row
 send_cases who queue bytes (Renewed e) s t c = absurd c.row
@@ -102,6 +104,7 @@ delete_cases who queue id (Late e n) s t c = absurd c.row
 delete_cases who queue id (Got v) s t c = absurd c.row
 delete_cases who queue id (Sent i) s t c = absurd c.row
 delete_cases who queue id (Received ms) s t c = absurd c.row
+delete_cases who queue id (Listed ps) s t c = absurd c.row
 delete_cases who queue id (Given l) s t c = absurd c.row
 delete_cases who queue id (Held until) s t c = absurd c.row
 delete_cases who queue id (Renewed e) s t c = absurd c.row

@@ -4,7 +4,7 @@ use Rattle.std.proofs.Math.Nat.{mul-suc, suc-mul}
 use Rattle.std.proofs.lemmas.List.{length-append}
 use Rattle.std.proofs.lemmas.Nat.{mul-le}
 use Rattle.cloud_trait.proofs.EffectLemmas.{effect_trace}
-use Rattle.cloud_trait.specs.Ask.{Ask, Get, GetHeld, PutHeld, Send, Receive, Delete, Take, Renew, Release, effect, PutsNothing, TouchesNoMessage}
+use Rattle.cloud_trait.specs.Ask.{Ask, Get, GetHeld, PutHeld, ListHeld, RemoveHeld, Send, Receive, Delete, Take, Renew, Release, effect, PutsNothing, TouchesNoMessage}
 use Rattle.cloud_trait.specs.Caller.{Caller}
 use Rattle.cloud_trait.specs.State.{CloudState}
 use Rattle.db_base.specs.Ids.{IsTree}
@@ -15,7 +15,7 @@ use Rattle.cloud_facts.specs.Book.Tally.{Store}
 use Rattle.cloud_facts.specs.Calls.Made.{IsMadeBy}
 use Rattle.cloud_facts.specs.Chains.Landing.{MayReserve}
 use Rattle.cloud_facts.specs.Chains.Links.{top_of}
-use Rattle.cloud_facts.specs.Landings.Landing.{Landing, opens, settles, logs, posts, marks_log, marks_post, puts_leaf, puts_page, puts_inner, puts_root, raises_root, stays}
+use Rattle.cloud_facts.specs.Landings.Landing.{Landing, opens, settles, logs, posts, marks_log, marks_post, puts_leaf, puts_page, puts_inner, puts_root, raises_root, removes, stays}
 use Rattle.cloud_facts.proofs.Book.Places.{in_either, get_single}
 use Rattle.cloud_facts.proofs.Chains.Newest.{last_in}
 use Rattle.cloud_facts.proofs.Decoding.Counting.{opened_few}
@@ -83,9 +83,10 @@ module _ (n : ℕ) (st : Store) (made : IsMadeBy n st) where
 
 -- ---- each call
 
--- a put and a send leave a row
+-- a put, a removal and a send leave a row
 abbrev pub rows_behind : Ask → ℕ → ℕ
 rows_behind (PutHeld name bytes one two) n = n + 1
+rows_behind (RemoveHeld name l) n = n + 1
 rows_behind (Send queue bytes) n = n + 1
 rows_behind ask n = n
 
@@ -102,26 +103,29 @@ landing_made n who st ask su made within (logs client bytes r o) = let m = made_
 landing_made n who st ask su made within (posts tree page bytes r o) = let m = made_later n (n + 1) st (omega arith) made in record { log = m.log; next = m.next }
 landing_made n who st ask su made within (marks_log client id o) = record { log = made.log; next = made.next }
 landing_made n who st ask su made within (marks_post tree page id o) = record { log = made.log; next = made.next }
-landing_made n who st ask su made within (puts_leaf p bytes one two e takes lands) = let m = made_later n (n + 1) st (omega arith) made in record { log = m.log; next = m.next }
+landing_made n who st ask su made within (puts_leaf p bytes one two e takes lands there) = let m = made_later n (n + 1) st (omega arith) made in record { log = m.log; next = m.next }
 landing_made n who st ask su made within (puts_page tree page node bytes one two is e first lands) =
     let m = made_later n (n + 1) st (omega arith) made in record { log = m.log; next = m.next }
-landing_made n who st ask su made within (puts_inner tree page node pieces bytes one two is e lands) =
+landing_made n who st ask su made within (puts_inner tree page node pieces bytes one two is e lands there) =
     let m = made_later n (n + 1) st (omega arith) made in record { log = m.log; next = m.next }
 landing_made n who st ask su made within (puts_root tree t bytes one two is e covers lands) = record {
   log = (made_later n (n + 1) st (omega arith) made).log;
   next = root_made n st made tree t (root_next n st made tree lands.pages t.next (few_reserved n st tree lands.pages is made within lands.few) lands.next);
 }
-landing_made n who st ask su made within (raises_root tree t level links bytes one two is e covers lands) = record {
+landing_made n who st ask su made within (raises_root tree t level links bytes one two is e covers lands there) = record {
   log = (made_later n (n + 1) st (omega arith) made).log;
   next = root_made n st made tree t (let same = lands.next in root_next n st made tree 0 t.next (omega arith) (omega (arith, same)));
 }
+landing_made n who st ask su made within (removes tree page l is o) = let m = made_later n (n + 1) st (omega arith) made in record { log = m.log; next = m.next }
 landing_made n who st ask su made within (stays asked puts touches) = on asked puts touches
   where
     on : (a : Ask) → PutsNothing a → TouchesNoMessage a → IsMadeBy (rows_behind a n) st
     on (PutHeld name bytes one two) puts touches = absurd puts
+    on (RemoveHeld name l) puts touches = absurd puts
     on (Send queue bytes) puts touches = absurd touches
     on (Get name) puts touches = made
     on (GetHeld name l) puts touches = made
+    on (ListHeld tree l) puts touches = made
     on (Receive queue most) puts touches = made
     on (Delete queue id) puts touches = made
     on (Take lock ticks) puts touches = made
@@ -131,9 +135,11 @@ landing_made n who st ask su made within (stays asked puts touches) = on asked p
 -- as many rows there are
 pub rows_many : (who : Caller) (ask : Ask) (s : CloudState) → length (effect who ask s).trace ≡ rows_behind ask (length s.trace)
 rows_many who (PutHeld name bytes one two) s = length-append s.trace _
+rows_many who (RemoveHeld name l) s = length-append s.trace _
 rows_many who (Send queue bytes) s = length-append s.trace _
 rows_many who (Get name) s = refl
 rows_many who (GetHeld name l) s = refl
+rows_many who (ListHeld tree l) s = refl
 rows_many who (Receive queue most) s = refl
 rows_many who (Delete queue id) s = refl
 rows_many who (Take lock ticks) s = refl

@@ -5,19 +5,19 @@ use Rattle.std.specs.Str.{bytes_eq}
 use Rattle.std.proofs.lemmas.Slice.Eq.{bytes_eq-Decides}
 use Rattle.cloud_trait.proofs.StateLemmas.{landed_newest}
 use Rattle.cloud_trait.specs.declared.answer.Answer.{Answer}
-use Rattle.cloud_trait.specs.Ask.{Ask, Get, GetHeld, PutHeld, Send, Receive, Delete, Take, Renew, Release, Lands, effect, PutsNothing, TouchesNoMessage}
+use Rattle.cloud_trait.specs.Ask.{Ask, Get, GetHeld, PutHeld, ListHeld, RemoveHeld, Send, Receive, Delete, Take, Renew, Release, Lands, effect, PutsNothing, TouchesNoMessage}
 use Rattle.cloud_trait.specs.Caller.{Caller}
 use Rattle.cloud_trait.specs.Claim.{Claim}
 use Rattle.cloud_trait.specs.State.{CloudState, called, newest, landed as put}
 use Rattle.cloud_facts.specs.Calls.Acting.{Outcome, Handles}
 use Rattle.cloud_facts.specs.Calls.Call.{IsCall}
-use Rattle.cloud_facts.specs.Calls.Links.{LinksBy, OwesLease}
+use Rattle.cloud_facts.specs.Calls.Links.{LinksBy, GoneBy, OwesLease}
 use Rattle.cloud_trait.specs.Bench.{has_bytes}
 use Rattle.cloud_facts.specs.Calls.Looks.{Newest, has_landed, audited_at, audit_of}
 use Rattle.cloud_facts.specs.Calls.Others.{Passes}
 use Rattle.cloud_facts.specs.Calls.Standing.{StandsUnder, Follows, Commits}
 use Rattle.cloud_facts.proofs.Calls.Calls.{landed_or_not}
-use Rattle.cloud_facts.proofs.Calls.LinkLemmas.{landing_links}
+use Rattle.cloud_facts.proofs.Calls.LinkLemmas.{landing_links, landing_gone}
 use Rattle.cloud_facts.proofs.Calls.Passing.{landing_passes, passes_itself, commits_join}
 use Rattle.cloud_facts.proofs.Calls.StandingLemmas.{landing_tells, landing_spells, effect_stands, same_stands}
 use Rattle.db_base.specs.declared.names.ObjName.{ObjName}
@@ -58,6 +58,8 @@ pub none_lands : (look : Newest) (ask : Option Ask) → has_landed look look ask
 none_lands look (Some (PutHeld name bytes one two)) = never_both (has_bytes (look name) bytes)
 none_lands look (Some (Get name)) = refl
 none_lands look (Some (GetHeld name l)) = refl
+none_lands look (Some (ListHeld tree l)) = refl
+none_lands look (Some (RemoveHeld name l)) = refl
 none_lands look (Some (Send queue bytes)) = refl
 none_lands look (Some (Receive queue most)) = refl
 none_lands look (Some (Delete queue id)) = refl
@@ -78,6 +80,8 @@ pub quiet_unseen : (ask : Ask) → PutsNothing ask → (look new : Newest) → h
 quiet_unseen (Get name) puts look new = refl
 quiet_unseen (GetHeld name l) puts look new = refl
 quiet_unseen (PutHeld name bytes one two) puts look new = absurd puts
+quiet_unseen (ListHeld tree l) puts look new = refl
+quiet_unseen (RemoveHeld name l) puts look new = absurd puts
 quiet_unseen (Send queue bytes) puts look new = refl
 quiet_unseen (Receive queue most) puts look new = refl
 quiet_unseen (Delete queue id) puts look new = refl
@@ -106,6 +110,7 @@ module _ (who : Caller) (book : Book) (order : List Entry) (s t : CloudState) (p
     passes = subst (λ (st : Store). Passes (store_of book order s) st) (sym same) (passes_itself (store_of book order s));
     joins = λ r is. inl is;
     links = λ tree. inl (λ level. refl);
+    gone = subst (λ (st : Store). GoneBy mine t.now (store_of book order s) st) (sym same) (λ tree. inl (λ page. refl));
     part = part;
     homes = subst (λ (st : Store). HomesHold st.tally t.now (at who.session part parts)) (sym same) homes;
     knows = subst (λ (st : Store). K st t.now part) (sym same) knows;
@@ -126,7 +131,7 @@ module _ (who : Caller) (book : Book) (order : List Entry) (s t : CloudState) (p
     told : store_of su.book su.order t ≡ su
     told =
         ap (store_of su.book su.order) lands.0
-        ∙ told_store (effect who ask (called who t.now s)) su (landing_tells who book order (called who t.now s) ask su called_stands.holds.chains called_stands.decodes l f)
+        ∙ told_store (effect who ask (called who t.now s)) su (landing_tells who book order (called who t.now s) ask su called_stands.holds.chains called_stands.holds.gones called_stands.decodes l f)
 
     with_noted : audited_at (newest s) (newest t) ask note (audit_of book order) ≡ audit_of su.book su.order → Outcome who book order s t parts mine ask note K
     with_noted noted = record {
@@ -136,6 +141,7 @@ module _ (who : Caller) (book : Book) (order : List Entry) (s t : CloudState) (p
       passes = subst (λ (st : Store). Passes (store_of book order s) st) (sym told) (landing_passes who (store_of book order s) ask su stands.holds l);
       joins = commits_join who (store_of book order s) (parts who.session) ask su l c;
       links = subst (λ (st : Store). LinksBy mine t.now (store_of book order s) st) (sym told) (landing_links mine t.now who (store_of book order s) ask su l owes);
+      gone = subst (λ (st : Store). GoneBy mine t.now (store_of book order s) st) (sym told) (landing_gone mine t.now who (store_of book order s) ask su l owes);
       part = part;
       homes = subst (λ (st : Store). HomesHold st.tally t.now (at who.session part parts)) (sym told) homes;
       knows = subst (λ (st : Store). K st t.now part) (sym told) knows;
@@ -168,7 +174,7 @@ put_landed who book order s t parts mine note K name bytes one two su lands stan
     (is_noted (newest s) (newest t) (PutHeld name bytes one two) note (audit_of book order) seen ∙ noted)
   where
     next : IsNext s name bytes
-    next = landing_spells who book order s (PutHeld name bytes one two) su stands.holds.chains stands.decodes l f
+    next = landing_spells who book order s (PutHeld name bytes one two) su stands.holds.chains stands.holds.gones stands.decodes l f
 
     seen : has_landed (newest s) (newest t) (Some (PutHeld name bytes one two)) ≡ true
     seen =
@@ -187,6 +193,7 @@ gives_up who book order s t parts mine ask note K o = record {
   passes = o.passes;
   joins = o.joins;
   links = o.links;
+  gone = o.gone;
   part = Away;
   homes = subst (λ (ps : Parts). HomesHold (store_of o.book_after o.order_after t).tally t.now ps) (part_again who.session o.part Away parts)
       (away_keeps (store_of o.book_after o.order_after t).tally t.now (at who.session o.part parts) who.session o.homes);
@@ -204,6 +211,7 @@ weaker who book order s t parts mine ask note K L less o = record {
   passes = o.passes;
   joins = o.joins;
   links = o.links;
+  gone = o.gone;
   part = o.part;
   homes = o.homes;
   knows = less (store_of o.book_after o.order_after t) t.now o.part o.knows;

@@ -5,7 +5,7 @@ use Rattle.cloud_trait.specs.Caller.{Caller}
 use Rattle.cloud_trait.specs.State.{marked}
 use Rattle.head_codec.specs.declared.head.Head.{Head}
 use Rattle.cloud_facts.specs.Landings.Holding.{Holds}
-use Rattle.cloud_facts.specs.Landings.Landing.{Landing, opens, settles, logs, posts, marks_log, marks_post, puts_leaf, puts_page, puts_inner, puts_root, raises_root, stays, sent_by}
+use Rattle.cloud_facts.specs.Landings.Landing.{Landing, opens, settles, logs, posts, marks_log, marks_post, puts_leaf, puts_page, puts_inner, puts_root, raises_root, removes, stays, sent_by}
 use Rattle.cloud_facts.proofs.Landings.LandingLemmas.{landing_grows}
 use Rattle.cloud_facts.specs.Lefts.Left.{IsWaiting}
 use Rattle.cloud_facts.proofs.Lefts.MessageLemmas.{waits_more, waits_marked, deleted_more, deleted_marked}
@@ -51,11 +51,12 @@ waiting_stays who st ask su h (posts tree page bytes q o) r logged w =
     (waits_more (st.tally.posts tree page) (sent_by who bytes ∷ []) (pu_record_of r)) (λ t p is. is) r.tree r.page w)
 waiting_stays who st ask su h (marks_log client id o) r logged w = inr w
 waiting_stays who st ask su h (marks_post tree page id o) r logged w = mark_stays st tree page id o h.numbers r logged w
-waiting_stays who st ask su h (puts_leaf p bytes one two e takes lands) r logged w = inr w
+waiting_stays who st ask su h (puts_leaf p bytes one two e takes lands there) r logged w = inr w
 waiting_stays who st ask su h (puts_page tree page node bytes one two is e first lands) r logged w = inr w
-waiting_stays who st ask su h (puts_inner tree page node pieces bytes one two is e lands) r logged w = inr w
+waiting_stays who st ask su h (puts_inner tree page node pieces bytes one two is e lands there) r logged w = inr w
 waiting_stays who st ask su h (puts_root tree t bytes one two is e covers lands) r logged w = inr w
-waiting_stays who st ask su h (raises_root tree t level links bytes one two is e covers lands) r logged w = inr w
+waiting_stays who st ask su h (raises_root tree t level links bytes one two is e covers lands there) r logged w = inr w
+waiting_stays who st ask su h (removes tree page l is o) r logged w = inr w
 waiting_stays who st ask su h (stays asked puts touches) r logged w = inr w
 
 -- ---- what is deleted stays so
@@ -70,11 +71,12 @@ deleted_stays who st ask su (posts tree page bytes q o) c i d = d
 deleted_stays who st ask su (marks_log client id o) c i d =
     at_by (λ n ps. IsDeleted (st.tally.logged n) i → IsDeleted ps i) client _ st.tally.logged (deleted_marked (st.tally.logged client) id i) (λ n is. is) c d
 deleted_stays who st ask su (marks_post tree page id o) c i d = d
-deleted_stays who st ask su (puts_leaf p bytes one two e takes lands) c i d = d
+deleted_stays who st ask su (puts_leaf p bytes one two e takes lands there) c i d = d
 deleted_stays who st ask su (puts_page tree page node bytes one two is e first lands) c i d = d
-deleted_stays who st ask su (puts_inner tree page node pieces bytes one two is e lands) c i d = d
+deleted_stays who st ask su (puts_inner tree page node pieces bytes one two is e lands there) c i d = d
 deleted_stays who st ask su (puts_root tree t bytes one two is e covers lands) c i d = d
-deleted_stays who st ask su (raises_root tree t level links bytes one two is e covers lands) c i d = d
+deleted_stays who st ask su (raises_root tree t level links bytes one two is e covers lands there) c i d = d
+deleted_stays who st ask su (removes tree page l is o) c i d = d
 deleted_stays who st ask su (stays asked puts touches) c i d = d
 
 -- ---- what joins the log
@@ -101,11 +103,12 @@ joins who st ask su (logs client bytes q o) r is = inl is
 joins who st ask su (posts tree page bytes q o) r is = inl is
 joins who st ask su (marks_log client id o) r is = inl is
 joins who st ask su (marks_post tree page id o) r is = inl is
-joins who st ask su (puts_leaf p bytes one two e takes lands) r is = inl is
+joins who st ask su (puts_leaf p bytes one two e takes lands there) r is = inl is
 joins who st ask su (puts_page tree page node bytes one two t e first lands) r is = inl is
-joins who st ask su (puts_inner tree page node pieces bytes one two t e lands) r is = inl is
+joins who st ask su (puts_inner tree page node pieces bytes one two t e lands there) r is = inl is
 joins who st ask su (puts_root tree root bytes one two t e covers lands) r is = inl is
-joins who st ask su (raises_root tree root level links bytes one two t e covers lands) r is = inl is
+joins who st ask su (raises_root tree root level links bytes one two t e covers lands there) r is = inl is
+joins who st ask su (removes tree page l is o) r there = inl there
 joins who st ask su (stays asked puts touches) r is = inl is
 
 -- of the session's own home
@@ -131,11 +134,12 @@ commits_join who st part ask su (logs client bytes q o) c r is = inl is
 commits_join who st part ask su (posts tree page bytes q o) c r is = inl is
 commits_join who st part ask su (marks_log client id o) c r is = inl is
 commits_join who st part ask su (marks_post tree page id o) c r is = inl is
-commits_join who st part ask su (puts_leaf p bytes one two e takes lands) c r is = inl is
+commits_join who st part ask su (puts_leaf p bytes one two e takes lands there) c r is = inl is
 commits_join who st part ask su (puts_page tree page node bytes one two t e first lands) c r is = inl is
-commits_join who st part ask su (puts_inner tree page node pieces bytes one two t e lands) c r is = inl is
+commits_join who st part ask su (puts_inner tree page node pieces bytes one two t e lands there) c r is = inl is
 commits_join who st part ask su (puts_root tree root bytes one two t e covers lands) c r is = inl is
-commits_join who st part ask su (raises_root tree root level links bytes one two t e covers lands) c r is = inl is
+commits_join who st part ask su (raises_root tree root level links bytes one two t e covers lands there) c r is = inl is
+commits_join who st part ask su (removes tree page l is o) c r there = inl there
 commits_join who st part ask su (stays asked puts touches) c r is = inl is
 
 -- ---- the whole

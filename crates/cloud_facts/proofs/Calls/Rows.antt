@@ -15,7 +15,7 @@ use Rattle.db_base.specs.declared.names.ObjName.TheVariants as object
 use Rattle.db_base.specs.declared.names.QueueName.{QueueName}
 use Rattle.cloud_facts.specs.Book.Book.{Link}
 use Rattle.cloud_facts.specs.Book.Records.{IsIn, Apart}
-use Rattle.cloud_facts.specs.Book.Telling.{node_in, newest_root, nodes_of, roots_of}
+use Rattle.cloud_facts.specs.Book.Telling.{node_in, with_bytes, newest_root, nodes_of, roots_of}
 use Rattle.cloud_facts.specs.Chains.Chain.{IsChained}
 use Rattle.cloud_facts.proofs.Book.Lengths.{apart_fits, image}
 use Rattle.cloud_facts.proofs.Book.Places.{get_map}
@@ -97,7 +97,7 @@ links_within s traced tree chain done cursor h level =
   where
     row : (l : Link) → IsIn (chain level) l → (vs : List Version) → s.versions (object.Page tree l.page) ≡ vs → IsIn (1 ∷ map page_at s.trace) l.page
     row l is [] none =
-        subst (IsIn (1 ∷ map page_at s.trace)) (sym (h.newest.absent level l is (ap (map node_in) none)).1) (in_first 1 (map page_at s.trace))
+        subst (IsIn (1 ∷ map page_at s.trace)) (sym (h.newest.absent level l is (ap (λ (vs : List Version). map node_in (with_bytes vs)) none)).1) (in_first 1 (map page_at s.trace))
     row l is (v ∷ vs) some =
         let r = object_row s traced (object.Page tree l.page) (λ none. never (sym some ∙ none)) in
         in_rest 1 (map page_at s.trace) l.page

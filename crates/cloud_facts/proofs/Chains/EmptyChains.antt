@@ -3,12 +3,13 @@ use Rattle.std.proofs.Common.{◌≡◌, ◌+◌, ℕ, zero, suc, List, [], ◌�
 use Rattle.std.specs.Prelude.{slice_get, ◌==◌}
 use Rattle.std.proofs.lemmas.Bool.{eqb-true, eq-eqb}
 use Rattle.cloud_trait.specs.State.{CloudState, IsEmptyCloud}
+use Rattle.cloud_trait.specs.declared.state.Version.{Version}
 use Rattle.db_base.specs.declared.names.ObjName.TheVariants as object
 use Rattle.node_codec.specs.Tree.{Tree}
 use Rattle.cloud_facts.specs.Book.Book.{Link, empty_book, first_leaf}
 use Rattle.cloud_facts.specs.Book.Records.{StandsAt, IsIn}
 use Rattle.cloud_facts.specs.Book.Tally.{Node}
-use Rattle.cloud_facts.specs.Book.Telling.{tally_of, node_in, root_in, nodes_of, roots_of}
+use Rattle.cloud_facts.specs.Book.Telling.{tally_of, node_in, with_bytes, root_in, nodes_of, roots_of}
 use Rattle.cloud_facts.specs.Chains.Chain.{AreLevels, IsChained, ChainHolds}
 use Rattle.cloud_facts.specs.Chains.Links.{Ascends, first_link, page_after, low_after}
 use Rattle.cloud_facts.proofs.Chains.Names.{in_single}
@@ -81,7 +82,7 @@ nothing_chained done cursor = record {
 pub empty_chains : (s : CloudState) → IsEmptyCloud s → ChainHolds (record { tally = tally_of empty_book s; book = empty_book; order = [] })
 empty_chains s empty tree is =
     let t = tally_of empty_book s in
-    let nodes : nothing_landed ≡ nodes_of s tree = λ i page. ap (map node_in) (sym (empty.versions (object.Page tree page))) i in
+    let nodes : nothing_landed ≡ nodes_of s tree = λ i page. ap (λ (vs : List Version). map node_in (with_bytes vs)) (sym (empty.versions (object.Page tree page))) i in
     let roots : [] ≡ roots_of s tree = ap (map root_in) (sym (empty.versions (object.Tree tree))) in
     subst (λ (ns : ℕ → List Node). IsChained (λ level. first_leaf level) ns (roots_of s tree) (t.done tree) (t.cursor tree 0)) nodes
     (subst (λ (rs : List Tree). IsChained (λ level. first_leaf level) nothing_landed rs (t.done tree) (t.cursor tree 0)) roots

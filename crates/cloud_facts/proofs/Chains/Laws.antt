@@ -11,7 +11,7 @@ use Rattle.log_codec.specs.declared.record.AtomicRec.{AtomicRec}
 use Rattle.node_codec.specs.Inner.{Inner}
 use Rattle.node_codec.specs.Tree.{Tree}
 use Rattle.cloud_facts.specs.Book.Book.{Link, with_pieces}
-use Rattle.cloud_facts.specs.Book.Effects.{Taking, done_after, cursor_after, after_head, after_logged, after_posted, after_log_mark, after_post_mark, after_leaf, after_page, after_inner, after_root, after_raise}
+use Rattle.cloud_facts.specs.Book.Effects.{Taking, done_after, cursor_after, after_head, after_logged, after_posted, after_log_mark, after_post_mark, after_leaf, after_page, after_inner, after_root, after_raise, after_removal}
 use Rattle.cloud_facts.specs.Book.Premises.{Takes, LandsFirst, CoversApplied}
 use Rattle.cloud_facts.specs.Book.Tally.{Node, Leafy, Branch, Store, at}
 use Rattle.cloud_facts.specs.Chains.Chain.{IsChained, ChainHolds}
@@ -38,6 +38,11 @@ after_log_mark_keeps st client id h = h
 
 pub after_post_mark_keeps : (st : Store) (tree page id : ℕ) → ChainHolds st → ChainHolds (after_post_mark tree page id st)
 after_post_mark_keeps st tree page id h = h
+
+-- ---- removed pages
+
+pub after_removal_keeps : (st : Store) (tree page : ℕ) → ChainHolds st → ChainHolds (after_removal tree page st)
+after_removal_keeps st tree page h = h
 
 -- ---- one tree among all
 

@@ -12,7 +12,7 @@ use Rattle.cloud_facts.proofs.Book.GrowthLemmas.{leaf_grows, cursor_grows}
 use Rattle.cloud_facts.proofs.Book.Names.{at2_by}
 use Rattle.cloud_facts.proofs.Book.Places.{in_none}
 use Rattle.cloud_facts.specs.Book.Book.{Link, empty_book}
-use Rattle.cloud_facts.specs.Book.Effects.{Taking, after_leaf, after_page, after_inner, after_root, after_raise}
+use Rattle.cloud_facts.specs.Book.Effects.{Taking, after_leaf, after_page, after_inner, after_root, after_raise, after_removal}
 use Rattle.cloud_facts.specs.Book.Growth.{Grows}
 use Rattle.cloud_facts.specs.Book.Premises.{Takes, LandsFirst, CoversApplied}
 use Rattle.cloud_facts.specs.Book.Tally.{Store, Node}
@@ -52,6 +52,9 @@ page_keeps st tree page node own lands numbers h = record {
 
 pub inner_keeps : (st : Store) (tree page : ℕ) (inner : Inner) (pieces : List Link) → Copies st → Copies (after_inner tree page inner pieces st)
 inner_keeps st tree page inner pieces h = record { in_turn = h.in_turn; unmarked = h.unmarked; ways = h.ways }
+
+pub removal_keeps : (st : Store) (tree page : ℕ) → Copies st → Copies (after_removal tree page st)
+removal_keeps st tree page h = record { in_turn = h.in_turn; unmarked = h.unmarked; ways = h.ways }
 
 -- ---- roots
 

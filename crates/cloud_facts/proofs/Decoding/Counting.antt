@@ -18,7 +18,7 @@ use Rattle.cloud_facts.specs.Book.Tally.{Store}
 use Rattle.cloud_facts.specs.Book.Telling.{last_or, head_in}
 use Rattle.cloud_facts.specs.Decoding.Decodes.{Decodes}
 use Rattle.cloud_facts.specs.Decoding.Kinds.{CountsWithin}
-use Rattle.cloud_facts.proofs.Decoding.Newest.{IsLast, last_cases, last_map}
+use Rattle.cloud_facts.proofs.Decoding.Newest.{IsLast, last_cases, last_map, has_nth, never_gone}
 use Rattle.cloud_facts.proofs.Decoding.Reading.{head_reads}
 use Rattle.cloud_facts.proofs.Decoding.Values.{some_length}
 
@@ -36,10 +36,10 @@ newest_counts s client d = on (last_cases vs)
     on : (vs ≡ []) ⊎ ((v : Version) × IsLast vs v) → CountsWithin (length vs) (last_or empty_head (map head_in vs))
     on (inl e) = subst (λ (xs : List Version). CountsWithin (length xs) (last_or empty_head (map head_in xs))) (sym e) none
     on (inr p) =
-        let k = d.versions (object.Head client) (length vs - 1) p.0 p.1 in
-        let newest : last_or empty_head (map head_in vs) ≡ k.0 = last_map head_in empty_head vs p.0 p.1 ∙ head_reads p.0 k.0 k.1 in
+        let k = has_nth (object.Head client) vs (length vs - 1) p.0 (d.versions (object.Head client)) (never_gone (object.Head client) vs (λ no. no) (d.versions (object.Head client))) p.1 in
+        let newest : last_or empty_head (map head_in vs) ≡ k.2.0 = last_map head_in empty_head vs p.0 p.1 ∙ head_reads p.0 k.0 k.2.0 k.1 k.2.1 in
         let so_many : (length vs - 1) + 1 ≡ length vs = some_length vs p.0 p.1 in
-        subst (λ (h : Head). CountsWithin (length vs) h) (sym newest) (subst (λ (n : ℕ). CountsWithin n k.0) so_many k.2)
+        subst (λ (h : Head). CountsWithin (length vs) h) (sym newest) (subst (λ (n : ℕ). CountsWithin n k.2.0) so_many k.2.2)
 
 few : (p : Phase) (count : ℕ) → p ≡ Open count → IsPhase p → count ≤ 200
 few p count e is = (subst IsPhase e is).1

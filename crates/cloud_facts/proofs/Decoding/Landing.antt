@@ -1,22 +1,25 @@
 -- Every call that lands leaves versions and messages of their kinds.
-use Rattle.std.proofs.Common.{◌≡◌, ◌+◌, ◌-◌, ℕ, List, [], ◌∷◌, ◌++◌, length, Some, sym, subst, ◌⊎◌, inl, inr, arith, false}
+use Rattle.std.proofs.Common.{◌≡◌, ◌+◌, ◌-◌, ◌<◌, ℕ, List, [], ◌∷◌, ◌++◌, length, Some, None, refl, sym, ap, subst, ◌∙◌, ◌⊎◌, inl, inr, arith, false}
 use Rattle.std.specs.Prelude.{slice_get}
+use Rattle.std.proofs.lemmas.List.{length-append}
 use Rattle.db_base.specs.declared.names.ObjName.{ObjName}
 use Rattle.db_base.specs.declared.names.ObjName.TheVariants as object
 use Rattle.db_base.specs.declared.names.QueueName.{QueueName}
 use Rattle.cloud_trait.specs.declared.state.Posted.{Posted}
 use Rattle.cloud_trait.specs.declared.state.Version.{Version}
-use Rattle.cloud_trait.specs.Ask.{Ask, Get, GetHeld, PutHeld, Send, Receive, Delete, Take, Renew, Release, effect, PutsNothing, TouchesNoMessage}
+use Rattle.cloud_trait.specs.Ask.{Ask, Get, GetHeld, PutHeld, ListHeld, RemoveHeld, Send, Receive, Delete, Take, Renew, Release, effect, PutsNothing, TouchesNoMessage}
 use Rattle.cloud_trait.specs.Caller.{Caller}
 use Rattle.cloud_trait.specs.Names.{object_cmp, queue_cmp}
-use Rattle.cloud_trait.specs.State.{CloudState, IsEmptyCloud, landed, sent, deleted, marked}
+use Rattle.cloud_trait.specs.State.{CloudState, IsEmptyCloud, newest, landed, removed, sent, deleted, marked}
 use Rattle.cloud_trait.proofs.EffectLemmas.{effect_versions, effect_messages}
 use Rattle.cloud_trait.proofs.NameLemmas.{object_cmp-equal, queue_cmp-equal}
 use Rattle.cloud_trait.proofs.StateLemmas.{put_at_by}
 use Rattle.cloud_facts.specs.Book.Records.{StandsAt}
+use Rattle.cloud_facts.specs.Book.Telling.{is_gone}
 use Rattle.cloud_facts.proofs.Book.Places.{get_cases, get_single, get_within, marked_bytes}
 use Rattle.cloud_facts.specs.Decoding.Decodes.{Decodes, IsNext, Spells}
-use Rattle.cloud_facts.specs.Decoding.Kinds.{IsNth, AreOfKind, AreApart, MomentsDiffer, MovesOn, IsMessageOf, AreMessagesOf}
+use Rattle.cloud_facts.specs.Decoding.Kinds.{HasNth, IsRemoval, IsLastRemoval, AreOfKind, AreApart, MomentsDiffer, MovesOn, IsMessageOf, AreMessagesOf}
+use Rattle.cloud_facts.proofs.Decoding.Newest.{newest_last, last_there, has_nth}
 
 -- ---- the empty cloud
 
@@ -25,7 +28,7 @@ nothing [] place x e h = absurd (cc)
 nothing (y ∷ xs) place x e h = absurd (cc)
 
 empty_moments : (name : ObjName) (vs : List Version) → vs ≡ [] → MomentsDiffer name vs
-empty_moments (object.Head client) vs e = λ place v w a b. absurd (nothing vs place v e a)
+empty_moments (object.Head client) vs e = λ place v w a b at. absurd (nothing vs place v e at)
 empty_moments (object.Tree tree) vs e = tt
 empty_moments (object.Page tree page) vs e = tt
 
@@ -38,48 +41,90 @@ empty_decodes s e = record {
 
 -- ---- a version more
 
-more_of_kind : (name : ObjName) (vs : List Version) (w : Version) → AreOfKind name vs → IsNth name (length vs + 1) w.bytes → AreOfKind name (vs ++ w ∷ [])
-more_of_kind name vs w are is place v h = on (get_cases vs (w ∷ []) place v h)
+more_of_kind : (name : ObjName) (vs : List Version) (w : Version) → AreOfKind name vs → is_gone vs ≡ false → HasNth name (length vs + 1) w
+    → AreOfKind name (vs ++ w ∷ [])
+more_of_kind name vs w are there is place v h = on (get_cases vs (w ∷ []) place v h)
   where
-    on : (slice_get vs place ≡ Some v) ⊎ ((j : ℕ) × (place ≡ length vs + j) × (slice_get (w ∷ []) j ≡ Some v)) → IsNth name (place + 1) v.bytes
-    on (inl k) = are place v k
+    on : (slice_get vs place ≡ Some v) ⊎ ((j : ℕ) × (place ≡ length vs + j) × (slice_get (w ∷ []) j ≡ Some v))
+        → HasNth name (place + 1) v ⊎ IsLastRemoval name (vs ++ w ∷ []) place v
+    on (inl k) = inl (has_nth name vs place v are there k)
     on (inr p) =
         let first = get_within (w ∷ []) p.0 v p.2 in
         let n : length vs + 1 ≡ place + 1 = omega (arith, p.1, first) in
-        subst (λ (x : Version). IsNth name (place + 1) x.bytes) (get_single w p.0 v p.2) (subst (λ (k : ℕ). IsNth name k w.bytes) n is)
+        inl (subst (λ (x : Version). HasNth name (place + 1) x) (get_single w p.0 v p.2) (subst (λ (k : ℕ). HasNth name k w) n is))
+
+-- a removal behind versions that have bytes
+bare_of_kind : (name : ObjName) (vs : List Version) (w : Version) → AreOfKind name vs → is_gone vs ≡ false → IsRemoval name → w.bytes ≡ None → 0 < length vs
+    → AreOfKind name (vs ++ w ∷ [])
+bare_of_kind name vs w are there removal none some place v h = on (get_cases vs (w ∷ []) place v h)
+  where
+    on : (slice_get vs place ≡ Some v) ⊎ ((j : ℕ) × (place ≡ length vs + j) × (slice_get (w ∷ []) j ≡ Some v))
+        → HasNth name (place + 1) v ⊎ IsLastRemoval name (vs ++ w ∷ []) place v
+    on (inl k) = inl (has_nth name vs place v are there k)
+    on (inr p) =
+        let first = get_within (w ∷ []) p.0 v p.2 in
+        let both = length-append vs (w ∷ []) in
+        inr (record {
+          removal = removal;
+          none = ap (λ (x : Version). x.bytes) (sym (get_single w p.0 v p.2)) ∙ none;
+          behind = omega (arith, p.1, some);
+          last = omega (arith, p.1, first, both);
+        })
 
 -- a version of a head that is of another moment than the newest
-more_moments : (vs : List Version) (w : Version) → ((place : ℕ) (a b : Version) → StandsAt vs place a → StandsAt vs (place + 1) b → AreApart a.bytes b.bytes)
-    → ((v : Version) → StandsAt vs (length vs - 1) v → AreApart v.bytes w.bytes)
-    → (place : ℕ) (a b : Version) → StandsAt (vs ++ w ∷ []) place a → StandsAt (vs ++ w ∷ []) (place + 1) b → AreApart a.bytes b.bytes
-more_moments vs w differ moves place a b h k = on (get_cases vs (w ∷ []) place a h) (get_cases vs (w ∷ []) (place + 1) b k)
+more_moments : (client : ℕ) (vs : List Version) (w : Version) (bytes : List ℕ) → w.bytes ≡ Some bytes → MomentsDiffer (object.Head client) vs
+    → MovesOn (object.Head client) vs bytes → MomentsDiffer (object.Head client) (vs ++ w ∷ [])
+more_moments client vs w bytes has differ moves place u v a b h k is_a is_b = on (get_cases vs (w ∷ []) place u h) (get_cases vs (w ∷ []) (place + 1) v k)
   where
-    on : (slice_get vs place ≡ Some a) ⊎ ((j : ℕ) × (place ≡ length vs + j) × (slice_get (w ∷ []) j ≡ Some a))
-        → (slice_get vs (place + 1) ≡ Some b) ⊎ ((j : ℕ) × (place + 1 ≡ length vs + j) × (slice_get (w ∷ []) j ≡ Some b)) → AreApart a.bytes b.bytes
-    on (inl p) (inl q) = differ place a b p q
-    on (inr p) (inl q) = let less = get_within vs (place + 1) b q in absurd (omega (arith, p.1, less))
+    on : (slice_get vs place ≡ Some u) ⊎ ((j : ℕ) × (place ≡ length vs + j) × (slice_get (w ∷ []) j ≡ Some u))
+        → (slice_get vs (place + 1) ≡ Some v) ⊎ ((j : ℕ) × (place + 1 ≡ length vs + j) × (slice_get (w ∷ []) j ≡ Some v)) → AreApart a b
+    on (inl p) (inl q) = differ place u v a b p q is_a is_b
+    on (inr p) (inl q) = let less = get_within vs (place + 1) v q in absurd (omega (arith, p.1, less))
     on (inr p) (inr q) =
-        let first = get_within (w ∷ []) q.0 b q.2 in
+        let first = get_within (w ∷ []) q.0 v q.2 in
         absurd (omega (arith, p.1, q.1, first))
     on (inl p) (inr q) =
-        let first = get_within (w ∷ []) q.0 b q.2 in
+        let first = get_within (w ∷ []) q.0 v q.2 in
         let n : place ≡ length vs - 1 = omega (arith, q.1, first) in
-        subst (λ (x : Version). AreApart a.bytes x.bytes) (get_single w q.0 b q.2) (moves a (subst (λ (k : ℕ). StandsAt vs k a) n p))
+        let both : Some bytes ≡ Some b = sym has ∙ ap (λ (x : Version). x.bytes) (get_single w q.0 v q.2) ∙ is_b in
+        let one : bytes ≡ b = cc in
+        subst (λ (x : List ℕ). AreApart a x) one (moves u a (subst (λ (k : ℕ). StandsAt vs k u) n p) is_a)
 
-more_differ : (name : ObjName) (vs : List Version) (w : Version) → MomentsDiffer name vs → MovesOn name vs w.bytes → MomentsDiffer name (vs ++ w ∷ [])
-more_differ (object.Head client) vs w differ moves = more_moments vs w differ moves
-more_differ (object.Tree tree) vs w differ moves = tt
-more_differ (object.Page tree page) vs w differ moves = tt
+more_differ : (name : ObjName) (vs : List Version) (w : Version) (bytes : List ℕ) → w.bytes ≡ Some bytes → MomentsDiffer name vs → MovesOn name vs bytes
+    → MomentsDiffer name (vs ++ w ∷ [])
+more_differ (object.Head client) vs w bytes has differ moves = more_moments client vs w bytes has differ moves
+more_differ (object.Tree tree) vs w bytes has differ moves = tt
+more_differ (object.Page tree page) vs w bytes has differ moves = tt
 
 -- a put lands
 pub landed_decodes : (who : Caller) (name : ObjName) (bytes : List ℕ) (s : CloudState) → Decodes s → IsNext s name bytes → Decodes (landed who name bytes s)
 landed_decodes who name bytes s d next = record {
-  versions = put_at_by AreOfKind object_cmp object_cmp-equal s.versions name (s.versions name ++ record { who = who; bytes = bytes } ∷ [])
-      (more_of_kind name (s.versions name) (record { who = who; bytes = bytes }) (d.versions name) next.kind) d.versions;
-  moments = put_at_by MomentsDiffer object_cmp object_cmp-equal s.versions name (s.versions name ++ record { who = who; bytes = bytes } ∷ [])
-      (more_differ name (s.versions name) (record { who = who; bytes = bytes }) (d.moments name) next.moves) d.moments;
+  versions = put_at_by AreOfKind object_cmp object_cmp-equal s.versions name (s.versions name ++ record { who = who; bytes = Some bytes } ∷ [])
+      (more_of_kind name (s.versions name) (record { who = who; bytes = Some bytes }) (d.versions name) next.there (bytes, refl, next.kind)) d.versions;
+  moments = put_at_by MomentsDiffer object_cmp object_cmp-equal s.versions name (s.versions name ++ record { who = who; bytes = Some bytes } ∷ [])
+      (more_differ name (s.versions name) (record { who = who; bytes = Some bytes }) bytes refl (d.moments name) next.moves) d.moments;
   messages = d.messages;
 }
+
+-- a page is removed
+bare_differ : (name : ObjName) (vs : List Version) → IsRemoval name → MomentsDiffer name vs
+bare_differ (object.Head client) vs removal = absurd removal
+bare_differ (object.Tree tree) vs removal = absurd removal
+bare_differ (object.Page tree page) vs removal = tt
+
+pub removed_decodes : (who : Caller) (name : ObjName) (bytes : List ℕ) (s : CloudState) → Decodes s → IsRemoval name → newest s name ≡ Some bytes
+    → Decodes (removed who name s)
+removed_decodes who name bytes s d removal is = record {
+  versions = put_at_by AreOfKind object_cmp object_cmp-equal s.versions name (s.versions name ++ record { who = who; bytes = None } ∷ [])
+      (bare_of_kind name (s.versions name) (record { who = who; bytes = None }) (d.versions name) (last_there (s.versions name) last.0 bytes last.1 last.2) removal refl
+      (let less = get_within (s.versions name) (length (s.versions name) - 1) last.0 last.1 in omega (arith, less))) d.versions;
+  moments = put_at_by MomentsDiffer object_cmp object_cmp-equal s.versions name (s.versions name ++ record { who = who; bytes = None } ∷ [])
+      (bare_differ name (s.versions name ++ record { who = who; bytes = None } ∷ []) removal) d.moments;
+  messages = d.messages;
+}
+  where
+    last : (v : Version) × StandsAt (s.versions name) (length (s.versions name) - 1) v × (v.bytes ≡ Some bytes)
+    last = newest_last (s.versions name) bytes is
 
 -- ---- messages
 
@@ -131,6 +176,8 @@ pub effect_decodes : (who : Caller) (ask : Ask) (s : CloudState) → Decodes s �
 effect_decodes who (Get name) s d spells = d
 effect_decodes who (GetHeld name l) s d spells = d
 effect_decodes who (PutHeld name bytes one two) s d spells = landed_decodes who name bytes s d spells
+effect_decodes who (ListHeld tree l) s d spells = d
+effect_decodes who (RemoveHeld name l) s d spells = removed_decodes who name spells.1 s d spells.0 spells.2
 effect_decodes who (Send queue bytes) s d spells = sent_decodes who queue bytes s d spells
 effect_decodes who (Receive queue most) s d spells = d
 effect_decodes who (Delete queue id) s d spells = deleted_decodes queue id s d

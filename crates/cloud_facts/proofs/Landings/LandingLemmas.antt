@@ -6,6 +6,7 @@ use Rattle.cloud_trait.specs.Ask.{Ask}
 use Rattle.cloud_trait.specs.Caller.{Caller}
 use Rattle.cloud_facts.specs.Chains.Chain.{ChainHolds}
 use Rattle.cloud_facts.proofs.Chains.Grown.{after_leaf_grows, after_inner_grows, after_page_grows, after_raise_grows}
+use Rattle.cloud_facts.proofs.Chains.GoneLemmas as gone
 use Rattle.cloud_facts.proofs.Chains.Laws as chain
 use Rattle.cloud_facts.proofs.Chains.EmptyChains.{empty_chains}
 use Rattle.cloud_facts.specs.Chains.Landing.{Raises}
@@ -21,7 +22,7 @@ use Rattle.head_codec.specs.declared.head.Head.{Head}
 use Rattle.head_codec.specs.declared.head.Phase.{Phase}
 use Rattle.head_codec.specs.declared.head.Phase.TheVariants.{Settled, Open}
 use Rattle.cloud_facts.specs.Landings.Holding.{Holds}
-use Rattle.cloud_facts.specs.Landings.Landing.{Landing, opens, settles, logs, posts, marks_log, marks_post, puts_leaf, puts_page, puts_inner, puts_root, raises_root, stays, own_of, sent_by}
+use Rattle.cloud_facts.specs.Landings.Landing.{Landing, opens, settles, logs, posts, marks_log, marks_post, puts_leaf, puts_page, puts_inner, puts_root, raises_root, removes, stays, own_of, sent_by}
 use Rattle.cloud_facts.proofs.Lefts.HeadLemmas as left_opens
 use Rattle.cloud_facts.proofs.Lefts.SettlesLemmas as left_settles
 use Rattle.cloud_facts.proofs.Lefts.QueueLemmas as left_queues
@@ -39,7 +40,7 @@ use Rattle.cloud_facts.specs.Book.Growth.{Grows, IsLater, PhaseRises}
 use Rattle.cloud_facts.specs.Book.Premises.{Opens, SettlesBehind}
 use Rattle.cloud_facts.specs.Book.Records.{IsIn, is_open, IsApplied}
 use Rattle.cloud_facts.specs.Book.Tally.{Store}
-use Rattle.cloud_facts.proofs.Book.GrowthLemmas.{grows_itself, head_grows, logged_grows, posted_grows, log_mark_grows, post_mark_grows, root_grows}
+use Rattle.cloud_facts.proofs.Book.GrowthLemmas.{grows_itself, head_grows, logged_grows, posted_grows, log_mark_grows, post_mark_grows, root_grows, removal_grows}
 
 record_is : (r q : AtomicRec) → Some r ≡ Some q → r ≡ q
 record_is r q e = cc
@@ -96,13 +97,14 @@ landing_grows who st ask su h (logs client bytes r o) = logged_grows st client _
 landing_grows who st ask su h (posts tree page bytes r o) = posted_grows st tree page _
 landing_grows who st ask su h (marks_log client id o) = log_mark_grows st client id
 landing_grows who st ask su h (marks_post tree page id o) = post_mark_grows st tree page id
-landing_grows who st ask su h (puts_leaf p bytes one two e takes lands) = after_leaf_grows st p lands
+landing_grows who st ask su h (puts_leaf p bytes one two e takes lands there) = after_leaf_grows st p lands
 landing_grows who st ask su h (puts_page tree page node bytes one two is e first lands) =
     after_page_grows st tree page node (own_of page node)
     (λ client is_client. let z = cursor_unlinked st h.numbers tree page client is_client first.page_is (λ link linked. first.unlinked 0 link linked) in omega (arith, z)) lands
-landing_grows who st ask su h (puts_inner tree page node pieces bytes one two is e lands) = after_inner_grows st tree page node pieces lands
+landing_grows who st ask su h (puts_inner tree page node pieces bytes one two is e lands there) = after_inner_grows st tree page node pieces lands
 landing_grows who st ask su h (puts_root tree t bytes one two is e covers lands) = root_grows st tree t covers (let more = lands.next in omega (arith, more))
-landing_grows who st ask su h (raises_root tree t level links bytes one two is e covers lands) = after_raise_grows st tree t level links is h.chains covers lands
+landing_grows who st ask su h (raises_root tree t level links bytes one two is e covers lands there) = after_raise_grows st tree t level links is h.chains covers lands
+landing_grows who st ask su h (removes tree page l is o) = removal_grows st tree page
 landing_grows who st ask su h (stays asked puts touches) = grows_itself st
 
 pub landing_keeps : (who : Caller) (st : Store) (ask : Ask) (su : Store) → Holds st → Landing who st ask su → Holds su
@@ -113,6 +115,7 @@ landing_keeps who st ask su h (opens client head records bytes one two e o) = re
   leaves = left_opens.opens_keeps st client head records o h.numbers h.leaves;
   copies = copy_heads.opens_keeps st client head records o h.numbers h.copies;
   chains = chain.after_head_keeps st client head records h.chains;
+  gones = h.gones;
 }
 landing_keeps who st ask su h (settles client head bytes one two e o) = record {
   numbers = numbers.after_settle_keeps st client head h.numbers o;
@@ -121,6 +124,7 @@ landing_keeps who st ask su h (settles client head bytes one two e o) = record {
   leaves = left_settles.settles_keeps st client head o h.leaves;
   copies = copy_heads.settles_keeps st client head o h.copies;
   chains = chain.after_head_keeps st client head [] h.chains;
+  gones = h.gones;
 }
 landing_keeps who st ask su h (logs client bytes r o) = record {
   numbers = numbers.after_logged_keeps st client _ h.numbers;
@@ -129,6 +133,7 @@ landing_keeps who st ask su h (logs client bytes r o) = record {
   leaves = left_queues.logged_keeps st client _ r o h.leaves;
   copies = copy_queues.logged_keeps st client _ h.copies;
   chains = chain.after_logged_keeps st client (sent_by who bytes) h.chains;
+  gones = h.gones;
 }
 landing_keeps who st ask su h (posts tree page bytes r o) = record {
   numbers = numbers.after_posted_keeps st tree page _ r h.numbers o;
@@ -137,6 +142,7 @@ landing_keeps who st ask su h (posts tree page bytes r o) = record {
   leaves = left_queues.posted_keeps st tree page _ h.leaves;
   copies = copy_queues.posted_keeps st tree page _ r o (λ q logged past. h.leaves.copied q logged (inr past)) h.numbers h.copies;
   chains = chain.after_posted_keeps st tree page (sent_by who bytes) h.chains;
+  gones = h.gones;
 }
 landing_keeps who st ask su h (marks_log client id o) = record {
   numbers = numbers.after_log_mark_keeps st client id h.numbers;
@@ -145,6 +151,7 @@ landing_keeps who st ask su h (marks_log client id o) = record {
   leaves = left_queues.log_mark_keeps st client id o h.leaves;
   copies = copy_queues.log_mark_keeps st client id h.copies;
   chains = chain.after_log_mark_keeps st client id h.chains;
+  gones = h.gones;
 }
 landing_keeps who st ask su h (marks_post tree page id o) = record {
   numbers = numbers.after_post_mark_keeps st tree page id h.numbers;
@@ -153,14 +160,16 @@ landing_keeps who st ask su h (marks_post tree page id o) = record {
   leaves = left_queues.post_mark_keeps st tree page id o h.numbers h.leaves;
   copies = copy_queues.post_mark_keeps st tree page id o h.copies;
   chains = chain.after_post_mark_keeps st tree page id h.chains;
+  gones = h.gones;
 }
-landing_keeps who st ask su h (puts_leaf p bytes one two e takes lands) = record {
+landing_keeps who st ask su h (puts_leaf p bytes one two e takes lands there) = record {
   numbers = numbers.after_leaf_keeps st p h.numbers takes;
   order = order.after_leaf_keeps st p h.order h.numbers (one_queue st h.pends) takes;
   pends = pending.leaf_keeps st p takes h.numbers h.pends;
   leaves = left.leaf_keeps st p takes h.numbers h.leaves;
   copies = copies.leaf_keeps st p takes h.copies;
   chains = chain.after_leaf_keeps st p h.chains takes lands;
+  gones = gone.leaf_keeps st p (landing_grows who st ask su h (puts_leaf p bytes one two e takes lands there)) there h.gones;
 }
 landing_keeps who st ask su h (puts_page tree page node bytes one two is e first lands) = record {
   numbers = numbers.after_page_keeps st tree page node (own_of page node) h.numbers first;
@@ -169,14 +178,16 @@ landing_keeps who st ask su h (puts_page tree page node bytes one two is e first
   leaves = left.page_keeps st tree page node (own_of page node) h.leaves;
   copies = copies.page_keeps st tree page node (own_of page node) first h.numbers h.copies;
   chains = chain.after_page_keeps st tree page node (own_of page node) h.chains first lands;
+  gones = gone.page_keeps st tree page node (own_of page node) (landing_grows who st ask su h (puts_page tree page node bytes one two is e first lands)) h.gones;
 }
-landing_keeps who st ask su h (puts_inner tree page node pieces bytes one two is e lands) = record {
+landing_keeps who st ask su h (puts_inner tree page node pieces bytes one two is e lands there) = record {
   numbers = numbers.after_inner_keeps st tree page node pieces h.numbers;
   order = order.after_inner_keeps st tree page node pieces h.order;
   pends = pending.inner_keeps st tree page node pieces h.pends;
   leaves = left.inner_keeps st tree page node pieces h.leaves;
   copies = copies.inner_keeps st tree page node pieces h.copies;
   chains = chain.after_inner_keeps st tree page node pieces h.chains lands;
+  gones = gone.inner_keeps st tree page node pieces (landing_grows who st ask su h (puts_inner tree page node pieces bytes one two is e lands there)) there h.gones;
 }
 landing_keeps who st ask su h (puts_root tree t bytes one two is e covers lands) = record {
   numbers = numbers.after_root_keeps st tree t h.numbers covers;
@@ -185,14 +196,25 @@ landing_keeps who st ask su h (puts_root tree t bytes one two is e covers lands)
   leaves = left.root_keeps st tree t h.leaves;
   copies = copies.root_keeps st tree t covers h.copies;
   chains = chain.after_root_keeps st tree t h.chains covers lands;
+  gones = h.gones;
 }
-landing_keeps who st ask su h (raises_root tree t level links bytes one two is e covers lands) = record {
+landing_keeps who st ask su h (raises_root tree t level links bytes one two is e covers lands there) = record {
   numbers = numbers.after_raise_keeps st tree t level links h.numbers covers (none_above st tree t level links is h.chains lands);
   order = order.after_raise_keeps st tree t level links h.order;
   pends = pending.raise_keeps st tree t level links h.pends;
   leaves = left.raise_keeps st tree t level links h.leaves;
   copies = copies.raise_keeps st tree t level links covers h.copies;
   chains = chain.after_raise_keeps st tree t level links h.chains covers lands;
+  gones = gone.raise_keeps st tree t level links (landing_grows who st ask su h (raises_root tree t level links bytes one two is e covers lands there)) there h.gones;
+}
+landing_keeps who st ask su h (removes tree page l is o) = record {
+  numbers = numbers.after_removal_keeps st tree page h.numbers;
+  order = order.after_removal_keeps st tree page h.order;
+  pends = pending.removal_keeps st tree page h.pends;
+  leaves = left.removal_keeps st tree page h.leaves;
+  copies = copies.removal_keeps st tree page h.copies;
+  chains = chain.after_removal_keeps st tree page h.chains;
+  gones = gone.removal_keeps st tree page o h.gones;
 }
 landing_keeps who st ask su h (stays asked puts touches) = h
 
@@ -206,4 +228,5 @@ empty_holds s empty = record {
   leaves = left.empty_leaves s empty;
   copies = copies.empty_copies s empty;
   chains = empty_chains s empty;
+  gones = gone.empty_gones s empty;
 }

@@ -4,10 +4,11 @@ use Rattle.std.specs.Prelude.{IsSomeAnd}
 use Rattle.std.proofs.lemmas.Bool.{eqb-true, and_parts}
 use Rattle.db_base.specs.declared.names.Lock.{Lock}
 use Rattle.db_base.specs.declared.names.ObjName.{ObjName}
+use Rattle.db_base.specs.declared.names.ObjName.TheVariants as object
 use Rattle.cloud_trait.specs.declared.answer.Answer.{Answer}
 use Rattle.cloud_trait.specs.declared.state.Hold.{Hold}
 use Rattle.cloud_trait.specs.declared.state.Version.{Version}
-use Rattle.cloud_trait.specs.Ask.{Ask, Get, GetHeld, PutHeld, Send, Receive, Delete, Take, Renew, Release, Lands, Permits, effect}
+use Rattle.cloud_trait.specs.Ask.{Ask, Get, GetHeld, PutHeld, ListHeld, RemoveHeld, Send, Receive, Delete, Take, Renew, Release, Lands, Permits, effect}
 use Rattle.cloud_trait.specs.Caller.{Caller}
 use Rattle.cloud_trait.specs.Claim.{Claim, Lasts}
 use Rattle.cloud_trait.specs.Names.{lock_cmp, object_cmp}
@@ -17,7 +18,7 @@ use Rattle.cloud_trait.proofs.EffectLemmas.{effect_rest, effect_versions}
 use Rattle.cloud_trait.proofs.NameLemmas.{lock_cmp-equal, object_cmp-equal}
 use Rattle.cloud_trait.proofs.RowLemmas.{lands_or_not}
 use Rattle.cloud_trait.proofs.StateLemmas.{put_at_by}
-use Rattle.cloud_facts.specs.Leases.Guards.{guard, IsGuarded, HasLasting, HasCurrent, Allowed}
+use Rattle.cloud_facts.specs.Leases.Guards.{guard, IsGuarded, HasLasting, HasCurrent, IsRemovedBy, Allowed}
 use Rattle.cloud_facts.specs.Leases.Leases.{Hands, Holds, LeasesHold, Owns}
 
 -- ---- locks
@@ -68,6 +69,8 @@ effect_locks_may : (hands : Hands) (who : Caller) (ask : Ask) (s : CloudState) �
 effect_locks_may hands who (Get name) s owns permits = same_locks hands who.session s.now s s refl
 effect_locks_may hands who (GetHeld name l) s owns permits = same_locks hands who.session s.now s s refl
 effect_locks_may hands who (PutHeld name bytes one two) s owns permits = same_locks hands who.session s.now s (landed who name bytes s) refl
+effect_locks_may hands who (ListHeld tree l) s owns permits = same_locks hands who.session s.now s s refl
+effect_locks_may hands who (RemoveHeld name l) s owns permits = same_locks hands who.session s.now s (effect who (RemoveHeld name l) s) refl
 effect_locks_may hands who (Send queue bytes) s owns permits = same_locks hands who.session s.now s (effect who (Send queue bytes) s) refl
 effect_locks_may hands who (Receive queue most) s owns permits = same_locks hands who.session s.now s s refl
 effect_locks_may hands who (Delete queue id) s owns permits = same_locks hands who.session s.now s (effect who (Delete queue id) s) refl
@@ -86,15 +89,29 @@ guarding hands session now k one (Some l) owns lasts (inr e) = record { lease = 
 guarding hands session now k one None owns lasts (inr e) = absurd e
 
 abbrev ObjectMay : Hands → ℕ → ℕ → CloudState → ObjName → List Version → Type 0
-ObjectMay hands session now s name vs = (vs ≡ s.versions name) ⊎ HasLasting now hands session (guard s name)
+ObjectMay hands session now s name vs = (vs ≡ s.versions name) ⊎ (HasLasting now hands session (guard s name) ⊎ IsRemovedBy hands session now name (s.versions name) vs)
 
 effect_objects : (hands : Hands) (who : Caller) (ask : Ask) (s : CloudState) → Owns hands who.session ask → IsGuarded s s.now ask → Permits ask s
     → (name : ObjName) → ObjectMay hands who.session s.now s name ((effect who ask s).versions name)
 effect_objects hands who (PutHeld name bytes one two) s owns guarded permits q =
     put_at_by (λ q vs. ObjectMay hands who.session s.now s q vs) object_cmp object_cmp-equal s.versions name _
-    (inr (guarding hands who.session s.now (guard s name) one two owns permits (guarded permits))) (λ r. inl refl) q
+    (inr (inl (guarding hands who.session s.now (guard s name) one two owns permits (guarded permits)))) (λ r. inl refl) q
 effect_objects hands who (Get name) s owns guarded permits q = inl refl
 effect_objects hands who (GetHeld name l) s owns guarded permits q = inl refl
+effect_objects hands who (ListHeld tree l) s owns guarded permits q = inl refl
+effect_objects hands who (RemoveHeld (object.Head client) l) s owns guarded permits q = absurd guarded
+effect_objects hands who (RemoveHeld (object.Tree tree) l) s owns guarded permits q = absurd guarded
+effect_objects hands who (RemoveHeld (object.Page tree page) l) s owns guarded permits q =
+    put_at_by (λ q vs. ObjectMay hands who.session s.now s q vs) object_cmp object_cmp-equal s.versions (object.Page tree page) _
+    (inr (inr (record {
+      tree = tree;
+      page = page;
+      name_is = refl;
+      removal = record { who = who; bytes = None };
+      none = refl;
+      versions = refl;
+      lasting = record { lease = l; held = owns; lock = guarded permits; lasts = permits };
+    }))) (λ r. inl refl) q
 effect_objects hands who (Send queue bytes) s owns guarded permits q = inl refl
 effect_objects hands who (Receive queue most) s owns guarded permits q = inl refl
 effect_objects hands who (Delete queue id) s owns guarded permits q = inl refl
@@ -120,10 +137,10 @@ landed_allowed who ask s now hands later owns guarded permits =
       later = subst (λ n. s.now ≤ n) (sym e) later;
       generations = may.generations;
       locks = λ k. subst (λ n. MayMove hands who.session n k (s.locks k) ((effect who ask (called who now s)).locks k)) (sym e) (may.locks k);
-      objects = λ name. subst (λ n. ((effect who ask (called who now s)).versions name ≡ s.versions name) ⊎ HasLasting n hands who.session (guard s name)) (sym e) (objects name);
+      objects = λ name. subst (λ n. ObjectMay hands who.session n s name ((effect who ask (called who now s)).versions name)) (sym e) (objects name);
     }
 
--- a call does only what it may, where its leases are the session's own and guard what it puts
+-- a call does only what it may, where its leases are the session's own and guard what it puts or removes
 pub call_is_allowed : (who : Caller) (ask : Ask) (a : Answer) (c d : Counts) (s : CloudState) (new : Option CloudState) (l : Leaves who ask a c d s new) (hands : Hands)
     → Owns hands who.session ask → IsGuarded s l.after.now ask → Allowed hands who.session s l.after
 call_is_allowed who ask a c d s new l hands owns guarded = on (lands_or_not who ask a c d (called who l.after.now s) l.after l.row)
@@ -174,13 +191,15 @@ lock_stays s t hands actor u k h may ne lasting = on (may.locks k)
             omega (arith, e, f, lasting.lasts, o)
     on (inr (inr mine)) = absurd (lasting_apart s.now s.locks hands u actor k h ne before mine)
 
--- an object that a lasting lease of another session guards is untouched
+-- an object that a lasting lease of another session guards is untouched, or it is a page that is removed
 pub guarded_stays : (s t : CloudState) (hands : Hands) (actor u : ℕ) (name : ObjName) → LeasesHold s.now s.locks hands → Allowed hands actor s t → u ≢ actor
-    → HasLasting t.now hands u (guard s name) → t.versions name ≡ s.versions name
+    → HasLasting t.now hands u (guard s name) → (t.versions name ≡ s.versions name) ⊎ IsRemovedBy hands actor t.now name (s.versions name) (t.versions name)
 guarded_stays s t hands actor u name h may ne lasting = on (may.objects name)
   where
-    on : (t.versions name ≡ s.versions name) ⊎ HasLasting t.now hands actor (guard s name) → t.versions name ≡ s.versions name
-    on (inl e) = e
-    on (inr mine) =
+    on : (t.versions name ≡ s.versions name) ⊎ (HasLasting t.now hands actor (guard s name) ⊎ IsRemovedBy hands actor t.now name (s.versions name) (t.versions name))
+        → (t.versions name ≡ s.versions name) ⊎ IsRemovedBy hands actor t.now name (s.versions name) (t.versions name)
+    on (inl e) = inl e
+    on (inr (inl mine)) =
         absurd (lasting_apart s.now s.locks hands u actor (guard s name) h ne (lasting_earlier s.now t.now hands u (guard s name) may.later lasting)
         (lasting_current s.now s.locks hands actor (guard s name) h (lasting_earlier s.now t.now hands actor (guard s name) may.later mine)))
+    on (inr (inr removed)) = inr removed

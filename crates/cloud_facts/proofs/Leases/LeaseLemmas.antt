@@ -6,7 +6,7 @@ use Rattle.db_base.specs.declared.names.Lock.{Lock}
 use Rattle.cloud_trait.specs.declared.answer.Answer.{Answer}
 use Rattle.cloud_trait.specs.declared.answer.Answer.TheVariants as answer
 use Rattle.cloud_trait.specs.declared.state.Hold.{Hold}
-use Rattle.cloud_trait.specs.Ask.{Ask, Get, GetHeld, PutHeld, Send, Receive, Delete, Take, Renew, Release, Lands}
+use Rattle.cloud_trait.specs.Ask.{Ask, Get, GetHeld, PutHeld, ListHeld, RemoveHeld, Send, Receive, Delete, Take, Renew, Release, Lands}
 use Rattle.cloud_trait.specs.Caller.{Caller}
 use Rattle.cloud_trait.specs.Claim.{Claim, Lasts, extended}
 use Rattle.cloud_trait.specs.Names.{lock_cmp}
@@ -340,6 +340,10 @@ call_keeps who (GetHeld name l) a c d m b t hands after row owns renewed w h =
 call_keeps who (PutHeld name bytes one two) a c d m b t hands after row owns renewed w h =
     still b t hands after who.session (row_rest who (PutHeld name bytes one two) a c d b t row).now (row_locks who (PutHeld name bytes one two) a c d b t row tt) w.others
     (λ x holds. old_only hands who.session _ x (w.own x holds)) h
+call_keeps who (ListHeld tree l) a c d m b t hands after row owns renewed w h =
+    still b t hands after who.session (row_rest who (ListHeld tree l) a c d b t row).now (row_locks who (ListHeld tree l) a c d b t row tt) w.others (λ x holds. old_only hands who.session _ x (w.own x holds)) h
+call_keeps who (RemoveHeld name l) a c d m b t hands after row owns renewed w h =
+    still b t hands after who.session (row_rest who (RemoveHeld name l) a c d b t row).now (row_locks who (RemoveHeld name l) a c d b t row tt) w.others (λ x holds. old_only hands who.session _ x (w.own x holds)) h
 call_keeps who (Send queue bytes) a c d m b t hands after row owns renewed w h =
     still b t hands after who.session (row_rest who (Send queue bytes) a c d b t row).now (row_locks who (Send queue bytes) a c d b t row tt) w.others (λ x holds. old_only hands who.session _ x (w.own x holds)) h
 call_keeps who (Receive queue most) a c d m b t hands after row owns renewed w h =

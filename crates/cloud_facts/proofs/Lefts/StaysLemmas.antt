@@ -18,7 +18,7 @@ use Rattle.cloud_facts.proofs.Numbers.Known.{IsOfRun, newly_applied}
 use Rattle.cloud_facts.proofs.Book.Empty.{empty_store, no_records}
 use Rattle.route_plan.specs.Record.{pu_record_of}
 use Rattle.cloud_facts.specs.Book.Book.{Link, empty_book}
-use Rattle.cloud_facts.specs.Book.Effects.{Taking, after_leaf, after_page, after_inner, after_root, after_raise}
+use Rattle.cloud_facts.specs.Book.Effects.{Taking, after_leaf, after_page, after_inner, after_root, after_raise, after_removal}
 use Rattle.cloud_facts.specs.Book.Growth.{Grows}
 use Rattle.cloud_facts.specs.Book.Messages.{HasCopy, Waits, IsLogMessage}
 use Rattle.cloud_facts.specs.Book.Premises.{Takes}
@@ -44,6 +44,15 @@ inner_keeps st tree page inner pieces h = record {
   waiting = h.waiting;
   ways = λ c count is opens. has_way (after_inner tree page inner pieces st) c count (way_of st c count (h.ways c count is opens));
   logged = λ c is. logged_of (after_inner tree page inner pieces st) c (log_of st c (h.logged c is));
+  sent = h.sent;
+}
+
+pub removal_keeps : (st : Store) (tree page : ℕ) → Leaves st → Leaves (after_removal tree page st)
+removal_keeps st tree page h = record {
+  copied = h.copied;
+  waiting = h.waiting;
+  ways = λ c count is opens. has_way (after_removal tree page st) c count (way_of st c count (h.ways c count is opens));
+  logged = λ c is. logged_of (after_removal tree page st) c (log_of st c (h.logged c is));
   sent = h.sent;
 }
 

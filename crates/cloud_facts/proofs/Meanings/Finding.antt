@@ -6,8 +6,9 @@ use Rattle.leaf_view.specs.Leaf.{Leaf}
 use Rattle.leaf_view.specs.Lookup.{value_of}
 use Rattle.cloud_facts.specs.Book.Book.{Link}
 use Rattle.cloud_facts.specs.Book.Records.{StandsAt, IsIn}
-use Rattle.cloud_facts.specs.Book.Telling.{page_from, newest_leaf, newest_root, nodes_of, roots_of}
+use Rattle.cloud_facts.specs.Book.Telling.{page_from, newest_leaf, newest_root, nodes_of, roots_of, gone_of}
 use Rattle.cloud_facts.specs.Chains.Chain.{IsChained}
+use Rattle.cloud_facts.specs.Chains.Gones.{AreKept}
 use Rattle.cloud_facts.specs.Chains.Links.{link_of, page_after, low_after}
 use Rattle.cloud_facts.specs.Decoding.Decodes.{Decodes}
 use Rattle.replay_meaning.specs.Index.{IsRightOf, IsWithin, Reaches, ends, right_leaf, right_inner, down, Finds}
@@ -28,7 +29,7 @@ is_within key high (Some next) e before = subst (IsWithin key) (sym e) before
 -- ---- one level
 
 module _ (s : CloudState) (tree : ℕ) (chain : ℕ → List Link) (done : List ℕ → ℕ → ℕ → ℕ) (cursor : ℕ → ℕ)
-    (h : IsChained chain (nodes_of s tree) (roots_of s tree) done cursor) (d : Decodes s) (key : List ℕ) where
+    (h : IsChained chain (nodes_of s tree) (roots_of s tree) done cursor) (kept : AreKept chain (gone_of s tree)) (d : Decodes s) (key : List ℕ) where
   abbrev leaf : ℕ → Leaf
   leaf page = newest_leaf (nodes_of s) tree page
 
@@ -38,7 +39,7 @@ module _ (s : CloudState) (tree : ℕ) (chain : ℕ → List Link) (done : List 
   right_of_leaf : (place : ℕ) (link next : Link) → StandsAt (chain 0) place link → StandsAt (chain 0) (suc place) next → IsFrom next key
       → Reaches s tree key 0 next.page target → Reaches s tree key 0 link.page target
   right_of_leaf place link next there after from again =
-      let at = leaf_at s tree chain done cursor h d place link there in
+      let at = leaf_at s tree chain done cursor h kept d place link there in
       let high : (leaf link.page).high ≡ Some next.low = at.ends.high ∙ ap low_after after in
       let page : (leaf link.page).right ≡ next.page = at.ends.right ∙ ap page_after after in
       right_leaf link.page (leaf link.page) target at.newest (is_right key (leaf link.page).high next high from)
@@ -47,7 +48,7 @@ module _ (s : CloudState) (tree : ℕ) (chain : ℕ → List Link) (done : List 
   at_leaf : (place : ℕ) (link : Link) → StandsAt (chain 0) place link → IsFrom link key → IsBefore key (slice_get (chain 0) (suc place))
       → Reaches s tree key 0 link.page target
   at_leaf place link there from before =
-      let at = leaf_at s tree chain done cursor h d place link there in
+      let at = leaf_at s tree chain done cursor h kept d place link there in
       let here : page_from 1 key (chain 0) ≡ link.page = ends_at key 1 None (chain 0) (h.levels.ascends 0) place link there from before in
       subst (λ (p : ℕ). Reaches s tree key 0 link.page (leaf p)) (sym here)
       (ends link.page (leaf link.page) at.newest (is_within key (leaf link.page).high (slice_get (chain 0) (suc place)) at.ends.high before))
@@ -56,7 +57,7 @@ module _ (s : CloudState) (tree : ℕ) (chain : ℕ → List Link) (done : List 
       → IsFrom next key
       → Reaches s tree key (suc level) next.page target → Reaches s tree key (suc level) link.page target
   right_of_inner level place link next there after from again =
-      let at = inner_at s tree chain done cursor h d level place link there in
+      let at = inner_at s tree chain done cursor h kept d level place link there in
       let high : at.node.high ≡ Some next.low = at.ends.high ∙ ap low_after after in
       let page : at.node.right ≡ next.page = at.ends.right ∙ ap page_after after in
       right_inner level link.page at.node target at.newest (is_right key at.node.high next high from)
@@ -66,7 +67,7 @@ module _ (s : CloudState) (tree : ℕ) (chain : ℕ → List Link) (done : List 
       → (place : ℕ) (link : Link) → StandsAt (chain (suc level)) place link → IsFrom link key → IsBefore key (slice_get (chain (suc level)) (suc place))
       → Reaches s tree key (suc level) link.page target
   at_inner level below place link there from before =
-      let at = inner_at s tree chain done cursor h d level place link there in
+      let at = inner_at s tree chain done cursor h kept d level place link there in
       let meets = stale_down chain (nodes_of s tree) (roots_of s tree) done cursor h (suc level) link at.node key (place, there) at.landed from in
       let same : meets.below ≡ level = omega (arith, meets.level_is) in
       down level link.page at.node target meets.entry.0 meets.entry.1 at.newest

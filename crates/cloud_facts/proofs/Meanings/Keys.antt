@@ -27,6 +27,7 @@ use Rattle.cloud_facts.specs.Orders.Order.{is_entry_of, FirstApplied, Ordered}
 use Rattle.cloud_facts.specs.Tellings.Taking.{IsLinked}
 use Rattle.cloud_facts.specs.Tellings.Told.{store_of}
 use Rattle.cloud_facts.proofs.Book.Lengths.{few_keys, image}
+use Rattle.cloud_facts.proofs.Chains.GoneLemmas.{links_kept}
 use Rattle.cloud_facts.proofs.Book.Places.{in_front}
 use Rattle.cloud_facts.proofs.Chains.Pieces.{in_cases, in_first, in_rest, none_in}
 use Rattle.cloud_facts.proofs.Meanings.Pages.{leaf_at, read_range, read_ascends}
@@ -148,7 +149,7 @@ module _ (book : Book) (order : List Change) (s : CloudState) (stands : StandsUn
     is_newest : IsNewestLeaf s tree page leaf
     is_newest =
         subst (λ (p : ℕ). IsNewestLeaf s tree p (newest_leaf (nodes_of s) tree p)) at.page_is
-        (leaf_at s tree (book.chain tree) (st.tally.done tree) (st.tally.cursor tree 0) chained stands.decodes at.place at.link at.linked).newest
+        (leaf_at s tree (book.chain tree) (st.tally.done tree) (st.tally.cursor tree 0) chained (links_kept st stands.holds.gones tree) stands.decodes at.place at.link at.linked).newest
 
     pub few_records : length leaf.records ≤ length book.log
     few_records =

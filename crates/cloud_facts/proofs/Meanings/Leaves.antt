@@ -6,8 +6,9 @@ use Rattle.db_base.specs.declared.names.ObjName.TheVariants as object
 use Rattle.leaf_view.specs.Leaf.{Leaf}
 use Rattle.cloud_facts.specs.Book.Book.{Link}
 use Rattle.cloud_facts.specs.Book.Records.{StandsAt, IsIn}
-use Rattle.cloud_facts.specs.Book.Telling.{newest_leaf, nodes_of, roots_of}
+use Rattle.cloud_facts.specs.Book.Telling.{newest_leaf, nodes_of, roots_of, gone_of}
 use Rattle.cloud_facts.specs.Chains.Chain.{IsChained}
+use Rattle.cloud_facts.specs.Chains.Gones.{AreKept}
 use Rattle.cloud_facts.specs.Chains.Links.{page_after}
 use Rattle.cloud_facts.specs.Decoding.Decodes.{Decodes}
 use Rattle.replay_meaning.specs.Chain.{Leads, AreLeaves}
@@ -27,10 +28,10 @@ leads_links s tree leaf (x ∷ links) pages each =
 
 -- the chain of leaves is never broken
 pub links_are_leaves : (s : CloudState) (tree : ℕ) (chain : ℕ → List Link) (done : List ℕ → ℕ → ℕ → ℕ) (cursor : ℕ → ℕ)
-    → IsChained chain (nodes_of s tree) (roots_of s tree) done cursor → Decodes s → AreLeaves s tree (leaves_of (newest_leaf (nodes_of s) tree) (chain 0))
-links_are_leaves s tree chain done cursor h d =
+    → IsChained chain (nodes_of s tree) (roots_of s tree) done cursor → AreKept chain (gone_of s tree) → Decodes s → AreLeaves s tree (leaves_of (newest_leaf (nodes_of s) tree) (chain 0))
+links_are_leaves s tree chain done cursor h kept d =
     subst (λ (p : ℕ). Leads s tree p (leaves_of (newest_leaf (nodes_of s) tree) (chain 0)) 0) first
-    (leads_links s tree (newest_leaf (nodes_of s) tree) (chain 0) (λ link k. (h.pages.linked 0 link k).0) (leaf_at s tree chain done cursor h d))
+    (leads_links s tree (newest_leaf (nodes_of s) tree) (chain 0) (λ link k. (h.pages.linked 0 link k).0) (leaf_at s tree chain done cursor h kept d))
   where
     first : page_after (slice_get (chain 0) 0) ≡ 1
     first = ap (λ (ls : List Link). page_after (slice_get ls 0)) h.levels.leaves.1
@@ -67,9 +68,9 @@ along s tree leaf (x ∷ links) each (l ∷ leaves) page lead =
 
 -- leaves that lead from page 1 to a page are those of the first links, and the page is that of the next one
 pub leads_along : (s : CloudState) (tree : ℕ) (chain : ℕ → List Link) (done : List ℕ → ℕ → ℕ → ℕ) (cursor : ℕ → ℕ)
-    → IsChained chain (nodes_of s tree) (roots_of s tree) done cursor → Decodes s → (leaves : List Leaf) (page : ℕ) → Leads s tree 1 leaves page
+    → IsChained chain (nodes_of s tree) (roots_of s tree) done cursor → AreKept chain (gone_of s tree) → Decodes s → (leaves : List Leaf) (page : ℕ) → Leads s tree 1 leaves page
     → IsAlong (newest_leaf (nodes_of s) tree) (chain 0) leaves page
-leads_along s tree chain done cursor h d leaves page lead =
+leads_along s tree chain done cursor h kept d leaves page lead =
     let first : page_after (slice_get (chain 0) 0) ≡ 1 = ap (λ (ls : List Link). page_after (slice_get ls 0)) h.levels.leaves.1 in
-    along s tree (newest_leaf (nodes_of s) tree) (chain 0) (leaf_at s tree chain done cursor h d) leaves page
+    along s tree (newest_leaf (nodes_of s) tree) (chain 0) (leaf_at s tree chain done cursor h kept d) leaves page
     (subst (λ (p : ℕ). Leads s tree p leaves page) (sym first) lead)

@@ -1,9 +1,8 @@
 -- The newest bytes of the pages of links: leaves at the lowest level, and inner nodes above.
-use Rattle.std.proofs.Common.{◌≡◌, ◌≢◌, ℕ, suc, List, [], map, Option, Some, None, Ok, refl, sym, ap, subst, ◌∙◌, ◌⊎◌, inl, inr, arith}
-use Rattle.std.specs.Option.{option_map}
+use Rattle.std.proofs.Common.{◌≡◌, ◌≢◌, false, ℕ, suc, List, [], map, Option, Some, None, Ok, refl, sym, ap, subst, ◌∙◌, arith}
 use Rattle.std.specs.Prelude.{slice_get}
 use Rattle.std.specs.List.{AllByRecursion}
-use Rattle.cloud_trait.specs.State.{CloudState, newest, newest_of}
+use Rattle.cloud_trait.specs.State.{CloudState, newest}
 use Rattle.cloud_trait.specs.declared.state.Version.{Version}
 use Rattle.db_base.specs.declared.names.ObjName.TheVariants as object
 use Rattle.leaf_view.specs.Fits.{IsEntryIn, Ascend, entry_below}
@@ -15,14 +14,15 @@ use Rattle.node_codec.specs.Tree.{empty_tree}
 use Rattle.cloud_facts.specs.Book.Book.{Link}
 use Rattle.cloud_facts.specs.Book.Records.{StandsAt, IsIn}
 use Rattle.cloud_facts.specs.Book.Tally.{Node, Leafy, Branch, low_of}
-use Rattle.cloud_facts.specs.Book.Telling.{last_or, leaf_in, newest_leaf, node_in, root_in, nodes_of, roots_of, newest_root}
+use Rattle.cloud_facts.specs.Book.Telling.{last_or, leaf_in, newest_leaf, node_in, with_bytes, root_in, nodes_of, gone_of, roots_of, newest_root}
 use Rattle.cloud_facts.specs.Chains.Chain.{IsChained}
+use Rattle.cloud_facts.specs.Chains.Gones.{AreKept}
 use Rattle.cloud_facts.specs.Chains.Links.{newest_node, IsOfLevel, EndsBefore}
 use Rattle.cloud_facts.proofs.Chains.Names.{plus_one}
 use Rattle.cloud_facts.proofs.Chains.Newest.{IsNewestOf, newest_is, last_in}
 use Rattle.cloud_facts.specs.Decoding.Decodes.{Decodes}
 use Rattle.cloud_facts.specs.Decoding.Kinds.{IsNode}
-use Rattle.cloud_facts.proofs.Decoding.Newest.{IsLast, last_cases}
+use Rattle.cloud_facts.proofs.Decoding.Newest.{never_gone, no_version}
 use Rattle.cloud_facts.proofs.Decoding.Values.{newest_page_decodes, newest_root_decodes}
 use Rattle.replay_meaning.specs.Chain.{IsReadAs, IsNewestLeaf}
 use Rattle.replay_meaning.specs.Index.{IsNewestInner, IsRootIn}
@@ -37,16 +37,6 @@ leaf_is (Branch n) level = absurd (omega (arith, level.1))
 inner_is : (level : ℕ) (node : Node) → IsOfLevel (suc level) node → (n : Inner) × (node ≡ Branch n)
 inner_is level (Leafy l) is = absurd (omega (arith, is))
 inner_is level (Branch n) is = (n, refl)
-
--- without newest bytes no version landed
-no_version : (vs : List Version) → newest_of vs ≡ None → vs ≡ []
-no_version vs none = on (last_cases vs)
-  where
-    on : (vs ≡ []) ⊎ ((v : Version) × IsLast vs v) → vs ≡ []
-    on (inl e) = e
-    on (inr p) =
-        let some : newest_of vs ≡ Some p.0.bytes = ap (option_map (λ (v : Version). v.bytes)) p.1 in
-        absurd (cc)
 
 read_as : (tree page : ℕ) (bytes : Option (List ℕ)) (l : Leaf) → (bytes ≡ None → (page ≡ 1) × (l ≡ empty_leaf))
     → ((b : List ℕ) → bytes ≡ Some b → IsLeaf b l) → IsReadAs tree page bytes (Ok l)
@@ -79,13 +69,15 @@ pub record IsLeafAt (s : CloudState) (tree : ℕ) (leaf : ℕ → Leaf) (link : 
   pub ends : EndsBefore (Leafy (leaf link.page)) next
 
 module _ (s : CloudState) (tree : ℕ) (chain : ℕ → List Link) (done : List ℕ → ℕ → ℕ → ℕ) (cursor : ℕ → ℕ)
-    (h : IsChained chain (nodes_of s tree) (roots_of s tree) done cursor) (d : Decodes s) where
+    (h : IsChained chain (nodes_of s tree) (roots_of s tree) done cursor) (kept : AreKept chain (gone_of s tree)) (d : Decodes s) where
   newest_of_link : (level : ℕ) (link : Link) → IsIn (chain level) link → IsNewestOf level link (newest_node (nodes_of s tree) link.page)
   newest_of_link level link linked =
       newest_is chain (nodes_of s tree) (newest_root (roots_of s) tree).level h.levels h.versions h.newest level link linked
 
-  none_landed : (page : ℕ) → newest s (object.Page tree page) ≡ None → nodes_of s tree page ≡ []
-  none_landed page none = ap (map node_in) (no_version (s.versions (object.Page tree page)) none)
+  none_landed : (page : ℕ) → gone_of s tree page ≡ false → newest s (object.Page tree page) ≡ None → nodes_of s tree page ≡ []
+  none_landed page there none =
+      ap (λ (vs : List Version). map node_in (with_bytes vs))
+      (no_version (object.Page tree page) (s.versions (object.Page tree page)) (d.versions (object.Page tree page)) there none)
 
   ends_next : (level place : ℕ) (link : Link) → StandsAt (chain level) place link
       → EndsBefore (newest_node (nodes_of s tree) link.page) (slice_get (chain level) (suc place))
@@ -110,7 +102,7 @@ module _ (s : CloudState) (tree : ℕ) (chain : ℕ → List Link) (done : List 
 
       absent : newest s (object.Page tree link.page) ≡ None → (link.page ≡ 1) × (newest_leaf (nodes_of s) tree link.page ≡ empty_leaf)
       absent none =
-          let nothing = none_landed link.page none in
+          let nothing = none_landed link.page (kept 0 link (place, there)) none in
           ((h.newest.absent 0 link (place, there) nothing).1, ap (λ (ns : List Node). leaf_in (last_or (Leafy empty_leaf) ns)) nothing)
 
       present : (bytes : List ℕ) → newest s (object.Page tree link.page) ≡ Some bytes → IsLeaf bytes (newest_leaf (nodes_of s) tree link.page)
@@ -131,7 +123,7 @@ module _ (s : CloudState) (tree : ℕ) (chain : ℕ → List Link) (done : List 
       some e = absurd (omega (arith, (h.newest.absent (suc level) link (place, there) e).0))
 
       on : (bytes : Option (List ℕ)) → newest s (object.Page tree link.page) ≡ bytes → IsInnerAt s tree link (slice_get (chain (suc level)) (suc place))
-      on None e = absurd (some (none_landed link.page e))
+      on None e = absurd (some (none_landed link.page (kept (suc level) link (place, there)) e))
       on (Some bytes) e = record {
         node = inner.0;
         newest = (bytes, e, subst (λ (n : Node). IsNode bytes n) inner.1 (newest_page_decodes s tree link.page bytes d e));
@@ -144,5 +136,8 @@ pub root_at : (s : CloudState) (tree : ℕ) → Decodes s → IsRootIn (newest s
 root_at s tree d = on (newest s (object.Tree tree)) refl
   where
     on : (bytes : Option (List ℕ)) → newest s (object.Tree tree) ≡ bytes → IsRootIn bytes (newest_root (roots_of s) tree)
-    on None e = ap (λ (vs : List Version). last_or empty_tree (map root_in vs)) (no_version (s.versions (object.Tree tree)) e)
+    on None e =
+        ap (λ (vs : List Version). last_or empty_tree (map root_in vs))
+        (no_version (object.Tree tree) (s.versions (object.Tree tree)) (d.versions (object.Tree tree))
+        (never_gone (object.Tree tree) (s.versions (object.Tree tree)) (λ no. no) (d.versions (object.Tree tree))) e)
     on (Some bytes) e = newest_root_decodes s tree bytes d e

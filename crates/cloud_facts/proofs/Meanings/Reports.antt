@@ -9,8 +9,10 @@ use Rattle.node_codec.proofs.NodeLemmas.{not_below_empty}
 use Rattle.replay_meaning.specs.Right.{value_at}
 use Rattle.cloud_facts.specs.Book.Book.{Link}
 use Rattle.cloud_facts.specs.Book.Tally.{Tally, Store}
-use Rattle.cloud_facts.specs.Book.Telling.{tally_of, page_from, newest_leaf, nodes_of, roots_of}
+use Rattle.cloud_facts.specs.Book.Telling.{tally_of, page_from, newest_leaf, nodes_of, roots_of, gone_of}
 use Rattle.cloud_facts.specs.Chains.Chain.{IsChained, ChainHolds}
+use Rattle.cloud_facts.specs.Chains.Gones.{Gones, AreKept}
+use Rattle.cloud_facts.proofs.Chains.GoneLemmas.{links_kept}
 use Rattle.cloud_facts.specs.Chains.Links.{first_link, Ascends}
 use Rattle.cloud_facts.specs.Decoding.Decodes.{Decodes}
 use Rattle.replay_meaning.specs.Chain.{AreLeaves, records_of}
@@ -33,17 +35,17 @@ contents_all key leaf links rest e up ranged =
     same = ap (λ (b : Bool). value_of key (leaf (cond b 1 (page_from 1 key rest))).records) (not_below_empty key)
 
 pub chained_reads : (s : CloudState) (tree : ℕ) (chain : ℕ → List Link) (done : List ℕ → ℕ → ℕ → ℕ) (cursor : ℕ → ℕ)
-    → IsChained chain (nodes_of s tree) (roots_of s tree) done cursor → Decodes s
+    → IsChained chain (nodes_of s tree) (roots_of s tree) done cursor → AreKept chain (gone_of s tree) → Decodes s
     → IsRead s tree (leaves_of (newest_leaf (nodes_of s) tree) (chain 0)) (λ key. value_of key (newest_leaf (nodes_of s) tree (page_from 1 key (chain 0))).records)
-chained_reads s tree chain done cursor h d = record {
-  chain = links_are_leaves s tree chain done cursor h d;
+chained_reads s tree chain done cursor h kept d = record {
+  chain = links_are_leaves s tree chain done cursor h kept d;
   ascending = records_ascend (newest_leaf (nodes_of s) tree) (chain 0) (h.levels.ascends 0) ranged;
   contents = λ key. contents_all key (newest_leaf (nodes_of s) tree) (chain 0) h.levels.leaves.0 h.levels.leaves.1 (h.levels.ascends 0) ranged;
-  found = λ key. finds s tree chain done cursor h d key;
+  found = λ key. finds s tree chain done cursor h kept d key;
 }
   where
     ranged : AreRanged (newest_leaf (nodes_of s) tree) (chain 0)
-    ranged place link there = let at = leaf_at s tree chain done cursor h d place link there in record {
+    ranged place link there = let at = leaf_at s tree chain done cursor h kept d place link there in record {
       low = at.low;
       high = at.ends.high;
       records = read_range tree link.page _ (newest_leaf (nodes_of s) tree link.page) at.newest;
@@ -55,12 +57,13 @@ abbrev pub leaves_in : Store → ℕ → List Leaf
 leaves_in st tree = leaves_of (newest_leaf st.tally.nodes tree) (st.book.chain tree 0)
 
 -- a cloud that tells a store whose chains hold is read as the store tells
-pub store_reads : (s : CloudState) (st : Store) (tree : ℕ) → tally_of st.book s ≡ st.tally → ChainHolds st → IsTree tree → Decodes s
+pub store_reads : (s : CloudState) (st : Store) (tree : ℕ) → tally_of st.book s ≡ st.tally → ChainHolds st → Gones st → IsTree tree → Decodes s
     → IsRead s tree (leaves_in st tree) (st.tally.value tree)
-store_reads s st tree e h is d =
+store_reads s st tree e h gones is d =
     subst (λ (t : Tally). IsRead s tree (leaves_of (newest_leaf t.nodes tree) (st.book.chain tree 0)) (t.value tree)) e
     (chained_reads s tree (st.book.chain tree) ((tally_of st.book s).done tree) ((tally_of st.book s).cursor tree 0)
-    (subst (λ (t : Tally). IsChained (st.book.chain tree) (t.nodes tree) (t.roots tree) (t.done tree) (t.cursor tree 0)) (sym e) (h tree is)) d)
+    (subst (λ (t : Tally). IsChained (st.book.chain tree) (t.nodes tree) (t.roots tree) (t.done tree) (t.cursor tree 0)) (sym e) (h tree is))
+    (subst (λ (t : Tally). AreKept (st.book.chain tree) (t.gone tree)) (sym e) (links_kept st gones tree)) d)
 
 -- whatever leaves are all of the tree, they are those
 pub all_leaves : (s : CloudState) (tree : ℕ) (leaves others : List Leaf) (value : List ℕ → Option Value) → IsRead s tree leaves value

@@ -17,7 +17,7 @@ use Rattle.node_codec.specs.Inner.{Inner}
 use Rattle.node_codec.specs.Tree.{Tree}
 use Rattle.report_types.specs.declared.entry.Entry.{Entry}
 use Rattle.cloud_facts.specs.Book.Book.{Link, empty_book, with_pieces}
-use Rattle.cloud_facts.specs.Book.Effects.{after_head, after_logged, after_posted, after_log_mark, after_post_mark, Taking, done_after, cursor_after, after_leaf, after_page, after_inner, after_root, after_raise}
+use Rattle.cloud_facts.specs.Book.Effects.{after_head, after_logged, after_posted, after_log_mark, after_post_mark, Taking, done_after, cursor_after, after_leaf, after_page, after_inner, after_root, after_raise, after_removal}
 use Rattle.cloud_facts.specs.Book.Premises.{IsRouted, Opens, Settles, Posts, Takes, LandsFirst, CoversApplied}
 use Rattle.cloud_facts.specs.Book.Records.{StandsAt, IsIn, key_in, count_of, IsApplied}
 use Rattle.cloud_facts.specs.Book.Tally.{Node, Tally, Store, at2}
@@ -267,6 +267,15 @@ after_inner_keeps st tree page inner pieces n = kept st (after_inner tree page i
   covered = n.covered;
   stay = λ a link. at2_by (λ a level links. IsIn (st.book.chain a level) link → IsIn links link) tree inner.level (with_pieces page pieces (st.book.chain tree inner.level)) st.book.chain
       (links_stay page pieces (st.book.chain tree inner.level) link) (λ a level is. is) a 0;
+})
+
+pub after_removal_keeps : (st : Store) (tree page : ℕ) → Numbers st → Numbers (after_removal tree page st)
+after_removal_keeps st tree page n = kept st (after_removal tree page st).tally st.book.chain st.order n (record {
+  sent = n.sent;
+  done_within = n.done_within;
+  cursor_within = n.cursor_within;
+  covered = n.covered;
+  stay = λ tree link is. is;
 })
 
 module _ (st : Store) (tree : ℕ) (root : Tree) (n : Numbers st) (c : CoversApplied st tree root) where

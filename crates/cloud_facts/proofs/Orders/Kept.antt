@@ -21,7 +21,7 @@ use Rattle.node_codec.specs.Inner.{Inner}
 use Rattle.node_codec.specs.Tree.{Tree}
 use Rattle.report_types.specs.declared.entry.Entry.{Entry}
 use Rattle.cloud_facts.specs.Book.Book.{Link, empty_book}
-use Rattle.cloud_facts.specs.Book.Effects.{after_head, after_logged, after_posted, after_log_mark, after_post_mark, Taking, is_lacking, lacking, taken_entry, taken_entries, after_leaf, after_page, after_inner, after_root, after_raise}
+use Rattle.cloud_facts.specs.Book.Effects.{after_head, after_logged, after_posted, after_log_mark, after_post_mark, Taking, is_lacking, lacking, taken_entry, taken_entries, after_leaf, after_page, after_inner, after_root, after_raise, after_removal}
 use Rattle.cloud_facts.specs.Book.Premises.{Opens, Takes}
 use Rattle.cloud_facts.specs.Book.Records.{StandsAt, IsIn, key_in, is_of_key, of_key}
 use Rattle.cloud_facts.specs.Book.Tally.{Node, Tally, Store}
@@ -123,6 +123,9 @@ after_root_keeps st tree root o = kept st (after_root tree root st).tally st.boo
 
 pub after_raise_keeps : (st : Store) (tree : ℕ) (root : Tree) (level : ℕ) (links : List Link) → Ordered st → Ordered (after_raise tree root level links st)
 after_raise_keeps st tree root level links o = kept st (after_raise tree root level links st).tally (after_raise tree root level links st).book.chain o
+
+pub after_removal_keeps : (st : Store) (tree page : ℕ) → Ordered st → Ordered (after_removal tree page st)
+after_removal_keeps st tree page o = kept st (after_removal tree page st).tally st.book.chain o
 
 -- ---- leaves
 

@@ -13,7 +13,7 @@ use Rattle.cloud_facts.specs.Numbers.Numbers.{Numbers}
 use Rattle.cloud_facts.specs.Pendings.Pending.{IsPending, Pends}
 use Rattle.cloud_facts.proofs.Pendings.Holding.{holds_of, pends_of}
 use Rattle.cloud_facts.specs.Book.Book.{Link, empty_book}
-use Rattle.cloud_facts.specs.Book.Effects.{Taking, after_logged, after_posted, after_log_mark, after_post_mark, after_leaf, after_page, after_inner, after_root, after_raise}
+use Rattle.cloud_facts.specs.Book.Effects.{Taking, after_logged, after_posted, after_log_mark, after_post_mark, after_leaf, after_page, after_inner, after_root, after_raise, after_removal}
 use Rattle.cloud_facts.specs.Book.Growth.{Grows}
 use Rattle.cloud_facts.specs.Book.Premises.{Takes}
 use Rattle.cloud_facts.specs.Book.Records.{IsIn, IsApplied}
@@ -49,6 +49,9 @@ root_keeps st tree root pends = record { each = pends.each; heads = λ c is. pen
 pub raise_keeps : (st : Store) (tree : ℕ) (root : Tree) (level : ℕ) (links : List Link) → Pends st → Pends (after_raise tree root level links st)
 raise_keeps st tree root level links pends =
     record { each = pends.each; heads = λ c is. pends_of (after_raise tree root level links st) c (holds_of st c (pends.heads c is)); sticky = pends.sticky }
+
+pub removal_keeps : (st : Store) (tree page : ℕ) → Pends st → Pends (after_removal tree page st)
+removal_keeps st tree page pends = record { each = pends.each; heads = λ c is. pends_of (after_removal tree page st) c (holds_of st c (pends.heads c is)); sticky = pends.sticky }
 
 -- ---- leaves
 

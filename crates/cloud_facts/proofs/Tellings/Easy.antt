@@ -1,11 +1,15 @@
 -- Heads and messages.
-use Rattle.std.proofs.Common.{◌≡◌, ℕ, zero, suc, false, List, [], ◌∷◌, ◌++◌, map, Some, refl, ap, ◌∙◌}
+use Rattle.std.proofs.Common.{◌≡◌, ℕ, zero, suc, true, false, List, [], ◌∷◌, ◌++◌, map, Some, None, refl, ap, ◌∙◌}
 use Rattle.db_base.specs.declared.names.ObjName.TheVariants as object
 use Rattle.db_base.specs.declared.names.QueueName.{QueueName}
 use Rattle.db_base.specs.declared.names.QueueName.TheVariants.{Atomic}
 use Rattle.cloud_trait.specs.Caller.{Caller}
-use Rattle.cloud_trait.specs.Names.{queue_cmp}
-use Rattle.cloud_trait.specs.State.{CloudState, landed, sent, deleted, marked, put_at}
+use Rattle.cloud_trait.proofs.NameLemmas.{object_cmp-equal}
+use Rattle.cloud_trait.proofs.StateLemmas.{put_at_by}
+use Rattle.db_base.specs.declared.names.ObjName.{ObjName}
+use Rattle.leaf_view.specs.Lookup.{value_of, number_of as done_number}
+use Rattle.cloud_trait.specs.Names.{object_cmp, queue_cmp}
+use Rattle.cloud_trait.specs.State.{CloudState, landed, removed, sent, deleted, marked, put_at}
 use Rattle.cloud_trait.specs.declared.state.Landing.{Landing}
 use Rattle.cloud_trait.specs.declared.state.Posted.{Posted}
 use Rattle.cloud_trait.specs.declared.state.Version.{Version}
@@ -15,12 +19,13 @@ use Rattle.head_codec.specs.declared.head.Head.{Head}
 use Rattle.log_codec.specs.declared.record.AtomicRec.{AtomicRec}
 use Rattle.report_types.specs.declared.entry.Entry.{Entry}
 use Rattle.cloud_facts.specs.Book.Book.{Book}
-use Rattle.cloud_facts.specs.Book.Effects.{after_head, after_logged, after_posted, after_log_mark, after_post_mark, with_logged, with_posts}
-use Rattle.cloud_facts.specs.Book.Tally.{Tally}
-use Rattle.cloud_facts.specs.Book.Telling.{tally_of, last_or, head_in, queue_of, cursor_of}
+use Rattle.cloud_facts.specs.Book.Effects.{after_head, after_logged, after_posted, after_log_mark, after_post_mark, after_removal, with_logged, with_posts}
+use Rattle.cloud_facts.specs.Book.Tally.{Node, Tally, at2}
+use Rattle.cloud_facts.specs.Book.Telling.{tally_of, last_or, head_in, node_in, with_bytes, is_gone, nodes_of, gone_of, leaf_for, newest_leaf, queue_of, cursor_of}
 use Rattle.cloud_facts.proofs.Decoding.Reading.{head_reads}
+use Rattle.cloud_facts.proofs.Decoding.Versions.{bare_added, gone_added}
 use Rattle.cloud_facts.specs.Tellings.Told.{store_of, AreAlike, Tells}
-use Rattle.cloud_facts.proofs.Tellings.Names.{put_head, put_atomic, put_queue, at_image, last_image}
+use Rattle.cloud_facts.proofs.Tellings.Names.{put_head, put_page, put_atomic, put_queue, at_image, at2_image, last_image}
 
 -- tallies that say the same at each name are the same
 pub alike : (t u : Tally) → AreAlike t u → t ≡ u
@@ -32,6 +37,7 @@ alike t u a = λ i. record {
   done = λ tree key page client. a.done tree key page client i;
   value = λ tree key. a.value tree key i;
   nodes = λ tree page. a.nodes tree page i;
+  gone = λ tree page. a.gone tree page i;
   roots = λ tree. a.roots tree i;
 }
 
@@ -49,18 +55,19 @@ pub head_told : (who : Caller) (client : ℕ) (bytes : List ℕ) (h : Head) (mor
 head_told who client bytes h more book order s is = alike _ _ (record {
   head = λ c.
       ap (λ (vs : List Version). last_or empty_head (map head_in vs))
-      (put_head s.versions client (s.versions (object.Head client) ++ record { who = who; bytes = bytes } ∷ []) c)
+      (put_head s.versions client (s.versions (object.Head client) ++ record { who = who; bytes = Some bytes } ∷ []) c)
       ∙ at_image (λ (vs : List Version). last_or empty_head (map head_in vs)) client
-      (s.versions (object.Head client) ++ record { who = who; bytes = bytes } ∷ []) h
+      (s.versions (object.Head client) ++ record { who = who; bytes = Some bytes } ∷ []) h
       (λ n. s.versions (object.Head n)) c
-      (last_image head_in empty_head (s.versions (object.Head client)) (record { who = who; bytes = bytes }) h
-      (head_reads (record { who = who; bytes = bytes }) h is));
+      (last_image head_in empty_head (s.versions (object.Head client)) (record { who = who; bytes = Some bytes }) h
+      (head_reads (record { who = who; bytes = Some bytes }) bytes h refl is));
   logged = λ c. refl;
   posts = λ tree page. refl;
   cursor = head_cursors who client bytes s;
   done = λ tree key page c. refl;
   value = λ tree key. refl;
   nodes = λ tree page. refl;
+  gone = λ tree page. refl;
   roots = λ tree. refl;
 })
 
@@ -83,6 +90,7 @@ logged_changed client ms trace book order s = alike _ _ (record {
   done = λ tree key page c. refl;
   value = λ tree key. refl;
   nodes = λ tree page. refl;
+  gone = λ tree page. refl;
   roots = λ tree. refl;
 })
   where
@@ -101,6 +109,7 @@ posts_changed tree page ms trace book order s = alike _ _ (record {
   done = λ t key p c. refl;
   value = λ t key. refl;
   nodes = λ t p. refl;
+  gone = λ t p. refl;
   roots = λ t. refl;
 })
   where
@@ -129,6 +138,42 @@ log_mark_told client id book order s = logged_changed client (marked (s.messages
 pub post_mark_told : (tree page id : ℕ) (book : Book) (order : List Entry) (s : CloudState)
     → Tells (deleted (queue_of tree page) id s) (after_post_mark tree page id (store_of book order s))
 post_mark_told tree page id book order s = posts_changed tree page (marked (s.messages (queue_of tree page)) id) s.trace book order s
+
+-- ---- removals
+
+module _ (who : Caller) (tree page : ℕ) (s : CloudState) where
+  removal_nodes : (t p : ℕ) → nodes_of (removed who (object.Page tree page) s) t p ≡ nodes_of s t p
+  removal_nodes t p =
+      put_at_by (λ (q : ObjName) (vs : List Version). map node_in (with_bytes vs) ≡ map node_in (with_bytes (s.versions q))) object_cmp object_cmp-equal s.versions
+      (object.Page tree page) (s.versions (object.Page tree page) ++ record { who = who; bytes = None } ∷ [])
+      (ap (map node_in) (bare_added (s.versions (object.Page tree page)) (record { who = who; bytes = None }) refl)) (λ q. refl) (object.Page t p)
+
+  all_nodes : nodes_of (removed who (object.Page tree page) s) ≡ nodes_of s
+  all_nodes = λ i t p. removal_nodes t p i
+
+  removal_gone : (t p : ℕ) → gone_of (removed who (object.Page tree page) s) t p ≡ at2 tree page true (gone_of s) t p
+  removal_gone t p =
+      ap (λ (vs : List Version). is_gone vs) (put_page s.versions tree page (s.versions (object.Page tree page) ++ record { who = who; bytes = None } ∷ []) t p)
+      ∙ at2_image (λ (vs : List Version). is_gone vs) tree page (s.versions (object.Page tree page) ++ record { who = who; bytes = None } ∷ []) true
+      (λ x y. s.versions (object.Page x y)) t p (gone_added who (s.versions (object.Page tree page)))
+
+  removal_cursors : (t p c : ℕ) → cursor_of (removed who (object.Page tree page) s) t p c ≡ cursor_of s t p c
+  removal_cursors t zero c = refl
+  removal_cursors t (suc p) c = ap (λ (ns : ℕ → ℕ → List Node). done_number (newest_leaf ns t (suc p)).done (suc p) c) all_nodes
+
+  -- a page is removed
+  pub removal_told : (book : Book) (order : List Entry) → Tells (removed who (object.Page tree page) s) (after_removal tree page (store_of book order s))
+  removal_told book order = alike _ _ (record {
+    head = λ c. refl;
+    logged = λ c. refl;
+    posts = λ t p. refl;
+    cursor = removal_cursors;
+    done = λ t key p c. ap (λ (ns : ℕ → ℕ → List Node). done_number (leaf_for book ns t key).done p c) all_nodes;
+    value = λ t key. ap (λ (ns : ℕ → ℕ → List Node). value_of key (leaf_for book ns t key).records) all_nodes;
+    nodes = removal_nodes;
+    gone = removal_gone;
+    roots = λ t. refl;
+  })
 
 -- ---- calls that change no object and no message
 

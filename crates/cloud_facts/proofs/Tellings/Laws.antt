@@ -1,5 +1,5 @@
 -- What is told after each put, by what holds of the chains and of all bytes.
-use Rattle.std.proofs.Common.{◌≡◌, ◌≢◌, ◌+◌, ◌-◌, ℕ, List, [], ◌∷◌, length, true, refl, sym, ap, subst, ◌∙◌, ◌⊎◌, inl, inr, arith}
+use Rattle.std.proofs.Common.{◌≡◌, ◌≢◌, ◌+◌, ◌-◌, ℕ, List, [], ◌∷◌, length, true, false, refl, sym, ap, subst, ◌∙◌, ◌⊎◌, inl, inr, arith}
 use Rattle.std.specs.Prelude.{slice_get}
 use Rattle.std.specs.List.{AllByRecursion}
 use Rattle.db_base.specs.Ids.{IsTree}
@@ -23,7 +23,7 @@ use Rattle.cloud_facts.specs.Book.Effects.{after_page, after_leaf, after_inner, 
 use Rattle.cloud_facts.specs.Book.Premises.{Ranges, LandsFirst}
 use Rattle.cloud_facts.specs.Book.Records.{IsIn}
 use Rattle.cloud_facts.specs.Book.Tally.{Node, Leafy, Branch, version_of}
-use Rattle.cloud_facts.specs.Book.Telling.{tally_of, last_or, leaf_in, newest_leaf, nodes_of, roots_of, newest_root, cursor_of}
+use Rattle.cloud_facts.specs.Book.Telling.{tally_of, last_or, leaf_in, newest_leaf, nodes_of, gone_of, roots_of, newest_root, cursor_of}
 use Rattle.cloud_facts.specs.Chains.Chain.{ChainHolds, IsChained, IsUnlinked}
 use Rattle.cloud_facts.specs.Chains.Landing.{LandsLeaf, LandsInner, Raises}
 use Rattle.cloud_facts.specs.Chains.Links.{first_link, newest_node, IsOfLevel}
@@ -101,10 +101,10 @@ module _ (book : Book) (order : List Entry) (s : CloudState) (tree : ℕ) (of_tr
         (leaf_rises bytes (first_part (part_of_leaf (applied old queue run)) (leaf_parts sizes free (applied old queue run))) is)
         (pieces_rise s tree free (right_of (leaf_parts sizes free (applied old queue run))) d takes.landed)
 
-    pub taken_tells : Tells (put who (object.Page tree page) bytes s) (after_leaf (taking_of tree page old queue run sizes free) (store_of book order s))
-    taken_tells =
+    pub taken_tells : gone_of s tree page ≡ false → Tells (put who (object.Page tree page) bytes s) (after_leaf (taking_of tree page old queue run sizes free) (store_of book order s))
+    taken_tells there =
         leaf_tells who book order s tree page queue run sizes free bytes
-        (newest_root (roots_of s) tree).level chained.levels chained.versions chained.newest some (newest_sound s tree page d) takes rise is
+        (newest_root (roots_of s) tree).level chained.levels chained.versions chained.newest some (newest_sound s tree page d) takes rise is there
 
     pub taken_lands : LandsLeaf (store_of book order s) (taking_of tree page old queue run sizes free)
     taken_lands =
@@ -121,8 +121,8 @@ module _ (book : Book) (order : List Entry) (s : CloudState) (tree : ℕ) (of_tr
         table_is who book order s tree page queue run sizes free bytes
         (newest_root (roots_of s) tree).level chained.levels chained.versions chained.newest some (newest_sound s tree page d) takes rise is
 
-    pub taken_next : IsNext s (object.Page tree page) bytes
-    taken_next = leaf_next s tree page bytes (left_leaf sizes free (applied old queue run)) d is
+    pub taken_next : gone_of s tree page ≡ false → IsNext s (object.Page tree page) bytes
+    taken_next there = leaf_next s tree page bytes (left_leaf sizes free (applied old queue run)) d there is
         (leaves.left_version who book order s tree page queue run sizes free bytes (newest_root (roots_of s) tree).level
         chained.levels chained.versions chained.newest some (newest_sound s tree page d) takes rise is
         ∙ ap (λ (n : ℕ). n + 1) (sym version))
@@ -148,11 +148,11 @@ module _ (book : Book) (order : List Entry) (s : CloudState) (tree : ℕ) (of_tr
       branch (Leafy l) is = absurd (above is)
       branch (Branch n) is = refl
 
-  pub inner_tells : (who : Caller) (page : ℕ) (bytes : List ℕ) (inner : Inner) (pieces : List Link) → IsInner bytes inner
+  pub inner_tells : (who : Caller) (page : ℕ) (bytes : List ℕ) (inner : Inner) (pieces : List Link) → IsInner bytes inner → gone_of s tree page ≡ false
       → LandsInner (store_of book order s) tree page inner pieces
       → Tells (put who (object.Page tree page) bytes s) (after_inner tree page inner pieces (store_of book order s))
-  inner_tells who page bytes inner pieces is lands =
-      inner_told who tree page bytes inner pieces book order s is (page_some inner.level page lands.link linked lands.page_is) first above others
+  inner_tells who page bytes inner pieces is there lands =
+      inner_told who tree page bytes inner pieces book order s is there (page_some inner.level page lands.link linked lands.page_is) first above others
       (subst (λ (p : ℕ). newest_leaf (nodes_of s) tree p ≡ empty_leaf) lands.page_is
       (no_leaf inner.level lands.link linked above (last_cases (nodes_of s tree lands.link.page))))
     where
@@ -170,10 +170,10 @@ module _ (book : Book) (order : List Entry) (s : CloudState) (tree : ℕ) (of_tr
 
   -- ---- other pages, and roots
 
-  pub page_tells : (who : Caller) (page : ℕ) (bytes : List ℕ) (node : Node) → IsNode bytes node
+  pub page_tells : (who : Caller) (page : ℕ) (bytes : List ℕ) (node : Node) → IsNode bytes node → gone_of s tree page ≡ false
       → LandsFirst (store_of book order s) tree page (own_of page node)
       → Tells (put who (object.Page tree page) bytes s) (after_page tree page node (own_of page node) (store_of book order s))
-  page_tells who page bytes node is first = page_told who tree page bytes node book order s is first.page_is (λ link k. first.unlinked 0 link k)
+  page_tells who page bytes node is there first = page_told who tree page bytes node book order s is there first.page_is (λ link k. first.unlinked 0 link k)
 
   pub raise_tells : (who : Caller) (bytes : List ℕ) (root : Tree) (level : ℕ) (links : List Link) → IsRoot bytes root
       → Raises (store_of book order s) tree root level links

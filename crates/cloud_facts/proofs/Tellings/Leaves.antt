@@ -26,7 +26,7 @@ use Rattle.cloud_facts.specs.Book.Book.{Book, Link, with_pieces}
 use Rattle.cloud_facts.specs.Book.Effects.{done_after, Taking, after_leaf, lacking, is_lacking, taken_entry}
 use Rattle.cloud_facts.specs.Book.Records.{IsIn}
 use Rattle.cloud_facts.specs.Book.Tally.{Node, Leafy, at2}
-use Rattle.cloud_facts.specs.Book.Telling.{tally_of, last_or, leaf_in, newest_leaf, page_from, page_for, leaf_for, nodes_of, cursor_of}
+use Rattle.cloud_facts.specs.Book.Telling.{tally_of, last_or, leaf_in, newest_leaf, page_from, page_for, leaf_for, nodes_of, cursor_of, gone_of}
 use Rattle.cloud_facts.specs.Chains.Chain.{AreLevels, AreVersions, AreNewest}
 use Rattle.cloud_facts.specs.Chains.Landing.{LandsOn, LandsLeaf}
 use Rattle.cloud_facts.specs.Chains.Links.{low_after}
@@ -41,7 +41,7 @@ use Rattle.cloud_facts.proofs.Tellings.Fences.{Rises, lows_under, cut_common, cu
 use Rattle.cloud_facts.proofs.Tellings.Finding as finding
 use Rattle.cloud_facts.proofs.Tellings.Folds.{fold_acts, fold_elsewhere, acts_beside, lacked_beside}
 use Rattle.cloud_facts.proofs.Tellings.Names.{at2_same, at2_other}
-use Rattle.cloud_facts.proofs.Tellings.Nodes.{page_nodes, newest_here, newest_there, page_cursors}
+use Rattle.cloud_facts.proofs.Tellings.Nodes.{page_nodes, newest_here, newest_there, page_cursors, page_gone}
 use Rattle.cloud_facts.proofs.Tellings.Ranges.{IsBetween, low_of_first, held, unheld, goes_here, GoesPast, goes_past}
 use Rattle.cloud_facts.proofs.Tellings.Tables.{AreOfClients, raises_all}
 use Rattle.cloud_facts.proofs.Tellings.Walks.{Split, with_pieces-split}
@@ -265,8 +265,8 @@ module _ (who : Caller) (book : Book) (order : List Change) (s : CloudState) (tr
       on true e false f false g = refl
       on false e v f w g = refl
 
-  pub leaf_tells : Tells (put who (object.Page tree page) bytes s) (after_leaf taking (store_of book order s))
-  leaf_tells = alike _ _ (record {
+  pub leaf_tells : gone_of s tree page ≡ false → Tells (put who (object.Page tree page) bytes s) (after_leaf taking (store_of book order s))
+  leaf_tells there = alike _ _ (record {
     head = λ c. refl;
     logged = λ c. refl;
     posts = λ t p. refl;
@@ -274,6 +274,7 @@ module _ (who : Caller) (book : Book) (order : List Change) (s : CloudState) (tr
     done = done_told;
     value = value_told;
     nodes = page_nodes who tree page bytes (Leafy left) s is;
+    gone = page_gone who tree page bytes (Leafy left) s is there;
     roots = λ t. refl;
   })
 

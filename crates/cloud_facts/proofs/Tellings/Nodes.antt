@@ -1,9 +1,14 @@
 -- Pages that are in no leaf chain, and roots.
-use Rattle.std.proofs.Common.{◌≡◌, ◌≢◌, ◌<◌, ℕ, zero, suc, List, [], ◌∷◌, ◌++◌, map, refl, sym, ap, ◌∙◌, arith}
+use Rattle.std.proofs.Common.{◌≡◌, ◌≢◌, ◌<◌, false, ℕ, zero, suc, List, [], ◌∷◌, ◌++◌, map, Some, refl, sym, ap, ◌∙◌, arith}
 use Rattle.db_base.specs.Cursor.{number_of}
 use Rattle.db_base.specs.declared.names.ObjName.TheVariants as object
 use Rattle.cloud_trait.specs.Caller.{Caller}
 use Rattle.cloud_trait.specs.State.{CloudState, landed}
+use Rattle.cloud_trait.specs.Names.{object_cmp}
+use Rattle.cloud_trait.specs.declared.state.Version.{Version}
+use Rattle.cloud_trait.proofs.NameLemmas.{object_cmp-equal}
+use Rattle.cloud_trait.proofs.StateLemmas.{put_at_by}
+use Rattle.db_base.specs.declared.names.ObjName.{ObjName}
 use Rattle.leaf_view.specs.Leaf.{Leaf}
 use Rattle.leaf_view.specs.Lookup.{empty_leaf, value_of, number_of as done_number}
 use Rattle.node_codec.specs.Inner.{Inner, IsInner}
@@ -13,9 +18,10 @@ use Rattle.cloud_facts.specs.Book.Book.{Book, Link, with_pieces}
 use Rattle.cloud_facts.specs.Book.Effects.{after_page, after_inner, after_root, after_raise}
 use Rattle.cloud_facts.specs.Book.Records.{IsIn}
 use Rattle.cloud_facts.specs.Book.Tally.{Node, Leafy, Branch, at, at2}
-use Rattle.cloud_facts.specs.Book.Telling.{last_or, root_in, node_in, leaf_in, newest_leaf, page_from, page_for, leaf_for, nodes_of, roots_of, newest_root, cursor_of}
+use Rattle.cloud_facts.specs.Book.Telling.{last_or, root_in, node_in, with_bytes, is_gone, gone_of, leaf_in, newest_leaf, page_from, page_for, leaf_for, nodes_of, roots_of, newest_root, cursor_of}
 use Rattle.cloud_facts.specs.Decoding.Kinds.{IsNode}
 use Rattle.cloud_facts.proofs.Decoding.Reading.{node_reads, root_reads}
+use Rattle.cloud_facts.proofs.Decoding.Versions.{bytes_added, there_added}
 use Rattle.cloud_facts.specs.Tellings.Told.{store_of, Tells, own_of}
 use Rattle.cloud_facts.proofs.Tellings.Easy.{alike}
 use Rattle.cloud_facts.proofs.Tellings.Names.{put_page, put_tree, at_image, at2_image, at2_agree, at2_same, at2_beside, map_added}
@@ -27,11 +33,20 @@ use Rattle.cloud_facts.proofs.Chains.Names.{at_same, at_other, last_added}
 module _ (who : Caller) (tree page : ℕ) (bytes : List ℕ) (node : Node) (s : CloudState) (is : IsNode bytes node) where
   pub page_nodes : (t p : ℕ) → nodes_of (landed who (object.Page tree page) bytes s) t p ≡ at2 tree page (nodes_of s tree page ++ node ∷ []) (nodes_of s) t p
   page_nodes t p =
-      ap (map node_in) (put_page s.versions tree page (s.versions (object.Page tree page) ++ record { who = who; bytes = bytes } ∷ []) t p)
-      ∙ at2_image (map node_in) tree page (s.versions (object.Page tree page) ++ record { who = who; bytes = bytes } ∷ []) (nodes_of s tree page ++ node ∷ [])
+      ap (λ (vs : List Version). map node_in (with_bytes vs)) (put_page s.versions tree page (s.versions (object.Page tree page) ++ record { who = who; bytes = Some bytes } ∷ []) t p)
+      ∙ at2_image (λ (vs : List Version). map node_in (with_bytes vs)) tree page
+      (s.versions (object.Page tree page) ++ record { who = who; bytes = Some bytes } ∷ []) (nodes_of s tree page ++ node ∷ [])
       (λ x y. s.versions (object.Page x y)) t p
-      (map_added node_in (s.versions (object.Page tree page)) (record { who = who; bytes = bytes }) node
-      (node_reads (record { who = who; bytes = bytes }) node is))
+      (ap (map node_in) (bytes_added who bytes (s.versions (object.Page tree page)))
+      ∙ map_added node_in (with_bytes (s.versions (object.Page tree page))) (record { who = who; bytes = Some bytes }) node
+      (node_reads (record { who = who; bytes = Some bytes }) bytes node refl is))
+
+  -- what was removed is as before
+  pub page_gone : gone_of s tree page ≡ false → (t p : ℕ) → gone_of (landed who (object.Page tree page) bytes s) t p ≡ gone_of s t p
+  page_gone there t p =
+      put_at_by (λ (q : ObjName) (vs : List Version). is_gone vs ≡ is_gone (s.versions q)) object_cmp object_cmp-equal s.versions
+      (object.Page tree page) (s.versions (object.Page tree page) ++ record { who = who; bytes = Some bytes } ∷ [])
+      (there_added who bytes (s.versions (object.Page tree page)) ∙ sym there) (λ q. refl) (object.Page t p)
 
   -- the newest leaf of the page is the node, and those of other pages are as before
   pub newest_at : (t p : ℕ)
@@ -74,9 +89,9 @@ elsewhere book tree page t key above none same e = never_goes book tree page key
 
 -- a page that is in no chain lands
 pub page_told : (who : Caller) (tree page : ℕ) (bytes : List ℕ) (node : Node) (book : Book) (order : List Entry) (s : CloudState) → IsNode bytes node
-    → 1 < page → IsNoLeaf book tree page
+    → gone_of s tree page ≡ false → 1 < page → IsNoLeaf book tree page
     → Tells (landed who (object.Page tree page) bytes s) (after_page tree page node (own_of page node) (store_of book order s))
-page_told who tree page bytes node book order s is above none = alike _ _ (record {
+page_told who tree page bytes node book order s is there above none = alike _ _ (record {
   head = λ c. refl;
   logged = λ c. refl;
   posts = λ t p. refl;
@@ -84,6 +99,7 @@ page_told who tree page bytes node book order s is above none = alike _ _ (recor
   done = λ t key p c. ap (λ (l : Leaf). done_number l.done p c) (leaf t key);
   value = λ t key. ap (λ (l : Leaf). value_of key l.records) (leaf t key);
   nodes = page_nodes who tree page bytes node s is;
+  gone = page_gone who tree page bytes node s is there;
   roots = λ t. refl;
 })
   where
@@ -92,10 +108,10 @@ page_told who tree page bytes node book order s is above none = alike _ _ (recor
 
 -- an inner node lands on a page that is no leaf
 pub inner_told : (who : Caller) (tree page : ℕ) (bytes : List ℕ) (inner : Inner) (pieces : List Link) (book : Book) (order : List Entry) (s : CloudState)
-    → IsInner bytes inner
+    → IsInner bytes inner → gone_of s tree page ≡ false
     → page ≢ 0 → page ≢ 1 → inner.level ≢ 0 → IsNoLeaf book tree page → newest_leaf (nodes_of s) tree page ≡ empty_leaf
     → Tells (landed who (object.Page tree page) bytes s) (after_inner tree page inner pieces (store_of book order s))
-inner_told who tree page bytes inner pieces book order s is some above level none branch = alike _ _ (record {
+inner_told who tree page bytes inner pieces book order s is there some above level none branch = alike _ _ (record {
   head = λ c. refl;
   logged = λ c. refl;
   posts = λ t p. refl;
@@ -103,6 +119,7 @@ inner_told who tree page bytes inner pieces book order s is some above level non
   done = λ t key p c. ap (λ (l : Leaf). done_number l.done p c) (leaf t key);
   value = λ t key. ap (λ (l : Leaf). value_of key l.records) (leaf t key);
   nodes = page_nodes who tree page bytes (Branch inner) s is;
+  gone = page_gone who tree page bytes (Branch inner) s is there;
   roots = λ t. refl;
 })
   where
@@ -132,10 +149,11 @@ inner_told who tree page bytes inner pieces book order s is some above level non
 module _ (who : Caller) (tree : ℕ) (bytes : List ℕ) (root : Tree) (s : CloudState) (is : IsTree bytes root) where
   tree_roots : (t : ℕ) → roots_of (landed who (object.Tree tree) bytes s) t ≡ at tree (roots_of s tree ++ root ∷ []) (roots_of s) t
   tree_roots t =
-      ap (map root_in) (put_tree s.versions tree (s.versions (object.Tree tree) ++ record { who = who; bytes = bytes } ∷ []) t)
-      ∙ at_image (map root_in) tree (s.versions (object.Tree tree) ++ record { who = who; bytes = bytes } ∷ []) (roots_of s tree ++ root ∷ [])
+      ap (map root_in) (put_tree s.versions tree (s.versions (object.Tree tree) ++ record { who = who; bytes = Some bytes } ∷ []) t)
+      ∙ at_image (map root_in) tree (s.versions (object.Tree tree) ++ record { who = who; bytes = Some bytes } ∷ []) (roots_of s tree ++ root ∷ [])
       (λ n. s.versions (object.Tree n)) t
-      (map_added root_in (s.versions (object.Tree tree)) (record { who = who; bytes = bytes }) root (root_reads (record { who = who; bytes = bytes }) root is))
+      (map_added root_in (s.versions (object.Tree tree)) (record { who = who; bytes = Some bytes }) root
+      (root_reads (record { who = who; bytes = Some bytes }) bytes root refl is))
 
   newest_root_at : (t : ℕ) → newest_root (roots_of (landed who (object.Tree tree) bytes s)) t ≡ at tree root (newest_root (roots_of s)) t
   newest_root_at t =
@@ -161,6 +179,7 @@ root_told who tree bytes root book order s is = alike _ _ (record {
   done = λ t key p c. refl;
   value = λ t key. refl;
   nodes = λ t p. refl;
+  gone = λ t p. refl;
   roots = tree_roots who tree bytes root s is;
 })
 
@@ -176,6 +195,7 @@ raise_told who tree bytes root level links book order s is above = alike _ _ (re
   done = λ t key p c. ap (λ (q : ℕ). done_number (newest_leaf (nodes_of s) t q).done p c) (goes t key);
   value = λ t key. ap (λ (q : ℕ). value_of key (newest_leaf (nodes_of s) t q).records) (goes t key);
   nodes = λ t p. refl;
+  gone = λ t p. refl;
   roots = tree_roots who tree bytes root s is;
 })
   where

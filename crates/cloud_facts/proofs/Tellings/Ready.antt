@@ -23,7 +23,7 @@ use Rattle.cloud_facts.specs.Book.Book.{Book, Link}
 use Rattle.cloud_facts.specs.Book.Premises.{Takes, IsItemOf, IsConsecutive, LandsFirst}
 use Rattle.cloud_facts.specs.Book.Records.{IsIn}
 use Rattle.cloud_facts.specs.Book.Tally.{Node, Leafy, Branch, version_of, low_of, right_of as right_page, high_of}
-use Rattle.cloud_facts.specs.Book.Telling.{tally_of, last_or, newest_leaf, nodes_of, roots_of, newest_root, cursor_of}
+use Rattle.cloud_facts.specs.Book.Telling.{tally_of, last_or, newest_leaf, nodes_of, gone_of, roots_of, newest_root, cursor_of}
 use Rattle.cloud_facts.specs.Chains.Chain.{ChainHolds, IsChained, IsUnlinked}
 use Rattle.cloud_facts.specs.Chains.Landing.{LandsOn, LandsInner, Raises}
 use Rattle.cloud_facts.specs.Chains.Links.{first_link, link_of, newest_node, NodeNames}
@@ -32,6 +32,7 @@ use Rattle.cloud_facts.specs.Decoding.Decodes.{Decodes, IsNext}
 use Rattle.cloud_facts.specs.Decoding.Kinds.{IsNode}
 use Rattle.cloud_facts.proofs.Decoding.Newest.{IsLast, last_cases}
 use Rattle.cloud_facts.proofs.Decoding.Values.{node_next, inner_next}
+use Rattle.cloud_facts.proofs.Decoding.Versions.{none_there}
 use Rattle.cloud_facts.specs.Chains.Cuts.{links_on, HaveLanded, inner_node}
 use Rattle.cloud_facts.specs.Tellings.Pieces.{first_part, right_of, node_parts, left_inner, node_links, left_leaf}
 use Rattle.cloud_facts.specs.Tellings.Taking.{AreClients, IsLinked, LandsTaken, taking_of}
@@ -109,7 +110,7 @@ module _ (book : Book) (order : List Entry) (s : CloudState) (tree : ℕ) (of_tr
   pub first_next : (fresh : ℕ) (bytes : List ℕ) (node : Node) → nodes_of s tree fresh ≡ [] → IsNode bytes node → version_of node ≡ 1
       → IsNext s (object.Page tree fresh) bytes
   first_next fresh bytes node none is one =
-      node_next s tree fresh bytes node d is (one ∙ ap (λ (ns : List Node). version_of (last_or (Leafy empty_leaf) ns) + 1) (sym none))
+      node_next s tree fresh bytes node d (none_there s tree fresh d none) is (one ∙ ap (λ (ns : List Node). version_of (last_or (Leafy empty_leaf) ns) + 1) (sym none))
 
   -- ---- an inner node with more entries
 
@@ -127,9 +128,9 @@ module _ (book : Book) (order : List Entry) (s : CloudState) (tree : ℕ) (of_tr
     newest_link : newest_node (nodes_of s tree) at.link.page ≡ Branch old
     newest_link = ap (newest_node (nodes_of s tree)) at.page_is ∙ newest
 
-    pub inner_version : whole.version ≡ old.version + 1 → IsNext s (object.Page tree page) bytes
-    inner_version next =
-        inner_next s tree page bytes (left_inner sizes free whole) d is
+    pub inner_version : gone_of s tree page ≡ false → whole.version ≡ old.version + 1 → IsNext s (object.Page tree page) bytes
+    inner_version there next =
+        inner_next s tree page bytes (left_inner sizes free whole) d there is
         (cut_version entry_key (part_of_node whole) sizes free (part_of_node whole) ∙ next ∙ ap (λ (n : Node). version_of n + 1) (sym newest))
 
     low_is : (nodes_of s tree at.link.page ≡ []) ⊎ ((x : Node) × IsLast (nodes_of s tree at.link.page) x) → old.low ≡ at.link.low

@@ -18,12 +18,14 @@ use Rattle.node_codec.specs.Inner.{Inner, IsInner}
 use Rattle.node_codec.proofs.InnerLemmas.{inner_fits}
 use Rattle.split_plan.specs.Part.{LeafPart, leaf_of_part, NodePart, node_of_part}
 use Rattle.cloud_facts.specs.Book.Tally.{Node, Leafy, Branch}
-use Rattle.cloud_facts.specs.Book.Telling.{last_or, node_in, leaf_in, newest_leaf, nodes_of}
-use Rattle.cloud_facts.proofs.Chains.Pieces.{not_itself}
+use Rattle.cloud_facts.specs.Book.Telling.{last_or, node_in, with_bytes, leaf_in, newest_leaf, nodes_of}
+use Rattle.cloud_facts.specs.Book.Records.{IsIn}
+use Rattle.cloud_facts.proofs.Chains.Pieces.{in_first, not_itself}
 use Rattle.cloud_facts.specs.Decoding.Decodes.{Decodes}
 use Rattle.cloud_facts.specs.Decoding.Kinds.{IsNode, AreOfKind}
 use Rattle.cloud_facts.proofs.Decoding.Newest.{IsLast, last_cases, last_map}
 use Rattle.cloud_facts.proofs.Decoding.Reading.{node_reads}
+use Rattle.cloud_facts.proofs.Decoding.Versions.{among_nth, node_has_bytes}
 use Rattle.cloud_facts.specs.Chains.Cuts.{HaveLanded, leaf_node, inner_node}
 use Rattle.cloud_facts.proofs.Tellings.Fences.{Rises}
 use Rattle.cloud_facts.proofs.Tellings.Leaves.{IsSound}
@@ -57,24 +59,21 @@ pub newest_sound : (s : CloudState) (tree page : ℕ) → Decodes s → IsSound 
 newest_sound s tree page d = on (last_cases vs)
   where
     vs : List Version
-    vs = s.versions (object.Page tree page)
+    vs = with_bytes (s.versions (object.Page tree page))
 
     on : (vs ≡ []) ⊎ ((v : Version) × IsLast vs v) → IsSound (leaf_in (last_or (Leafy empty_leaf) (map node_in vs)))
     on (inl e) = subst (λ (xs : List Version). IsSound (leaf_in (last_or (Leafy empty_leaf) (map node_in xs)))) (sym e) empty_sound
     on (inr p) =
-        let k = d.versions (object.Page tree page) (length vs - 1) p.0 p.1 in
-        subst (λ (n : Node). IsSound (leaf_in n)) (sym (last_map node_in (Leafy empty_leaf) vs p.0 p.1 ∙ node_reads p.0 k.0 k.1)) (node_sound p.0.bytes k.0 k.1)
+        let k = (among_nth (object.Page tree page) (s.versions (object.Page tree page)) (length vs - 1) p.0 (d.versions (object.Page tree page)) p.1).1 in
+        subst (λ (n : Node). IsSound (leaf_in n)) (sym (last_map node_in (Leafy empty_leaf) vs p.0 p.1 ∙ node_reads p.0 k.0 k.2.0 k.1 k.2.1)) (node_sound k.0 k.2.0 k.2.1)
 
 -- ---- pieces that landed
 
--- the only version of a page is spelled
-only_spelled : (tree page : ℕ) (vs : List Version) (l : Leaf) → AreOfKind (object.Page tree page) vs → map node_in vs ≡ Leafy l ∷ []
+-- the only node of a page is spelled
+only_spelled : (tree page : ℕ) (vs : List Version) (l : Leaf) → AreOfKind (object.Page tree page) vs → map node_in (with_bytes vs) ≡ Leafy l ∷ []
     → (bytes : List ℕ) × IsLeaf bytes l
-only_spelled tree page [] l are e = absurd (cc)
-only_spelled tree page (v ∷ vs) l are e =
-    let k = are 0 v refl in
-    let first : node_in v ≡ Leafy l = cc in
-    (v.bytes, subst (λ (n : Node). IsNode v.bytes n) (sym (node_reads v k.0 k.1) ∙ first) k.1)
+only_spelled tree page vs l are e =
+    node_has_bytes tree page vs (Leafy l) are (subst (λ (ns : List Node). IsIn ns (Leafy l)) (sym e) (in_first (Leafy l) []))
 
 pub pieces_rise : (s : CloudState) (tree free : ℕ) (ps : List LeafPart) → Decodes s → HaveLanded leaf_node (nodes_of s tree) free ps → AllByRecursion Rises ps
 pieces_rise s tree free [] d landed = tt
@@ -96,7 +95,7 @@ pub newest_holds : (s : CloudState) (tree page : ℕ) → Decodes s → holds (n
 newest_holds s tree page d = on (last_cases vs)
   where
     vs : List Version
-    vs = s.versions (object.Page tree page)
+    vs = with_bytes (s.versions (object.Page tree page))
 
     Held : Node → Type 0
     Held n = holds (leaf_in n) (leaf_in n).low ≡ true
@@ -104,8 +103,8 @@ newest_holds s tree page d = on (last_cases vs)
     on : (vs ≡ []) ⊎ ((v : Version) × IsLast vs v) → Held (last_or (Leafy empty_leaf) (map node_in vs))
     on (inl e) = subst (λ (xs : List Version). Held (last_or (Leafy empty_leaf) (map node_in xs))) (sym e) (low_held [] 0 None refl)
     on (inr p) =
-        let k = d.versions (object.Page tree page) (length vs - 1) p.0 p.1 in
-        subst Held (sym (last_map node_in (Leafy empty_leaf) vs p.0 p.1 ∙ node_reads p.0 k.0 k.1)) (node_holds p.0.bytes k.0 k.1)
+        let k = (among_nth (object.Page tree page) (s.versions (object.Page tree page)) (length vs - 1) p.0 (d.versions (object.Page tree page)) p.1).1 in
+        subst Held (sym (last_map node_in (Leafy empty_leaf) vs p.0 p.1 ∙ node_reads p.0 k.0 k.2.0 k.1 k.2.1)) (node_holds k.0 k.2.0 k.2.1)
 
 -- ---- inner nodes
 
@@ -121,13 +120,10 @@ node_high low right (Some high) fits h e = on (not (right == 0)) fits
 pub inner_rises : (bytes : List ℕ) (p : NodePart) → IsInner bytes (node_of_part p) → Rises p
 inner_rises bytes p is = node_high p.low p.right p.high (inner_fits (node_of_part p) is.fits).high
 
-only_inner : (tree page : ℕ) (vs : List Version) (n : Inner) → AreOfKind (object.Page tree page) vs → map node_in vs ≡ Branch n ∷ []
+only_inner : (tree page : ℕ) (vs : List Version) (n : Inner) → AreOfKind (object.Page tree page) vs → map node_in (with_bytes vs) ≡ Branch n ∷ []
     → (bytes : List ℕ) × IsInner bytes n
-only_inner tree page [] n are e = absurd (cc)
-only_inner tree page (v ∷ vs) n are e =
-    let k = are 0 v refl in
-    let first : node_in v ≡ Branch n = cc in
-    (v.bytes, subst (λ (m : Node). IsNode v.bytes m) (sym (node_reads v k.0 k.1) ∙ first) k.1)
+only_inner tree page vs n are e =
+    node_has_bytes tree page vs (Branch n) are (subst (λ (ns : List Node). IsIn ns (Branch n)) (sym e) (in_first (Branch n) []))
 
 pub nodes_rise : (s : CloudState) (tree free : ℕ) (ps : List NodePart) → Decodes s → HaveLanded inner_node (nodes_of s tree) free ps → AllByRecursion Rises ps
 nodes_rise s tree free [] d landed = tt

@@ -1,5 +1,5 @@
 -- What each kind of call leaves of the tally, the book and the order where it lands.
-use Rattle.std.specs.Prelude.{ℕ, ◌==◌, ◌&&◌, Bool, nat_lt, max, if◌then◌else◌, List, [], ◌∷◌, ◌++◌, filter, map}
+use Rattle.std.specs.Prelude.{ℕ, ◌==◌, ◌&&◌, Bool, true, nat_lt, max, if◌then◌else◌, List, [], ◌∷◌, ◌++◌, filter, map}
 use Rattle.db_base.specs.Change.{key_of}
 use Rattle.db_base.specs.Cursor.{number_of}
 use Rattle.cloud_trait.specs.State.{marked}
@@ -130,3 +130,9 @@ abbrev pub after_raise : ℕ → Tree → ℕ → List Link → Store → Store
 after_raise tree root level links st =
     let after = after_root tree root st in
     record after { book = record after.book { chain = at2 tree level links after.book.chain } }
+
+-- ---- removed pages
+
+-- a page is removed: its nodes stay what they were
+abbrev pub after_removal : ℕ → ℕ → Store → Store
+after_removal tree page st = record st { tally = record st.tally { gone = at2 tree page true st.tally.gone } }

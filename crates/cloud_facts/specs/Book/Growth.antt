@@ -1,5 +1,5 @@
 -- What every session may rely on of what the others do: what is told only grows.
-use Rattle.std.specs.Prelude.{ℕ, ◌≡◌, ◌≢◌, ◌<◌, ◌≤◌, ◌⊎◌, List, []}
+use Rattle.std.specs.Prelude.{ℕ, ◌≡◌, ◌≢◌, ◌<◌, ◌≤◌, ◌⊎◌, true, List, []}
 use Rattle.cloud_trait.specs.Growth.{BeginsWith}
 use Rattle.cloud_trait.specs.Upto.{posts_of}
 use Rattle.db_base.specs.Ids.{IsClient}
@@ -37,6 +37,8 @@ pub record Grows (st su : Store) : Type 0 where
   -- versions are appended
   pub nodes : (tree page : ℕ) → BeginsWith (st.tally.nodes tree page) (su.tally.nodes tree page)
   pub roots : (tree : ℕ) → BeginsWith (st.tally.roots tree) (su.tally.roots tree)
+  -- what was removed stays so
+  pub gone : (tree page : ℕ) → st.tally.gone tree page ≡ true → su.tally.gone tree page ≡ true
   -- the next free page of a tree never falls
   pub next : (tree : ℕ) → (top_of (st.tally.roots tree)).next ≤ (top_of (su.tally.roots tree)).next
   -- a page in no chain that has a version stays as it is

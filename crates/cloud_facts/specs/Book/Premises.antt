@@ -1,5 +1,5 @@
 -- What rests on what: what must be known of the tally and the book before each kind of call lands.
-use Rattle.std.specs.Prelude.{ℕ, ◌≡◌, ◌≢◌, ◌+◌, ◌<◌, ◌≤◌, ◌⊎◌, Bool, true, false, List, length, take, count_by, IsSorted, Some}
+use Rattle.std.specs.Prelude.{ℕ, ◌≡◌, ◌≢◌, ◌+◌, ◌<◌, ◌≤◌, ◌⊎◌, Bool, true, false, List, [], length, take, count_by, IsSorted, Some}
 use Rattle.byte_format.specs.Order.{bytes_below}
 use Rattle.db_base.specs.Change.{key_of}
 use Rattle.db_base.specs.Cursor.{number_of}
@@ -26,6 +26,7 @@ use Rattle.cloud_facts.specs.Book.Tally.{Tally, Store}
 use Rattle.cloud_facts.specs.Book.Records.{StandsAt, IsIn, key_in, count_of, IsApplied, is_open, IsUnderWay}
 use Rattle.cloud_facts.specs.Book.Messages.{HasCopy, Waits, WaitsLogged, IsMessage, IsLogMessage}
 use Rattle.cloud_facts.specs.Book.Effects.{Taking, done_after}
+use Rattle.cloud_facts.specs.Chains.Chain.{IsUnlinked}
 use Rattle.cloud_facts.specs.Copies.Copies.{SendsInTurn}
 
 -- ---- routing
@@ -185,3 +186,15 @@ pub record CoversApplied (st : Store) (tree : ℕ) (root : Tree) : Type 0 where
   pub rises : (client : ℕ) → IsClient client → st.tally.cursor tree 0 client ≤ number_of root.cursor client
   pub within : (client : ℕ) → IsClient client → number_of root.cursor client ≤ count_of tree 0 client st.book.log
   pub applied : (r : AtomicRec) → IsIn st.book.log r → r.tree ≡ tree → r.page ≡ 0 → r.number ≤ number_of root.cursor r.client → IsApplied st.tally r
+
+-- ---- removed pages
+
+-- a page is removed that is in no chain of its tree, has landed, and was not removed
+pub record Removes (st : Store) (tree page : ℕ) : Type 0 where
+  pub unlinked : IsUnlinked (st.book.chain tree) page
+  pub landed : st.tally.nodes tree page ≢ []
+  pub there : st.tally.gone tree page ≡ false
+
+-- pieces that join a chain were not removed
+abbrev pub AreThere : Store → ℕ → List Link → Type 0
+AreThere st tree pieces = (piece : Link) → IsIn pieces piece → st.tally.gone tree piece.page ≡ false

@@ -1,5 +1,5 @@
 -- The tally: what a cloud tells, as functions of names and never by the bytes. Each call that lands changes one function at one name.
-use Rattle.std.specs.Prelude.{ℕ, ◌==◌, ◌&&◌, if◌then◌else◌, List, [], Option}
+use Rattle.std.specs.Prelude.{ℕ, ◌==◌, ◌&&◌, Bool, if◌then◌else◌, List, Option}
 use Rattle.cloud_trait.specs.declared.state.Posted.{Posted}
 use Rattle.db_base.specs.Value.{Value}
 use Rattle.head_codec.specs.declared.head.Head.{Head}
@@ -51,6 +51,8 @@ pub record Tally : Type 0 where
   pub value : ℕ → List ℕ → Option Value
   -- of a tree and page, all landed versions
   pub nodes : ℕ → ℕ → List Node
+  -- of a tree and page, whether it was removed
+  pub gone : ℕ → ℕ → Bool
   -- of a tree, all landed versions of its root
   pub roots : ℕ → List Tree
 

@@ -1,5 +1,6 @@
 -- What a cloud tells under a book.
-use Rattle.std.specs.Prelude.{ℕ, zero, suc, ◌-◌, List, [], ◌∷◌, map, length, slice_get, Option, Some, None, unwrap_or, if◌then◌else◌}
+use Rattle.std.specs.Prelude.{ℕ, zero, suc, ◌-◌, Bool, false, List, [], ◌∷◌, map, filter, length, slice_get, Option, Some, None, is_some, is_none, unwrap_or, if◌then◌else◌}
+use Rattle.std.specs.Option.{option_and_then}
 use Rattle.std.specs.Result.{result_ok}
 use Rattle.byte_format.specs.Order.{bytes_below}
 use Rattle.byte_format.specs.Whole.{whole}
@@ -25,12 +26,12 @@ use Rattle.cloud_facts.specs.Book.Tally.{Node, Leafy, Branch, Tally}
 abbrev pub last_or : {A : Type 0} → A → List A → A
 last_or none xs = unwrap_or (slice_get xs (length xs - 1)) none
 
--- a version of a head, a root or a page by its bytes; bytes in no spelling stand for what is absent
+-- a version of a head, a root or a page by its bytes; no bytes, and bytes in no spelling, stand for what is absent
 abbrev pub head_in : Version → Head
-head_in v = unwrap_or (head_of v.bytes) empty_head
+head_in v = unwrap_or (option_and_then head_of v.bytes) empty_head
 
 abbrev pub root_in : Version → Tree
-root_in v = unwrap_or (tree_of v.bytes) empty_tree
+root_in v = unwrap_or (option_and_then tree_of v.bytes) empty_tree
 
 -- the leaf that bytes spell
 unfoldable pub leaf_of_bytes : List ℕ → Option Leaf
@@ -44,8 +45,23 @@ abbrev pub node_or : Option Leaf → List ℕ → Node
 node_or (Some l) bytes = Leafy l
 node_or None bytes = branch_or (inner_of bytes)
 
+abbrev pub node_of_bytes : Option (List ℕ) → Node
+node_of_bytes (Some bytes) = node_or (leaf_of_bytes bytes) bytes
+node_of_bytes None = Leafy empty_leaf
+
 abbrev pub node_in : Version → Node
-node_in v = node_or (leaf_of_bytes v.bytes) v.bytes
+node_in v = node_of_bytes v.bytes
+
+-- the versions that have bytes
+abbrev pub with_bytes : List Version → List Version
+with_bytes vs = filter (λ (v : Version). is_some v.bytes) vs
+
+-- the newest version has no bytes: the object was removed
+abbrev pub is_bare : Version → Bool
+is_bare v = is_none v.bytes
+
+abbrev pub is_gone : List Version → Bool
+is_gone vs = last_or false (map is_bare vs)
 
 -- ---- the leaf that holds a key
 
@@ -76,8 +92,12 @@ abbrev pub queue_of : ℕ → ℕ → QueueName
 queue_of tree zero = TreePu tree
 queue_of tree (suc page) = PagePu tree (suc page)
 
+-- a removal is none of a page's nodes
 abbrev pub nodes_of : CloudState → ℕ → ℕ → List Node
-nodes_of s tree page = map node_in (s.versions (object.Page tree page))
+nodes_of s tree page = map node_in (with_bytes (s.versions (object.Page tree page)))
+
+abbrev pub gone_of : CloudState → ℕ → ℕ → Bool
+gone_of s tree page = is_gone (s.versions (object.Page tree page))
 
 abbrev pub roots_of : CloudState → ℕ → List Tree
 roots_of s tree = map root_in (s.versions (object.Tree tree))
@@ -99,5 +119,6 @@ tally_of book s = record {
   done = λ tree key page client. done_number (leaf_for book (nodes_of s) tree key).done page client;
   value = λ tree key. value_of key (leaf_for book (nodes_of s) tree key).records;
   nodes = nodes_of s;
+  gone = gone_of s;
   roots = roots_of s;
 }

@@ -1,6 +1,6 @@
 -- A call of one session beside all others: what stands before it, and what it leaves, whatever machine made it.
 use Rattle.std.specs.Prelude.{ℕ, ◌≡◌, ◌≤◌, ◌⊎◌, List, [], ◌∷◌, Option, Some, None}
-use Rattle.cloud_facts.specs.Calls.Links.{LinksBy}
+use Rattle.cloud_facts.specs.Calls.Links.{LinksBy, GoneBy}
 use Rattle.cloud_facts.specs.Calls.Looks.{audited_at, audit_of}
 use Rattle.cloud_facts.specs.Calls.Others.{Passes, IsOfPart}
 use Rattle.cloud_facts.specs.Calls.Standing.{StandsUnder}
@@ -84,8 +84,9 @@ pub record Outcome (who : Caller) (book : Book) (order : List Entry) (s t : Clou
   pub passes : Passes (store_of book order s) (store_of book_after order_after t)
   -- what joins the log is of the session's own home
   pub joins : (r : AtomicRec) → IsIn book_after.log r → IsIn book.log r ⊎ IsOfPart (parts who.session) r
-  -- and what joins a tree's links is of a tree of which it has a lease that lasts
+  -- and what joins a tree's links, and a page that is removed, is of a tree of which it has a lease that lasts
   pub links : LinksBy mine t.now (store_of book order s) (store_of book_after order_after t)
+  pub gone : GoneBy mine t.now (store_of book order s) (store_of book_after order_after t)
   pub part : Part
   pub homes : HomesHold (store_of book_after order_after t).tally t.now (at who.session part parts)
   pub knows : Knows (store_of book_after order_after t) t.now part

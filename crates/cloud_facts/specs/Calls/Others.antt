@@ -1,6 +1,6 @@
 -- What a session may rely on of a call of another one.
 use Rattle.std.specs.Prelude.{ℕ, ◌≡◌, ◌<◌, ◌⊎◌, List}
-use Rattle.cloud_facts.specs.Calls.Links.{SameLinks}
+use Rattle.cloud_facts.specs.Calls.Links.{SameLinks, SameGone}
 use Rattle.cloud_facts.specs.Calls.Pages.{IsLeafPage, IsTreePage}
 use Rattle.cloud_trait.specs.Claim.{Claim, Lasts}
 use Rattle.db_base.specs.declared.names.Lock.TheVariants as lock
@@ -45,6 +45,7 @@ pub record Others (mine : List Claim) (later : ℕ) (st su : Store) : Type 0 whe
   pub head : (l : Claim) (client : ℕ) → IsIn mine l → l.lock ≡ lock.Client client → Lasts later l → su.tally.head client ≡ st.tally.head client
   pub roots : (l : Claim) (tree : ℕ) → IsIn mine l → l.lock ≡ lock.Tree tree → Lasts later l → su.tally.roots tree ≡ st.tally.roots tree
   pub links : (l : Claim) (tree : ℕ) → IsIn mine l → l.lock ≡ lock.Tree tree → Lasts later l → SameLinks st su tree
+  pub gone : (l : Claim) (tree : ℕ) → IsIn mine l → l.lock ≡ lock.Tree tree → Lasts later l → SameGone st su tree
   -- inner nodes, and pages that are absent
   pub page : (l : Claim) (tree page : ℕ) → IsIn mine l → l.lock ≡ lock.Tree tree → Lasts later l → IsTreePage (st.tally.nodes tree) page
       → su.tally.nodes tree page ≡ st.tally.nodes tree page

@@ -9,7 +9,7 @@ use Rattle.cloud_facts.specs.Chains.Links.{newest_node, top_of}
 use Rattle.cloud_facts.specs.Decoding.Decodes.{Decodes}
 use Rattle.cloud_facts.specs.Homes.Homes.{Home, Part, AtHome}
 use Rattle.cloud_facts.specs.Landings.Holding.{Holds}
-use Rattle.cloud_facts.specs.Landings.Landing.{Landing, opens, settles, logs, posts, marks_log, marks_post, puts_leaf, puts_page, puts_inner, puts_root, raises_root, stays}
+use Rattle.cloud_facts.specs.Landings.Landing.{Landing, opens, settles, logs, posts, marks_log, marks_post, puts_leaf, puts_page, puts_inner, puts_root, raises_root, removes, stays}
 use Rattle.report_types.specs.declared.entry.Entry.{Entry}
 use Rattle.cloud_facts.specs.Book.Book.{Book}
 use Rattle.cloud_facts.specs.Book.Effects.{Taking}
@@ -40,11 +40,12 @@ Follows who st ask su (logs client bytes r o) = Unit {0}
 Follows who st ask su (posts tree page bytes r o) = Unit {0}
 Follows who st ask su (marks_log client id o) = Unit {0}
 Follows who st ask su (marks_post tree page id o) = Unit {0}
-Follows who st ask su (puts_leaf p bytes one two e takes lands) = IsTaken st p
+Follows who st ask su (puts_leaf p bytes one two e takes lands there) = IsTaken st p
 Follows who st ask su (puts_page tree page node bytes one two is e first lands) = version_of node ≡ 1
-Follows who st ask su (puts_inner tree page node pieces bytes one two is e lands) = node.version ≡ version_of (newest_node (st.tally.nodes tree) page) + 1
+Follows who st ask su (puts_inner tree page node pieces bytes one two is e lands there) = node.version ≡ version_of (newest_node (st.tally.nodes tree) page) + 1
 Follows who st ask su (puts_root tree t bytes one two is e covers lands) = t.version ≡ (top_of (st.tally.roots tree)).version + 1
-Follows who st ask su (raises_root tree t level links bytes one two is e covers lands) = t.version ≡ (top_of (st.tally.roots tree)).version + 1
+Follows who st ask su (raises_root tree t level links bytes one two is e covers lands there) = t.version ≡ (top_of (st.tally.roots tree)).version + 1
+Follows who st ask su (removes tree page l is o) = Unit {0}
 Follows who st ask su (stays asked puts touches) = Unit {0}
 
 -- what joins the log is of the session's own home
@@ -55,9 +56,10 @@ Commits who st part ask su (logs client bytes r o) = Unit {0}
 Commits who st part ask su (posts tree page bytes r o) = Unit {0}
 Commits who st part ask su (marks_log client id o) = Unit {0}
 Commits who st part ask su (marks_post tree page id o) = Unit {0}
-Commits who st part ask su (puts_leaf p bytes one two e takes lands) = Unit {0}
+Commits who st part ask su (puts_leaf p bytes one two e takes lands there) = Unit {0}
 Commits who st part ask su (puts_page tree page node bytes one two is e first lands) = Unit {0}
-Commits who st part ask su (puts_inner tree page node pieces bytes one two is e lands) = Unit {0}
+Commits who st part ask su (puts_inner tree page node pieces bytes one two is e lands there) = Unit {0}
 Commits who st part ask su (puts_root tree t bytes one two is e covers lands) = Unit {0}
-Commits who st part ask su (raises_root tree t level links bytes one two is e covers lands) = Unit {0}
+Commits who st part ask su (raises_root tree t level links bytes one two is e covers lands there) = Unit {0}
+Commits who st part ask su (removes tree page l is o) = Unit {0}
 Commits who st part ask su (stays asked puts touches) = Unit {0}

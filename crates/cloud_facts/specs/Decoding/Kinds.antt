@@ -1,5 +1,5 @@
 -- What the bytes of each object and of each queue spell.
-use Rattle.std.specs.Prelude.{ℕ, ◌≡◌, ◌+◌, ◌-◌, ◌*◌, ◌≤◌, List, length, Some}
+use Rattle.std.specs.Prelude.{ℕ, ◌≡◌, ◌+◌, ◌-◌, ◌*◌, ◌<◌, ◌≤◌, ◌⊎◌, List, length, Some, None}
 use Rattle.db_base.specs.declared.names.ObjName.{ObjName}
 use Rattle.db_base.specs.declared.names.ObjName.TheVariants as object
 use Rattle.db_base.specs.declared.names.QueueName.{QueueName}
@@ -37,9 +37,26 @@ IsNth (object.Head client) n bytes = (h : Head) × (head_of bytes ≡ Some h) ×
 IsNth (object.Tree tree) n bytes = (t : Tree) × IsTree bytes t × (t.version ≡ n)
 IsNth (object.Page tree page) n bytes = (node : Node) × IsNode bytes node × (version_of node ≡ n)
 
--- the n-th version of an object is one of its kind, and has the number n, or counts within it
+-- a version has bytes, which are the version of this number
+abbrev pub HasNth : ObjName → ℕ → Version → Type 0
+HasNth name n v = (bytes : List ℕ) × (v.bytes ≡ Some bytes) × IsNth name n bytes
+
+-- only pages are removed
+abbrev pub IsRemoval : ObjName → Type 0
+IsRemoval (object.Head client) = ⊥
+IsRemoval (object.Tree tree) = ⊥
+IsRemoval (object.Page tree page) = Unit {0}
+
+-- a version without bytes, at a place of these, is that of a page, is the last, and not the first
+pub record IsLastRemoval (name : ObjName) (vs : List Version) (place : ℕ) (v : Version) : Type 0 where
+  pub removal : IsRemoval name
+  pub none : v.bytes ≡ None
+  pub behind : 0 < place
+  pub last : place + 1 ≡ length vs
+
+-- the n-th version of an object has bytes, is one of its kind, and has the number n, or counts within it; or it is the removal of the object
 abbrev pub AreOfKind : ObjName → List Version → Type 0
-AreOfKind name vs = (place : ℕ) (v : Version) → StandsAt vs place v → IsNth name (place + 1) v.bytes
+AreOfKind name vs = (place : ℕ) (v : Version) → StandsAt vs place v → HasNth name (place + 1) v ⊎ IsLastRemoval name vs place v
 
 -- two heads are of one epoch, transaction and phase
 pub record IsSameMoment (g h : Head) : Type 0 where
@@ -53,13 +70,14 @@ AreApart a b = (g h : Head) → head_of a ≡ Some g → head_of b ≡ Some h �
 
 -- each version of a head is of another moment than the one before
 abbrev pub MomentsDiffer : ObjName → List Version → Type 0
-MomentsDiffer (object.Head client) vs = (place : ℕ) (v w : Version) → StandsAt vs place v → StandsAt vs (place + 1) w → AreApart v.bytes w.bytes
+MomentsDiffer (object.Head client) vs =
+    (place : ℕ) (v w : Version) (a b : List ℕ) → StandsAt vs place v → StandsAt vs (place + 1) w → v.bytes ≡ Some a → w.bytes ≡ Some b → AreApart a b
 MomentsDiffer (object.Tree tree) vs = Unit {0}
 MomentsDiffer (object.Page tree page) vs = Unit {0}
 
 -- bytes that land behind these versions are of another moment than the newest
 abbrev pub MovesOn : ObjName → List Version → List ℕ → Type 0
-MovesOn (object.Head client) vs bytes = (v : Version) → StandsAt vs (length vs - 1) v → AreApart v.bytes bytes
+MovesOn (object.Head client) vs bytes = (v : Version) (last : List ℕ) → StandsAt vs (length vs - 1) v → v.bytes ≡ Some last → AreApart last bytes
 MovesOn (object.Tree tree) vs bytes = Unit {0}
 MovesOn (object.Page tree page) vs bytes = Unit {0}
 

@@ -4,7 +4,7 @@ use Rattle.db_base.specs.Ids.{IsTree}
 use Rattle.db_base.specs.declared.names.ObjName.TheVariants as object
 use Rattle.db_base.specs.declared.names.QueueName.TheVariants.{Atomic}
 use Rattle.cloud_trait.specs.declared.state.Posted.{Posted}
-use Rattle.cloud_trait.specs.Ask.{Ask, PutHeld, Send, Delete, PutsNothing, TouchesNoMessage}
+use Rattle.cloud_trait.specs.Ask.{Ask, PutHeld, RemoveHeld, Send, Delete, PutsNothing, TouchesNoMessage}
 use Rattle.cloud_trait.specs.Caller.{Caller}
 use Rattle.cloud_trait.specs.Claim.{Claim}
 use Rattle.cloud_facts.specs.Chains.Landing.{LandsLeaf, LandsInner, LandsNew, LandsRoot, Raises}
@@ -16,8 +16,8 @@ use Rattle.log_codec.specs.declared.record.AtomicRec.{AtomicRec}
 use Rattle.node_codec.specs.Inner.{Inner, IsInner}
 use Rattle.node_codec.specs.Tree.{Tree, IsTree as SpellsTree}
 use Rattle.cloud_facts.specs.Book.Book.{Link}
-use Rattle.cloud_facts.specs.Book.Effects.{Taking, after_head, after_logged, after_posted, after_log_mark, after_post_mark, after_leaf, after_page, after_inner, after_root, after_raise}
-use Rattle.cloud_facts.specs.Book.Premises.{Opens, Settles, Logs, Posts, MarksPost, MarksLog, Takes, LandsFirst, CoversApplied}
+use Rattle.cloud_facts.specs.Book.Effects.{Taking, after_head, after_logged, after_posted, after_log_mark, after_post_mark, after_leaf, after_page, after_inner, after_root, after_raise, after_removal}
+use Rattle.cloud_facts.specs.Book.Premises.{Opens, Settles, Logs, Posts, MarksPost, MarksLog, Takes, LandsFirst, CoversApplied, Removes, AreThere}
 use Rattle.cloud_facts.specs.Book.Tally.{Node, Leafy, Branch, Store}
 use Rattle.cloud_facts.specs.Book.Telling.{queue_of}
 
@@ -47,15 +47,17 @@ pub data Landing (who : Caller) (st : Store) : Ask → Store → Type 0 where
       → Landing who st (Send (queue_of tree page) bytes) (after_posted tree page (sent_by who bytes) st)
   marks_log : (client id : ℕ) → MarksLog st client id → Landing who st (Delete (Atomic client) id) (after_log_mark client id st)
   marks_post : (tree page id : ℕ) → MarksPost st tree page id → Landing who st (Delete (queue_of tree page) id) (after_post_mark tree page id st)
-  puts_leaf : (p : Taking) (bytes : List ℕ) (one : Claim) (two : Option Claim) → IsLeaf bytes p.leaf → Takes st p → LandsLeaf st p
+  puts_leaf : (p : Taking) (bytes : List ℕ) (one : Claim) (two : Option Claim) → IsLeaf bytes p.leaf → Takes st p → LandsLeaf st p → AreThere st p.tree p.pieces
       → Landing who st (PutHeld (object.Page p.tree p.page) bytes one two) (after_leaf p st)
   puts_page : (tree page : ℕ) (node : Node) (bytes : List ℕ) (one : Claim) (two : Option Claim) → IsTree tree → Spells bytes node
       → LandsFirst st tree page (own_of page node) → LandsNew st tree page node
       → Landing who st (PutHeld (object.Page tree page) bytes one two) (after_page tree page node (own_of page node) st)
   puts_inner : (tree page : ℕ) (node : Inner) (pieces : List Link) (bytes : List ℕ) (one : Claim) (two : Option Claim) → IsTree tree → IsInner bytes node
-      → LandsInner st tree page node pieces → Landing who st (PutHeld (object.Page tree page) bytes one two) (after_inner tree page node pieces st)
+      → LandsInner st tree page node pieces → AreThere st tree pieces → Landing who st (PutHeld (object.Page tree page) bytes one two) (after_inner tree page node pieces st)
   puts_root : (tree : ℕ) (t : Tree) (bytes : List ℕ) (one : Claim) (two : Option Claim) → IsTree tree → SpellsTree bytes t → CoversApplied st tree t
       → LandsRoot st tree t → Landing who st (PutHeld (object.Tree tree) bytes one two) (after_root tree t st)
   raises_root : (tree : ℕ) (t : Tree) (level : ℕ) (links : List Link) (bytes : List ℕ) (one : Claim) (two : Option Claim) → IsTree tree → SpellsTree bytes t
-      → CoversApplied st tree t → Raises st tree t level links → Landing who st (PutHeld (object.Tree tree) bytes one two) (after_raise tree t level links st)
+      → CoversApplied st tree t → Raises st tree t level links → AreThere st tree links
+      → Landing who st (PutHeld (object.Tree tree) bytes one two) (after_raise tree t level links st)
+  removes : (tree page : ℕ) (l : Claim) → IsTree tree → Removes st tree page → Landing who st (RemoveHeld (object.Page tree page) l) (after_removal tree page st)
   stays : (ask : Ask) → PutsNothing ask → TouchesNoMessage ask → Landing who st ask st

@@ -5,7 +5,7 @@ use Rattle.db_base.specs.declared.names.Lock.{Lock}
 use Rattle.cloud_trait.specs.declared.answer.Answer.{Answer}
 use Rattle.cloud_trait.specs.declared.answer.Answer.TheVariants.{Given}
 use Rattle.cloud_trait.specs.declared.state.Hold.{Hold}
-use Rattle.cloud_trait.specs.Ask.{Ask, Get, GetHeld, PutHeld, Send, Receive, Delete, Take, Renew, Release}
+use Rattle.cloud_trait.specs.Ask.{Ask, Get, GetHeld, PutHeld, ListHeld, RemoveHeld, Send, Receive, Delete, Take, Renew, Release}
 use Rattle.cloud_trait.specs.Caller.{Caller}
 use Rattle.cloud_trait.specs.Claim.{Claim, Lasts}
 use Rattle.cloud_trait.specs.State.{CloudState}
@@ -43,6 +43,8 @@ abbrev pub Owns : Hands → ℕ → Ask → Type 0
 Owns hands session (Get name) = Unit {0}
 Owns hands session (GetHeld name l) = Holds hands session l
 Owns hands session (PutHeld name bytes one two) = Holds hands session one × IfSome two (Holds hands session)
+Owns hands session (ListHeld tree l) = Holds hands session l
+Owns hands session (RemoveHeld name l) = Holds hands session l
 Owns hands session (Send queue bytes) = Unit {0}
 Owns hands session (Receive queue most) = Unit {0}
 Owns hands session (Delete queue id) = Unit {0}
@@ -58,6 +60,8 @@ KeptBy (Release l) x = AreOne l x → ⊥
 KeptBy (Get name) x = Unit {0}
 KeptBy (GetHeld name l) x = Unit {0}
 KeptBy (PutHeld name bytes one two) x = Unit {0}
+KeptBy (ListHeld tree l) x = Unit {0}
+KeptBy (RemoveHeld name l) x = Unit {0}
 KeptBy (Send queue bytes) x = Unit {0}
 KeptBy (Receive queue most) x = Unit {0}
 KeptBy (Delete queue id) x = Unit {0}
@@ -80,6 +84,8 @@ RenewedTo who (Renew l ticks) m b t = RenewsBoth who ticks l m b t
 RenewedTo who (Get name) m b t = Unit {0}
 RenewedTo who (GetHeld name l) m b t = Unit {0}
 RenewedTo who (PutHeld name bytes one two) m b t = Unit {0}
+RenewedTo who (ListHeld tree l) m b t = Unit {0}
+RenewedTo who (RemoveHeld name l) m b t = Unit {0}
 RenewedTo who (Send queue bytes) m b t = Unit {0}
 RenewedTo who (Receive queue most) m b t = Unit {0}
 RenewedTo who (Delete queue id) m b t = Unit {0}

@@ -20,6 +20,7 @@ pub record AreAlike (t u : Tally) : Type 0 where
   pub done : (tree : ℕ) (key : List ℕ) (page client : ℕ) → t.done tree key page client ≡ u.done tree key page client
   pub value : (tree : ℕ) (key : List ℕ) → t.value tree key ≡ u.value tree key
   pub nodes : (tree page : ℕ) → t.nodes tree page ≡ u.nodes tree page
+  pub gone : (tree page : ℕ) → t.gone tree page ≡ u.gone tree page
   pub roots : (tree : ℕ) → t.roots tree ≡ u.roots tree
 
 -- a cloud tells what a store says, under the store's book

@@ -4,7 +4,7 @@ use Rattle.std.specs.Prelude.{slice_get}
 use Rattle.cloud_facts.specs.Calls.Standing.{StandsUnder}
 use Rattle.cloud_facts.proofs.Calls.Calls.{call_of}
 use Rattle.cloud_trait.specs.declared.answer.Answer.{Answer}
-use Rattle.cloud_trait.specs.declared.answer.Answer.TheVariants.{Got, Sent, Received, Done, Given, Held, Renewed, Late, Failed, Memory}
+use Rattle.cloud_trait.specs.declared.answer.Answer.TheVariants.{Got, Sent, Received, Listed, Done, Given, Held, Renewed, Late, Failed, Memory}
 use Rattle.cloud_trait.specs.Ask.{Ask}
 use Rattle.cloud_trait.specs.Caller.{Caller}
 use Rattle.cloud_trait.specs.Claim.{Claim}
@@ -72,6 +72,7 @@ module _ (book : Book) (order : List Entry) (s : CloudState) (stands : StandsUnd
   opening_shown w (Got v) made some = absurd made.fits
   opening_shown w (Sent id) made some = absurd made.fits
   opening_shown w (Received ms) made some = absurd made.fits
+  opening_shown w (Listed pages) made some = absurd made.fits
   opening_shown w (Given l) made some = absurd made.fits
   opening_shown w (Held until) made some = absurd made.fits
   opening_shown w (Renewed end) made some = absurd made.fits

@@ -55,6 +55,7 @@ module _ (who : Caller) (book : Book) (order : List Entry) (s t : CloudState) (p
     passes = o.passes;
     joins = o.joins;
     links = o.links;
+    gone = o.gone;
     part = o.part;
     homes = o.homes;
     knows = wrote_known (store_of o.book_after o.order_after t) t.now o.part d c (writing_next d.writes reply)

@@ -2,14 +2,13 @@
 use Rattle.std.proofs.Common.{ℕ, sym, subst, inl, inr, ◌≢◌, true, false, List, Result, Ok, Err, refl}
 use Rattle.recover_run.specs.declared.home.Home.{Home}
 use Rattle.cloud_trait.specs.declared.answer.Answer.{Answer}
-use Rattle.cloud_trait.specs.declared.answer.Answer.TheVariants.{Got, Sent, Received, Done, Given, Held, Renewed, Late, Failed, Memory}
+use Rattle.cloud_trait.specs.declared.answer.Answer.TheVariants.{Got, Sent, Received, Listed, Done, Given, Held, Renewed, Late, Failed, Memory}
 use Rattle.cloud_trait.specs.Machine.{Next, Goes, Ends, Stops}
 use Rattle.cloud_trait.specs.Views.{trouble_of, sent_of, done_of}
 use Rattle.commit_run.specs.declared.hand.Hand.{Hand}
 use Rattle.commit_run.specs.declared.hand.Hand.TheVariants.{Writes, First, Change}
 use Rattle.commit_run.specs.Draft.{Draft}
 use Rattle.commit_run.specs.Run.{Run, new_run, wrote, walked, run_ready, next_at, run_next}
-use Rattle.commit_writes.specs.declared.stage.Stage.TheVariants.{Waiting}
 use Rattle.commit_writes.specs.Writing.{Writing, writing_next}
 use Rattle.commit_run.proofs.Outcomes as step
 use Rattle.commit_run.proofs.Outcomes.{NextRun, Leads, BeginsWith, taken, turned_leads, ready_leads}
@@ -49,6 +48,7 @@ refusal : (a : Answer) → a ≢ Memory → IsOfCall (trouble_of a)
 refusal (Got v) found = (λ none. none, λ e. cc)
 refusal (Sent id) found = (λ none. none, λ e. cc)
 refusal (Received ms) found = (λ none. none, λ e. cc)
+refusal (Listed pages) found = (λ none. none, λ e. cc)
 refusal Done found = (λ none. none, λ e. cc)
 refusal (Given l) found = (λ none. none, λ e. cc)
 refusal (Held until) found = (λ none. none, λ e. cc)

@@ -2,10 +2,11 @@
 use Rattle.std.proofs.Common.{◌≡◌, ◌+◌, ◌-◌, ◌^◌, ◌<◌, ◌≤◌, ◌⊎◌, inl, inr, ℕ, Bool, true, false, List, [], ◌∷◌, ◌++◌, length, map, refl, ap, subst, ◌∙◌, arith}
 use Rattle.std.specs.Prelude.{◌||◌, nat_le}
 use Rattle.std.specs.List.{list_any}
+use Rattle.std.specs.Option.{option_and_then}
 use Rattle.std.proofs.lemmas.Bool.{leb-true}
 use Rattle.std.proofs.lemmas.List.{length-append}
 use Rattle.std.proofs.lemmas.List.Sums.{count_by-le-length}
-use Rattle.cloud_facts.proofs.Decoding.Newest.{IsLast, last_cases, last_map}
+use Rattle.cloud_facts.proofs.Decoding.Newest.{IsLast, last_cases, last_map, has_nth, never_gone}
 use Rattle.cloud_facts.proofs.Decoding.Reading.{head_reads}
 use Rattle.cloud_facts.specs.Book.Book.{Book}
 use Rattle.cloud_facts.specs.Book.Telling.{head_in, last_or}
@@ -16,6 +17,7 @@ use Rattle.cloud_trait.specs.declared.state.Version.{Version}
 use Rattle.commit_writes.specs.Writing.{passes, routed_of}
 use Rattle.db_base.specs.declared.names.ObjName.TheVariants as object
 use Rattle.head_codec.specs.Head.{empty_head}
+use Rattle.head_codec.specs.Spelling.{head_of}
 use Rattle.head_codec.specs.declared.head.Head.{Head}
 use Rattle.head_codec.specs.declared.lists.QueueCount.{QueueCount}
 use Rattle.log_codec.specs.declared.record.AtomicRec.{AtomicRec}
@@ -75,14 +77,16 @@ near_landed book order s stands client near = on (last_cases (s.versions (object
         let last = counts.2 in
         absurd (omega (arith, last))
     on (inr (v, last)) =
-        let kind = stands.decodes.versions (object.Head client) (length (s.versions (object.Head client)) - 1) v last in
-        let there = newest kind.0 (last_map head_in empty_head (s.versions (object.Head client)) v last ∙ head_reads v kind.0 kind.1) in
+        let heads = stands.decodes.versions (object.Head client) in
+        let kind = has_nth (object.Head client) (s.versions (object.Head client)) (length (s.versions (object.Head client)) - 1) v heads
+        (never_gone (object.Head client) (s.versions (object.Head client)) (λ no. no) heads) last in
+        let there = newest kind.2.0 (last_map head_in empty_head (s.versions (object.Head client)) v last ∙ head_reads v kind.0 kind.2.0 kind.1 kind.2.1) in
         record {
           client = client;
           version = v;
-          head = kind.0;
+          head = kind.2.0;
           landed = (length (s.versions (object.Head client)) - 1, last);
-          reads = kind.1;
+          reads = ap (option_and_then head_of) kind.1 ∙ kind.2.1;
           tree = there.0;
           page = there.1;
           last = there.2;

@@ -89,6 +89,7 @@ module _ (who : Caller) (before after : Seen) (s t : CloudState) (book : Book) (
     meets_shown work (Ended answer.Value) never none k other meets = absurd never
     meets_shown work (Ended answer.Scan) never none k other meets = absurd never
     meets_shown work (Ended (answer.Settled n)) never none k other meets = absurd never
+    meets_shown work (Ended (answer.Swept x)) never none k other meets = absurd never
     meets_shown work (Stopped q) never none k other meets = absurd never
 
     -- one that waits
@@ -107,6 +108,7 @@ module _ (who : Caller) (before after : Seen) (s t : CloudState) (book : Book) (
     waits_kept work (Ended answer.Value) never k waits = absurd never
     waits_kept work (Ended answer.Scan) never k waits = absurd never
     waits_kept work (Ended (answer.Settled n)) never k waits = absurd never
+    waits_kept work (Ended (answer.Swept x)) never k waits = absurd never
     waits_kept work (Stopped q) never k waits = absurd never
 
     none_left : (work : Work) (turn : Turn Answer) → StepsOpening who before after r work turn → left_told work turn ≤ 0
@@ -120,6 +122,7 @@ module _ (who : Caller) (before after : Seen) (s t : CloudState) (book : Book) (
     none_left work (Ended answer.Value) never = absurd never
     none_left work (Ended answer.Scan) never = absurd never
     none_left work (Ended (answer.Settled n)) never = absurd never
+    none_left work (Ended (answer.Swept x)) never = absurd never
     none_left work (Stopped q) never = absurd never
 
     -- a step of an opening

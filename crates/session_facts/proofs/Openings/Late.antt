@@ -7,7 +7,7 @@ use Rattle.cloud_facts.specs.Book.Tally.{Store}
 use Rattle.cloud_facts.specs.Calls.Acting.{of_option}
 use Rattle.cloud_facts.specs.Homes.Homes.{Part}
 use Rattle.cloud_trait.specs.declared.answer.Answer.{Answer}
-use Rattle.cloud_trait.specs.declared.answer.Answer.TheVariants.{Got, Sent, Received, Done, Given, Held, Renewed, Late, Failed, Memory}
+use Rattle.cloud_trait.specs.declared.answer.Answer.TheVariants.{Got, Sent, Received, Listed, Done, Given, Held, Renewed, Late, Failed, Memory}
 use Rattle.cloud_trait.specs.declared.message.Message.{Message}
 use Rattle.cloud_trait.specs.Ask.{Ask, GetHeld, PutHeld, Release}
 use Rattle.cloud_trait.specs.Claim.{Claim, IsOver}
@@ -52,6 +52,7 @@ given_waits lock Failed q e = let same : trouble.Failed ≡ q = cc in subst IsNo
 given_waits lock (Got v) q e = let same : trouble.Failed ≡ q = cc in subst IsNoWait same tt
 given_waits lock (Sent id) q e = let same : trouble.Failed ≡ q = cc in subst IsNoWait same tt
 given_waits lock (Received ms) q e = let same : trouble.Failed ≡ q = cc in subst IsNoWait same tt
+given_waits lock (Listed pages) q e = let same : trouble.Failed ≡ q = cc in subst IsNoWait same tt
 given_waits lock Done q e = let same : trouble.Failed ≡ q = cc in subst IsNoWait same tt
 given_waits lock (Renewed end) q e = let same : trouble.Failed ≡ q = cc in subst IsNoWait same tt
 

@@ -1,7 +1,7 @@
 -- What a call of an opening or a recovery shows of the trouble that it meets, and that a trouble which waits is its answer.
 use Rattle.std.proofs.Common.{◌≡◌, ◌+◌, ◌-◌, ◌^◌, ◌<◌, ◌≤◌, ◌==◌, ◌⊎◌, inl, inr, ℕ, Bool, true, false, cond, List, [], ◌∷◌, ◌++◌, length, Option, Some, None, Result, Ok, Err, refl, sym, ap, subst, ◌∙◌, arith}
 use Rattle.std.specs.Prelude.{slice_get, nat_le}
-use Rattle.std.specs.Option.{option_map}
+use Rattle.std.specs.Option.{option_and_then}
 use Rattle.std.specs.List.{AllByRecursion}
 use Rattle.std.proofs.lemmas.Bool.{cases_lt, and_from, eq-eqb, eqb-true}
 use Rattle.std.proofs.lemmas.Bool.Decides.{nat_tests}
@@ -136,10 +136,9 @@ received_row who q a c d b t row ms e = absurd (cc)
 held_last : (client : ℕ) (h : Head) (t : CloudState) {bytes : List ℕ} → newest t (object.Head client) ≡ Some bytes → head_of bytes ≡ Some h → h.epoch ≡ 2 ^ 64 - 1 → HasLastEpoch t
 held_last client h t {bytes} is reads last = on (t.versions (object.Head client)) (slice_get (t.versions (object.Head client)) (length (t.versions (object.Head client)) - 1)) refl refl is
   where
-    on : (vs : List Version) (o : Option Version) → vs ≡ t.versions (object.Head client) → slice_get vs (length vs - 1) ≡ o → option_map (λ (v : Version). v.bytes) o ≡ Some bytes → HasLastEpoch t
+    on : (vs : List Version) (o : Option Version) → vs ≡ t.versions (object.Head client) → slice_get vs (length vs - 1) ≡ o → option_and_then (λ (v : Version). v.bytes) o ≡ Some bytes → HasLastEpoch t
     on vs (Some v) all at e =
-        let same : bytes ≡ v.bytes = cc (e) in
-        record { client = client; version = v; head = h; landed = subst (λ (xs : List Version). IsIn xs v) all (length vs - 1, at); reads = subst (λ (x : List ℕ). head_of x ≡ Some h) same reads; last = last }
+        record { client = client; version = v; head = h; landed = subst (λ (xs : List Version). IsIn xs v) all (length vs - 1, at); reads = ap (option_and_then head_of) e ∙ reads; last = last }
     on vs None all at e = absurd (cc (e))
 
 -- ---- one step

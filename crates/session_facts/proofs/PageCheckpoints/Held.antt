@@ -1,73 +1,87 @@
--- A page checkpoint goes on with the leases that it had, but for one that it was given or gave back.
-use Rattle.std.proofs.Common.{◌≡◌, List, Option, refl, sym, subst}
+-- Which leases a page checkpoint goes on with: those that its call leaves outstanding.
+use Rattle.std.proofs.Common.{◌≡◌, inl, inr, ℕ, List, [], ◌∷◌, Option, Some, None, refl, sym, ap, subst, ◌∙◌}
 use Rattle.ckpt_parts.specs.declared.leases.Leases.{Leases}
-use Rattle.ckpt_parts.specs.Leasing.{claims_of}
+use Rattle.ckpt_parts.specs.Deleting.{next_id}
+use Rattle.ckpt_parts.specs.Leasing.{claims_of, outstanding_after}
+use Rattle.cloud_facts.specs.Book.Tally.{Store}
 use Rattle.cloud_trait.specs.declared.answer.Answer.{Answer}
+use Rattle.cloud_trait.specs.Ask.{MovesNoLock}
 use Rattle.cloud_trait.specs.Claim.{Claim}
-use Rattle.cloud_trait.specs.Machine.{Goes, Ends, Stops}
+use Rattle.db_base.specs.declared.names.Lock.TheVariants as lock
 use Rattle.db_base.specs.declared.trouble.Trouble.{Trouble}
 use Rattle.page_ckpt.specs.declared.link.Link.{Link}
 use Rattle.page_ckpt.specs.declared.stage.Stage.{Stage}
-use Rattle.page_ckpt.specs.declared.stage.Stage.TheVariants.{TakingHome, TakingRight, Releasing, Finished}
-use Rattle.page_ckpt.specs.Paging.{Paging, Step, held_after, PagingLeads}
-use Rattle.page_ckpt.proofs.Outcomes.{Onward, Clears, Fails, Comes, comes}
+use Rattle.page_ckpt.specs.declared.stage.Stage.TheVariants.{GettingHome, Receiving, GettingRight, PuttingRight, ReleasingRight, PuttingHome, Deleting as DeletingNext, Releasing}
+use Rattle.page_ckpt.specs.Paging.{Paging, Step, ask_at, paging_ask, delete_next}
+use Rattle.page_ckpt.proofs.Outcomes.{leased, IsLast, Onward, Clears, Fails, Comes}
 use Rattle.page_ckpt.proofs.Outcomes as step
-use Rattle.session_facts.specs.PageCheckpoints.Checkpoint.{leases_of_paging, leases_next}
-use Rattle.cloud_facts.specs.Book.Records.{IsIn}
+use Rattle.session_facts.specs.PageCheckpoints.Checkpoint.{HasLeases, KnowsPagingAt, leases_of_paging}
+use Rattle.session_facts.proofs.Settled.Locks.{HoldsNext, quiet_after, not_given}
 
--- a step goes on with these leases
-abbrev pub On : Leases → Step → Type 0
-On held (Goes n) = n.held ≡ held
-On held (Ends n a) = ⊥
-On held (Stops n t) = ⊥
+-- the call in hand moves no lock
+abbrev pub IsQuiet : Stage → Type 0
+IsQuiet GettingHome = Unit {0}
+IsQuiet Receiving = Unit {0}
+IsQuiet GettingRight = Unit {0}
+IsQuiet PuttingRight = Unit {0}
+IsQuiet PuttingHome = Unit {0}
+IsQuiet DeletingNext = Unit {0}
+IsQuiet stage = ⊥
 
--- a step has no lease but these
-abbrev pub Within : List Claim → Step → Type 0
-Within ls step = (x : Claim) → IsIn (leases_next step) x → IsIn ls x
+-- the leases that are outstanding behind the call in hand
+abbrev pub left_by : Paging → Answer → List Claim
+left_by p a = outstanding_after (paging_ask p) a (leases_of_paging p)
 
--- so it has no others
-pub within : (p : Paging) (next : Step) → On p.held next → Within (leases_of_paging p) next
-within p (Goes n) same x is = subst (λ (held : Leases). IsIn (claims_of held) x) same is
-within p (Ends n a) never x is = absurd never
-within p (Stops n t) never x is = absurd never
+-- behind the last release none is
+none_left : (p : Paging) (first second : Option Claim) (a : Answer) → HasLeases (leased p Releasing first second) → IsLast first second
+    → left_by (leased p Releasing first second) a ≡ []
+none_left p first second a (inl has) last = subst (λ (h : Leases). left_by (leased p Releasing h.first h.second) a ≡ []) (sym has.is) refl
+none_left p first second a (inr (right, has)) last = absurd (subst (λ (h : Leases). IsLast h.first h.second) has.is last)
 
--- the call in hand takes no lease, and is none of the last
-abbrev pub IsMiddle : Stage → Type 0
-IsMiddle TakingHome = ⊥
-IsMiddle TakingRight = ⊥
-IsMiddle Releasing = ⊥
-IsMiddle Finished = ⊥
-IsMiddle stage = Unit {0}
+module _ (st : Store) (now : ℕ) where
+  pub quiet : (stage : Stage) (p : Paging) → KnowsPagingAt stage st now p → IsQuiet stage → MovesNoLock (ask_at stage p)
+  quiet GettingHome p k is = subst (λ (h : Leases). MovesNoLock (ask_at GettingHome (record p { held = h }))) (sym k.0.is) tt
+  quiet Receiving p k is = tt
+  quiet GettingRight p k is = subst (λ (h : Leases). MovesNoLock (ask_at GettingRight (record p { held = h }))) (sym k.0.is) tt
+  quiet PuttingRight p k is = subst (λ (h : Leases). MovesNoLock (ask_at PuttingRight (record p { held = h }))) (sym k.0.is) tt
+  quiet PuttingHome p k is = subst (λ (h : Leases). MovesNoLock (ask_at PuttingHome (record p { held = h }))) (sym k.0.is) tt
+  quiet DeletingNext p (has, each, (id, rest, is_next)) is = subst (λ (ids : List ℕ). MovesNoLock (delete_next p (next_id ids))) (sym is_next) tt
+  quiet stage p k never = absurd never
 
-abbrev Keeps : Paging → Paging → Type 0
-Keeps p q = q.held ≡ held_after p.stage p.held
+  -- so it leaves the leases as they are
+  still : (p : Paging) (a : Answer) → KnowsPagingAt p.stage st now p → IsQuiet p.stage → leases_of_paging p ≡ left_by p a
+  still p a k is = sym (quiet_after (paging_ask p) a (leases_of_paging p) (quiet p.stage p k is))
 
-onward_keeps : {p q : Paging} {a : Answer} {o : Option Link} → Onward p a q o → Keeps p q
-onward_keeps (step.with_run p first second ms i read some) = refl
-onward_keeps (step.from_right p first second a) = refl
+  -- ---- local work
 
-clears_keeps : {p q : Paging} {a : Answer} → Clears p a q → Keeps p q
-clears_keeps (step.no_run p first second ms i read none) = refl
-clears_keeps (step.home_put p first second) = refl
-clears_keeps (step.one_tried p first second a) = refl
+  onward_left : {p q : Paging} {a : Answer} {o : Option Link} → Onward p a q o → KnowsPagingAt p.stage st now p → leases_of_paging q ≡ left_by p a
+  onward_left (step.with_run p first second ms i read some) k = refl
+  onward_left (step.from_right p first second a) k =
+      subst (λ (h : Leases). claims_of (record h { second = None }) ≡ left_by (leased p ReleasingRight h.first h.second) a) (sym k.0.is) refl
 
-fails_keeps : {p q : Paging} {a : Answer} {t : Trouble} → Fails p a q t → Keeps p q
-fails_keeps (step.round link on seen) = onward_keeps on
-fails_keeps (step.home_spent on spent) = onward_keeps on
-fails_keeps f = refl
+  clears_left : {p q : Paging} {a : Answer} → Clears p a q → KnowsPagingAt p.stage st now p → leases_of_paging q ≡ left_by p a
+  clears_left (step.no_run p first second ms i read none) k = refl
+  clears_left {p = p} {a = a} c k = still p a k tt
 
-keeps : {p : Paging} {a : Answer} {next : Step} → Comes p a next → IsMiddle p.stage → On (held_after p.stage p.held) next
-keeps (step.stops q t f) middle = fails_keeps f
-keeps (step.reads_home p first second got home holds) middle = refl
-keeps (step.turns q link on new) middle = onward_keeps on
-keeps (step.puts_right p first second got l out holds some fresh is) middle = refl
-keeps (step.leaves_right p first second got l holds none) middle = refl
-keeps (step.right_put p first second) middle = refl
-keeps (step.puts_home q out on fresh is) middle = onward_keeps on
-keeps (step.deletes q id c some) middle = clears_keeps c
-keeps (step.rests q c none) middle = clears_keeps c
-keeps c middle = absurd middle
+  fails_left : {p q : Paging} {a : Answer} {t : Trouble} → Fails p a q t → KnowsPagingAt p.stage st now p → leases_of_paging q ≡ left_by p a
+  fails_left {p = from} (step.no_lease p first second a t e) k = sym (not_given (lock.Page p.tree p.at.page) 30 a (leases_of_paging from) t e)
+  fails_left (step.round link on seen) k = onward_left on k
+  fails_left (step.home_spent on spent) k = onward_left on k
+  fails_left {p = p} {a = a} f k = still p a k tt
 
-pub step_on : (p : Paging) (a : Answer) (next : Step) (stage : Stage) → p.stage ≡ stage → IsMiddle stage → PagingLeads p a next → On (held_after stage p.held) next
-step_on p a next stage e middle leads =
-    subst (λ (g : Stage). On (held_after g p.held) next) e (keeps (comes p a next leads) (subst IsMiddle (sym e) middle))
+  -- ---- a step
+
+  pub on_left : {p : Paging} {a : Answer} {next : Step} → Comes p a next → KnowsPagingAt p.stage st now p → HoldsNext leases_of_paging (left_by p a) next
+  on_left (step.takes_home p first second l) k = ap (λ (h : Leases). l ∷ claims_of h) (sym k.0)
+  on_left {p = from} (step.refused p first second a t e) k = not_given (lock.Page p.tree p.page) 30 a (leases_of_paging from) t e ∙ ap claims_of k.0
+  on_left (step.stops q t f) k = fails_left f k
+  on_left (step.turns q link on new) k = onward_left on k
+  on_left (step.takes_right p first second r) k = subst (λ (h : Leases). claims_of (record h { second = Some r }) ≡ r ∷ claims_of h) (sym k.0.is) refl
+  on_left (step.puts_home q out on fresh is) k = onward_left on k
+  on_left (step.deletes q id c some) k = clears_left c k
+  on_left (step.rests q c none) k = clears_left c k
+  on_left (step.gives_back p l r a) k = refl
+  on_left (step.ends p first second a last none) k = none_left p first second a k last
+  on_left (step.stopped p first second a t last kept) k = none_left p first second a k last
+  on_left (step.nothing p first second a) k = absurd k
+  on_left {p = p} {a = a} c k = still p a k tt

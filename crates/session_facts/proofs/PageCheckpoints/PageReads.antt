@@ -5,6 +5,7 @@ use Rattle.std.specs.Prelude.{◌-◌, length, slice_get}
 use Rattle.byte_format.specs.Order.{bytes_same}
 use Rattle.byte_format.proofs.OrderLemmas.{same_itself}
 use Rattle.cloud_facts.specs.Chains.Chain.{IsChained}
+use Rattle.cloud_facts.proofs.Chains.GoneLemmas.{links_kept}
 use Rattle.cloud_facts.specs.Chains.Links.{first_link, newest_node}
 use Rattle.ckpt_parts.specs.Leaves.{bad_fence, fenced, HoldsLeaf, HoldsLinked}
 use Rattle.cloud_facts.specs.Calls.Standing.{StandsUnder}
@@ -30,8 +31,9 @@ use Rattle.session_facts.proofs.Runs.Leaves.{absent_page, spelled_page}
 use Rattle.cloud_facts.specs.Book.Book.{Book, Link}
 use Rattle.cloud_facts.specs.Book.Records.{IsIn}
 use Rattle.cloud_facts.specs.Book.Tally.{Node, Leafy, Branch, low_of}
-use Rattle.cloud_facts.specs.Book.Telling.{leaf_in, node_in, nodes_of, roots_of, newest_leaf, newest_root}
+use Rattle.cloud_facts.specs.Book.Telling.{leaf_in, node_in, nodes_of, gone_of, roots_of, newest_leaf, newest_root}
 use Rattle.cloud_facts.proofs.Chains.Newest.{newest_is}
+use Rattle.cloud_facts.specs.Tellings.Told.{store_of}
 use Rattle.session_facts.specs.PageCheckpoints.Checkpoint.{MayStop}
 use Rattle.session_facts.specs.PageCheckpoints.Rights.{IsNewestLeaf}
 
@@ -60,7 +62,7 @@ node_spelled bytes (Branch n) is no_leaf no_inner = no_inner n is
 
 module _ (book : Book) (order : List Entry) (s : CloudState) (stands : StandsUnder book order s) (tree : ℕ) (of_tree : IsTree tree) where
   spelled_newest : (page : ℕ) (bytes : List ℕ) (l : Leaf) → newest s (object.Page tree page) ≡ Some bytes → IsLeaf bytes l → IsNewestLeaf (nodes_of s tree) page l
-  spelled_newest page bytes l e spells = record { is = spelled_page s tree page bytes l e spells; absent = λ none. absurd (some_version s tree page bytes e none) }
+  spelled_newest page bytes l e spells = record { is = spelled_page s tree page bytes l stands.decodes e spells; absent = λ none. absurd (some_version s tree page bytes e none) }
 
   -- ---- a page of the leaf chain
 
@@ -79,6 +81,9 @@ module _ (book : Book) (order : List Entry) (s : CloudState) (stands : StandsUnd
         let h : IsChained (book.chain tree) (nodes_of s tree) (roots_of s tree) _ _ = stands.holds.chains tree of_tree in
         ap low_of (sym leafy) ∙ (newest_is (book.chain tree) (nodes_of s tree) (newest_root (roots_of s) tree).level h.levels h.versions h.newest 0 link linked).low
 
+    kept : gone_of s tree link.page ≡ false
+    kept = links_kept (store_of book order s) stands.holds.gones tree 0 link linked
+
     abbrev Found : Type 0
     Found = Result Leaf Trouble
 
@@ -88,9 +93,9 @@ module _ (book : Book) (order : List Entry) (s : CloudState) (stands : StandsUnd
     -- the leaf itself is read
     plain_is : (got : Option (List ℕ)) (plain : Found) → newest s (object.Page tree link.page) ≡ got → HoldsLeaf tree link.page got plain → plain ≡ Ok leaf
     plain_is None plain e is =
-        is ∙ (ap (λ (b : Bool). cond b (ok empty_leaf) (Err (trouble.Absent link.page))) (eq-eqb link.page 1 (first_alone (none_landed s tree link.page e)))
-        ∙ ap ok (sym (ap leaf_in (absent_page s tree link.page e))))
-    plain_is (Some bytes) plain e (inl (l, spells, is)) = is ∙ ap ok (sym (ap leaf_in (spelled_page s tree link.page bytes l e spells)))
+        is ∙ (ap (λ (b : Bool). cond b (ok empty_leaf) (Err (trouble.Absent link.page))) (eq-eqb link.page 1 (first_alone (none_landed s tree link.page stands.decodes kept e)))
+        ∙ ap ok (sym (ap leaf_in (absent_page s tree link.page stands.decodes kept e))))
+    plain_is (Some bytes) plain e (inl (l, spells, is)) = is ∙ ap ok (sym (ap leaf_in (spelled_page s tree link.page bytes l stands.decodes e spells)))
     plain_is (Some bytes) plain e (inr (no_leaf, is)) =
         absurd (no_leaf leaf (subst (IsNode bytes) leafy (newest_page_decodes s tree link.page bytes stands.decodes e)))
 
@@ -99,16 +104,16 @@ module _ (book : Book) (order : List Entry) (s : CloudState) (stands : StandsUnd
     named_leaf None found e is = plain_is None found e is
     named_leaf (Some bytes) found e (inl (n, spells, is)) = absurd (both (sym as_inner ∙ as_leaf))
       where
-        last : (v : Version) × (slice_get (s.versions (object.Page tree link.page)) (length (s.versions (object.Page tree link.page)) - 1) ≡ Some v) × (v.bytes ≡ bytes)
+        last : (v : Version) × (slice_get (s.versions (object.Page tree link.page)) (length (s.versions (object.Page tree link.page)) - 1) ≡ Some v) × (v.bytes ≡ Some bytes)
         last = newest_last (s.versions (object.Page tree link.page)) bytes e
 
         as_inner : node_in last.0 ≡ Branch n
-        as_inner = node_reads last.0 (Branch n) (subst (λ (b : List ℕ). IsInner b n) (sym last.2) spells)
+        as_inner = node_reads last.0 bytes (Branch n) last.2 spells
 
         as_leaf : node_in last.0 ≡ Leafy leaf
         as_leaf =
-            node_reads last.0 (Leafy leaf)
-            (subst (λ (b : List ℕ). IsNode b (Leafy leaf)) (sym last.2) (subst (IsNode bytes) leafy (newest_page_decodes s tree link.page bytes stands.decodes e)))
+            node_reads last.0 bytes (Leafy leaf) last.2
+            (subst (IsNode bytes) leafy (newest_page_decodes s tree link.page bytes stands.decodes e))
 
         both : Branch n ≡ Leafy leaf → ⊥
         both q = absurd (cc)
@@ -129,12 +134,12 @@ module _ (book : Book) (order : List Entry) (s : CloudState) (stands : StandsUnd
   -- ---- the page that was named
 
   -- page 1 is a leaf
+  first : IsIn (book.chain tree 0) first_link
+  first = (zero, ap (λ (ls : List Link). slice_get ls 0) (stands.holds.chains tree of_tree).levels.leaves.1)
+
   no_inner_first : (page : ℕ) (bytes : List ℕ) (n : Inner) → newest s (object.Page tree page) ≡ Some bytes → IsInner bytes n → page ≡ 1 → ⊥
   no_inner_first page bytes n e spells is = never (named_leaf first_link first (Some bytes) (Err (trouble.NotALeaf 1)) here (inl (n, spells, refl)))
     where
-      first : IsIn (book.chain tree 0) first_link
-      first = (zero, ap (λ (ls : List Link). slice_get ls 0) (stands.holds.chains tree of_tree).levels.leaves.1)
-
       here : newest s (object.Page tree 1) ≡ Some bytes
       here = subst (λ (p : ℕ). newest s (object.Page tree p) ≡ Some bytes) is e
 
@@ -146,8 +151,10 @@ module _ (book : Book) (order : List Entry) (s : CloudState) (stands : StandsUnd
   named_is page None found e is = subst (IsNamed (nodes_of s tree) page) (sym is) (on (page == 1) refl)
     where
       on : (b : Bool) → (page == 1) ≡ b → IsNamed (nodes_of s tree) page (cond b (Ok empty_leaf) (Err (trouble.Absent page)))
-      on true first = record { is = absent_page s tree page e; absent = λ none. eqb-true page 1 first }
-      on false other = (refl, λ first. let clash : true ≡ false = sym (eq-eqb page 1 first) ∙ other in cc)
+      on true one =
+          let kept = subst (λ (p : ℕ). gone_of s tree p ≡ false) (sym (eqb-true page 1 one)) (links_kept (store_of book order s) stands.holds.gones tree 0 first_link first) in
+          record { is = absent_page s tree page stands.decodes kept e; absent = λ none. eqb-true page 1 one }
+      on false other = (refl, λ one. let clash : true ≡ false = sym (eq-eqb page 1 one) ∙ other in cc)
   named_is page (Some bytes) found e (inl (n, spells, is)) = subst (IsNamed (nodes_of s tree) page) (sym is) (refl, no_inner_first page bytes n e spells)
   named_is page (Some bytes) found e (inr (no_inner, inl (l, spells, is))) = subst (IsNamed (nodes_of s tree) page) (sym is) (spelled_newest page bytes l e spells)
   named_is page (Some bytes) found e (inr (no_inner, inr (no_leaf, is))) =

@@ -1,13 +1,12 @@
 -- What a page checkpoint knows after each of its calls.
-use Rattle.std.proofs.Common.{◌≡◌, ◌⊎◌, inl, inr, ℕ, zero, Bool, true, false, not, List, [], ◌∷◌, ◌++◌, map, Option, Some, None, Result, Ok, Err, refl, sym, ap, subst, ◌∙◌, arith}
+use Rattle.std.proofs.Common.{◌≡◌, ◌⊎◌, inl, inr, ℕ, zero, Bool, true, false, not, List, [], ◌∷◌, ◌++◌, map, Option, Some, None, Result, Ok, refl, sym, ap, subst, ◌∙◌, arith}
 use Rattle.std.specs.List.{AllByRecursion}
-use Rattle.std.specs.Prelude.{All}
 use Rattle.std.proofs.lemmas.Bool.{and_from, and_cases, not-false}
 use Rattle.std.proofs.lemmas.List.Elements.{recursion_from_All}
 use Rattle.byte_format.specs.Order.{bytes_below, below_bound}
-use Rattle.cloud_facts.specs.Chains.Chain.{IsChained, AreLevels}
+use Rattle.cloud_facts.specs.Chains.Chain.{IsChained}
+use Rattle.cloud_facts.proofs.Chains.Pieces.{none_in}
 use Rattle.ckpt_parts.specs.Deleting.{next_id}
-use Rattle.ckpt_parts.specs.Leasing.{newest_lease}
 use Rattle.ckpt_parts.specs.Leaves.{HoldsLinked}
 use Rattle.ckpt_parts.specs.declared.leases.Leases.{Leases}
 use Rattle.cloud_facts.specs.Calls.Acting.{Setting, Outcome, Aside}
@@ -19,23 +18,22 @@ use Rattle.cloud_facts.proofs.Calls.Outcomes.{stays, put_landed, other_landed, q
 use Rattle.cloud_facts.proofs.Calls.Passing.{landing_passes}
 use Rattle.cloud_trait.specs.Ask.{Ask, GetHeld, PutHeld, Receive, Delete, Take, Release, Lands, PutsNothing, TouchesNoMessage}
 use Rattle.cloud_trait.specs.Caller.{Caller}
-use Rattle.cloud_trait.specs.Claim.{Claim, Lasts}
+use Rattle.cloud_trait.specs.Claim.{Claim}
 use Rattle.cloud_trait.specs.Delivery.{WasSent}
 use Rattle.cloud_trait.specs.Machine.{Stops}
-use Rattle.cloud_trait.specs.State.{CloudState, called, newest}
-use Rattle.cloud_trait.specs.Views.{trouble_of, given_of, got_of, received_of, done_of}
+use Rattle.cloud_trait.specs.State.{CloudState, called}
+use Rattle.cloud_trait.specs.Views.{got_of, done_of}
 use Rattle.cloud_trait.specs.declared.answer.Answer.{Answer}
-use Rattle.cloud_trait.specs.declared.answer.Answer.TheVariants.{Got, Sent, Received, Done, Given, Held, Renewed, Late, Failed, Memory}
+use Rattle.cloud_trait.specs.declared.answer.Answer.TheVariants.{Got, Received, Done, Given}
 use Rattle.cloud_trait.specs.declared.message.Message.{Message}
 use Rattle.db_base.specs.Change.{key_of}
 use Rattle.db_base.specs.Cursor.{number_of}
-use Rattle.db_base.specs.Ids.{IsClient, IsTree, IsPage}
 use Rattle.db_base.specs.declared.names.Lock.{Lock}
 use Rattle.db_base.specs.declared.names.Lock.TheVariants as lock
+use Rattle.db_base.specs.declared.names.ObjName.TheVariants as object
 use Rattle.db_base.specs.declared.names.QueueName.{QueueName}
 use Rattle.db_base.specs.declared.names.QueueName.TheVariants as queue
 use Rattle.db_base.specs.declared.trouble.Trouble.{Trouble}
-use Rattle.db_base.specs.declared.trouble.Trouble.TheVariants as trouble
 use Rattle.history.specs.Audited.{applied_entry}
 use Rattle.cloud_facts.specs.Homes.Homes.{Part, Parts, HomesHold}
 use Rattle.cloud_facts.proofs.Homes.HomeLemmas.{aside_keeps, keeps_part}
@@ -45,14 +43,16 @@ use Rattle.leaf_edit.specs.Lacked.{lacked}
 use Rattle.leaf_view.specs.Leaf.{Leaf, IsLeaf}
 use Rattle.leaf_view.specs.Lookup.{holds}
 use Rattle.log_codec.specs.declared.record.PuItem.{PuItem}
-use Rattle.page_ckpt.specs.Paging.{Paging, Step, ask_at, paging_ask, under, delete_next, take_home, take_right, home_name, right_name, held_after, HoldsNamed, AbsorbsAt, PagingLeads}
+use Rattle.page_ckpt.proofs.Calm.{step_rests}
+use Rattle.page_ckpt.proofs.Outcomes.{comes}
+use Rattle.page_ckpt.specs.Paging.{Paging, Step, ask_at, paging_ask, delete_next, take_home, take_right, home_name, right_name, HoldsNamed, PagingLeads}
 use Rattle.page_ckpt.specs.declared.stage.Stage.{Stage}
 use Rattle.page_ckpt.specs.declared.stage.Stage.TheVariants.{TakingHome, GettingHome, Receiving, TakingRight, GettingRight, PuttingRight, ReleasingRight, PuttingHome, Deleting as DeletingNext, Releasing, Finished}
 use Rattle.report_types.specs.declared.entry.Entry.{Entry}
 use Rattle.session_facts.proofs.Runs.Leaves.{own_cursor, own_queue}
 use Rattle.session_facts.proofs.Runs.Marks.{covered_stays, covered_more, delete_stays, may_mark}
 use Rattle.session_facts.proofs.Runs.Takes.{taken, is_taken, leaf_lands, takes, lacking_is, nothing_lacked, run_applied, cursor_upto}
-use Rattle.session_facts.specs.Runs.Runs.{MayDelete}
+use Rattle.session_facts.specs.Runs.Runs.{TookRun, MayDelete}
 use Rattle.cloud_facts.specs.Book.Book.{Book, Link}
 use Rattle.cloud_facts.specs.Book.Effects.{Taking, after_leaf, after_post_mark}
 use Rattle.cloud_facts.specs.Book.Growth.{Grows}
@@ -62,453 +62,311 @@ use Rattle.cloud_facts.specs.Book.Telling.{leaf_in, queue_of, nodes_of, roots_of
 use Rattle.cloud_facts.specs.Tellings.Taking.{IsLinked}
 use Rattle.cloud_facts.specs.Tellings.Told.{store_of}
 use Rattle.cloud_facts.proofs.Tellings.Names.{at2_beside}
-use Rattle.session_facts.specs.PageCheckpoints.Checkpoint.{HasPage, HasRight, HasLeases, MayStop, ReadHome, ComesOn, HasIds, TroubleWaits, KnowsPagingAt, KnowsPaging, KnowsAfter, paging_note}
+use Rattle.session_facts.specs.PageCheckpoints.Checkpoint.{HasPage, HasRight, MayStop, ComesOn, KnowsPagingAt, KnowsPaging, KnowsAfter, paging_note}
 use Rattle.session_facts.specs.PageCheckpoints.Rights.{IsNewestLeaf, IsDone, AreDone, PutsRight, LeavesRight, PutsHome}
 use Rattle.session_facts.proofs.PageCheckpoints.Nexts as nexts
 use Rattle.session_facts.proofs.PageCheckpoints.PagingOthers.{paging_later, read_stays, leads_stays, comes_stays}
-use Rattle.session_facts.proofs.PageCheckpoints.PageReads.{named_is, linked_is}
+use Rattle.session_facts.proofs.PageCheckpoints.PageReads.{IsNamed, named_is, linked_is}
+use Rattle.session_facts.proofs.TreeCheckpoints.Steps.{less_known}
 
 -- ---- what an answer shows
 
 -- a lease that was given is of the lock that was asked for
-given : (who : Caller) (k : Lock) (ticks : ℕ) (a : Answer) (s t : CloudState) → IsCall who (Take k ticks) a s t → (l : Claim) → given_of k a ≡ Ok l → l.lock ≡ k
-given who k ticks (Given m) s t call l e =
-    let same : m ≡ l = cc in
-    ap (λ (x : Claim). x.lock) (sym same) ∙ ap (λ (x : Claim). x.lock) call.row.1
-given who k ticks a s t call l e = absurd (cc)
+given : (who : Caller) (k : Lock) (ticks : ℕ) (a : Answer) (s t : CloudState) → IsCall who (Take k ticks) a s t → (l : Claim) → a ≡ Given l → l.lock ≡ k
+given who k ticks a s t call l e =
+    let answered : IsCall who (Take k ticks) (Given l) s t = subst (λ (b : Answer). IsCall who (Take k ticks) b s t) e call in
+    ap (λ (x : Claim). x.lock) answered.row.1
 
 -- and messages that were received were sent
-sent : (who : Caller) (q : QueueName) (most : ℕ) (a : Answer) (s t : CloudState) → IsCall who (Receive q most) a s t → (ms : List Message) → received_of a ≡ Ok ms
+sent : (who : Caller) (q : QueueName) (most : ℕ) (a : Answer) (s t : CloudState) → IsCall who (Receive q most) a s t → (ms : List Message) → a ≡ Received ms
     → AllByRecursion (WasSent (s.messages q)) ms
-sent who q most (Received ns) s t call ms got =
-    let same : ns ≡ ms = cc in
-    recursion_from_All (WasSent (s.messages q)) ms (subst (All (WasSent (s.messages q))) same call.row.1)
-sent who q most a s t call ms got = absurd (cc)
-
--- ---- an answer without its value is no fault of the tree
-
-refused_may : (page : ℕ) (a : Answer) → MayStop page (trouble_of a)
-refused_may page (Got v) = tt
-refused_may page (Sent id) = tt
-refused_may page (Received ms) = tt
-refused_may page Done = tt
-refused_may page (Given l) = tt
-refused_may page (Held until) = tt
-refused_may page (Renewed e) = tt
-refused_may page (Late e n) = tt
-refused_may page Failed = tt
-refused_may page Memory = tt
-
-refusal : {X : Type 0} (page : ℕ) (a b : Trouble) (g : Result X Trouble) → MayStop page a → g ≡ Err a → g ≡ Err b → MayStop page b
-refusal page a b g may e f = let same : a ≡ b = cc in subst (MayStop page) same may
-
-pub got_may : (page : ℕ) (a : Answer) (t : Trouble) → got_of a ≡ Err t → MayStop page t
-got_may page (Got v) t e = absurd (cc)
-got_may page a t e = refusal page (trouble_of a) t (got_of a) (refused_may page a) refl e
-
-pub received_may : (page : ℕ) (a : Answer) (t : Trouble) → received_of a ≡ Err t → MayStop page t
-received_may page (Received ms) t e = absurd (cc)
-received_may page a t e = refusal page (trouble_of a) t (received_of a) (refused_may page a) refl e
-
-pub done_may : (page : ℕ) (a : Answer) (t : Trouble) → done_of a ≡ Err t → MayStop page t
-done_may page Done t e = absurd (cc)
-done_may page a t e = refusal page (trouble_of a) t (done_of a) (refused_may page a) refl e
-
-pub given_may : (page : ℕ) (k : Lock) (a : Answer) (t : Trouble) → given_of k a ≡ Err t → MayStop page t
-given_may page k (Given l) t e = absurd (cc)
-given_may page k (Held until) t e = refusal page (trouble.Busy k until) t (given_of k (Held until)) tt refl e
-given_may page k a t e = refusal page (trouble_of a) t (given_of k a) (refused_may page a) refl e
+sent who q most a s t call ms e =
+    let answered : IsCall who (Receive q most) (Received ms) s t = subst (λ (b : Answer). IsCall who (Receive q most) b s t) e call in
+    recursion_from_All (WasSent (s.messages q)) ms answered.row.1
 
 module _ (who : Caller) (s t : CloudState) (book : Book) (order : List Entry) (parts : Parts) (leases : List Claim) (p : Paging) (reply : Answer)
-    (setting : Setting book order s t.now parts who.session leases) (of_tree : IsTree p.tree) (of_page : IsPage p.page)
-    (may : nexts.MayAnswer p.page p.trouble) (waits : TroubleWaits p) (call : IsCall who (paging_ask p) reply s t) where
+    (setting : Setting book order s t.now parts who.session leases) (of_page : nexts.IsOfPage p) where
   abbrev st : Store
   st = store_of book order s
 
   abbrev own : Part
   own = parts who.session
 
-  abbrev K : Store → ℕ → Part → Type 0
-  K = Aside st own (KnowsAfter p reply)
+  abbrev here : Stage → Paging
+  here stage = record p { stage = stage }
 
-  abbrev OutBy : Ask → Type 0
-  OutBy ask = Outcome who book order s t parts leases ask (paging_note p ask) K
+  -- what is known behind a call at a stage, wherever the answer leads
+  abbrev After : Stage → Store → ℕ → Type 0
+  After stage u now = (next : Step) → PagingLeads (here stage) reply next → nexts.Stands u now p.page next
 
-  abbrev Out : Type 0
-  Out = OutBy (paging_ask p)
+  -- what a call leaves there
+  abbrev By : Stage → Ask → Type 0
+  By stage ask = IsCall who ask reply s t → Outcome who book order s t parts leases ask (paging_note (here stage) ask) (Aside st own (After stage))
 
-  asks : (stage : Stage) → p.stage ≡ stage → paging_ask p ≡ ask_at stage p
-  asks stage e = ap (λ (g : Stage). ask_at g p) e
+  abbrev Out : Stage → Type 0
+  Out stage = By stage (ask_at stage (here stage))
 
-  -- under the page's lease
-  page_ask : (stage : Stage) (make : Claim → Ask) → p.stage ≡ stage → ask_at stage p ≡ under p p.held.first make → (h : HasPage p) → paging_ask p ≡ make h.lease
-  page_ask stage make e shape h = asks stage e ∙ (shape ∙ ap (λ (l : Leases). under p l.first make) h.is)
-
-  by_ask : (ask : Ask) → paging_ask p ≡ ask → OutBy ask → Out
-  by_ask ask is o = subst OutBy (sym is) o
-
-  call_at : (ask : Ask) → paging_ask p ≡ ask → IsCall who ask reply s t
-  call_at ask is = subst (λ (q : Ask). IsCall who q reply s t) is call
-
-  -- where the answer may lead by the stage
-  leads_at : (stage : Stage) → p.stage ≡ stage → (u : Store)
-      → ((next : Step) → AbsorbsAt stage (record p { held = held_after stage p.held }) reply next → nexts.Led u t.now p.page next) → KnowsAfter p reply u t.now
-  leads_at stage e u k next leads = nexts.led_knows u t.now p reply next waits leads (k next (subst (λ (g : Stage). AbsorbsAt g (record p { held = held_after g p.held }) reply next) e leads))
+  -- by the leases that are held
+  by_held : (stage : Stage) {held : Leases} → p.held ≡ held → By stage (ask_at stage (record p { stage = stage; held = held })) → Out stage
+  by_held stage e = subst (λ (h : Leases). By stage (ask_at stage (record p { stage = stage; held = h }))) (sym e)
 
   -- the session's part stays
   homes_at : (u : Store) → HomesHold u.tally t.now parts → HomesHold u.tally t.now (at who.session own parts)
   homes_at u h = keeps_part u.tally t.now parts who.session own refl h
 
-  aside : (u : Store) → ((client : ℕ) → u.tally.head client ≡ st.tally.head client) → KnowsAfter p reply u t.now → K u t.now own
-  aside u heads leads = record { part_is = refl; heads = heads; knows = leads }
+  -- where this is shown
+  aside : (stage : Stage) (u : Store) → ((client : ℕ) → u.tally.head client ≡ st.tally.head client) → nexts.Shows stage u t.now (here stage) reply → Aside st own (After stage) u t.now own
+  aside stage u heads shows = record {
+    part_is = refl;
+    heads = heads;
+    knows = λ next leads. nexts.stands u t.now (comes (here stage) reply next leads) of_page shows;
+  }
 
-  quiet_at : (ask : Ask) → paging_ask p ≡ ask → PutsNothing ask → TouchesNoMessage ask → KnowsAfter p reply st t.now → Out
-  quiet_at ask is puts touches leads =
-      by_ask ask is
-      (quiet who book order s t parts leases ask (paging_note p ask) K reply (call_at ask is) puts touches setting.cloud own (homes_at st setting.homes) (aside st (λ c. refl) leads))
+  quiet_at : (stage : Stage) (ask : Ask) → PutsNothing ask → TouchesNoMessage ask → (IsCall who ask reply s t → nexts.Shows stage st t.now (here stage) reply) → By stage ask
+  quiet_at stage ask puts touches shows call =
+      quiet who book order s t parts leases ask (paging_note (here stage) ask) (Aside st own (After stage)) reply call puts touches setting.cloud own (homes_at st setting.homes)
+      (aside stage st (λ c. refl) (shows call))
 
-  chained : IsChained (book.chain p.tree) (nodes_of s p.tree) (roots_of s p.tree) (st.tally.done p.tree) (st.tally.cursor p.tree 0)
-  chained = setting.cloud.holds.chains p.tree of_tree
-
-  abbrev height : ℕ
-  height = (newest_root (roots_of s) p.tree).level
-
-  levels : AreLevels (book.chain p.tree) height
-  levels = chained.levels
+  charted : nexts.IsCharted st p.tree
+  charted =
+      let chained : IsChained (book.chain p.tree) (nodes_of s p.tree) (roots_of s p.tree) (st.tally.done p.tree) (st.tally.cursor p.tree 0) = setting.cloud.holds.chains p.tree of_page.0 in
+      record { height = (newest_root (roots_of s) p.tree).level; levels = chained.levels; versions = chained.versions }
 
   -- ---- reads
 
-  at_taking_home : p.stage ≡ TakingHome → p.visited ≡ [] → Out
-  at_taking_home e fresh =
-      quiet_at (take_home p) (asks TakingHome e) tt tt
-      (leads_at TakingHome e st (λ next is. subst (nexts.Led st t.now p.page) (sym is)
-      (nexts.home_taken st t.now p of_tree of_page may fresh (given_of (lock.Page p.tree p.page) reply)
-      (given who (lock.Page p.tree p.page) 30 reply s t (call_at (take_home p) (asks TakingHome e))) (given_may p.page (lock.Page p.tree p.page) reply))))
+  -- a held get shows the newest version of its page
+  named : (lease : Claim) → IsCall who (GetHeld (home_name p) lease) reply s t → (got : Option (List ℕ)) (found : Result Leaf Trouble) → reply ≡ Got got → HoldsNamed p.tree p.page got found
+      → IsNamed (nodes_of s p.tree) p.page found
+  named lease call got found e = named_is book order s setting.cloud p.tree of_page.0 p.page got found (sym (held_seen who (home_name p) lease reply s t call got (ap got_of e)))
 
-  at_getting_home : p.stage ≡ GettingHome → HasPage p → p.visited ≡ [] → Out
-  at_getting_home e has fresh =
-      quiet_at get is tt tt
-      (leads_at GettingHome e st (λ next got.
-      nexts.home_got st t.now p of_tree of_page may has fresh (λ c. own_cursor s p.tree p.page c of_page) (got_of reply) next named (got_may p.page reply) got))
-    where
-      get : Ask
-      get = GetHeld (home_name p) has.lease
-
-      is : paging_ask p ≡ get
-      is = page_ask GettingHome (λ l. GetHeld (home_name p) l) e refl has
-
-      named : (got : Option (List ℕ)) (found : Result Leaf Trouble) → got_of reply ≡ Ok got → HoldsNamed p.tree p.page got found → nexts.Named st p found
-      named got found e holds_named =
-          named_is book order s setting.cloud p.tree of_tree p.page got found (sym (held_seen who (home_name p) has.lease reply s t (call_at get is) got e)) holds_named
-
-  at_receiving : p.stage ≡ Receiving → ReadHome st t.now p → Out
-  at_receiving e read =
-      quiet_at receive (asks Receiving e) tt tt
-      (leads_at Receiving e st (λ next got.
-      nexts.received st t.now p of_tree of_page may height levels chained.versions read setting.cloud.holds.numbers (received_of reply) next was (received_may p.page reply) got))
-    where
-      receive : Ask
-      receive = Receive (queue.PagePu p.tree p.page) 256
-
-      was : (ms : List Message) → received_of reply ≡ Ok ms → AllByRecursion (WasSent (st.tally.posts p.tree p.page)) ms
-      was ms got =
-          subst (λ (q : QueueName). AllByRecursion (WasSent (s.messages q)) ms) (sym (own_queue p.tree p.page of_page))
-          (sent who (queue.PagePu p.tree p.page) 256 reply s t (call_at receive (asks Receiving e)) ms got)
-
-  -- ---- right pages
-
-  at_taking_right : p.stage ≡ TakingRight → (has : HasPage p) → ComesOn st t.now p has.lease → Out
-  at_taking_right e has comes =
-      quiet_at (take_right p) (asks TakingRight e) tt tt
-      (leads_at TakingRight e st (λ next is. subst (nexts.Led st t.now p.page) (sym is)
-      (nexts.right_taken st t.now p of_tree of_page may has comes (given_of (lock.Page p.tree p.at.page) reply)
-      (given who (lock.Page p.tree p.at.page) 30 reply s t (call_at (take_right p) (asks TakingRight e))) (given_may p.page (lock.Page p.tree p.at.page) reply))))
+  was_sent : IsCall who (Receive (queue.PagePu p.tree p.page) 256) reply s t → (ms : List Message) → reply ≡ Received ms → AllByRecursion (WasSent (st.tally.posts p.tree p.page)) ms
+  was_sent call ms e =
+      subst (λ (q : QueueName). AllByRecursion (WasSent (s.messages q)) ms) (sym (own_queue p.tree p.page of_page.1)) (sent who (queue.PagePu p.tree p.page) 256 reply s t call ms e)
 
   -- the page at hand is that of a link
   abbrev link : Link
   link = record { low = p.at.low; page = p.at.page }
 
-  abbrev right_linked : {lease : Claim} → ComesOn st t.now p lease → IsLinked (book.chain p.tree 0) p.at.page
-  right_linked comes = record { place = comes.linked.0; link = link; linked = comes.linked.1; page_is = refl }
+  module _ {lease : Claim} (on : ComesOn st t.now p lease) where
+    abbrev right_linked : IsLinked (book.chain p.tree 0) p.at.page
+    right_linked = record { place = on.linked.0; link = link; linked = on.linked.1; page_is = refl }
 
-  at_getting_right : p.stage ≡ GettingRight → (has : HasRight p) → ComesOn st t.now p has.lease → Out
-  at_getting_right e has comes =
-      quiet_at get is tt tt
-      (leads_at GettingRight e st (λ next got.
-      nexts.right_got st t.now p of_tree of_page may has height levels chained.versions comes (got_of reply) next linked none (got_may p.page reply) got))
-    where
-      get : Ask
-      get = GetHeld (right_name p) has.second
+    right : (second : Claim) → IsCall who (GetHeld (right_name p) second) reply s t → (got : Option (List ℕ)) (found : Result Leaf Trouble) → reply ≡ Got got
+        → HoldsLinked p.tree p.at.page p.at.low got found → nexts.IsRight (nodes_of s p.tree) p.at.page found
+    right second call got found e holds_linked =
+        let k = linked_is book order s setting.cloud p.tree of_page.0 link on.linked got found (sym (held_seen who (right_name p) second reply s t call got (ap got_of e))) holds_linked in
+        subst (nexts.IsRight (nodes_of s p.tree) p.at.page) (sym k.is) k.newest
 
-      is : paging_ask p ≡ get
-      is = asks GettingRight e ∙ ap (λ (l : Leases). under p l.second (λ c. GetHeld (right_name p) c)) has.is
+    none_lacked : (l : Leaf) → IsNewestLeaf (nodes_of s p.tree) p.at.page l → lacked l p.page p.run.items ≡ [] → (x : PuItem) → IsIn p.run.items x → holds l (key_of x.rec.change) ≡ true
+        → IsDone st p.tree p.page x
+    none_lacked l newest =
+        subst
+        (λ (m : Leaf). lacked m p.page p.run.items ≡ [] → (x : PuItem) → IsIn p.run.items x → holds m (key_of x.rec.change) ≡ true → IsDone st p.tree p.page x)
+        (ap leaf_in newest.is)
+        (nothing_lacked book order s setting.cloud p.tree p.at.page p.page of_page.0 right_linked p.run.items on.runs.took.clients)
 
-      linked : (got : Option (List ℕ)) (found : Result Leaf Trouble) → got_of reply ≡ Ok got → HoldsLinked p.tree p.at.page p.at.low got found → nexts.Linked st p found
-      linked got found e holds_linked =
-          linked_is book order s setting.cloud p.tree of_tree link comes.linked got found (sym (held_seen who (right_name p) has.second reply s t (call_at get is) got e)) holds_linked
+  -- ---- the put of a leaf of the chain, with the run applied
 
-      none : (l : Leaf) → IsNewestLeaf (nodes_of s p.tree) p.at.page l → lacked l p.page p.run.items ≡ [] → (x : PuItem) → IsIn p.run.items x → holds l (key_of x.rec.change) ≡ true
-          → IsDone st p.tree p.page x
-      none l newest =
-          subst
-          (λ (m : Leaf). lacked m p.page p.run.items ≡ [] → (x : PuItem) → IsIn p.run.items x → holds m (key_of x.rec.change) ≡ true → IsDone st p.tree p.page x)
-          (ap leaf_in newest.is)
-          (nothing_lacked book order s setting.cloud p.tree p.at.page p.page of_tree (right_linked comes) p.run.items comes.runs.took.clients)
-
-  at_releasing_right : p.stage ≡ ReleasingRight → (has : HasRight p) → ComesOn st t.now p has.lease → LeavesRight st p.tree p.page p.home p.run p.at p.onward → Out
-  at_releasing_right e has comes leaves =
-      quiet_at (Release has.second) (asks ReleasingRight e ∙ ap (λ (l : Leases). under p l.second Release) has.is) tt tt
-      (leads_at ReleasingRight e st (λ next goes. nexts.right_released st t.now p of_tree of_page may has height levels comes leaves next goes))
-
-  at_releasing : p.stage ≡ Releasing → HasLeases p → Out
-  at_releasing e has = on has
-    where
-      leads : KnowsAfter p reply st t.now
-      leads = leads_at Releasing e st (λ next to. subst (nexts.Led st t.now p.page) (sym to) (nexts.released st t.now p of_tree of_page may e has))
-
-      on : HasLeases p → Out
-      on (inl h) = quiet_at (Release h.lease) (asks Releasing e ∙ ap (λ (l : Leases). under p (newest_lease l) Release) h.is) tt tt leads
-      on (inr (right, h)) = quiet_at (Release h.second) (asks Releasing e ∙ ap (λ (l : Leases). under p (newest_lease l) Release) h.is) tt tt leads
-
-  -- ---- the put of a right page
-
-  module _ (e : p.stage ≡ PuttingRight) (has : HasRight p) (comes : ComesOn st t.now p has.lease)
-      (puts : PutsRight st t.now p.tree p.page has.second p.run p.at p.onward p.applying p.out) where
-    abbrev right_put : Ask
-    right_put = PutHeld (right_name p) p.out has.lease (Some has.second)
-
-    right_put_is : paging_ask p ≡ right_put
-    right_put_is = asks PuttingRight e ∙ ap (λ (l : Leases). under p l.first (λ c. under p l.second (λ r. PutHeld (right_name p) p.out c (Some r)))) has.is
-
-    right_put_leads : (u : Store) → (done_of reply ≡ Ok tt → ComesOn u t.now p has.lease × LeavesRight u p.tree p.page p.home p.run p.at p.onward) → KnowsAfter p reply u t.now
-    right_put_leads u knows =
-        leads_at PuttingRight e u
-        (λ next is. subst (nexts.Led u t.now p.page) (sym is) (nexts.right_put u t.now p of_tree of_page may has (done_of reply) knows (done_may p.page reply)))
-
-    module _ (lands : Lands who right_put (called who t.now s) t) where
-      second_lasts : Lasts t.now has.second
-      second_lasts = (permitted who right_put (called who t.now s) t lands).1
-
-      abbrev clients_right : (x : PuItem) → IsIn p.run.items x → IsClient x.rec.client
-      clients_right = (comes.runs.took).clients
-
-      abbrev old_right : Leaf
-      old_right = newest_leaf (nodes_of s) p.tree p.at.page
-
-      right_is : old_right ≡ puts.leaf
-      right_is = ap leaf_in ((puts.read).newest second_lasts).is
-
-      abbrev right_taking : Taking
-      right_taking = taken book order s setting.cloud p.tree p.at.page p.page of_tree (right_linked comes) p.run.items clients_right
-
-      right_spells : IsLeaf p.out (applied old_right p.page p.run.items)
-      right_spells = subst (λ (l : Leaf). IsLeaf p.out (applied l p.page p.run.items)) (sym right_is) puts.puts
-
-      abbrev right_landing : Landing who st right_put (after_leaf right_taking st)
-      right_landing = puts_leaf right_taking p.out has.lease (Some has.second) right_spells
-          (takes book order s setting.cloud p.tree p.at.page p.page of_tree (right_linked comes) p.run.items clients_right who p.out right_spells (comes.runs).from (comes.runs.took).received
-          p.run.top (comes.runs.took).is_run (comes.runs.took).behind (comes.runs.took).items (λ same. absurd (comes.elsewhere (sym same))))
-          (leaf_lands book order s setting.cloud p.tree p.at.page p.page of_tree (right_linked comes) p.run.items clients_right who p.out right_spells)
-
-      abbrev ru : Store
-      ru = after_leaf right_taking st
-
-      right_grows : Grows st ru
-      right_grows = (landing_passes who st right_put ru setting.cloud.holds right_landing).grows
-
-      home_same : ru.tally.nodes p.tree p.page ≡ nodes_of s p.tree p.page
-      home_same =
-          at2_beside p.tree p.at.page (nodes_of s p.tree p.at.page ++ Leafy right_taking.leaf ∷ []) (nodes_of s) p.tree p.page (λ same. comes.elsewhere (sym same))
-
-      right_comes : ComesOn ru t.now p has.lease
-      right_comes =
-          comes_stays st ru t.now t.now p.tree p.page has.lease p.home p.run p.deletions.ids p.visited p.at right_grows
-          (read_stays st ru t.now t.now p.tree p.page has.lease p.home (omega arith) right_grows (λ lasts newest. home_same) comes.read) comes
-
-      -- the items of its keys are applied now, and those before it were
-      right_done : AreDone ru p.tree p.page p.run.items p.home.high puts.leaf.high
-      right_done x there beyond below = on (bytes_below (key_of x.rec.change) p.at.low) refl
-        where
-          on : (b : Bool) → bytes_below (key_of x.rec.change) p.at.low ≡ b → IsDone ru p.tree p.page x
-          on true less = right_comes.applied x there beyond less
-          on false from =
-              run_applied book order s setting.cloud p.tree p.at.page p.page of_tree (right_linked comes) p.run.items clients_right x there
-              (ap (λ (l : Leaf). holds l (key_of x.rec.change)) right_is
-              ∙ and_from (not (bytes_below (key_of x.rec.change) puts.leaf.low)) (below_bound (key_of x.rec.change) puts.leaf.high)
-              (ap not (ap (bytes_below (key_of x.rec.change)) puts.low ∙ from)) below)
-
-      right_leaves : LeavesRight ru p.tree p.page p.home p.run p.at p.onward
-      right_leaves = record {
-        upto = puts.leaf.high;
-        leads = leads_stays (book.chain p.tree 0) (ru.book.chain p.tree 0) (right_grows.links p.tree 0) p.at.low puts.leaf.high p.run.items p.onward puts.leads;
-        applied = right_done;
-      }
-
-      right_noted : paging_note p right_put (audit_of book order) ≡ audit_of ru.book ru.order
-      right_noted =
-          ap (λ (xs : List PuItem). audit_of book (order ++ map (applied_entry p.tree) xs))
-          (puts.applies
-          ∙ (ap (λ (l : Leaf). lacked l p.page p.run.items) (sym right_is)
-          ∙ sym (lacking_is book order s setting.cloud p.tree p.at.page p.page of_tree (right_linked comes) p.run.items clients_right)))
-
-      right_outcome : OutBy right_put
-      right_outcome =
-          put_landed who book order s t parts leases (paging_note p right_put) K (right_name p) p.out has.lease (Some has.second) ru lands setting.cloud right_landing
-          (is_taken book order s setting.cloud p.tree p.at.page p.page of_tree (right_linked comes) p.run.items clients_right) tt (inl refl) own
-          (homes_at ru (aside_keeps st.tally ru.tally t.now parts refl refl setting.homes)) (aside ru (λ c. refl) (right_put_leads ru (λ done. (right_comes, right_leaves)))) right_noted
-
-    at_putting_right : Out
-    at_putting_right = by_ask right_put right_put_is (on (put_cases who (right_name p) p.out has.lease (Some has.second) reply s t (call_at right_put right_put_is)))
-      where
-        on : ((t ≡ called who t.now s) × (done_of reply ≡ Ok tt → ⊥)) ⊎ Lands who right_put (called who t.now s) t → OutBy right_put
-        on (inl q) =
-            stays who book order s t parts leases right_put (paging_note p right_put) K q.0 setting.cloud own (homes_at st setting.homes)
-            (aside st (λ c. refl) (right_put_leads st (λ done. absurd (q.1 done))))
-        on (inr lands) = right_outcome lands
-
-  -- ---- the put of the page
-
-  module _ (e : p.stage ≡ PuttingHome) (has : HasPage p) (puts : PutsHome st t.now p.tree p.page has.lease p.home p.run p.deletions.ids p.applying p.out) where
+  module _ (stage : Stage) (page : ℕ) (linked : IsLinked (book.chain p.tree 0) page) (from : List (ℕ × ℕ)) (took : TookRun st p.tree p.page from p.run p.deletions.ids) (one : Claim)
+      (two : Option Claim) where
     abbrev put : Ask
-    put = PutHeld (home_name p) p.out has.lease None
+    put = PutHeld (object.Page p.tree page) p.out one two
 
-    put_is : paging_ask p ≡ put
-    put_is = page_ask PuttingHome (λ l. PutHeld (home_name p) p.out l None) e refl has
+    abbrev old : Leaf
+    old = newest_leaf (nodes_of s) p.tree page
 
-    put_leads : (u : Store) → (done_of reply ≡ Ok tt → MayDelete u p.tree p.page p.deletions.ids) → KnowsAfter p reply u t.now
-    put_leads u each =
-        leads_at PuttingHome e u (λ next is. subst (nexts.Led u t.now p.page) (sym is) (nexts.home_put u t.now p of_tree of_page may (done_of reply) has each (done_may p.page reply)))
+    abbrev leaf_taken : Taking
+    leaf_taken = taken book order s setting.cloud p.tree page p.page of_page.0 linked p.run.items took.clients
 
-    module _ (lands : Lands who put (called who t.now s) t) where
-      abbrev old : Leaf
-      old = newest_leaf (nodes_of s) p.tree p.page
+    abbrev su : Store
+    su = after_leaf leaf_taken st
 
-      newest_is : old ≡ p.home
-      newest_is = ap leaf_in ((puts.read).newest (put_lasts who (home_name p) p.out has.lease None (called who t.now s) t lands)).is
-
-      abbrev linked : IsLinked (book.chain p.tree 0) p.page
-      linked = (puts.runs).linked
-
-      abbrev clients : (x : PuItem) → IsIn p.run.items x → IsClient x.rec.client
-      clients = (puts.runs.took).clients
-
-      abbrev leaf_taken : Taking
-      leaf_taken = taken book order s setting.cloud p.tree p.page p.page of_tree linked p.run.items clients
-
+    -- where the leaf is the newest that was read, and the items of other pages' keys are applied if it is that of the run's own page
+    module _ (leaf : Leaf) (newest_is : old ≡ leaf) (puts : IsLeaf p.out (applied leaf p.page p.run.items))
+        (last : p.page ≡ page → (x : PuItem) → IsIn p.run.items x → holds old (key_of x.rec.change) ≡ false → IsDone st p.tree p.page x) where
       spells : IsLeaf p.out (applied old p.page p.run.items)
-      spells = subst (λ (l : Leaf). IsLeaf p.out (applied l p.page p.run.items)) (sym newest_is) puts.puts
+      spells = subst (λ (l : Leaf). IsLeaf p.out (applied l p.page p.run.items)) (sym newest_is) puts
 
-      -- the items of other pages' keys are beyond the page's high key
-      home_last : (x : PuItem) → IsIn p.run.items x → holds old (key_of x.rec.change) ≡ false → IsDone st p.tree p.page x
-      home_last x there out =
-          on (and_cases (not (bytes_below (key_of x.rec.change) p.home.low)) (below_bound (key_of x.rec.change) p.home.high)
-          (ap (λ (l : Leaf). holds l (key_of x.rec.change)) (sym newest_is) ∙ out))
-        where
-          never : false ≡ true → ⊥
-          never q = cc
-
-          on : (not (bytes_below (key_of x.rec.change) p.home.low) ≡ false) ⊎ (below_bound (key_of x.rec.change) p.home.high ≡ false) → IsDone st p.tree p.page x
-          on (inl less) = absurd (never (sym ((puts.runs).keys x there) ∙ not-false (bytes_below (key_of x.rec.change) p.home.low) less))
-          on (inr beyond) = puts.rest x there beyond refl
-
-      abbrev landing : Landing who st put (after_leaf leaf_taken st)
-      landing = puts_leaf leaf_taken p.out has.lease None spells
-          (takes book order s setting.cloud p.tree p.page p.page of_tree linked p.run.items clients who p.out spells (puts.runs).from (puts.runs.took).received p.run.top
-          (puts.runs.took).is_run (puts.runs.took).behind (puts.runs.took).items (λ same. home_last))
-          (leaf_lands book order s setting.cloud p.tree p.page p.page of_tree linked p.run.items clients who p.out spells)
-
-      abbrev su : Store
-      su = after_leaf leaf_taken st
+      abbrev landing : Landing who st put su
+      landing = puts_leaf leaf_taken p.out one two spells
+          (takes book order s setting.cloud p.tree page p.page of_page.0 linked p.run.items took.clients who p.out spells from took.received p.run.top took.is_run took.behind took.items last)
+          (leaf_lands book order s setting.cloud p.tree page p.page of_page.0 linked p.run.items took.clients who p.out spells)
+          (λ piece is. absurd (none_in piece is))
 
       grows : Grows st su
       grows = (landing_passes who st put su setting.cloud.holds landing).grows
 
-      -- the cursor covers the run now
-      each_covered : MayDelete su p.tree p.page p.deletions.ids
-      each_covered id is =
-          covered_more su p.tree p.page id (number_of p.run.top) (su.tally.cursor p.tree p.page)
-          (cursor_upto book order s setting.cloud p.tree p.page p.page of_tree linked p.run.items clients refl (puts.runs).from (puts.runs.took).received p.run.top
-          (puts.runs.took).is_run (puts.runs.took).behind)
-          (covered_stays st su p.tree p.page (number_of p.run.top) id grows ((puts.runs.took).covers id is))
-
-      noted : paging_note p put (audit_of book order) ≡ audit_of su.book su.order
-      noted =
-          ap (λ (xs : List PuItem). audit_of book (order ++ map (applied_entry p.tree) xs))
-          (puts.applies
+      lands : Lands who put (called who t.now s) t → p.applying ≡ lacked leaf p.page p.run.items → nexts.Shows stage su t.now (here stage) reply
+          → Outcome who book order s t parts leases put (paging_note (here stage) put) (Aside st own (After stage))
+      lands landed applies shows =
+          put_landed who book order s t parts leases (paging_note (here stage) put) (Aside st own (After stage)) (object.Page p.tree page) p.out one two su landed setting.cloud landing
+          (is_taken book order s setting.cloud p.tree page p.page of_page.0 linked p.run.items took.clients) tt (inl refl) own
+          (homes_at su (aside_keeps st.tally su.tally t.now parts refl refl setting.homes)) (aside stage su (λ c. refl) shows)
+          (ap (λ (xs : List PuItem). audit_of book (order ++ map (applied_entry p.tree) xs))
+          (applies
           ∙ (ap (λ (l : Leaf). lacked l p.page p.run.items) (sym newest_is)
-          ∙ sym (lacking_is book order s setting.cloud p.tree p.page p.page of_tree linked p.run.items clients)))
+          ∙ sym (lacking_is book order s setting.cloud p.tree page p.page of_page.0 linked p.run.items took.clients))))
 
-      put_outcome : OutBy put
-      put_outcome =
-          put_landed who book order s t parts leases (paging_note p put) K (home_name p) p.out has.lease None su lands setting.cloud landing
-          (is_taken book order s setting.cloud p.tree p.page p.page of_tree linked p.run.items clients) tt (inl refl) own
-          (homes_at su (aside_keeps st.tally su.tally t.now parts refl refl setting.homes)) (aside su (λ c. refl) (put_leads su (λ done. each_covered))) noted
-
-    at_putting_home : Out
-    at_putting_home = by_ask put put_is (on (put_cases who (home_name p) p.out has.lease None reply s t (call_at put put_is)))
+    -- it landed, or it was not done
+    puts_by : ((reply ≡ Done → ⊥) → nexts.Shows stage st t.now (here stage) reply)
+        → (Lands who put (called who t.now s) t → Outcome who book order s t parts leases put (paging_note (here stage) put) (Aside st own (After stage))) → By stage put
+    puts_by stayed landed call = on (put_cases who (object.Page p.tree page) p.out one two reply s t call)
       where
-        on : ((t ≡ called who t.now s) × (done_of reply ≡ Ok tt → ⊥)) ⊎ Lands who put (called who t.now s) t → OutBy put
+        on : ((t ≡ called who t.now s) × (done_of reply ≡ Ok tt → ⊥)) ⊎ Lands who put (called who t.now s) t
+            → Outcome who book order s t parts leases put (paging_note (here stage) put) (Aside st own (After stage))
         on (inl q) =
-            stays who book order s t parts leases put (paging_note p put) K q.0 setting.cloud own (homes_at st setting.homes)
-            (aside st (λ c. refl) (put_leads st (λ done. absurd (q.1 done))))
-        on (inr lands) = put_outcome lands
+            stays who book order s t parts leases put (paging_note (here stage) put) (Aside st own (After stage)) q.0 setting.cloud own (homes_at st setting.homes)
+            (aside stage st (λ c. refl) (stayed (λ e. q.1 (ap done_of e))))
+        on (inr lands) = landed lands
+
+  -- a right page
+  puts_right : (has : HasRight p) (on : ComesOn st t.now p has.lease) → PutsRight st t.now p.tree p.page has.second p.run p.at p.onward p.applying p.out
+      → By PuttingRight (PutHeld (right_name p) p.out has.lease (Some has.second))
+  puts_right has on puts = puts_by PuttingRight p.at.page linked on.runs.from on.runs.took has.lease (Some has.second) (λ never. (has, λ done. absurd (never done))) landed
+    where
+      linked : IsLinked (book.chain p.tree 0) p.at.page
+      linked = right_linked on
+
+      landed : Lands who (PutHeld (right_name p) p.out has.lease (Some has.second)) (called who t.now s) t
+          → Outcome who book order s t parts leases (PutHeld (right_name p) p.out has.lease (Some has.second)) (paging_note (here PuttingRight) (PutHeld (right_name p) p.out has.lease (Some has.second)))
+          (Aside st own (After PuttingRight))
+      landed lands_so =
+          lands PuttingRight p.at.page linked on.runs.from on.runs.took has.lease (Some has.second) puts.leaf right_is puts.puts elsewhere lands_so puts.applies (has, λ done. (comes_on, leaves))
+        where
+          right_is : newest_leaf (nodes_of s) p.tree p.at.page ≡ puts.leaf
+          right_is = ap leaf_in (puts.read.newest (permitted who (PutHeld (right_name p) p.out has.lease (Some has.second)) (called who t.now s) t lands_so).1).is
+
+          elsewhere : p.page ≡ p.at.page → (x : PuItem) → IsIn p.run.items x → holds (newest_leaf (nodes_of s) p.tree p.at.page) (key_of x.rec.change) ≡ false → IsDone st p.tree p.page x
+          elsewhere same = absurd (on.elsewhere (sym same))
+
+          right_taken : Taking
+          right_taken = leaf_taken PuttingRight p.at.page linked on.runs.from on.runs.took has.lease (Some has.second)
+
+          ru : Store
+          ru = after_leaf right_taken st
+
+          right_grows : Grows st ru
+          right_grows = grows PuttingRight p.at.page linked on.runs.from on.runs.took has.lease (Some has.second) puts.leaf right_is puts.puts elsewhere
+
+          comes_on : ComesOn ru t.now p has.lease
+          comes_on =
+              comes_stays st ru t.now t.now p.tree p.page has.lease p.home p.run p.deletions.ids p.visited p.at right_grows
+              (read_stays st ru t.now t.now p.tree p.page has.lease p.home (omega arith) right_grows
+              (λ lasts newest. at2_beside p.tree p.at.page (nodes_of s p.tree p.at.page ++ Leafy right_taken.leaf ∷ []) (nodes_of s) p.tree p.page (λ same. on.elsewhere (sym same))) on.read) on
+
+          -- the items of its keys are applied now, and those before it were
+          done : AreDone ru p.tree p.page p.run.items p.home.high puts.leaf.high
+          done x there beyond below = by (bytes_below (key_of x.rec.change) p.at.low) refl
+            where
+              by : (b : Bool) → bytes_below (key_of x.rec.change) p.at.low ≡ b → IsDone ru p.tree p.page x
+              by true less = comes_on.applied x there beyond less
+              by false low =
+                  run_applied book order s setting.cloud p.tree p.at.page p.page of_page.0 linked p.run.items on.runs.took.clients x there
+                  (ap (λ (l : Leaf). holds l (key_of x.rec.change)) right_is
+                  ∙ and_from (not (bytes_below (key_of x.rec.change) puts.leaf.low)) (below_bound (key_of x.rec.change) puts.leaf.high)
+                  (ap not (ap (bytes_below (key_of x.rec.change)) puts.low ∙ low)) below)
+
+          leaves : LeavesRight ru p.tree p.page p.home p.run p.at p.onward
+          leaves = record {
+            upto = puts.leaf.high;
+            leads = leads_stays (book.chain p.tree 0) (ru.book.chain p.tree 0) (right_grows.links p.tree 0) p.at.low puts.leaf.high p.run.items p.onward puts.leads;
+            applied = done;
+          }
+
+  -- the page itself
+  puts_home : (has : HasPage p) → PutsHome st t.now p.tree p.page has.lease p.home p.run p.deletions.ids p.applying p.out → By PuttingHome (PutHeld (home_name p) p.out has.lease None)
+  puts_home has puts = puts_by PuttingHome p.page puts.runs.linked puts.runs.from puts.runs.took has.lease None (λ never. (has, λ done. absurd (never done))) landed
+    where
+      landed : Lands who (PutHeld (home_name p) p.out has.lease None) (called who t.now s) t
+          → Outcome who book order s t parts leases (PutHeld (home_name p) p.out has.lease None) (paging_note (here PuttingHome) (PutHeld (home_name p) p.out has.lease None))
+          (Aside st own (After PuttingHome))
+      landed lands_so =
+          lands PuttingHome p.page puts.runs.linked puts.runs.from puts.runs.took has.lease None p.home newest_is puts.puts (λ same. others) lands_so puts.applies (has, λ done. covered)
+        where
+          newest_is : newest_leaf (nodes_of s) p.tree p.page ≡ p.home
+          newest_is = ap leaf_in (puts.read.newest (put_lasts who (home_name p) p.out has.lease None (called who t.now s) t lands_so)).is
+
+          -- the items of other pages' keys are beyond the page's high key
+          others : (x : PuItem) → IsIn p.run.items x → holds (newest_leaf (nodes_of s) p.tree p.page) (key_of x.rec.change) ≡ false → IsDone st p.tree p.page x
+          others x there out =
+              by (and_cases (not (bytes_below (key_of x.rec.change) p.home.low)) (below_bound (key_of x.rec.change) p.home.high)
+              (ap (λ (l : Leaf). holds l (key_of x.rec.change)) (sym newest_is) ∙ out))
+            where
+              never : false ≡ true → ⊥
+              never q = cc
+
+              by : (not (bytes_below (key_of x.rec.change) p.home.low) ≡ false) ⊎ (below_bound (key_of x.rec.change) p.home.high ≡ false) → IsDone st p.tree p.page x
+              by (inl less) = absurd (never (sym (puts.runs.keys x there) ∙ not-false (bytes_below (key_of x.rec.change) p.home.low) less))
+              by (inr beyond) = puts.rest x there beyond refl
+
+          hu : Store
+          hu = su PuttingHome p.page puts.runs.linked puts.runs.from puts.runs.took has.lease None
+
+          -- the cursor covers the run now
+          covered : MayDelete hu p.tree p.page p.deletions.ids
+          covered id is =
+              covered_more hu p.tree p.page id (number_of p.run.top) (hu.tally.cursor p.tree p.page)
+              (cursor_upto book order s setting.cloud p.tree p.page p.page of_page.0 puts.runs.linked p.run.items puts.runs.took.clients refl puts.runs.from puts.runs.took.received p.run.top
+              puts.runs.took.is_run puts.runs.took.behind)
+              (covered_stays st hu p.tree p.page (number_of p.run.top) id
+              (grows PuttingHome p.page puts.runs.linked puts.runs.from puts.runs.took has.lease None p.home newest_is puts.puts (λ same. others)) (puts.runs.took.covers id is))
 
   -- ---- a deletion
 
-  at_deleting : p.stage ≡ DeletingNext → HasPage p → MayDelete st p.tree p.page p.deletions.ids → HasIds p → Out
-  at_deleting e has each (id, rest, ids_are) = by_ask delete is (on (landed_or_not who delete reply s t (call_at delete is)))
+  deletes : HasPage p → MayDelete st p.tree p.page p.deletions.ids → (id : ℕ) → IsIn p.deletions.ids id → By DeletingNext (Delete (queue_of p.tree p.page) id)
+  deletes has each id there call = on (landed_or_not who delete reply s t call)
     where
       delete : Ask
       delete = Delete (queue_of p.tree p.page) id
 
-      is : paging_ask p ≡ delete
-      is =
-          asks DeletingNext e
-          ∙ (ap (λ (ids : List ℕ). delete_next p (next_id ids)) ids_are ∙ ap (λ (q : QueueName). Delete q id) (sym (own_queue p.tree p.page of_page)))
-
-      leads : (u : Store) → MayDelete u p.tree p.page p.deletions.ids → KnowsAfter p reply u t.now
-      leads u m = leads_at DeletingNext e u (λ next to. subst (nexts.Led u t.now p.page) (sym to) (nexts.deleted u t.now p of_tree of_page may (done_of reply) has m))
-
       landing : Landing who st delete (after_post_mark p.tree p.page id st)
-      landing = marks_post p.tree p.page id (may_mark st p.tree p.page id (each id (subst (λ ids. IsIn ids id) (sym ids_are) (zero, refl))))
+      landing = marks_post p.tree p.page id (may_mark st p.tree p.page id (each id there))
 
-      su : Store
-      su = after_post_mark p.tree p.page id st
+      du : Store
+      du = after_post_mark p.tree p.page id st
 
-      grows : Grows st su
-      grows = (landing_passes who st delete su setting.cloud.holds landing).grows
-
-      on : (t ≡ called who t.now s) ⊎ Lands who delete (called who t.now s) t → OutBy delete
-      on (inl q) = stays who book order s t parts leases delete (paging_note p delete) K q setting.cloud own (homes_at st setting.homes) (aside st (λ c. refl) (leads st each))
+      on : (t ≡ called who t.now s) ⊎ Lands who delete (called who t.now s) t → Outcome who book order s t parts leases delete (paging_note (here DeletingNext) delete) (Aside st own (After DeletingNext))
+      on (inl q) =
+          stays who book order s t parts leases delete (paging_note (here DeletingNext) delete) (Aside st own (After DeletingNext)) q setting.cloud own (homes_at st setting.homes)
+          (aside DeletingNext st (λ c. refl) (has, each))
       on (inr lands) =
-          other_landed who book order s t parts leases delete (paging_note p delete) K su lands setting.cloud landing tt tt tt own
-          (homes_at su (aside_keeps st.tally su.tally t.now parts refl refl setting.homes)) (aside su (λ c. refl) (leads su (delete_stays st su p.tree p.page p.deletions.ids grows each)))
+          other_landed who book order s t parts leases delete (paging_note (here DeletingNext) delete) (Aside st own (After DeletingNext)) du lands setting.cloud landing tt tt tt own
+          (homes_at du (aside_keeps st.tally du.tally t.now parts refl refl setting.homes))
+          (aside DeletingNext du (λ c. refl) (has, delete_stays st du p.tree p.page p.deletions.ids (landing_passes who st delete du setting.cloud.holds landing).grows each))
           (λ look new. refl) refl
 
   -- ---- the whole
 
-  outcome_at : KnowsPagingAt p.stage st t.now p → Out
-  outcome_at k = on p.stage refl k
-    where
-      on : (stage : Stage) → p.stage ≡ stage → KnowsPagingAt stage st t.now p → Out
-      on TakingHome e a = at_taking_home e a.1
-      on GettingHome e a = at_getting_home e a.0 a.1
-      on Receiving e a = at_receiving e a
-      on TakingRight e a = at_taking_right e a.0 a.1
-      on GettingRight e a = at_getting_right e a.0 a.1
-      on PuttingRight e a = at_putting_right e a.0 a.1 a.2
-      on ReleasingRight e a = at_releasing_right e a.0 a.1 a.2
-      on PuttingHome e a = at_putting_home e a.0 a.1
-      on DeletingNext e a = at_deleting e a.0 a.1 a.2
-      on Releasing e a = at_releasing e a
-      on Finished e never = absurd never
+  outcome_at : (stage : Stage) → KnowsPagingAt stage st t.now p → Out stage
+  outcome_at TakingHome (none, fresh) = quiet_at TakingHome (take_home p) tt tt (λ call. (fresh, given who (lock.Page p.tree p.page) 30 reply s t call))
+  outcome_at GettingHome (has, fresh) =
+      by_held GettingHome has.is
+      (quiet_at GettingHome (GetHeld (home_name p) has.lease) tt tt (λ call. (has, fresh, named has.lease call, λ c. own_cursor s p.tree p.page c of_page.1)))
+  outcome_at Receiving k =
+      quiet_at Receiving (Receive (queue.PagePu p.tree p.page) 256) tt tt
+      (λ call. (record { has = k.has; fresh = k.fresh; read = k.read; covered = k.covered }, charted, setting.cloud.holds.numbers, was_sent call))
+  outcome_at TakingRight (has, on) = quiet_at TakingRight (take_right p) tt tt (λ call. (has, on, given who (lock.Page p.tree p.at.page) 30 reply s t call))
+  outcome_at GettingRight (has, on) =
+      by_held GettingRight has.is
+      (quiet_at GettingRight (GetHeld (right_name p) has.second) tt tt (λ call. (has, on, charted, right on has.second call, none_lacked on)))
+  outcome_at PuttingRight (has, on, puts) = by_held PuttingRight has.is (puts_right has on puts)
+  outcome_at ReleasingRight (has, on, leaves) = by_held ReleasingRight has.is (quiet_at ReleasingRight (Release has.second) tt tt (λ call. (has, on, leaves, charted)))
+  outcome_at PuttingHome (has, puts) = by_held PuttingHome has.is (puts_home has puts)
+  outcome_at DeletingNext (has, each, (id, rest, ids_are)) =
+      subst (λ (ids : List ℕ). By DeletingNext (delete_next (here DeletingNext) (next_id ids))) (sym ids_are)
+      (subst (λ (q : QueueName). By DeletingNext (Delete q id)) (own_queue p.tree p.page of_page.1) (deletes has each id (subst (λ ids. IsIn ids id) (sym ids_are) (zero, refl))))
+  outcome_at Releasing (inl has) = by_held Releasing has.is (quiet_at Releasing (Release has.lease) tt tt (λ call. inl has))
+  outcome_at Releasing (inr (right, has)) = by_held Releasing has.is (quiet_at Releasing (Release has.second) tt tt (λ call. inr (right, has)))
+  outcome_at Finished never = absurd never
 
 -- a call of a page checkpoint: whatever was answered, and whether it landed or not
 pub paging_outcome : (who : Caller) (s t : CloudState) (book : Book) (order : List Entry) (parts : Parts) (leases : List Claim) (p : Paging) (reply : Answer)
     → Setting book order s t.now parts who.session leases → KnowsPaging (store_of book order s) s.now p → IsCall who (paging_ask p) reply s t
     → Outcome who book order s t parts leases (paging_ask p) (paging_note p (paging_ask p)) (Aside (store_of book order s) (parts who.session) (KnowsAfter p reply))
 paging_outcome who s t book order parts leases p reply setting k call =
-    outcome_at who s t book order parts leases p reply setting k.tree k.page k.may k.waits call (paging_later (store_of book order s) s.now t.now p call.later k).at
+    less_known who book order s t parts leases (paging_ask p) (paging_note p (paging_ask p)) (λ u now. (next : Step) → PagingLeads p reply next → nexts.Stands u now p.page next) (KnowsAfter p reply)
+    (λ u stands next leads. nexts.stands_knows u t.now p next k.waits (step_rests p reply next leads) (stands next leads))
+    (outcome_at who s t book order parts leases p reply setting (k.tree, k.page, k.may) p.stage (paging_later (store_of book order s) s.now t.now p call.later k).at call)
 
 -- why it stops: for no message, page, fence or way that is broken, nor for a page that a link named
 pub paging_stops : (who : Caller) (s t : CloudState) (book : Book) (order : List Entry) (parts : Parts) (leases : List Claim) (p : Paging) (reply : Answer)

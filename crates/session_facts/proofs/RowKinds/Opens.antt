@@ -10,7 +10,7 @@ use Rattle.commit_writes.specs.declared.stage.Stage.{Stage}
 use Rattle.commit_writes.specs.declared.stage.Stage.TheVariants as stage
 use Rattle.commit_writes.specs.Writing.{Writing, opens_at}
 use Rattle.client_work.specs.declared.work.Work.{Work}
-use Rattle.client_work.specs.declared.work.Work.TheVariants.{Closed, Idle, Opening, Committing, Reading, Scanning, Looking, Paging, Folding, Closing, Renewing, Settling, Broken}
+use Rattle.client_work.specs.declared.work.Work.TheVariants.{Closed, Idle, Opening, Committing, Reading, Scanning, Looking, Paging, Folding, Closing, Renewing, Settling, Sweeping, Broken}
 use Rattle.client_work.specs.Session.{opens_of, committing_of}
 use Rattle.head_codec.specs.declared.head.Head.{Head}
 use Rattle.head_codec.specs.declared.head.Phase.TheVariants as phase
@@ -69,6 +69,7 @@ work_is_new st now c (Reading home m) part client head changes k own opens is = 
 work_is_new st now c (Scanning home m) part client head changes k own opens is = absurd (cc)
 work_is_new st now c (Looking home m) part client head changes k own opens is = absurd (cc)
 work_is_new st now c (Settling m) part client head changes k own opens is = absurd (cc)
+work_is_new st now c (Sweeping m) part client head changes k own opens is = absurd (cc)
 work_is_new st now c (Paging home p) part client head changes k own opens is = absurd (cc)
 work_is_new st now c (Folding home f) part client head changes k own opens is = absurd (cc)
 work_is_new st now c Closed part client head changes k own opens is = absurd (cc)

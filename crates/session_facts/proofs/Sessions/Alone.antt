@@ -3,13 +3,13 @@ use Rattle.std.proofs.Common.{◌≡◌, ◌≢◌, ◌≤◌, inl, inr, ℕ, Li
 use Rattle.cloud_trait.specs.Calm.{TakesFree}
 use Rattle.ckpt_parts.specs.Leasing.{outstanding_after}
 use Rattle.attr_index.specs.Look.{Look, look_ask}
-use Rattle.client_work.specs.Session.{Acting, LooksBy, ReadsBy, RenewsHome, ShowsAt, StepsAt, StepsClosing, StepsCommit, StepsFolding, StepsOpening, StepsPaging, StepsRenewing, StepsScanning, StepsSession, StepsSettling, ask_of_work}
+use Rattle.client_work.specs.Session.{Acting, LooksBy, ReadsBy, RenewsHome, ShowsAt, StepsAt, StepsClosing, StepsCommit, StepsFolding, StepsOpening, StepsPaging, StepsRenewing, StepsScanning, StepsSession, StepsSettling, StepsSweeping, ask_of_work}
 use Rattle.client_work.specs.declared.answer.Answer.{Answer}
 use Rattle.client_work.specs.declared.answer.Answer.TheVariants as answer
 use Rattle.client_work.specs.declared.listing.Listing.{Listing}
 use Rattle.client_work.specs.declared.shown.Shown.{Shown}
 use Rattle.client_work.specs.declared.work.Work.{Work}
-use Rattle.client_work.specs.declared.work.Work.TheVariants.{Closed, Idle, Opening, Committing, Reading, Scanning, Looking, Folding, Paging, Closing, Renewing, Settling, Broken}
+use Rattle.client_work.specs.declared.work.Work.TheVariants.{Closed, Idle, Opening, Committing, Reading, Scanning, Looking, Folding, Paging, Closing, Renewing, Settling, Sweeping, Broken}
 use Rattle.cloud_facts.proofs.Calls.Calls.{call_of}
 use Rattle.cloud_facts.specs.Book.Book.{Book}
 use Rattle.cloud_facts.specs.Book.Tally.{Store}
@@ -53,13 +53,16 @@ use Rattle.session_facts.proofs.Settled.TreeLeases.{making_holds, making_uses}
 use Rattle.session_facts.specs.Openings.Opening.{KnowsOpening, leases_of_recovery}
 use Rattle.session_facts.specs.PageCheckpoints.Checkpoint.{KnowsPaging, leases_of_paging}
 use Rattle.session_facts.specs.Sessions.Alone.{IsAlone, StepsUndisturbed}
-use Rattle.session_facts.specs.Sessions.Calls.{closing_reply, commit_reply, folding_reply, looking_reply, opening_reply, paging_reply, reading_reply, reply_at, reply_of, settling_reply}
+use Rattle.session_facts.specs.Sessions.Calls.{closing_reply, commit_reply, folding_reply, looking_reply, opening_reply, paging_reply, reading_reply, reply_at, reply_of, settling_reply, sweeping_reply}
 use Rattle.session_facts.specs.Sessions.Sessions.{KnowsWork, Sessions, SessionsStand, leases_of}
 use Rattle.session_facts.specs.Sessions.Untroubled.{StepsCalmly}
 use Rattle.session_facts.specs.Settled.Locks.{HoldsAlone, UsesOwn}
 use Rattle.session_facts.specs.Settlings.Settling.{KnowsSettling, leases_of_settling}
 use Rattle.session_facts.specs.TreeCheckpoints.Checkpoint.{KnowsMaking, leases_of_making}
 use Rattle.settle_run.specs.Parts.{IsSoundPart}
+use Rattle.orphan_sweep.specs.Sweeping.{Sweeping as SweepingState, sweep_ask}
+use Rattle.session_facts.proofs.Sweeps.Leases.{held_at, sweep_uses, sweep_holds}
+use Rattle.session_facts.specs.Sweeps.Sweep.{KnowsSweep, leases_of_sweep}
 use Rattle.settle_run.specs.Settling.{Settling as SettlingState, settle_ask}
 use Rattle.tree_ckpt.specs.Making.{Making, making_ask}
 use Rattle.tree_walk.specs.Walk.{Walk, object_of, walk_ask}
@@ -256,6 +259,24 @@ module _ (who : Caller) (before after : Seen) (s t : CloudState) (told : before.
     renewing_alone new (Ended (answer.Trouble q)) (next, r, is) = renewed next (Err q) r new (ap leases_of is ∙ stopped_leases q next)
     renewing_alone new turn p = absurd p
 
+  -- ---- a sweep
+
+  module _ (st : Store) (now : ℕ) (m : SweepingState) (part : Part) (k : KnowsSweep st now m part) (alone : HoldsAlone (leases_of_sweep m) s) where
+    sweeps_on : (a : Reply) → Makes who (sweep_ask m) a before after → a ≢ Memory → (new : Work) → leases_of new ≡ outstanding_after (sweep_ask m) a (leases_of_sweep m)
+        → Goes_on (sweep_ask m) new
+    sweeps_on a made found new e = turns (sweep_ask m) a (leases_of_sweep m) new made found (sweep_uses m (held_at m.stage st now m k.at)) alone e
+
+    sweeping_alone : (new : Work) (turn : Turn Answer) → (p : StepsSweeping who before after m new turn) → sweeping_reply who before after m new turn p ≢ Memory → FindsMemory turn
+        → Goes_on (sweep_ask m) new
+    sweeping_alone new More (n, steps, is, less) found fair =
+        sweeps_on steps.did.answer steps.did.made found new (ap leases_of is ∙ sweep_holds m steps.did.answer (Goes n) (held_at m.stage st now m k.at) steps.did.took)
+    sweeping_alone new (Ended (answer.Swept x)) (n, steps, is) found fair =
+        sweeps_on steps.did.answer steps.did.made found new (ap leases_of is ∙ sweep_holds m steps.did.answer (Ends n x) (held_at m.stage st now m k.at) steps.did.took)
+    sweeping_alone new (Ended (answer.Trouble q)) (n, steps, is) found fair =
+        sweeps_on steps.did.answer steps.did.made found new
+        (ap leases_of is ∙ sweep_holds m steps.did.answer (Stops n q) (held_at m.stage st now m k.at) (steps.did.took.0 (no_want q fair)))
+    sweeping_alone new turn p found fair = absurd p
+
   -- ---- a settling
 
   module _ (st : Store) (now : ℕ) (m : SettlingState) (part : Part) (k : KnowsSettling st now m part) (sound : IsSoundPart m.part) (alone : HoldsAlone (leases_of_settling m) s) where
@@ -321,6 +342,8 @@ module _ (who : Caller) (before after : Seen) (s t : CloudState) (book : Book) (
       found_so (Renewing home) new (Renew home.lease 600) refl (renewing_alone who before after s t told told_after counts home alone new turn p)
   by_work buffer (Settling m) new d shown turn is alone p q found fair =
       found_so (Settling m) new (settle_ask m) refl (settling_step_alone who before after s t told told_after counts st s.now m (stand.parts who.session) (known (Settling m) is) p.0 alone new turn p.1 found fair)
+  by_work buffer (Sweeping m) new d shown turn is alone p q found fair =
+      found_so (Sweeping m) new (sweep_ask m) refl (sweeping_alone who before after s t told told_after counts st s.now m (stand.parts who.session) (known (Sweeping m) is) alone new turn p found fair)
   by_work buffer Closed new d shown turn is alone p q found fair = absurd p
   by_work buffer (Idle home) new d shown turn is alone p q found fair = absurd p
   by_work buffer (Broken l) new d shown turn is alone p q found fair = absurd p

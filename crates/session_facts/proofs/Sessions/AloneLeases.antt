@@ -12,15 +12,15 @@ use Rattle.client_work.specs.declared.op.Op.{Op}
 use Rattle.client_work.specs.declared.op.Op.TheVariants as op
 use Rattle.client_work.specs.declared.shown.Shown.{Shown}
 use Rattle.client_work.specs.declared.work.Work.{Work}
-use Rattle.client_work.specs.declared.work.Work.TheVariants.{Closed, Idle, Opening, Committing, Reading, Scanning, Looking, Folding, Paging, Closing, Renewing, Settling, Broken}
+use Rattle.client_work.specs.declared.work.Work.TheVariants.{Closed, Idle, Opening, Committing, Reading, Scanning, Looking, Folding, Paging, Closing, Renewing, Settling, Sweeping, Broken}
 use Rattle.cloud_facts.proofs.Book.Places.{get_single, in_either, in_front, in_behind}
 use Rattle.cloud_facts.specs.Book.Records.{IsIn}
 use Rattle.cloud_facts.specs.Calls.Acting.{of_option}
 use Rattle.cloud_trait.specs.declared.answer.Answer.{Answer as Reply}
-use Rattle.cloud_trait.specs.declared.answer.Answer.TheVariants.{Got, Sent, Received, Done, Given, Held, Renewed, Late, Failed, Memory}
+use Rattle.cloud_trait.specs.declared.answer.Answer.TheVariants.{Got, Sent, Received, Listed, Done, Given, Held, Renewed, Late, Failed, Memory}
 use Rattle.cloud_trait.specs.declared.turn.Turn.{Turn}
 use Rattle.cloud_trait.specs.declared.turn.Turn.TheVariants.{More, Ended, Stopped}
-use Rattle.cloud_trait.specs.Ask.{Ask, Get, GetHeld, PutHeld, Send, Receive, Delete, Take, Renew, Release, MovesNoLock}
+use Rattle.cloud_trait.specs.Ask.{Ask, Get, GetHeld, PutHeld, ListHeld, RemoveHeld, Send, Receive, Delete, Take, Renew, Release, MovesNoLock}
 use Rattle.cloud_trait.specs.Claim.{Claim}
 use Rattle.cloud_trait.specs.State.{CloudState}
 use Rattle.commit_run.specs.declared.hand.Hand.{Hand}
@@ -100,6 +100,8 @@ uses_beside (Release m) (c ∷ cs) l other same = same
 uses_beside (Renew m ticks) held l other never = absurd never
 uses_beside (Get name) held l other uses = tt
 uses_beside (GetHeld name m) held l other uses = tt
+uses_beside (ListHeld tree m) held l other uses = tt
+uses_beside (RemoveHeld name m) held l other uses = tt
 uses_beside (PutHeld name bytes one two) held l other uses = tt
 uses_beside (Send queue bytes) held l other uses = tt
 uses_beside (Receive queue most) held l other uses = tt
@@ -114,6 +116,7 @@ taken_beside lock ticks Memory held l = refl
 taken_beside lock ticks (Got v) held l = refl
 taken_beside lock ticks (Sent id) held l = refl
 taken_beside lock ticks (Received ms) held l = refl
+taken_beside lock ticks (Listed pages) held l = refl
 taken_beside lock ticks Done held l = refl
 taken_beside lock ticks (Renewed end) held l = refl
 taken_beside lock ticks (Late end now) held l = refl
@@ -125,6 +128,8 @@ after_beside (Release m) a (c ∷ cs) l same = refl
 after_beside (Renew m ticks) a held l never = absurd never
 after_beside (Get name) a held l uses = refl
 after_beside (GetHeld name m) a held l uses = refl
+after_beside (ListHeld tree m) a held l uses = refl
+after_beside (RemoveHeld name m) a held l uses = refl
 after_beside (PutHeld name bytes one two) a held l uses = refl
 after_beside (Send queue bytes) a held l uses = refl
 after_beside (Receive queue most) a held l uses = refl
@@ -279,6 +284,7 @@ module _ (old new : Acting) where
   broken_lease (Closing l) e = absurd (cc)
   broken_lease (Renewing home) e = absurd (cc)
   broken_lease (Settling m) e = absurd (cc)
+  broken_lease (Sweeping m) e = absurd (cc)
 
   opening_leases : (client : ℕ) (result : Result Begun Refused) → BeginsOpening client old new result → Same
   opening_leases client (Ok Working) b = ap (λ (a : Acting). leases_of a.work) b.1 ∙ broken_lease old.work b.0

@@ -123,6 +123,7 @@ module _ (book : Book) (order : List Entry) (s : CloudState) (sessions : Session
       lists (Ended (answer.Done n)) never begun = absurd never
       lists (Ended answer.Value) never begun = absurd never
       lists (Ended (answer.Settled n)) never begun = absurd never
+      lists (Ended (answer.Swept x)) never begun = absurd never
 
       on : (moved : Turn ℕ) (turn : Turn Answer) → Moves (scan_ready (new_scan tree from to, old.cache)) (p.scan, new.cache) moved
           → Follows home old.buffer (record { scan = p.scan; pairs = [] }) new.cache moved new.work new.shown turn → begins_by turn (Answered (answer.Trouble t)) → t ≡ trouble.Memory
@@ -176,6 +177,7 @@ module _ (book : Book) (order : List Entry) (s : CloudState) (sessions : Session
       lists (Ended (answer.Done n)) never begun = never
       lists (Ended answer.Value) never begun = never
       lists (Ended (answer.Settled n)) never begun = never
+      lists (Ended (answer.Swept x)) never begun = never
 
       at : (turn other : Turn Answer) → turn ≡ other → begins_by turn (Answered (answer.Commit a)) → begins_by other (Answered (answer.Commit a))
       at turn other e begun = subst (λ x. begins_by x (Answered (answer.Commit a))) e begun

@@ -2,7 +2,7 @@
 use Rattle.std.specs.Prelude.{false}
 use Rattle.std.proofs.Common.{◌≡◌, ◌≢◌, ◌≤◌, ◌⊎◌, inl, inr, ℕ, List, [], ◌∷◌, length, Option, Some, None, Result, Ok, Err, refl, sym, ap, subst, ◌∙◌}
 use Rattle.attr_index.specs.Look.{Query, look_ready}
-use Rattle.client_work.specs.Session.{Acting, closed_session, settling_session, ReadsIn, ReadsOf, LooksIn, LooksOf, ScansIn, ScansOf, Follows, ListsLeaf, stopped_work, Begins, BeginsOpening, BeginsWith, BeginsIndexed, HasInHand, folding_begun_by, paging_begun_by, opening_rule_of, opening_of, old_lease, CommitsOf, CommitsNoted, CommitsIn}
+use Rattle.client_work.specs.Session.{Acting, closed_session, settling_session, sweeping_session, ReadsIn, ReadsOf, LooksIn, LooksOf, ScansIn, ScansOf, Follows, ListsLeaf, stopped_work, Begins, BeginsOpening, BeginsWith, BeginsIndexed, HasInHand, folding_begun_by, paging_begun_by, opening_rule_of, opening_of, old_lease, CommitsOf, CommitsNoted, CommitsIn}
 use Rattle.client_work.specs.declared.answer.Answer.{Answer}
 use Rattle.client_work.specs.declared.answer.Answer.TheVariants as answer
 use Rattle.client_work.specs.declared.answer.Begun.{Begun}
@@ -11,7 +11,7 @@ use Rattle.client_work.specs.declared.listing.Listing.{Listing}
 use Rattle.client_work.specs.declared.op.Op.{Op}
 use Rattle.client_work.specs.declared.op.Op.TheVariants as op
 use Rattle.client_work.specs.declared.work.Work.{Work}
-use Rattle.client_work.specs.declared.work.Work.TheVariants.{Closed, Idle, Opening, Committing, Reading, Scanning, Looking, Folding, Paging, Closing, Renewing, Settling, Broken}
+use Rattle.client_work.specs.declared.work.Work.TheVariants.{Closed, Idle, Opening, Committing, Reading, Scanning, Looking, Folding, Paging, Closing, Renewing, Settling, Sweeping, Broken}
 use Rattle.cloud_trait.specs.declared.turn.Turn.{Turn}
 use Rattle.cloud_trait.specs.declared.turn.Turn.TheVariants.{More, Ended, Stopped}
 use Rattle.cloud_trait.specs.Claim.{Claim}
@@ -52,6 +52,7 @@ use Rattle.tree_walk.specs.Walk.{new_walk, walk_ready}
 use Rattle.session_facts.proofs.Sessions.Laws.{session_changes, session_rests, session_leaves}
 use Rattle.session_facts.specs.Settlings.Settling.{KnowsSettling}
 use Rattle.session_facts.proofs.Settlings.Begins.{settling_begins}
+use Rattle.session_facts.proofs.Sweeps.Begins.{sweep_begins}
 use Rattle.settle_run.specs.Settling.{new_settling}
 use Rattle.cloud_facts.specs.Book.Book.{Book}
 use Rattle.cloud_facts.specs.Book.Records.{IsIn}
@@ -102,6 +103,7 @@ module _ (book : Book) (order : List Entry) (s : CloudState) (sessions : Session
   no_part c (Closing l) part e k = absurd (cc)
   no_part c (Renewing home) part e k = absurd (cc)
   no_part c (Settling m) part e k = absurd (cc)
+  no_part c (Sweeping m) part e k = absurd (cc)
 
   -- its old lease is the one that it has in hand
   old_within : (work : Work) (client : ℕ) (x : Claim) → IsIn (leases_of_recovery (new_recovery client aim.Opening (old_lease work))) x → IsIn (leases_of work) x
@@ -118,6 +120,7 @@ module _ (book : Book) (order : List Entry) (s : CloudState) (sessions : Session
   old_within (Closing l) client x is = absurd (in_none [] x refl is)
   old_within (Renewing home) client x is = absurd (in_none [] x refl is)
   old_within (Settling m) client x is = absurd (in_none [] x refl is)
+  old_within (Sweeping m) client x is = absurd (in_none [] x refl is)
 
   opening_after_all : (client : ℕ) → IsClient client → opening_rule_of old.work ≡ None → After (record closed_session { work = opening_of client (old_lease old.work) })
   opening_after_all client c none =
@@ -246,6 +249,7 @@ module _ (book : Book) (order : List Entry) (s : CloudState) (sessions : Session
   commits_of home new (Answered answer.Value) idle none some never = absurd never
   commits_of home new (Answered answer.Scan) idle none some never = absurd never
   commits_of home new (Answered (answer.Settled n)) idle none some never = absurd never
+  commits_of home new (Answered (answer.Swept x)) idle none some never = absurd never
 
   begins_commit : (new : Acting) (result : Result Begun Refused) → BeginsWith (CommitsIn old) old new result → After new
   begins_commit new result = begins_with (CommitsIn old) new result (λ home begun idle d. on home begun idle d.0 d.1)
@@ -290,6 +294,7 @@ module _ (book : Book) (order : List Entry) (s : CloudState) (sessions : Session
   reads_of tree key home new (Answered (answer.Done n)) is idle same never = absurd never
   reads_of tree key home new (Answered answer.Scan) is idle same never = absurd never
   reads_of tree key home new (Answered (answer.Settled n)) is idle same never = absurd never
+  reads_of tree key home new (Answered (answer.Swept x)) is idle same never = absurd never
 
   begins_read : (tree : ℕ) (key : List ℕ) (new : Acting) (result : Result Begun Refused) → IsTree tree → BeginsWith (ReadsIn tree key old) old new result → After new
   begins_read tree key new result is = begins_with (ReadsIn tree key old) new result (λ home begun idle d. reads_of tree key home new begun is idle d.0 d.1)
@@ -321,6 +326,7 @@ module _ (book : Book) (order : List Entry) (s : CloudState) (sessions : Session
     lists_well m page (Ended (answer.Done n)) k there never = absurd never
     lists_well m page (Ended answer.Value) k there never = absurd never
     lists_well m page (Ended (answer.Settled n)) k there never = absurd never
+    lists_well m page (Ended (answer.Swept x)) k there never = absurd never
 
     follows_well : (m : Scan) (moved : Turn ℕ) (turn : Turn Answer) → Moves (scan_ready (new_scan tree from to, old.cache)) (m, new.cache) moved
         → Follows home old.buffer (record { scan = m; pairs = [] }) new.cache moved new.work new.shown turn → After new
@@ -366,6 +372,7 @@ module _ (book : Book) (order : List Entry) (s : CloudState) (sessions : Session
     looks_of (Answered answer.Value) never = absurd never
     looks_of (Answered answer.Scan) never = absurd never
     looks_of (Answered (answer.Settled n)) never = absurd never
+    looks_of (Answered (answer.Swept x)) never = absurd never
 
   begins_look : (tree : ℕ) (attr : List ℕ) (new : Acting) (result : Result Begun Refused) → IsTree tree → BeginsIndexed tree (LooksIn tree attr old) old new result → After new
   begins_look tree attr new result is b = on (indexed_or tree (LooksIn tree attr old) old new result b)
@@ -398,6 +405,19 @@ pub settling_begins_session : (book : Book) (order : List Entry) (s : CloudState
 settling_begins_session book order s sessions session closed stand =
     session_rests book order s sessions session settling_session stand (λ x is. absurd (in_none [] x refl is)) (record {
       work = subst (KnowsSettling (store_of book order s) s.now new_settling) (sym away) (settling_begins (store_of book order s) s.now);
+      kept = empty_knows (store_of book order s);
+      buffer = may_none;
+    })
+  where
+    away : stand.parts session ≡ Away
+    away = (subst (λ (a : Acting). Knows (store_of book order s) s.now a (stand.parts session)) closed (stand.each session)).work
+
+-- or to sweep a tree
+pub sweeping_begins_session : (tree : ℕ) → IsTree tree → (book : Book) (order : List Entry) (s : CloudState) (sessions : Sessions) (session : ℕ) → sessions session ≡ closed_session
+    → SessionsStand book order s sessions → SessionsStand book order s (at session (sweeping_session tree) sessions)
+sweeping_begins_session tree is book order s sessions session closed stand =
+    session_rests book order s sessions session (sweeping_session tree) stand (λ x is. absurd (in_none [] x refl is)) (record {
+      work = sweep_begins (store_of book order s) s.now tree (stand.parts session) away is;
       kept = empty_knows (store_of book order s);
       buffer = may_none;
     })

@@ -7,13 +7,13 @@ use Rattle.attr_index.specs.Look.{look_ask}
 use Rattle.client_work.specs.Session.{Acting, StepsSession, StepsWork, StepsAt, Shows, ShowsAt, ask_of_work, opens_of, committing_of, applying_of, is_working, noted_behind, shown_behind}
 use Rattle.client_work.specs.declared.answer.Answer.{Answer}
 use Rattle.client_work.specs.declared.work.Work.{Work}
-use Rattle.client_work.specs.declared.work.Work.TheVariants.{Closed, Idle, Opening, Committing, Reading, Scanning, Looking, Folding, Paging, Closing, Renewing, Settling, Broken}
+use Rattle.client_work.specs.declared.work.Work.TheVariants.{Closed, Idle, Opening, Committing, Reading, Scanning, Looking, Folding, Paging, Closing, Renewing, Settling, Sweeping, Broken}
 use Rattle.cloud_facts.specs.Calls.Acting.{Setting, Outcome}
 use Rattle.cloud_facts.specs.Calls.Looks.{has_landed, audit_of}
 use Rattle.cloud_facts.proofs.Calls.Outcomes.{none_lands, weaker}
 use Rattle.cloud_trait.proofs.EffectLemmas.{begins_itself}
 use Rattle.cloud_trait.specs.declared.turn.Turn.{Turn}
-use Rattle.cloud_trait.specs.Ask.{Ask, Get, GetHeld, PutHeld, Send, Receive, Delete, Take, Renew, Release}
+use Rattle.cloud_trait.specs.Ask.{Ask, Get, GetHeld, PutHeld, ListHeld, RemoveHeld, Send, Receive, Delete, Take, Renew, Release}
 use Rattle.cloud_trait.specs.Caller.{Caller}
 use Rattle.cloud_trait.specs.Claim.{Claim}
 use Rattle.cloud_trait.specs.Seen.{Seen}
@@ -44,7 +44,10 @@ use Rattle.session_facts.proofs.Sessions.OpeningSteps.{opening_step}
 use Rattle.session_facts.proofs.Sessions.ReadingSteps.{reading_step}
 use Rattle.session_facts.proofs.Sessions.ScanningSteps.{scanning_step}
 use Rattle.session_facts.proofs.Sessions.LookingSteps.{looking_step}
+use Rattle.orphan_sweep.specs.Sweeping.{sweep_ask}
 use Rattle.session_facts.proofs.Sessions.SettlingSteps.{settling_step, settling_noted}
+use Rattle.session_facts.proofs.Sessions.SweepingSteps.{sweeping_step}
+use Rattle.session_facts.proofs.Sweeps.Noted.{sweep_noted}
 use Rattle.tree_walk.specs.Walk.{walk_ask}
 use Rattle.session_facts.proofs.Sessions.PagingSteps.{paging_step, paging_noted}
 use Rattle.session_facts.specs.Settlings.Settling.{settling_note}
@@ -74,6 +77,8 @@ nothing_noted work (PutHeld (object.Page tree page) bytes one two) a opens appli
 nothing_noted work (PutHeld (object.Tree tree) bytes one two) a opens applies = refl
 nothing_noted work (Get name) a opens applies = refl
 nothing_noted work (GetHeld name l) a opens applies = refl
+nothing_noted work (ListHeld tree l) a opens applies = refl
+nothing_noted work (RemoveHeld name l) a opens applies = refl
 nothing_noted work (Send queue bytes) a opens applies = refl
 nothing_noted work (Receive queue most) a opens applies = refl
 nothing_noted work (Delete queue id) a opens applies = refl
@@ -91,6 +96,7 @@ renoted who book order s t parts mine ask note other K same o = record {
   passes = o.passes;
   joins = o.joins;
   links = o.links;
+  gone = o.gone;
   part = o.part;
   homes = o.homes;
   knows = o.knows;
@@ -219,6 +225,12 @@ module _ (who : Caller) (before after : Seen) (s t : CloudState) (book : Book) (
       (subst (Stepped (settle_ask m) (settling_note m (settle_ask m)) c) (sym is)
       (settling_step who before after book order s t stand.parts m (setting_at (Settling m) is) (known_now (Settling m) is) steps.0
       c (same_cache c shown.0 (cache_now (Settling m) is)) told told_after new.work turn steps.1))
+  works (Sweeping m) turn c is steps shown left =
+      goes_by (sweep_ask m) (λ a. a) c (ap ask_of_work is)
+      (sym (ap (λ w. noted_at w (sweep_ask m) (audit_of book order)) is ∙ sweep_noted (Sweeping m) m (audit_of book order))) left
+      (subst (Stepped (sweep_ask m) (λ a. a) c) (sym is)
+      (sweeping_step who before after book order s t stand.parts m (setting_at (Sweeping m) is) (known_now (Sweeping m) is) c (same_cache c shown.0 (cache_now (Sweeping m) is)) told told_after
+      new.work turn steps))
   works Closed turn c is never shown left = absurd never
   works (Idle home) turn c is never shown left = absurd never
   works (Broken l) turn c is never shown left = absurd never
@@ -244,6 +256,7 @@ module _ (who : Caller) (before after : Seen) (s t : CloudState) (book : Book) (
       stays (Scanning home m) e = refl
       stays (Looking home m) e = refl
       stays (Settling m) e = refl
+      stays (Sweeping m) e = refl
       stays (Closing l) e = absurd (cc)
   steps_keep (Err refused.Memory) buffer shown never = absurd never
 
@@ -262,6 +275,7 @@ noted_may (Reading home m) buffer may = may
 noted_may (Scanning home m) buffer may = may
 noted_may (Looking home m) buffer may = may
 noted_may (Settling m) buffer may = may
+noted_may (Sweeping m) buffer may = may
 
 -- a call of a session: any answer, landed or not
 pub session_keeps : (who : Caller) (before after : Seen) (s t : CloudState) (book : Book) (order : List Entry) (sessions : Sessions) (new : Acting) (result : Result (Turn Answer) Refused)

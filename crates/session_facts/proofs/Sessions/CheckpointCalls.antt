@@ -7,7 +7,7 @@ use Rattle.client_work.specs.declared.answer.Answer.TheVariants as answer
 use Rattle.client_work.specs.declared.listing.Listing.{Listing}
 use Rattle.client_work.specs.declared.shown.Shown.{Shown}
 use Rattle.client_work.specs.declared.work.Work.{Work}
-use Rattle.client_work.specs.declared.work.Work.TheVariants.{Closed, Idle, Opening, Committing, Reading, Scanning, Looking, Paging, Folding, Closing, Renewing, Settling, Broken}
+use Rattle.client_work.specs.declared.work.Work.TheVariants.{Closed, Idle, Opening, Committing, Reading, Scanning, Looking, Paging, Folding, Closing, Renewing, Settling, Sweeping, Broken}
 use Rattle.cloud_facts.proofs.Book.Names.{at_same, at_other}
 use Rattle.cloud_facts.proofs.Calls.Calls.{call_of}
 use Rattle.cloud_facts.specs.Book.Book.{Book}
@@ -97,6 +97,7 @@ counts_beside calls s t (Looking home m) grows k = tt
 counts_beside calls s t (Closing l) grows k = tt
 counts_beside calls s t (Renewing home) grows k = tt
 counts_beside calls s t (Settling m) grows k = tt
+counts_beside calls s t (Sweeping m) grows k = tt
 counts_beside calls s t (Broken l) grows k = tt
 
 -- ---- what is no checkpoint
@@ -144,6 +145,7 @@ other_goes who before after (Folding home m) new is p = absurd is
 other_goes who before after (Closing l) new is p = absurd p
 other_goes who before after (Renewing home) new is p = absurd p
 other_goes who before after (Settling m) new is p = other_by new (Settling p.1.0) p.1.2 tt
+other_goes who before after (Sweeping m) new is p = other_by new (Sweeping p.0) p.2 tt
 other_goes who before after Closed new is p = absurd p
 other_goes who before after (Idle home) new is p = absurd p
 other_goes who before after (Broken l) new is p = absurd p
@@ -188,6 +190,9 @@ ended_other who before after (Renewing home) new a p = absurd p
 ended_other who before after (Settling m) new (answer.Settled n) p = other_by new Closed p.1.2 tt
 ended_other who before after (Settling m) new (answer.Trouble t) p = other_by new Closed p.1.2 tt
 ended_other who before after (Settling m) new a p = absurd p.1
+ended_other who before after (Sweeping m) new (answer.Swept x) p = other_by new Closed p.2 tt
+ended_other who before after (Sweeping m) new (answer.Trouble t) p = other_by new Closed p.2 tt
+ended_other who before after (Sweeping m) new a p = absurd p
 ended_other who before after Closed new a p = absurd p
 ended_other who before after (Idle home) new a p = absurd p
 ended_other who before after (Broken l) new a p = absurd p

@@ -13,7 +13,7 @@ use Rattle.cloud_facts.proofs.Calls.Outcomes.{gives_up, weaker}
 use Rattle.cloud_trait.specs.declared.answer.Answer.{Answer as Reply}
 use Rattle.cloud_trait.specs.declared.turn.Turn.{Turn}
 use Rattle.cloud_trait.specs.declared.turn.Turn.TheVariants.{More, Ended, Stopped}
-use Rattle.cloud_trait.specs.Ask.{Ask, Get, GetHeld, PutHeld, Send, Receive, Delete, Take, Renew, Release}
+use Rattle.cloud_trait.specs.Ask.{Ask, Get, GetHeld, PutHeld, ListHeld, RemoveHeld, Send, Receive, Delete, Take, Renew, Release}
 use Rattle.cloud_trait.specs.Caller.{Caller}
 use Rattle.cloud_trait.specs.Claim.{Claim}
 use Rattle.cloud_trait.specs.Machine.{Next, Goes, Ends, Stops}
@@ -118,6 +118,8 @@ none_noted (Change walk) w ask a e = refl
 none_noted Writes w (PutHeld name bytes one two) a e = absurd (cc)
 none_noted Writes w (Get name) a e = refl
 none_noted Writes w (GetHeld name l) a e = refl
+none_noted Writes w (ListHeld tree l) a e = refl
+none_noted Writes w (RemoveHeld name l) a e = refl
 none_noted Writes w (Send queue bytes) a e = refl
 none_noted Writes w (Receive queue most) a e = refl
 none_noted Writes w (Delete queue id) a e = refl
@@ -132,6 +134,8 @@ run_noted r (PutHeld (object.Page tree page) bytes one two) a is = absurd (no_pa
 run_noted r (PutHeld (object.Tree tree) bytes one two) a is = tree_noted r.hand r.draft.writes tree bytes one two a
 run_noted r (Get name) a is = none_noted r.hand r.draft.writes (Get name) a refl
 run_noted r (GetHeld name l) a is = none_noted r.hand r.draft.writes (GetHeld name l) a refl
+run_noted r (ListHeld tree l) a is = none_noted r.hand r.draft.writes (ListHeld tree l) a refl
+run_noted r (RemoveHeld name l) a is = none_noted r.hand r.draft.writes (RemoveHeld name l) a refl
 run_noted r (Send queue bytes) a is = none_noted r.hand r.draft.writes (Send queue bytes) a refl
 run_noted r (Receive queue most) a is = none_noted r.hand r.draft.writes (Receive queue most) a refl
 run_noted r (Delete queue id) a is = none_noted r.hand r.draft.writes (Delete queue id) a refl
@@ -233,3 +237,4 @@ module _ (who : Caller) (before after : Seen) (book : Book) (order : List Entry)
   commit_step work (Ended answer.Value) never = absurd never
   commit_step work (Ended answer.Scan) never = absurd never
   commit_step work (Ended (answer.Settled n)) never = absurd never
+  commit_step work (Ended (answer.Swept x)) never = absurd never

@@ -5,7 +5,7 @@ use Rattle.client_work.specs.Session.{Acting, StepsSession, StepsAt, ShowsAt, as
 use Rattle.client_work.specs.declared.answer.Answer.{Answer}
 use Rattle.client_work.specs.declared.shown.Shown.{Shown}
 use Rattle.client_work.specs.declared.work.Work.{Work}
-use Rattle.client_work.specs.declared.work.Work.TheVariants.{Closed, Idle, Opening, Committing, Reading, Scanning, Looking, Folding, Paging, Closing, Renewing, Settling, Broken}
+use Rattle.client_work.specs.declared.work.Work.TheVariants.{Closed, Idle, Opening, Committing, Reading, Scanning, Looking, Folding, Paging, Closing, Renewing, Settling, Sweeping, Broken}
 use Rattle.cloud_trait.specs.declared.answer.Answer.{Answer as Reply}
 use Rattle.cloud_trait.specs.declared.answer.Answer.TheVariants.{Memory}
 use Rattle.cloud_trait.specs.declared.turn.Turn.{Turn}
@@ -43,6 +43,9 @@ use Rattle.session_facts.proofs.Sessions.PagingExplaining.{paging_explains}
 use Rattle.session_facts.proofs.Sessions.LookingExplaining.{looking_explains}
 use Rattle.session_facts.proofs.Sessions.ReadingExplaining.{reading_explains, scanning_explains, committing_explains}
 use Rattle.session_facts.proofs.Sessions.SettlingExplaining.{settling_explains}
+use Rattle.session_facts.proofs.Sessions.SweepingExplaining.{sweeping_explains}
+use Rattle.session_facts.proofs.Sweeps.Noted.{never_receives, hand_is}
+use Rattle.orphan_sweep.specs.Sweeping.{sweep_ask}
 use Rattle.session_facts.specs.Looks.Looks.{KnowsLooking}
 use Rattle.session_facts.specs.Scans.Scans.{KnowsScanning}
 use Rattle.session_facts.specs.Walks.Walks.{KnowsWalking}
@@ -127,6 +130,8 @@ module _ (who : Caller) (before after : Seen) (s t : CloudState) (book : Book) (
   by_work buffer (Renewing home) new c shown turn is steps shows = (Renew home.lease 600, refl, λ found. renewing_explains who before after s t told told_after home new turn steps)
   by_work buffer (Settling m) new c shown turn is steps shows =
       (settle_ask m, refl, settling_explains who before after s t book order sessions told told_after stand m is (grown_all s t (grown_at (Settling m) new turn steps)) steps.0 new turn steps.1)
+  by_work buffer (Sweeping m) new c shown turn is steps shows =
+      (sweep_ask m, refl, λ found. sweeping_explains who before after s t told told_after m st s.now (stand.parts who.session) (known_now (Sweeping m) is) new turn steps)
   by_work buffer Closed new c shown turn is never shows = absurd never
   by_work buffer (Idle home) new c shown turn is never shows = absurd never
   by_work buffer (Broken l) new c shown turn is never shows = absurd never
@@ -142,6 +147,9 @@ module _ (who : Caller) (before after : Seen) (s t : CloudState) (book : Book) (
     where
       holds : s.now ≤ t.now → PartHolds st.tally t.now (stand.parts who.session)
       holds later = (setting_of book order s sessions stand t.now who.session later).homes.each who.session
+  waits_at (Sweeping m) new turn is steps ask hand x =
+      quiet_waits ask before.counts after.counts s t (Sweeping m) new turn
+      (λ late. never_receives m (leases_of (Sweeping m)) t.now (subst (λ a. ReceivesLate a (leases_of (Sweeping m)) t.now) (sym (hand_is m ask hand)) late)) x
   waits_at (Committing r) new turn is steps ask hand x =
       quiet_waits ask before.counts after.counts s t (Committing r) new turn
       (λ late. run_quiet (leases_of (Committing r)) t.now r (subst (λ a. ReceivesLate a (leases_of (Committing r)) t.now) (cc (hand)) late)) x

@@ -86,6 +86,7 @@ module _ (who : Caller) (before after : Seen) (s t : CloudState) (told : before.
   making_explains work (Ended answer.Value) never found = absurd never
   making_explains work (Ended answer.Scan) never found = absurd never
   making_explains work (Ended (answer.Settled n)) never found = absurd never
+  making_explains work (Ended (answer.Swept x)) never found = absurd never
 
 -- ---- of a session
 

@@ -13,7 +13,7 @@ use Rattle.cloud_facts.proofs.Calls.Outcomes.{gives_up}
 use Rattle.cloud_trait.specs.declared.answer.Answer.{Answer as Reply}
 use Rattle.cloud_trait.specs.declared.turn.Turn.{Turn}
 use Rattle.cloud_trait.specs.declared.turn.Turn.TheVariants.{More, Ended, Stopped}
-use Rattle.cloud_trait.specs.Ask.{Ask, Get, GetHeld, PutHeld, Send, Receive, Delete, Take, Renew, Release}
+use Rattle.cloud_trait.specs.Ask.{Ask, Get, GetHeld, PutHeld, ListHeld, RemoveHeld, Send, Receive, Delete, Take, Renew, Release}
 use Rattle.cloud_trait.specs.Caller.{Caller}
 use Rattle.cloud_trait.specs.Claim.{Claim}
 use Rattle.cloud_trait.specs.Machine.{Goes}
@@ -53,6 +53,8 @@ making_noted home m (PutHeld (object.Page tree page) bytes one two) a = refl
 making_noted home m (PutHeld (object.Tree tree) bytes one two) a = refl
 making_noted home m (Get name) a = refl
 making_noted home m (GetHeld name l) a = refl
+making_noted home m (ListHeld tree l) a = refl
+making_noted home m (RemoveHeld name l) a = refl
 making_noted home m (Send queue bytes) a = refl
 making_noted home m (Receive queue most) a = refl
 making_noted home m (Delete queue id) a = refl
@@ -109,6 +111,7 @@ module _ (who : Caller) (before after : Seen) (book : Book) (order : List Entry)
       passes = outcome.passes;
       joins = outcome.joins;
       links = outcome.links;
+      gone = outcome.gone;
       part = outcome.part;
       homes = outcome.homes;
       knows = less (store_of outcome.book_after outcome.order_after t) outcome.part outcome.passes.grows outcome.knows;
@@ -163,3 +166,4 @@ module _ (who : Caller) (before after : Seen) (book : Book) (order : List Entry)
   making_step work (Ended answer.Value) never = absurd never
   making_step work (Ended answer.Scan) never = absurd never
   making_step work (Ended (answer.Settled n)) never = absurd never
+  making_step work (Ended (answer.Swept x)) never = absurd never

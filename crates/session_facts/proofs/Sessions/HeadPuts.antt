@@ -4,7 +4,7 @@ use Rattle.cloud_trait.specs.Ask.{Ask, PutHeld, Renew, Release}
 use Rattle.cloud_trait.specs.Claim.{Claim}
 use Rattle.client_work.specs.Session.{ask_of_work, opens_of}
 use Rattle.client_work.specs.declared.work.Work.{Work}
-use Rattle.client_work.specs.declared.work.Work.TheVariants.{Closed, Idle, Opening, Committing, Reading, Scanning, Looking, Folding, Paging, Closing, Renewing, Settling, Broken}
+use Rattle.client_work.specs.declared.work.Work.TheVariants.{Closed, Idle, Opening, Committing, Reading, Scanning, Looking, Folding, Paging, Closing, Renewing, Settling, Sweeping, Broken}
 use Rattle.commit_run.specs.Run.{Run, run_opens}
 use Rattle.session_facts.specs.CommitRuns.Puts.{OpensRun, PutsRun}
 use Rattle.session_facts.proofs.CommitRuns.HeadPuts.{run_puts}
@@ -19,6 +19,7 @@ use Rattle.attr_index.specs.Look.{look_ask}
 use Rattle.range_scan.specs.Scan.{scan_ask}
 use Rattle.session_facts.specs.Sessions.Puts.{IsSoundWork, Commits, PutsHead}
 use Rattle.session_facts.specs.Sessions.Sessions.{KnowsWork}
+use Rattle.session_facts.proofs.Sweeps.Asks.{sweep_puts_none}
 use Rattle.session_facts.proofs.Settlings.HeadPuts.{making_puts_none, settling_puts}
 use Rattle.cloud_facts.specs.Book.Tally.{Store}
 use Rattle.tree_walk.specs.Walk.{walk_ask}
@@ -65,6 +66,7 @@ head_put st now c (Looking home m) part k sound client bytes one two e = no_put 
 head_put st now c (Settling m) part k sound client bytes one two e =
     let p = settling_puts st now m part client bytes one two k sound (same_Some _ _ e) in
     record { head = p.head; spells = p.spells; client_is = p.client_is; how = inr (refl, p.settled) }
+head_put st now c (Sweeping m) part k sound client bytes one two e = absurd (sweep_puts_none m (object.Head client) bytes one two (same_Some _ _ e))
 head_put st now c (Closing l) part k sound client bytes one two e = no_put (Release l) client bytes one two refl (same_Some _ _ e)
 head_put st now c (Renewing home) part k sound client bytes one two e = no_put (Renew home.lease 600) client bytes one two refl (same_Some _ _ e)
 head_put st now c Closed part k sound client bytes one two e = absurd (cc)

@@ -2,7 +2,7 @@
 use Rattle.std.proofs.Common.{◌≡◌, ◌≤◌, ℕ, List, [], ◌∷◌, refl, sym, ap, subst, ◌∙◌}
 use Rattle.client_work.specs.Session.{Acting}
 use Rattle.client_work.specs.declared.work.Work.{Work}
-use Rattle.client_work.specs.declared.work.Work.TheVariants.{Closed, Idle, Opening, Committing, Reading, Scanning, Looking, Folding, Paging, Closing, Renewing, Settling, Broken}
+use Rattle.client_work.specs.declared.work.Work.TheVariants.{Closed, Idle, Opening, Committing, Reading, Scanning, Looking, Folding, Paging, Closing, Renewing, Settling, Sweeping, Broken}
 use Rattle.cloud_facts.specs.Calls.Acting.{HasLeaseOf}
 use Rattle.cloud_facts.specs.Calls.Others.{NoneJoins, Others}
 use Rattle.cloud_facts.proofs.Calls.Guarding.{others_itself, fewer_others}
@@ -21,6 +21,7 @@ use Rattle.session_facts.proofs.Scans.Scans.{scan_grows}
 use Rattle.session_facts.specs.Sessions.Sessions.{leases_of, IsHome, KnowsWork, Knows}
 use Rattle.session_facts.proofs.Sessions.Kept.{kept_grows}
 use Rattle.session_facts.proofs.Settlings.SettlingOthers.{settling_others, settling_lease}
+use Rattle.session_facts.proofs.Sweeps.SweepOthers.{sweep_others, sweep_lease}
 use Rattle.cloud_facts.specs.Book.Records.{IsIn}
 use Rattle.cloud_facts.specs.Book.Tally.{Store}
 use Rattle.cloud_facts.proofs.Book.Places.{in_behind}
@@ -67,6 +68,7 @@ work_others st su now later c (Paging home p) part after o j k = (
 work_others st su now later c (Closing l) part after o j k = k
 work_others st su now later c (Renewing home) part after o j k = home_stays st su now later home part (home.lease ∷ []) after (0, refl) o k
 work_others st su now later c (Settling m) part after o j k = settling_others st su now later m part after o k
+work_others st su now later c (Sweeping m) part after o j k = sweep_others st su now later m part after o k
 work_others st su now later c (Broken l) part after o j k = k
 
 pub knows_others : (st su : Store) (now later : ℕ) (session : Acting) (part : Part) → now ≤ later → Others (leases_of session.work) later st su → NoneJoins part st su
@@ -104,4 +106,5 @@ part_lease st now c (Paging home p) part k = home_lease st now home part (leases
 part_lease st now c (Closing l) part k = away_lease (l ∷ []) part k
 part_lease st now c (Renewing home) part k = home_lease st now home part (home.lease ∷ []) (0, refl) k
 part_lease st now c (Settling m) part k = settling_lease st now m part k
+part_lease st now c (Sweeping m) part k = sweep_lease st now m part k
 part_lease st now c (Broken l) part k = away_lease (l ∷ []) part k

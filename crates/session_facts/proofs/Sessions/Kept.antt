@@ -2,7 +2,7 @@
 use Rattle.std.proofs.Common.{ℕ, List}
 use Rattle.client_work.specs.Session.{shown_behind}
 use Rattle.client_work.specs.declared.work.Work.{Work}
-use Rattle.client_work.specs.declared.work.Work.TheVariants.{Closed, Idle, Opening, Committing, Reading, Scanning, Looking, Folding, Paging, Closing, Renewing, Settling, Broken}
+use Rattle.client_work.specs.declared.work.Work.TheVariants.{Closed, Idle, Opening, Committing, Reading, Scanning, Looking, Folding, Paging, Closing, Renewing, Settling, Sweeping, Broken}
 use Rattle.cloud_facts.specs.Calls.Acting.{Outcome}
 use Rattle.cloud_trait.specs.Ask.{Ask}
 use Rattle.cloud_trait.specs.Caller.{Caller}
@@ -34,6 +34,7 @@ kept_from st c (Paging home p) k = k
 kept_from st c (Closing l) k = k
 kept_from st c (Renewing home) k = k
 kept_from st c (Settling m) k = k
+kept_from st c (Sweeping m) k = k
 
 pub kept_grows : (st su : Store) (c : Cache) (work : Work) → Grows st su → KnowsKept st c work → KnowsKept su c work
 kept_grows st su c (Broken l) grows k = k
@@ -49,6 +50,7 @@ kept_grows st su c (Paging home p) grows k = cache_grows st su grows c k
 kept_grows st su c (Closing l) grows k = cache_grows st su grows c k
 kept_grows st su c (Renewing home) grows k = cache_grows st su grows c k
 kept_grows st su c (Settling m) grows k = cache_grows st su grows c k
+kept_grows st su c (Sweeping m) grows k = cache_grows st su grows c k
 
 -- what a session knows of its work and its cache
 abbrev pub KnowsBoth : Cache → Work → Store → ℕ → Part → Type 0
@@ -68,6 +70,7 @@ both_shown c (Paging home p) st now part k = k
 both_shown c (Closing l) st now part k = k
 both_shown c (Renewing home) st now part k = k
 both_shown c (Settling m) st now part k = k
+both_shown c (Sweeping m) st now part k = k
 both_shown c (Broken l) st now part k = k
 
 -- a call that leaves the cache alone
@@ -81,6 +84,7 @@ with_cache who book order s t parts mine ask note c work kept o = record {
   passes = o.passes;
   joins = o.joins;
   links = o.links;
+  gone = o.gone;
   part = o.part;
   homes = o.homes;
   knows =

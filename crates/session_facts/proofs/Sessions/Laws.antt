@@ -2,6 +2,7 @@
 use Rattle.std.proofs.Common.{◌≡◌, ◌≢◌, ◌≤◌, ◌⊎◌, inl, inr, ℕ, List, [], Option, Some, None, refl, sym, ap, subst, ◌∙◌, arith}
 use Rattle.std.specs.Prelude.{cond}
 use Rattle.std.proofs.lemmas.Bool.{cases_eq}
+use Rattle.cloud_facts.specs.Chains.Gones.{Gones}
 use Rattle.cloud_facts.specs.Chains.Chain.{ChainHolds}
 use Rattle.client_work.specs.Session.{Acting, closed_session, ask_of_work}
 use Rattle.cloud_facts.proofs.Calls.Guarding.{others_of}
@@ -13,7 +14,7 @@ use Rattle.cloud_facts.specs.Calls.Others.{IsOfPart, NoneJoins}
 use Rattle.cloud_facts.specs.Calls.Standing.{StandsUnder}
 use Rattle.cloud_trait.specs.declared.answer.Answer.{Answer as Reply}
 use Rattle.cloud_trait.specs.declared.state.Hold.{Hold}
-use Rattle.cloud_trait.specs.Ask.{Ask, Get, GetHeld, PutHeld, Send, Receive, Delete, Take, Renew, Release}
+use Rattle.cloud_trait.specs.Ask.{Ask, Get, GetHeld, PutHeld, ListHeld, RemoveHeld, Send, Receive, Delete, Take, Renew, Release}
 use Rattle.cloud_trait.specs.Caller.{Caller}
 use Rattle.cloud_trait.specs.Claim.{Claim, Lasts}
 use Rattle.cloud_trait.specs.State.{CloudState, IsEmptyCloud, newest}
@@ -54,6 +55,8 @@ use Rattle.session_facts.proofs.Walks.Caches.{empty_knows}
 owned : (hands : Hands) (session : ℕ) (ask : Ask) → Owns (λ n. hands session) session ask → Owns hands session ask
 owned hands session (Get name) o = tt
 owned hands session (GetHeld name l) o = o
+owned hands session (ListHeld tree l) o = o
+owned hands session (RemoveHeld name l) o = o
 owned hands session (PutHeld name bytes one None) o = o
 owned hands session (PutHeld name bytes one (Some two)) o = o
 owned hands session (Send queue bytes) o = tt
@@ -184,8 +187,8 @@ call_goes who s t book order sessions new ask reply stand may call asks h o = re
     others : (n : ℕ) → n ≢ who.session → Knows (store_of o.book_after o.order_after t) t.now (sessions n) (stand.parts n)
     others n ne =
         knows_others (store_of book order s) (store_of o.book_after o.order_after t) s.now t.now (sessions n) (stand.parts n) call.later
-        (others_of book o.book_after order o.order_after s t (hands_of sessions) who.session n stand.cloud stand.leases
-        (allowed_by who s t sessions ask reply call (leases_of new.work) h) ne o.passes o.links)
+        (others_of book o.book_after order o.order_after s t (hands_of sessions) who.session n stand.cloud o.cloud stand.leases
+        (allowed_by who s t sessions ask reply call (leases_of new.work) h) ne o.passes o.links o.gone)
         (none_joins (store_of book order s) (store_of o.book_after o.order_after t) s.now stand.parts who.session n ne stand.homes o.joins) (stand.each n)
 
 -- ---- what leaves the cloud alone
@@ -294,6 +297,9 @@ reports book order s sessions stand tree = reportable (store_of book order s) st
 
 pub chains : (book : Book) (order : List Entry) (s : CloudState) (sessions : Sessions) → SessionsStand book order s sessions → ChainHolds (store_of book order s)
 chains book order s sessions stand = stand.cloud.holds.chains
+
+pub gones : (book : Book) (order : List Entry) (s : CloudState) (sessions : Sessions) → SessionsStand book order s sessions → Gones (store_of book order s)
+gones book order s sessions stand = stand.cloud.holds.gones
 
 pub decodes : (book : Book) (order : List Entry) (s : CloudState) (sessions : Sessions) → SessionsStand book order s sessions → Decodes s
 decodes book order s sessions stand = stand.cloud.decodes

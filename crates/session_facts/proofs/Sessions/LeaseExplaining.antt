@@ -61,6 +61,7 @@ module _ (who : Caller) (before after : Seen) (s t : CloudState) (told : before.
   closing_explains lease work (Ended answer.Value) never = absurd never
   closing_explains lease work (Ended answer.Scan) never = absurd never
   closing_explains lease work (Ended (answer.Settled n)) never = absurd never
+  closing_explains lease work (Ended (answer.Swept x)) never = absurd never
   closing_explains lease work (Ended (answer.Done n)) never = absurd never
 
   -- the one step of a renewal
@@ -80,4 +81,5 @@ module _ (who : Caller) (before after : Seen) (s t : CloudState) (told : before.
   renewing_explains home work (Ended answer.Value) never = absurd never
   renewing_explains home work (Ended answer.Scan) never = absurd never
   renewing_explains home work (Ended (answer.Settled n)) never = absurd never
+  renewing_explains home work (Ended (answer.Swept x)) never = absurd never
   renewing_explains home work (Ended (answer.Done n)) never = absurd never

@@ -89,6 +89,7 @@ module _ (who : Caller) (before after : Seen) (book : Book) (order : List Entry)
   closing_step work (Ended answer.Value) never = absurd never
   closing_step work (Ended answer.Scan) never = absurd never
   closing_step work (Ended (answer.Settled n)) never = absurd never
+  closing_step work (Ended (answer.Swept x)) never = absurd never
   closing_step work (Ended (answer.Done n)) never = absurd never
 
 -- ---- a renewal
@@ -200,4 +201,5 @@ module _ (who : Caller) (before after : Seen) (book : Book) (order : List Entry)
   renewing_step work (Ended answer.Value) never = absurd never
   renewing_step work (Ended answer.Scan) never = absurd never
   renewing_step work (Ended (answer.Settled n)) never = absurd never
+  renewing_step work (Ended (answer.Swept x)) never = absurd never
   renewing_step work (Ended (answer.Done n)) never = absurd never

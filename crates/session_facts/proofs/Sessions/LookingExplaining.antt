@@ -64,3 +64,4 @@ module _ (who : Caller) (before after : Seen) (s t : CloudState) (book : Book) (
   looking_explains buffer d work shown (Ended (answer.Commit a)) never = absurd never
   looking_explains buffer d work shown (Ended answer.Value) never = absurd never
   looking_explains buffer d work shown (Ended (answer.Settled n)) never = absurd never
+  looking_explains buffer d work shown (Ended (answer.Swept x)) never = absurd never

@@ -110,3 +110,4 @@ module _ (who : Caller) (before after : Seen) (book : Book) (order : List Entry)
   looking_step work shown (Ended (answer.Done n)) never = absurd never
   looking_step work shown (Ended answer.Value) never = absurd never
   looking_step work shown (Ended (answer.Settled n)) never = absurd never
+  looking_step work shown (Ended (answer.Swept x)) never = absurd never

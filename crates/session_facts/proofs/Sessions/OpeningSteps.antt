@@ -105,4 +105,5 @@ module _ (who : Caller) (before after : Seen) (book : Book) (order : List Entry)
   opening_step work (Ended answer.Value) never = absurd never
   opening_step work (Ended answer.Scan) never = absurd never
   opening_step work (Ended (answer.Settled n)) never = absurd never
+  opening_step work (Ended (answer.Swept x)) never = absurd never
   opening_step work (Ended (answer.Done n)) never = absurd never

@@ -86,3 +86,4 @@ module _ (who : Caller) (before after : Seen) (s t : CloudState) (told : before.
   paging_explains (Ended answer.Value) never found = absurd never
   paging_explains (Ended answer.Scan) never found = absurd never
   paging_explains (Ended (answer.Settled n)) never found = absurd never
+  paging_explains (Ended (answer.Swept x)) never found = absurd never

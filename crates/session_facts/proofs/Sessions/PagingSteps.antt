@@ -16,7 +16,7 @@ use Rattle.cloud_facts.proofs.Calls.Outcomes.{gives_up}
 use Rattle.cloud_trait.specs.declared.answer.Answer.{Answer as Reply}
 use Rattle.cloud_trait.specs.declared.turn.Turn.{Turn}
 use Rattle.cloud_trait.specs.declared.turn.Turn.TheVariants.{More, Ended, Stopped}
-use Rattle.cloud_trait.specs.Ask.{Ask, Get, GetHeld, PutHeld, Send, Receive, Delete, Take, Renew, Release}
+use Rattle.cloud_trait.specs.Ask.{Ask, Get, GetHeld, PutHeld, ListHeld, RemoveHeld, Send, Receive, Delete, Take, Renew, Release}
 use Rattle.cloud_trait.specs.Caller.{Caller}
 use Rattle.cloud_trait.specs.Machine.{Goes}
 use Rattle.cloud_trait.specs.Seen.{Seen}
@@ -50,6 +50,8 @@ paging_noted home p (PutHeld (object.Page tree page) bytes one two) a = refl
 paging_noted home p (PutHeld (object.Tree tree) bytes one two) a = refl
 paging_noted home p (Get name) a = refl
 paging_noted home p (GetHeld name l) a = refl
+paging_noted home p (ListHeld tree l) a = refl
+paging_noted home p (RemoveHeld name l) a = refl
 paging_noted home p (Send queue bytes) a = refl
 paging_noted home p (Receive queue most) a = refl
 paging_noted home p (Delete queue id) a = refl
@@ -102,6 +104,7 @@ module _ (who : Caller) (before after : Seen) (book : Book) (order : List Entry)
       passes = outcome.passes;
       joins = outcome.joins;
       links = outcome.links;
+      gone = outcome.gone;
       part = outcome.part;
       homes = outcome.homes;
       knows = less (store_of outcome.book_after outcome.order_after t) outcome.part outcome.passes.grows outcome.knows;
@@ -156,3 +159,4 @@ module _ (who : Caller) (before after : Seen) (book : Book) (order : List Entry)
   paging_step work (Ended answer.Value) never = absurd never
   paging_step work (Ended answer.Scan) never = absurd never
   paging_step work (Ended (answer.Settled n)) never = absurd never
+  paging_step work (Ended (answer.Swept x)) never = absurd never

@@ -121,6 +121,7 @@ module _ (who : Caller) (before after : Seen) (s t : CloudState) (book : Book) (
     reading_explains d work shown (Ended (answer.Commit a)) never = absurd never
     reading_explains d work shown (Ended answer.Scan) never = absurd never
     reading_explains d work shown (Ended (answer.Settled n)) never = absurd never
+    reading_explains d work shown (Ended (answer.Swept x)) never = absurd never
 
   -- ---- a scan
 
@@ -148,6 +149,7 @@ module _ (who : Caller) (before after : Seen) (s t : CloudState) (book : Book) (
     lists buffer m d work shown (Ended (answer.Commit a)) never = absurd never
     lists buffer m d work shown (Ended answer.Value) never = absurd never
     lists buffer m d work shown (Ended (answer.Settled n)) never = absurd never
+    lists buffer m d work shown (Ended (answer.Swept x)) never = absurd never
 
     pub scanning_explains : (buffer : List Noted) (d : Cache) (work : Work) (shown : Shown) (turn : Turn Answer) → StepsScanning home buffer who before after l kept d work shown turn
         → ScanExplained work turn
@@ -212,3 +214,4 @@ module _ (who : Caller) (before after : Seen) (s t : CloudState) (book : Book) (
     committing_explains c work (Ended answer.Value) never some = absurd never
     committing_explains c work (Ended answer.Scan) never some = absurd never
     committing_explains c work (Ended (answer.Settled n)) never some = absurd never
+    committing_explains c work (Ended (answer.Swept x)) never some = absurd never

@@ -103,3 +103,4 @@ module _ (who : Caller) (before after : Seen) (book : Book) (order : List Entry)
   reading_step work shown (Ended (answer.Done n)) never = absurd never
   reading_step work shown (Ended answer.Scan) never = absurd never
   reading_step work shown (Ended (answer.Settled n)) never = absurd never
+  reading_step work shown (Ended (answer.Swept x)) never = absurd never

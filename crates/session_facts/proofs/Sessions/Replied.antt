@@ -5,7 +5,7 @@ use Rattle.client_work.specs.declared.answer.Answer.{Answer}
 use Rattle.client_work.specs.declared.answer.Answer.TheVariants as answer
 use Rattle.client_work.specs.declared.shown.Shown.{Shown}
 use Rattle.client_work.specs.declared.work.Work.{Work}
-use Rattle.client_work.specs.declared.work.Work.TheVariants.{Closed, Idle, Opening, Committing, Reading, Scanning, Looking, Folding, Paging, Closing, Renewing, Settling, Broken}
+use Rattle.client_work.specs.declared.work.Work.TheVariants.{Closed, Idle, Opening, Committing, Reading, Scanning, Looking, Folding, Paging, Closing, Renewing, Settling, Sweeping, Broken}
 use Rattle.cloud_trait.specs.declared.answer.Answer.{Answer as Reply}
 use Rattle.cloud_trait.specs.declared.turn.Turn.{Turn}
 use Rattle.cloud_trait.specs.declared.turn.Turn.TheVariants.{More, Ended}
@@ -20,6 +20,7 @@ use Rattle.attr_index.specs.Look.{look_ask}
 use Rattle.range_scan.specs.Scan.{scan_ask}
 use Rattle.recover_run.specs.Recovery.{recovery_ask}
 use Rattle.session_facts.specs.Sessions.Calls.{reply_at, reply_of}
+use Rattle.orphan_sweep.specs.Sweeping.{sweep_ask}
 use Rattle.settle_run.specs.Settling.{settle_ask}
 use Rattle.tree_ckpt.specs.Making.{making_ask}
 use Rattle.tree_walk.specs.Walk.{walk_ask}
@@ -68,6 +69,10 @@ replied_at who before after buffer (Settling m) c d new shown More p q = record 
 replied_at who before after buffer (Settling m) c d new shown (Ended (answer.Settled n)) p q = record { ask = settle_ask m; hand = refl; made = p.1.1.did.made }
 replied_at who before after buffer (Settling m) c d new shown (Ended (answer.Trouble k)) p q = record { ask = settle_ask m; hand = refl; made = p.1.1.did.made }
 replied_at who before after buffer (Settling m) c d new shown turn p q = absurd p.1
+replied_at who before after buffer (Sweeping m) c d new shown More p q = record { ask = sweep_ask m; hand = refl; made = p.1.did.made }
+replied_at who before after buffer (Sweeping m) c d new shown (Ended (answer.Swept x)) p q = record { ask = sweep_ask m; hand = refl; made = p.1.did.made }
+replied_at who before after buffer (Sweeping m) c d new shown (Ended (answer.Trouble k)) p q = record { ask = sweep_ask m; hand = refl; made = p.1.did.made }
+replied_at who before after buffer (Sweeping m) c d new shown turn p q = absurd p
 replied_at who before after buffer Closed c d new shown turn p q = absurd p
 replied_at who before after buffer (Idle home) c d new shown turn p q = absurd p
 replied_at who before after buffer (Broken lease) c d new shown turn p q = absurd p

@@ -105,6 +105,7 @@ module _ (who : Caller) (before after : Seen) (book : Book) (order : List Entry)
     lists m page work shown (Ended (answer.Done n)) k at never = absurd never
     lists m page work shown (Ended answer.Value) k at never = absurd never
     lists m page work shown (Ended (answer.Settled n)) k at never = absurd never
+    lists m page work shown (Ended (answer.Swept x)) k at never = absurd never
 
     follows : (m : Scan) (moved : Turn ℕ) (work : Work) (shown : Shown) (turn : Turn Answer) → Took (LeadsBy scan_next) KeepsServed (l.scan, c) reply (m, d) moved
         → Follows home buffer (record { scan = m; pairs = l.pairs }) d moved work shown turn → Stepped work

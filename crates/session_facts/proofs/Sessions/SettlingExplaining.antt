@@ -115,3 +115,4 @@ module _ (who : Caller) (before after : Seen) (s t : CloudState) (book : Book) (
     settling_explains work (Ended (answer.Done n)) never found = absurd never
     settling_explains work (Ended answer.Value) never found = absurd never
     settling_explains work (Ended answer.Scan) never found = absurd never
+    settling_explains work (Ended (answer.Swept x)) never found = absurd never

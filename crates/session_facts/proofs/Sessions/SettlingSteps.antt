@@ -12,7 +12,7 @@ use Rattle.cloud_facts.proofs.Calls.Outcomes.{gives_up, weaker}
 use Rattle.cloud_trait.specs.declared.answer.Answer.{Answer as Reply}
 use Rattle.cloud_trait.specs.declared.turn.Turn.{Turn}
 use Rattle.cloud_trait.specs.declared.turn.Turn.TheVariants.{More, Ended, Stopped}
-use Rattle.cloud_trait.specs.Ask.{Ask, Get, GetHeld, PutHeld, Send, Receive, Delete, Take, Renew, Release}
+use Rattle.cloud_trait.specs.Ask.{Ask, Get, GetHeld, PutHeld, ListHeld, RemoveHeld, Send, Receive, Delete, Take, Renew, Release}
 use Rattle.cloud_trait.specs.Caller.{Caller}
 use Rattle.cloud_trait.specs.Machine.{Goes}
 use Rattle.cloud_trait.specs.Seen.{Seen}
@@ -43,6 +43,8 @@ settling_noted m (PutHeld (object.Page tree page) bytes one two) a = refl
 settling_noted m (PutHeld (object.Tree tree) bytes one two) a = refl
 settling_noted m (Get name) a = refl
 settling_noted m (GetHeld name l) a = refl
+settling_noted m (ListHeld tree l) a = refl
+settling_noted m (RemoveHeld name l) a = refl
 settling_noted m (Send queue bytes) a = refl
 settling_noted m (Receive queue most) a = refl
 settling_noted m (Delete queue id) a = refl
@@ -98,3 +100,4 @@ module _ (who : Caller) (before after : Seen) (book : Book) (order : List Entry)
   settling_step work (Ended (answer.Done n)) never = absurd never
   settling_step work (Ended answer.Value) never = absurd never
   settling_step work (Ended answer.Scan) never = absurd never
+  settling_step work (Ended (answer.Swept x)) never = absurd never

@@ -2,7 +2,7 @@
 use Rattle.std.proofs.Common.{◌≡◌, ◌≢◌, ◌<◌, ◌⊎◌, inl, inr, ℕ, List, Option, Some, None, Ok, Err, refl, sym, subst, ◌∙◌, arith}
 use Rattle.cloud_trait.specs.Calm.{NamesLasting}
 use Rattle.cloud_trait.specs.declared.answer.Answer.{Answer}
-use Rattle.cloud_trait.specs.declared.answer.Answer.TheVariants.{Got, Sent, Received, Done, Given, Held, Renewed, Late, Failed, Memory}
+use Rattle.cloud_trait.specs.declared.answer.Answer.TheVariants.{Got, Sent, Received, Listed, Done, Given, Held, Renewed, Late, Failed, Memory}
 use Rattle.cloud_trait.specs.Ask.{Ask, GetHeld, PutHeld, Send, Receive, Delete, Take, Renew, Release}
 use Rattle.cloud_trait.specs.Caller.{Caller}
 use Rattle.cloud_trait.specs.Claim.{Claim, Lasts, IsOver}
@@ -76,6 +76,7 @@ module _ (who : Caller) (before after : Seen) (s t : CloudState) (told : before.
   got_shown name l (Held until) made k e = absurd made.fits
   got_shown name l (Sent id) made k e = absurd made.fits
   got_shown name l (Received ms) made k e = absurd made.fits
+  got_shown name l (Listed pages) made k e = absurd made.fits
   got_shown name l Done made k e = absurd made.fits
   got_shown name l (Renewed end) made k e = absurd made.fits
 
@@ -94,6 +95,7 @@ module _ (who : Caller) (before after : Seen) (s t : CloudState) (told : before.
   put_shown name bytes one two (Held until) made k e = absurd made.fits
   put_shown name bytes one two (Sent id) made k e = absurd made.fits
   put_shown name bytes one two (Received ms) made k e = absurd made.fits
+  put_shown name bytes one two (Listed pages) made k e = absurd made.fits
   put_shown name bytes one two (Renewed end) made k e = absurd made.fits
 
   pub delete_shown : (queue : QueueName) (id : ℕ) (a : Answer) → Call (Delete queue id) a → (k : Trouble) → done_of a ≡ Err k → Shown (Delete queue id) k
@@ -106,6 +108,7 @@ module _ (who : Caller) (before after : Seen) (s t : CloudState) (told : before.
   delete_shown queue id (Held until) made k e = absurd made.fits
   delete_shown queue id (Sent other) made k e = absurd made.fits
   delete_shown queue id (Received ms) made k e = absurd made.fits
+  delete_shown queue id (Listed pages) made k e = absurd made.fits
   delete_shown queue id (Renewed end) made k e = absurd made.fits
 
   -- a deletion that was not done failed, where there was memory for it
@@ -120,6 +123,7 @@ module _ (who : Caller) (before after : Seen) (s t : CloudState) (told : before.
   delete_fails queue id (Held until) made k e other = absurd made.fits
   delete_fails queue id (Sent other_id) made k e other = absurd made.fits
   delete_fails queue id (Received ms) made k e other = absurd made.fits
+  delete_fails queue id (Listed pages) made k e other = absurd made.fits
   delete_fails queue id (Renewed end) made k e other = absurd made.fits
 
   pub release_shown : (l : Claim) (a : Answer) → Call (Release l) a → (k : Trouble) → done_of a ≡ Err k → Shown (Release l) k
@@ -132,6 +136,7 @@ module _ (who : Caller) (before after : Seen) (s t : CloudState) (told : before.
   release_shown l (Held until) made k e = absurd made.fits
   release_shown l (Sent id) made k e = absurd made.fits
   release_shown l (Received ms) made k e = absurd made.fits
+  release_shown l (Listed pages) made k e = absurd made.fits
   release_shown l (Renewed end) made k e = absurd made.fits
 
   -- ---- messages
@@ -140,6 +145,7 @@ module _ (who : Caller) (before after : Seen) (s t : CloudState) (told : before.
   received_shown queue most Failed made k e = by_trouble (Receive queue most) trouble.Failed k (cc) (failed_shown (Receive queue most) made)
   received_shown queue most Memory made k e = by_trouble (Receive queue most) trouble.Memory k (cc) tt
   received_shown queue most (Received ms) made k e = absurd (cc)
+  received_shown queue most (Listed pages) made k e = absurd made.fits
   received_shown queue most (Late end now) made k e = absurd made.fits
   received_shown queue most (Got v) made k e = absurd made.fits
   received_shown queue most (Given m) made k e = absurd made.fits
@@ -157,6 +163,7 @@ module _ (who : Caller) (before after : Seen) (s t : CloudState) (told : before.
   sent_shown queue bytes (Given m) made k e = absurd made.fits
   sent_shown queue bytes (Held until) made k e = absurd made.fits
   sent_shown queue bytes (Received ms) made k e = absurd made.fits
+  sent_shown queue bytes (Listed pages) made k e = absurd made.fits
   sent_shown queue bytes Done made k e = absurd made.fits
   sent_shown queue bytes (Renewed end) made k e = absurd made.fits
 
@@ -178,6 +185,7 @@ module _ (who : Caller) (before after : Seen) (s t : CloudState) (told : before.
   given_shown lock ticks (Got v) made k e = absurd made.fits
   given_shown lock ticks (Sent id) made k e = absurd made.fits
   given_shown lock ticks (Received ms) made k e = absurd made.fits
+  given_shown lock ticks (Listed pages) made k e = absurd made.fits
   given_shown lock ticks Done made k e = absurd made.fits
   given_shown lock ticks (Renewed end) made k e = absurd made.fits
 
@@ -192,6 +200,7 @@ module _ (who : Caller) (before after : Seen) (s t : CloudState) (told : before.
   renewed_shown l ticks (Held until) made k e = absurd made.fits
   renewed_shown l ticks (Sent id) made k e = absurd made.fits
   renewed_shown l ticks (Received ms) made k e = absurd made.fits
+  renewed_shown l ticks (Listed pages) made k e = absurd made.fits
   renewed_shown l ticks Done made k e = absurd made.fits
 
 -- ---- troubles that no call shows

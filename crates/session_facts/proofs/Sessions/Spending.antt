@@ -1,8 +1,9 @@
 -- What landed is told from then on, and so is a counter that is spent.
 use Rattle.std.proofs.Common.{◌≡◌, ◌+◌, ◌*◌, ◌≤◌, ◌==◌, ◌^◌, ◌⊎◌, inl, inr, ℕ, Bool, true, false, cond, List, map, Option, Some, None, Result, Ok, Err, sym, ap, subst, ◌∙◌, arith}
-use Rattle.std.specs.Prelude.{◌-◌, length}
+use Rattle.std.specs.Prelude.{◌-◌, is_some, length}
 use Rattle.std.specs.Result.{result_ok}
 use Rattle.std.proofs.lemmas.List.{map-append, length-append, length-map}
+use Rattle.std.proofs.lemmas.List.Elements.{filter-append}
 use Rattle.ckpt_parts.specs.Leaves.{fenced, HoldsLeaf, HoldsLinked}
 use Rattle.byte_format.specs.Order.{bytes_same}
 use Rattle.byte_format.specs.Format.{greatest}
@@ -10,8 +11,10 @@ use Rattle.byte_format.specs.Whole.{whole}
 use Rattle.cloud_facts.proofs.Book.Places.{get_map, in_front}
 use Rattle.cloud_facts.proofs.Calls.Making.{IsWithin}
 use Rattle.cloud_facts.proofs.Calls.StandingLemmas.{within_rows}
-use Rattle.cloud_facts.proofs.Decoding.Newest.{newest_last, last_map}
+use Rattle.cloud_facts.proofs.Decoding.Newest.{newest_last, last_map, last_there}
 use Rattle.cloud_facts.proofs.Decoding.Reading.{node_reads}
+use Rattle.cloud_facts.proofs.Decoding.Versions.{all_there, among_those}
+use Rattle.cloud_facts.specs.Decoding.Decodes.{Decodes}
 use Rattle.cloud_facts.proofs.Meanings.Keys.{few_records}
 use Rattle.cloud_facts.specs.Book.Book.{Book}
 use Rattle.cloud_facts.specs.Calls.Standing.{StandsUnder}
@@ -19,7 +22,7 @@ use Rattle.cloud_facts.specs.Chains.Chain.{ChainHolds}
 use Rattle.cloud_facts.specs.Chains.Links.{top_of}
 use Rattle.cloud_facts.specs.Book.Records.{IsIn}
 use Rattle.cloud_facts.specs.Book.Tally.{Node, Leafy, Store}
-use Rattle.cloud_facts.specs.Book.Telling.{leaf_in, leaf_of_bytes, newest_leaf, node_in, node_or, root_in, nodes_of, roots_of}
+use Rattle.cloud_facts.specs.Book.Telling.{last_or, leaf_in, leaf_of_bytes, newest_leaf, node_in, node_of_bytes, node_or, with_bytes, root_in, nodes_of, roots_of}
 use Rattle.cloud_facts.specs.Tellings.Taking.{IsLinked}
 use Rattle.cloud_facts.specs.Tellings.Told.{store_of}
 use Rattle.cloud_trait.proofs.RowLemmas.{leaves_grown}
@@ -42,7 +45,7 @@ use Rattle.db_base.specs.declared.trouble.Counter.{Counter}
 use Rattle.db_base.specs.declared.trouble.Counter.TheVariants as counter
 use Rattle.db_base.specs.declared.trouble.Trouble.{Trouble}
 use Rattle.db_base.specs.declared.trouble.Trouble.TheVariants as trouble
-use Rattle.leaf_view.specs.Leaf.{Leaf, IsLeaf, leaf}
+use Rattle.leaf_view.specs.Leaf.{Leaf, leaf}
 use Rattle.leaf_view.specs.Lookup.{empty_leaf}
 use Rattle.node_codec.specs.Tree.{Tree, empty_tree}
 use Rattle.report_types.specs.declared.entry.Entry.{Entry}
@@ -83,11 +86,17 @@ in_grown {X = X} xs ys x grown is = subst (λ (zs : List X). IsIn zs x) (sym gro
 map_grown : {X Y : Type 0} (f : X → Y) (xs ys : List X) → BeginsWith xs ys → BeginsWith (map f xs) (map f ys)
 map_grown f xs ys grown = (map f grown.0, ap (map f) grown.1 ∙ map-append f xs grown.0)
 
+-- so do those that have bytes
+bytes_grown : (vs ws : List Version) → BeginsWith vs ws → BeginsWith (with_bytes vs) (with_bytes ws)
+bytes_grown vs ws grown =
+    (with_bytes grown.0, ap (λ (us : List Version). with_bytes us) grown.1 ∙ filter-append (λ (v : Version). is_some v.bytes) vs grown.0)
+
 page_later : (s t : CloudState) → HasAll s t → (tree page : ℕ) (n : Node) → IsIn (nodes_of s tree page) n → IsIn (nodes_of t tree page) n
 page_later s t grown tree page n is =
     let vs : List Version = s.versions (object.Page tree page) in
     let ws : List Version = t.versions (object.Page tree page) in
-    in_grown (map node_in vs) (map node_in ws) n (map_grown node_in vs ws (grown.versions (object.Page tree page))) is
+    in_grown (map node_in (with_bytes vs)) (map node_in (with_bytes ws)) n
+    (map_grown node_in (with_bytes vs) (with_bytes ws) (bytes_grown vs ws (grown.versions (object.Page tree page)))) is
 
 root_later : (s t : CloudState) → HasAll s t → (tree : ℕ) (root : Tree) → IsIn (roots_of s tree) root → IsIn (roots_of t tree) root
 root_later s t grown tree root is =
@@ -95,13 +104,14 @@ root_later s t grown tree root is =
     let ws : List Version = t.versions (object.Tree tree) in
     in_grown (map root_in vs) (map root_in ws) root (map_grown root_in vs ws (grown.versions (object.Tree tree))) is
 
--- A cloud tells all pages, tree objects and messages that a store has, which an earlier one told. Its trees are chained, and their pages are numbered in
+-- A cloud tells all pages, tree objects and messages that a store has, which an earlier one told, whose objects decode. Its trees are chained, and their pages are numbered in
 -- 64 bits; and its messages, links and newest leaves are within what landed.
 pub record IsToldBy (st : Store) (s t : CloudState) : Type 0 where
   pub pages : (tree page : ℕ) (n : Node) → IsIn (st.tally.nodes tree page) n → IsIn (nodes_of t tree page) n
   pub roots : (tree : ℕ) (root : Tree) → IsIn (st.tally.roots tree) root → IsIn (roots_of t tree) root
   pub posts : (tree : ℕ) → length (st.tally.posts tree 0) ≤ length (t.messages (TreePu tree))
   pub chains : ChainHolds st
+  pub decodes : Decodes s
   pub next : (tree : ℕ) → IsTree tree → (top_of (st.tally.roots tree)).next ≤ greatest
   pub sent : (tree : ℕ) → length (st.tally.posts tree 0) ≤ length t.trace
   pub links : (tree level : ℕ) → IsTree tree → length (st.book.chain tree level) ≤ length t.trace + 1
@@ -113,6 +123,7 @@ told_later book order s t stands grown = record {
   roots = root_later s t grown;
   posts = λ tree. grown.messages (TreePu tree);
   chains = stands.holds.chains;
+  decodes = stands.decodes;
   next = λ tree of_tree. top_most book order s stands tree of_tree;
   sent = λ tree. let few = within.posts tree in omega (arith, few, rows);
   links = λ tree level of_tree. let few = within.links tree of_tree level in omega (arith, few, rows);
@@ -147,29 +158,32 @@ last_leaf t tree page l (inl empty) last = absurd (let none : 0 ≡ 2 ^ 64 - 1 =
 last_leaf t tree page l (inr landed) last = record { page = page; node = Leafy l; landed = landed; last = last }
 
 -- the bytes that spell a leaf, where they are the newest of a page
-in_bytes : (v : Version) (l : Leaf) → whole leaf v.bytes ≡ Ok l → node_in v ≡ Leafy l
+in_bytes : (v : Version) (bytes : List ℕ) (l : Leaf) → v.bytes ≡ Some bytes → whole leaf bytes ≡ Ok l → node_in v ≡ Leafy l
 unfolding leaf_of_bytes
-in_bytes v l reads = ap (λ (r : Result Leaf ℕ). node_or (result_ok r) v.bytes) reads
+in_bytes v bytes l has reads = ap node_of_bytes has ∙ ap (λ (r : Result Leaf ℕ). node_or (result_ok r) bytes) reads
 
-newest_landed : (t : CloudState) (tree page : ℕ) (bytes : List ℕ) (n : Node) → newest t (object.Page tree page) ≡ Some bytes → ((v : Version) → v.bytes ≡ bytes → node_in v ≡ n)
+newest_landed : (t : CloudState) (tree page : ℕ) (bytes : List ℕ) (n : Node) → newest t (object.Page tree page) ≡ Some bytes → ((v : Version) → v.bytes ≡ Some bytes → node_in v ≡ n)
     → IsIn (nodes_of t tree page) n
 newest_landed t tree page bytes n is reads =
     let vs : List Version = t.versions (object.Page tree page) in
     let last = newest_last vs bytes is in
-    (length vs - 1, get_map node_in vs (length vs - 1) last.0 last.1 ∙ ap (λ (m : Node). Some m) (reads last.0 last.2))
+    let among = among_those vs (length vs - 1) last.0 bytes last.1 last.2 in
+    (among.0, get_map node_in (with_bytes vs) among.0 last.0 among.1 ∙ ap (λ (m : Node). Some m) (reads last.0 last.2))
 
 pub whole_landed : (t : CloudState) (tree page : ℕ) (bytes : List ℕ) (l : Leaf) → newest t (object.Page tree page) ≡ Some bytes → whole leaf bytes ≡ Ok l
     → IsIn (nodes_of t tree page) (Leafy l)
 whole_landed t tree page bytes l is reads =
-    newest_landed t tree page bytes (Leafy l) is (λ v same. in_bytes v l (subst (λ (b : List ℕ). whole leaf b ≡ Ok l) (sym same) reads))
+    newest_landed t tree page bytes (Leafy l) is (λ v has. in_bytes v bytes l has reads)
 
 -- it is the newest leaf that is told
-pub whole_newest : (s : CloudState) (tree page : ℕ) (bytes : List ℕ) (l : Leaf) → newest s (object.Page tree page) ≡ Some bytes → whole leaf bytes ≡ Ok l
+pub whole_newest : (s : CloudState) (tree page : ℕ) (bytes : List ℕ) (l : Leaf) → Decodes s → newest s (object.Page tree page) ≡ Some bytes → whole leaf bytes ≡ Ok l
     → newest_leaf (nodes_of s) tree page ≡ l
-whole_newest s tree page bytes l is reads =
+whole_newest s tree page bytes l d is reads =
     let vs : List Version = s.versions (object.Page tree page) in
     let last = newest_last vs bytes is in
-    ap leaf_in (last_map node_in (Leafy empty_leaf) vs last.0 last.1 ∙ in_bytes last.0 l (subst (λ (b : List ℕ). whole leaf b ≡ Ok l) (sym last.2) reads))
+    let all = all_there (object.Page tree page) vs (d.versions (object.Page tree page)) (last_there vs last.0 bytes last.1 last.2) in
+    ap (λ (ws : List Version). leaf_in (last_or (Leafy empty_leaf) (map node_in ws))) all
+    ∙ ap leaf_in (last_map node_in (Leafy empty_leaf) vs last.0 last.1 ∙ in_bytes last.0 bytes l last.2 reads)
 
 -- what the get of a page brought landed there
 pub leaf_landed : (t : CloudState) (tree page : ℕ) (got : Option (List ℕ)) (l : Leaf) → newest t (object.Page tree page) ≡ got → HoldsLeaf tree page got (Ok l)
@@ -182,7 +196,7 @@ leaf_landed t tree page None l is holds = on (page == 1) holds
 leaf_landed t tree page (Some bytes) l is (inl (m, spells, e)) =
     let same : m ≡ l = cc (e) in
     inr (subst (λ (x : Leaf). IsIn (nodes_of t tree page) (Leafy x)) same
-    (newest_landed t tree page bytes (Leafy m) is (λ v have. node_reads v (Leafy m) (subst (λ (b : List ℕ). IsLeaf b m) (sym have) spells))))
+    (newest_landed t tree page bytes (Leafy m) is (λ v has. node_reads v bytes (Leafy m) has spells)))
 leaf_landed t tree page (Some bytes) l is (inr (none, e)) = absurd (cc (e))
 
 -- so did the one that a link promised

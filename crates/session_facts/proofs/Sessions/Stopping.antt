@@ -1,19 +1,19 @@
 -- A session is answered with no trouble that only damage could cause, and a commit ends with none.
 use Rattle.std.proofs.Common.{◌≡◌, ◌≢◌, ◌≤◌, ◌⊎◌, inl, inr, ℕ, List, [], ◌∷◌, Some, Result, Ok, Err, refl, sym, subst}
 use Rattle.attr_index.specs.Look.{Look, look_ask}
-use Rattle.client_work.specs.Session.{Acting, StepsSession, StepsAt, ShowsAt, StepsOpening, StepsCommit, ReadsBy, LooksBy, Follows, StepsScanning, StepsPaging, StepsFolding, StepsSettling}
+use Rattle.client_work.specs.Session.{Acting, StepsSession, StepsAt, ShowsAt, StepsOpening, StepsCommit, ReadsBy, LooksBy, Follows, StepsScanning, StepsPaging, StepsFolding, StepsSettling, StepsSweeping}
 use Rattle.client_work.specs.Showing.{own_of}
 use Rattle.client_work.specs.declared.answer.Answer.{Answer}
 use Rattle.client_work.specs.declared.answer.Answer.TheVariants as answer
 use Rattle.client_work.specs.declared.listing.Listing.{Listing}
 use Rattle.client_work.specs.declared.shown.Shown.{Shown}
 use Rattle.client_work.specs.declared.work.Work.{Work}
-use Rattle.client_work.specs.declared.work.Work.TheVariants.{Closed, Idle, Opening, Committing, Reading, Scanning, Looking, Folding, Paging, Closing, Renewing, Settling, Broken}
+use Rattle.client_work.specs.declared.work.Work.TheVariants.{Closed, Idle, Opening, Committing, Reading, Scanning, Looking, Folding, Paging, Closing, Renewing, Settling, Sweeping, Broken}
 use Rattle.cloud_facts.specs.Calls.Acting.{Setting}
 use Rattle.cloud_facts.specs.Calls.Call.{IsCall}
 use Rattle.cloud_facts.proofs.Calls.Calls.{call_of}
 use Rattle.cloud_trait.specs.declared.answer.Answer.{Answer as Reply}
-use Rattle.cloud_trait.specs.declared.answer.Answer.TheVariants.{Got, Sent, Received, Done, Given, Held, Renewed, Late, Failed, Memory}
+use Rattle.cloud_trait.specs.declared.answer.Answer.TheVariants.{Got, Sent, Received, Listed, Done, Given, Held, Renewed, Late, Failed, Memory}
 use Rattle.cloud_trait.specs.declared.turn.Turn.{Turn}
 use Rattle.cloud_trait.specs.declared.turn.Turn.TheVariants.{More, Ended, Stopped}
 use Rattle.cloud_trait.specs.Ask.{Ask}
@@ -45,6 +45,8 @@ use Rattle.session_facts.specs.Sessions.Answering.{MayRefuse, MayAnswer}
 use Rattle.session_facts.specs.Sessions.Sessions.{leases_of, KnowsWork, KnowsKept, Sessions, SessionsStand}
 use Rattle.session_facts.proofs.Sessions.Laws.{setting_of, known_at}
 use Rattle.session_facts.proofs.Sessions.SettlingStops.{settling_stops}
+use Rattle.orphan_sweep.specs.Sweeping.{Sweeping as SweepingState, sweep_ask}
+use Rattle.session_facts.proofs.Sweeps.Steps.{sweep_stops}
 use Rattle.settle_run.specs.Settling.{Settling as SettlingState, settle_ask}
 use Rattle.cloud_facts.specs.Book.Book.{Book}
 use Rattle.cloud_facts.specs.Book.Tally.{Store}
@@ -73,6 +75,7 @@ refused_may : (a : Reply) → MayRefuse (trouble_of a)
 refused_may (Got v) = tt
 refused_may (Sent id) = tt
 refused_may (Received ms) = tt
+refused_may (Listed pages) = tt
 refused_may Done = tt
 refused_may (Given l) = tt
 refused_may (Held until) = tt
@@ -192,6 +195,12 @@ module _ (who : Caller) (before after : Seen) (s t : CloudState) (book : Book) (
       or_memory (MayAnswer (Settling m)) k tt
       (λ other. settling_stops who s t book order stand.parts steps.did.answer m (setting_at (Settling m) is call.later) (known_now (Settling m) is) call n k (steps.did.took.0 other))
 
+  sweeping_may : (m : SweepingState) → old ≡ Sweeping m → (work : Work) (k : Trouble) → StepsSweeping who before after m work (Ended (answer.Trouble k)) → MayAnswer (Sweeping m) k
+  sweeping_may m is work k (n, steps, closed) =
+      let call = called (sweep_ask m) steps.did.answer steps.did.made in
+      or_memory (MayAnswer (Sweeping m)) k tt
+      (λ other. sweep_stops who s t book order stand.parts steps.did.answer m (setting_at (Sweeping m) is call.later) (known_now (Sweeping m) is) call n k (steps.did.took.0 other))
+
   -- ---- the whole
 
   by_work : (buffer : List Noted) (work new : Work) (c : Cache) (shown : Shown) (k : Trouble) → old ≡ work → StepsAt who before after work new (Ended (answer.Trouble k))
@@ -206,6 +215,7 @@ module _ (who : Caller) (before after : Seen) (s t : CloudState) (book : Book) (
   by_work buffer (Closing l) new c shown k is steps shows = done_may steps.0.answer k steps.0.took
   by_work buffer (Renewing home) new c shown k is steps shows = renewed_may steps.1.answer k steps.1.took
   by_work buffer (Settling m) new c shown k is steps shows = settling_may m is new k steps.1
+  by_work buffer (Sweeping m) new c shown k is steps shows = sweeping_may m is new k steps
   by_work buffer Closed new c shown k is never shows = absurd never
   by_work buffer (Idle home) new c shown k is never shows = absurd never
   by_work buffer (Broken l) new c shown k is never shows = absurd never
@@ -239,6 +249,7 @@ module _ (who : Caller) (before after : Seen) (s t : CloudState) (book : Book) (
   by_commit buffer (Closing l) new c shown a is never shows = absurd never
   by_commit buffer (Renewing home) new c shown a is never shows = absurd never
   by_commit buffer (Settling m) new c shown a is never shows = absurd never.1
+  by_commit buffer (Sweeping m) new c shown a is never shows = absurd never
   by_commit buffer Closed new c shown a is never shows = absurd never
   by_commit buffer (Idle home) new c shown a is never shows = absurd never
   by_commit buffer (Broken l) new c shown a is never shows = absurd never

@@ -7,7 +7,7 @@ use Rattle.client_work.specs.declared.answer.Answer.TheVariants as answer
 use Rattle.client_work.specs.declared.listing.Listing.{Listing}
 use Rattle.client_work.specs.declared.shown.Shown.{Shown}
 use Rattle.client_work.specs.declared.work.Work.{Work}
-use Rattle.client_work.specs.declared.work.Work.TheVariants.{Closed, Idle, Opening, Committing, Reading, Scanning, Looking, Folding, Paging, Closing, Renewing, Settling, Broken}
+use Rattle.client_work.specs.declared.work.Work.TheVariants.{Closed, Idle, Opening, Committing, Reading, Scanning, Looking, Folding, Paging, Closing, Renewing, Settling, Sweeping, Broken}
 use Rattle.cloud_trait.specs.declared.answer.Answer.TheVariants.{Memory}
 use Rattle.cloud_trait.specs.declared.turn.Turn.{Turn}
 use Rattle.cloud_trait.specs.declared.turn.Turn.TheVariants.{More, Ended, Stopped}
@@ -55,6 +55,7 @@ spent_later s t (Committing r) grown what is = commit_later s t grown what is
 spent_later s t (Folding home m) grown what is = tree_later s t grown m.tree what is
 spent_later s t (Paging home p) grown what is = pages_later s t grown p.tree what is
 spent_later s t (Settling m) grown what is = settle_later s t grown what is
+spent_later s t (Sweeping m) grown what is = is
 spent_later s t (Reading home m) grown what is = is
 spent_later s t (Scanning home m) grown what is = is
 spent_later s t (Looking home m) grown what is = is
@@ -74,6 +75,7 @@ spent_stays who before after t (Folding home m) new p k kept what is =
 spent_stays who before after t (Paging home m) new p k kept what is =
     subst (λ (w : Work). spent_for w t what) (sym p.2) (subst (λ (n : ℕ). IsSpentInPages n t what) (sym (paging_goes m p.0 p.1.answer p.1.took)) is)
 spent_stays who before after t (Settling m) new p k kept what is = subst (λ (w : Work). spent_for w t what) (sym p.1.2) is
+spent_stays who before after t (Sweeping m) new p k kept what is = absurd is
 spent_stays who before after t (Reading home m) new p k kept what is = absurd is
 spent_stays who before after t (Scanning home m) new p k kept what is = absurd is
 spent_stays who before after t (Looking home m) new p k kept what is = absurd is
@@ -385,6 +387,9 @@ answered_rests who before after (Renewing home) new a p = absurd p
 answered_rests who before after (Settling m) new (answer.Settled n) p = rests_as new Closed p.1.2 closed_rests
 answered_rests who before after (Settling m) new (answer.Trouble k) p = rests_as new Closed p.1.2 closed_rests
 answered_rests who before after (Settling m) new a p = absurd p.1
+answered_rests who before after (Sweeping m) new (answer.Swept x) p = rests_as new Closed p.2 closed_rests
+answered_rests who before after (Sweeping m) new (answer.Trouble k) p = rests_as new Closed p.2 closed_rests
+answered_rests who before after (Sweeping m) new a p = absurd p
 answered_rests who before after Closed new a p = absurd p
 answered_rests who before after (Idle home) new a p = absurd p
 answered_rests who before after (Broken lease) new a p = absurd p
@@ -411,6 +416,7 @@ tells_at who before after buffer (Folding home m) c d new shown a p q found = ab
 tells_at who before after buffer (Closing lease) c d new shown a p q found = absurd p
 tells_at who before after buffer (Renewing home) c d new shown a p q found = absurd p
 tells_at who before after buffer (Settling m) c d new shown a p q found = absurd p.1
+tells_at who before after buffer (Sweeping m) c d new shown a p q found = absurd p
 tells_at who before after buffer Closed c d new shown a p q found = absurd p
 tells_at who before after buffer (Idle home) c d new shown a p q found = absurd p
 tells_at who before after buffer (Broken lease) c d new shown a p q found = absurd p

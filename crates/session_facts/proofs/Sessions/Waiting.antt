@@ -90,6 +90,7 @@ module _ (who : Caller) (before after : Seen) (s t : CloudState) where
         late_one (Ended answer.Value) never meets late = absurd never
         late_one (Ended answer.Scan) never meets late = absurd never
         late_one (Ended (answer.Settled n)) never meets late = absurd never
+        late_one (Ended (answer.Swept x)) never meets late = absurd never
         late_one (Stopped q) never meets late = absurd never
 
         on : Withheld ⊎ ReceivesLate (recovery_ask r) (leases_of_recovery r) t.now → Withheld ⊎ WaitsLate work turn t.now
@@ -131,4 +132,5 @@ module _ (who : Caller) (before after : Seen) (s t : CloudState) where
     settling_waits work (Ended (answer.Done n)) never none have need meets = absurd never
     settling_waits work (Ended answer.Value) never none have need meets = absurd never
     settling_waits work (Ended answer.Scan) never none have need meets = absurd never
+    settling_waits work (Ended (answer.Swept x)) never none have need meets = absurd never
     settling_waits work (Stopped q) never none have need meets = absurd never

@@ -8,7 +8,7 @@ use Rattle.cloud_trait.specs.Plenty.{HadMemory}
 use Rattle.cloud_facts.proofs.Book.Places.{in_front}
 use Rattle.cloud_facts.specs.Book.Records.{IsIn}
 use Rattle.cloud_facts.specs.Book.Tally.{Leafy, right_of}
-use Rattle.cloud_facts.specs.Book.Telling.{head_in, root_in, node_in, last_or}
+use Rattle.cloud_facts.specs.Book.Telling.{head_in, root_in, node_in, with_bytes, last_or}
 use Rattle.cloud_trait.specs.Delivery.{unmarked}
 use Rattle.cloud_trait.specs.Machine.{Goes, Ends, Stops, Deed}
 use Rattle.cloud_trait.specs.State.{CloudState, Counts}
@@ -182,7 +182,7 @@ module _ (own : Bool) (tree : ℕ) (q : QueueName) (first last : Moment)
   rights_stay k less = λ i p. right p i
     where
       right : (p : ℕ) → right_at first.state k p ≡ right_at last.state k p
-      right p = ap (λ (vs : List Version). right_of (last_or (Leafy empty_leaf) (map node_in vs))) (sym (keeps.pages k p (λ e. omega (arith, less, e))))
+      right p = ap (λ (vs : List Version). right_of (last_or (Leafy empty_leaf) (map node_in (with_bytes vs)))) (sym (keeps.pages k p (λ e. omega (arith, less, e))))
 
 -- ---- each part
 

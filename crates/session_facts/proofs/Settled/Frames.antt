@@ -9,7 +9,7 @@ use Rattle.cloud_trait.proofs.EffectLemmas.{moved_by, released_by}
 use Rattle.cloud_trait.proofs.NameLemmas.{object_cmp-equal, queue_cmp-equal}
 use Rattle.cloud_trait.proofs.RowLemmas.{row_by}
 use Rattle.cloud_trait.proofs.StateLemmas.{put_at_by}
-use Rattle.cloud_trait.specs.Ask.{Ask, Get, GetHeld, PutHeld, Send, Receive, Delete, Take, Renew, Release, effect}
+use Rattle.cloud_trait.specs.Ask.{Ask, Get, GetHeld, PutHeld, ListHeld, RemoveHeld, Send, Receive, Delete, Take, Renew, Release, effect}
 use Rattle.cloud_trait.specs.Caller.{Caller}
 use Rattle.cloud_trait.specs.Claim.{Claim}
 use Rattle.cloud_trait.specs.Delivery.{unmarked, unmarked_from}
@@ -56,7 +56,7 @@ IsPending (queue.Atomic client) = ⊥
 IsPending (queue.TreePu tree) = Unit {0}
 IsPending (queue.PagePu tree page) = Unit {0}
 
--- a call of a client's recovery puts its head alone, sends to pending update queues, and deletes in its ATOMIC queue
+-- a call of a client's recovery puts its head alone, removes nothing, sends to pending update queues, and deletes in its ATOMIC queue
 abbrev pub OfClient : ℕ → Ask → Type 0
 OfClient client (PutHeld (object.Head c) bytes one two) = c ≡ client
 OfClient client (PutHeld (object.Tree tree) bytes one two) = ⊥
@@ -65,13 +65,15 @@ OfClient client (Send q bytes) = IsPending q
 OfClient client (Delete q id) = q ≡ queue.Atomic client
 OfClient client (Get name) = Unit {0}
 OfClient client (GetHeld name l) = Unit {0}
+OfClient client (ListHeld tree l) = Unit {0}
+OfClient client (RemoveHeld name l) = ⊥
 OfClient client (Receive q most) = Unit {0}
 OfClient client (Take l ticks) = Unit {0}
 OfClient client (Renew l ticks) = Unit {0}
 OfClient client (Release l) = Unit {0}
 
--- one of a checkpoint of a queue puts pages of its tree, and the tree object where it is the tree's own; it sends nothing, and deletes in its
--- queue
+-- one of a checkpoint of a queue puts pages of its tree, and the tree object where it is the tree's own; it removes and sends nothing, and
+-- deletes in its queue
 abbrev pub OfQueue : Bool → ℕ → QueueName → Ask → Type 0
 OfQueue own tree own_queue (PutHeld (object.Head client) bytes one two) = ⊥
 OfQueue own tree own_queue (PutHeld (object.Tree t) bytes one two) = (own ≡ true) × (t ≡ tree)
@@ -80,6 +82,8 @@ OfQueue own tree own_queue (Send q bytes) = ⊥
 OfQueue own tree own_queue (Delete q id) = q ≡ own_queue
 OfQueue own tree own_queue (Get name) = Unit {0}
 OfQueue own tree own_queue (GetHeld name l) = Unit {0}
+OfQueue own tree own_queue (ListHeld of l) = Unit {0}
+OfQueue own tree own_queue (RemoveHeld name l) = ⊥
 OfQueue own tree own_queue (Receive q most) = Unit {0}
 OfQueue own tree own_queue (Take l ticks) = Unit {0}
 OfQueue own tree own_queue (Renew l ticks) = Unit {0}
@@ -322,6 +326,8 @@ QueueStates own tree own_queue s t = QueueKeeps own tree own_queue s.versions t.
 client_effect : (client : ℕ) (who : Caller) (ask : Ask) (s : CloudState) → OfClient client ask → ClientStates client s (effect who ask s)
 client_effect client who (Get name) s is = client_same s.versions s.messages client
 client_effect client who (GetHeld name l) s is = client_same s.versions s.messages client
+client_effect client who (ListHeld tree l) s is = client_same s.versions s.messages client
+client_effect client who (RemoveHeld name l) s is = absurd is
 client_effect client who (PutHeld (object.Head c) bytes one two) s is =
     subst (λ (k : ℕ). ClientStates k s (effect who (PutHeld (object.Head c) bytes one two) s)) is (client_puts s.versions s.messages c _)
 client_effect client who (PutHeld (object.Tree tree) bytes one two) s is = absurd is
@@ -340,6 +346,8 @@ queue_effect : (own : Bool) (tree : ℕ) (own_queue : QueueName) (who : Caller) 
     → QueueStates own tree own_queue s (effect who ask s)
 queue_effect own tree own_queue who (Get name) s is = queue_same s.versions s.messages own tree own_queue
 queue_effect own tree own_queue who (GetHeld name l) s is = queue_same s.versions s.messages own tree own_queue
+queue_effect own tree own_queue who (ListHeld of l) s is = queue_same s.versions s.messages own tree own_queue
+queue_effect own tree own_queue who (RemoveHeld name l) s is = absurd is
 queue_effect own tree own_queue who (PutHeld (object.Head c) bytes one two) s is = absurd is
 queue_effect own tree own_queue who (PutHeld (object.Tree t) bytes one two) s is =
     subst (λ (k : ℕ). QueueStates own k own_queue s (effect who (PutHeld (object.Tree t) bytes one two) s)) is.1 (queue_puts_root s.versions s.messages own t own_queue _ is.0)

@@ -8,9 +8,9 @@ use Rattle.cloud_trait.specs.Calm.{TakesFree}
 use Rattle.ckpt_parts.specs.Leasing.{outstanding_after}
 use Rattle.cloud_facts.proofs.Book.Places.{get_single, in_behind, in_none}
 use Rattle.cloud_trait.specs.declared.answer.Answer.{Answer}
-use Rattle.cloud_trait.specs.declared.answer.Answer.TheVariants.{Got, Sent, Received, Done, Given, Held, Renewed, Late, Failed, Memory}
+use Rattle.cloud_trait.specs.declared.answer.Answer.TheVariants.{Got, Sent, Received, Listed, Done, Given, Held, Renewed, Late, Failed, Memory}
 use Rattle.cloud_trait.specs.declared.state.Hold.{Hold}
-use Rattle.cloud_trait.specs.Ask.{Ask, Get, GetHeld, PutHeld, Send, Receive, Delete, Take, Renew, Release, MovesNoLock}
+use Rattle.cloud_trait.specs.Ask.{Ask, Get, GetHeld, PutHeld, ListHeld, RemoveHeld, Send, Receive, Delete, Take, Renew, Release, MovesNoLock}
 use Rattle.cloud_trait.specs.Caller.{Caller}
 use Rattle.cloud_trait.specs.Claim.{Claim, extended}
 use Rattle.cloud_trait.specs.Machine.{Next, Goes, Ends, Stops}
@@ -35,6 +35,8 @@ takes_free (Take lock ticks) held s now alone uses later = on (alone lock)
     on (inr (c, there, is, said)) = absurd (uses c there is)
 takes_free (Get name) held s now alone uses later = tt
 takes_free (GetHeld name l) held s now alone uses later = tt
+takes_free (ListHeld tree l) held s now alone uses later = tt
+takes_free (RemoveHeld name l) held s now alone uses later = tt
 takes_free (PutHeld name bytes one two) held s now alone uses later = tt
 takes_free (Send queue bytes) held s now alone uses later = tt
 takes_free (Receive queue most) held s now alone uses later = tt
@@ -54,6 +56,8 @@ same_alone held s t same after alone l = subst (λ (locks : Lock → Hold). IsOw
 pub quiet_after : (ask : Ask) (a : Answer) (held : List Claim) → MovesNoLock ask → outstanding_after ask a held ≡ held
 quiet_after (Get name) a held quiet = refl
 quiet_after (GetHeld name l) a held quiet = refl
+quiet_after (ListHeld tree l) a held quiet = refl
+quiet_after (RemoveHeld name l) a held quiet = refl
 quiet_after (PutHeld name bytes one two) a held quiet = refl
 quiet_after (Send queue bytes) a held quiet = refl
 quiet_after (Receive queue most) a held quiet = refl
@@ -223,6 +227,7 @@ module _ (who : Caller) (c d : Counts) (s t : CloudState) (later : s.now ≤ t.n
   took lock ticks (Got v) row other = absurd row
   took lock ticks (Sent id) row other = absurd row
   took lock ticks (Received ms) row other = absurd row
+  took lock ticks (Listed pages) row other = absurd row
   took lock ticks Done row other = absurd row
   took lock ticks (Renewed e) row other = absurd row
   took lock ticks (Late e n) row other = absurd row
@@ -239,6 +244,7 @@ gave who c d s t later (x ∷ xs) alone l Memory row same failed memory = absurd
 gave who c d s t later (x ∷ xs) alone l (Got v) row same failed memory = absurd row
 gave who c d s t later (x ∷ xs) alone l (Sent id) row same failed memory = absurd row
 gave who c d s t later (x ∷ xs) alone l (Received ms) row same failed memory = absurd row
+gave who c d s t later (x ∷ xs) alone l (Listed pages) row same failed memory = absurd row
 gave who c d s t later (x ∷ xs) alone l (Given m) row same failed memory = absurd row
 gave who c d s t later (x ∷ xs) alone l (Held until) row same failed memory = absurd row
 gave who c d s t later (x ∷ xs) alone l (Renewed e) row same failed memory = absurd row
@@ -251,6 +257,8 @@ call_alone who (Release l) a c d s t later row held alone uses failed memory = g
 call_alone who (Renew l ticks) a c d s t later row held alone never failed memory = absurd never
 call_alone who (Get name) a c d s t later row held alone uses failed memory = quiet who c d s t later held alone (Get name) a row tt
 call_alone who (GetHeld name l) a c d s t later row held alone uses failed memory = quiet who c d s t later held alone (GetHeld name l) a row tt
+call_alone who (ListHeld tree l) a c d s t later row held alone uses failed memory = quiet who c d s t later held alone (ListHeld tree l) a row tt
+call_alone who (RemoveHeld name l) a c d s t later row held alone uses failed memory = quiet who c d s t later held alone (RemoveHeld name l) a row tt
 call_alone who (PutHeld name bytes one two) a c d s t later row held alone uses failed memory = quiet who c d s t later held alone (PutHeld name bytes one two) a row tt
 call_alone who (Send queue bytes) a c d s t later row held alone uses failed memory = quiet who c d s t later held alone (Send queue bytes) a row tt
 call_alone who (Receive queue most) a c d s t later row held alone uses failed memory = quiet who c d s t later held alone (Receive queue most) a row tt
@@ -267,6 +275,7 @@ not_given lock ticks Memory held k e = refl
 not_given lock ticks (Got v) held k e = refl
 not_given lock ticks (Sent id) held k e = refl
 not_given lock ticks (Received ms) held k e = refl
+not_given lock ticks (Listed pages) held k e = refl
 not_given lock ticks Done held k e = refl
 not_given lock ticks (Renewed end) held k e = refl
 not_given lock ticks (Late end now) held k e = refl
@@ -274,6 +283,8 @@ not_given lock ticks (Late end now) held k e = refl
 pub quiet_uses : (ask : Ask) (held : List Claim) → MovesNoLock ask → UsesOwn ask held
 quiet_uses (Get name) held quiet = tt
 quiet_uses (GetHeld name l) held quiet = tt
+quiet_uses (ListHeld tree l) held quiet = tt
+quiet_uses (RemoveHeld name l) held quiet = tt
 quiet_uses (PutHeld name bytes one two) held quiet = tt
 quiet_uses (Send queue bytes) held quiet = tt
 quiet_uses (Receive queue most) held quiet = tt

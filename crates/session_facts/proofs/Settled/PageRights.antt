@@ -4,9 +4,10 @@ use Rattle.std.proofs.lemmas.List.{map-append}
 use Rattle.cloud_facts.proofs.Calls.Calls.{put_cases, permitted, put_lasts}
 use Rattle.cloud_facts.proofs.Chains.Names.{last_added}
 use Rattle.cloud_facts.proofs.Decoding.Reading.{node_reads}
+use Rattle.cloud_facts.proofs.Decoding.Versions.{bytes_added}
 use Rattle.cloud_facts.specs.Book.Book.{Book}
 use Rattle.cloud_facts.specs.Book.Tally.{Leafy, right_of}
-use Rattle.cloud_facts.specs.Book.Telling.{last_or, node_in, nodes_of}
+use Rattle.cloud_facts.specs.Book.Telling.{last_or, node_in, with_bytes, nodes_of}
 use Rattle.cloud_facts.specs.Calls.Call.{IsCall}
 use Rattle.cloud_facts.specs.Chains.Links.{newest_node}
 use Rattle.cloud_facts.specs.Tellings.Told.{store_of}
@@ -40,12 +41,16 @@ use Rattle.session_facts.specs.PageCheckpoints.Rights.{IsNewestLeaf}
 
 -- the right page of the newest of versions
 abbrev right_in : List Version → ℕ
-right_in vs = right_of (last_or (Leafy empty_leaf) (map node_in vs))
+right_in vs = right_of (last_or (Leafy empty_leaf) (map node_in (with_bytes vs)))
 
-pub right_added : (vs : List Version) (v : Version) (l : Leaf) → IsLeaf v.bytes l → right_in (vs ++ v ∷ []) ≡ l.right
-right_added vs v l spells =
-    ap (λ ns. right_of (last_or (Leafy empty_leaf) ns)) (map-append node_in vs (v ∷ []))
-    ∙ (ap right_of (last_added (Leafy empty_leaf) (map node_in vs) (node_in v)) ∙ ap right_of (node_reads v (Leafy l) spells))
+pub right_added : (who : Caller) (vs : List Version) (bytes : List ℕ) (l : Leaf) → IsLeaf bytes l → right_in (vs ++ record { who = who; bytes = Some bytes } ∷ []) ≡ l.right
+right_added who vs bytes l spells =
+    ap (λ (ws : List Version). right_of (last_or (Leafy empty_leaf) (map node_in ws))) (bytes_added who bytes vs)
+    ∙ (ap (λ ns. right_of (last_or (Leafy empty_leaf) ns)) (map-append node_in (with_bytes vs) (v ∷ []))
+    ∙ (ap right_of (last_added (Leafy empty_leaf) (map node_in (with_bytes vs)) (node_in v)) ∙ ap right_of (node_reads v bytes (Leafy l) refl spells)))
+  where
+    v : Version
+    v = record { who = who; bytes = Some bytes }
 
 -- the right pages are as they were
 abbrev pub SameRights : CloudState → CloudState → Type 0
@@ -61,14 +66,14 @@ put_rights : (who : Caller) (s t : CloudState) (tree page : ℕ) (bytes : List �
 put_rights who s t tree page bytes one two reply l queue run call spells newest = on (put_cases who (object.Page tree page) bytes one two reply s t call)
   where
     v : Version
-    v = record { who = who; bytes = bytes }
+    v = record { who = who; bytes = Some bytes }
 
     on : ((t ≡ called who t.now s) × (done_of reply ≡ Ok tt → ⊥)) ⊎ Lands who (PutHeld (object.Page tree page) bytes one two) (called who t.now s) t → SameRights s t
     on (inl stayed) = same_versions s t (ap (λ (u : CloudState). u.versions) stayed.0)
     on (inr lands) = λ other p.
         ap (λ (u : CloudState). right_in (u.versions (object.Page other p))) lands.0
         ∙ put_at_by (λ (q : ObjName) (vs : List Version). right_in vs ≡ right_in (s.versions q)) object_cmp object_cmp-equal s.versions (object.Page tree page)
-        (s.versions (object.Page tree page) ++ v ∷ []) (right_added (s.versions (object.Page tree page)) v (applied l queue run) spells ∙ sym (ap right_of (newest lands).is)) (λ q. refl)
+        (s.versions (object.Page tree page) ++ v ∷ []) (right_added who (s.versions (object.Page tree page)) bytes (applied l queue run) spells ∙ sym (ap right_of (newest lands).is)) (λ q. refl)
         (object.Page other p)
 
 module _ (who : Caller) (s t : CloudState) (book : Book) (order : List Entry) (p : Paging) (reply : Answer) (knows : KnowsPaging (store_of book order s) s.now p)

@@ -11,10 +11,10 @@ use Rattle.std.proofs.lemmas.Map.Made.{length-le_from_is_member}
 use Rattle.cloud_trait.specs.Calm.{IsCalm, AreCalm, AreAlone}
 use Rattle.cloud_trait.proofs.CalmLemmas.{delivers}
 use Rattle.cloud_trait.specs.declared.answer.Answer.{Answer}
-use Rattle.cloud_trait.specs.declared.answer.Answer.TheVariants.{Got, Sent, Received, Done, Given, Held, Renewed, Late, Failed, Memory}
+use Rattle.cloud_trait.specs.declared.answer.Answer.TheVariants.{Got, Sent, Received, Listed, Done, Given, Held, Renewed, Late, Failed, Memory}
 use Rattle.cloud_trait.specs.declared.message.Message.{Message}
 use Rattle.cloud_trait.specs.declared.state.Version.{Version}
-use Rattle.cloud_trait.specs.Ask.{Ask, Get, GetHeld, PutHeld, Send, Receive, Delete, Take, Renew, Release}
+use Rattle.cloud_trait.specs.Ask.{Ask, Get, GetHeld, PutHeld, ListHeld, RemoveHeld, Send, Receive, Delete, Take, Renew, Release}
 use Rattle.cloud_trait.specs.Claim.{Claim}
 use Rattle.cloud_trait.specs.Delivery.{unmarked}
 use Rattle.cloud_trait.specs.Machine.{Deed, IsMade, calls_of}
@@ -190,6 +190,8 @@ module _ (client : ℕ) (first : CloudState) where
   asks_receive h (Receive q most) ms fits named = ap (λ x. Receive x most) named.0 ∙ ap (λ n. Receive (queue.Atomic client) n) named.1
   asks_receive h (Get n) ms fits named = absurd fits
   asks_receive h (GetHeld n l) ms fits named = absurd fits
+  asks_receive h (ListHeld tree l) ms fits named = absurd fits
+  asks_receive h (RemoveHeld n l) ms fits named = absurd fits
   asks_receive h (PutHeld n bytes one two) ms fits named = absurd fits
   asks_receive h (Send q bytes) ms fits named = absurd fits
   asks_receive h (Delete q id) ms fits named = absurd fits
@@ -220,6 +222,7 @@ module _ (client : ℕ) (first : CloudState) where
 
       on : (a : Answer) → d.answer ≡ a → AllByRecursion Had (ids_in a)
       on (Received ms) e = ids_had ms (received ms e)
+      on (Listed pages) e = tt
       on (Got v) e = tt
       on (Sent id) e = tt
       on Done e = tt

@@ -13,7 +13,7 @@ use Rattle.cloud_facts.specs.Tellings.Told.{store_of}
 use Rattle.cloud_trait.proofs.NameLemmas.{queue_cmp-total}
 use Rattle.cloud_trait.proofs.RowLemmas.{row_messages}
 use Rattle.cloud_trait.proofs.StateLemmas.{put_at_same}
-use Rattle.cloud_trait.specs.Ask.{Ask, Get, GetHeld, PutHeld, Send, Receive, Delete, Take, Renew, Release, TouchesNoMessage}
+use Rattle.cloud_trait.specs.Ask.{Ask, Get, GetHeld, PutHeld, ListHeld, RemoveHeld, Send, Receive, Delete, Take, Renew, Release, TouchesNoMessage}
 use Rattle.cloud_trait.specs.Caller.{Caller}
 use Rattle.cloud_trait.specs.Claim.{Claim}
 use Rattle.cloud_trait.specs.Delivery.{unmarked, WasSent, IsDelivering}
@@ -81,6 +81,8 @@ pub record Between (s : CloudState) (rest : Calls) (messages : QueueName → Lis
 touches_none : (ask : Ask) → IsAtWork ask → SendsNothing ask → TouchesNoMessage ask
 touches_none (Get name) at sends = tt
 touches_none (GetHeld name l) at sends = tt
+touches_none (ListHeld tree l) at sends = tt
+touches_none (RemoveHeld name l) at sends = tt
 touches_none (PutHeld name bytes one two) at sends = tt
 touches_none (Send q bytes) at sends = absurd sends
 touches_none (Receive q most) at sends = absurd at

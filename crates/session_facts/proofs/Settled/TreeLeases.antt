@@ -8,7 +8,6 @@ use Rattle.cloud_trait.specs.declared.turn.CkptAnswer.{CkptAnswer}
 use Rattle.cloud_trait.specs.Claim.{Claim}
 use Rattle.cloud_trait.specs.Machine.{Next, Goes, Ends, Stops}
 use Rattle.db_base.specs.declared.names.Lock.TheVariants as lock
-use Rattle.leaf_fold.specs.declared.folding.Folding.{Folding}
 use Rattle.leaf_fold.specs.Folding.{folding_ask}
 use Rattle.session_facts.specs.Settled.Locks.{UsesOwn}
 use Rattle.session_facts.specs.TreeCheckpoints.Checkpoint.{HoldsLast, KnowsWork, KnowsMaking, leases_of_making}
@@ -20,7 +19,6 @@ use Rattle.tree_ckpt.proofs.Outcomes.{comes}
 use Rattle.tree_moves.specs.declared.work.Work.{Work}
 use Rattle.tree_moves.specs.declared.work.Work.TheVariants as work
 use Rattle.tree_moves.specs.Work.{delete_ask, release_ask, work_ask, claims_in}
-use Rattle.tree_rising.specs.declared.rising.Rising.{Rising}
 use Rattle.tree_rising.specs.Rising.{rising_ask}
 
 -- ---- the call in hand

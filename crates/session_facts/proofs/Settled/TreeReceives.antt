@@ -13,7 +13,7 @@ use Rattle.cloud_facts.proofs.Book.Places.{get_map}
 use Rattle.cloud_facts.proofs.Chains.Pieces.{none_in, in_first, in_rest, in_cases}
 use Rattle.cloud_facts.specs.Book.Records.{IsIn, Apart}
 use Rattle.cloud_facts.specs.Calls.Call.{IsCall}
-use Rattle.cloud_trait.specs.Ask.{Ask, Get, GetHeld, PutHeld, Send, Receive, Delete, Take, Renew, Release}
+use Rattle.cloud_trait.specs.Ask.{Ask, Get, GetHeld, PutHeld, ListHeld, RemoveHeld, Send, Receive, Delete, Take, Renew, Release}
 use Rattle.cloud_trait.specs.Caller.{Caller}
 use Rattle.cloud_trait.specs.Delivery.{WasSent}
 use Rattle.cloud_trait.specs.State.{CloudState}
@@ -170,6 +170,7 @@ pub received_sent : (who : Caller) (queue : QueueName) (most : ℕ) (a : Answer)
 received_sent who queue most (call.Received got) s t c ms e =
     let same : got ≡ ms = cc (e) in
     subst (AllByRecursion (WasSent (s.messages queue))) same (recursion_from_All (WasSent (s.messages queue)) got c.row.1)
+received_sent who queue most (call.Listed pages) s t c ms e = absurd (cc (e))
 received_sent who queue most call.Failed s t c ms e = absurd (cc (e))
 received_sent who queue most call.Memory s t c ms e = absurd (cc (e))
 received_sent who queue most (call.Got v) s t c ms e = absurd (cc (e))
@@ -184,6 +185,7 @@ received_sent who queue most (call.Late until now) s t c ms e = absurd (cc (e))
 
 pub kept_by : (ask : Ask) (a : Answer) (ids : List ℕ) → ((ms : List Message) → Fits ask (call.Received ms) → ⊥) → Fits ask a → received_after ids a ≡ ids
 kept_by ask (call.Received ms) ids never fits = absurd (never ms fits)
+kept_by ask (call.Listed pages) ids never fits = refl
 kept_by ask (call.Got v) ids never fits = refl
 kept_by ask (call.Sent id) ids never fits = refl
 kept_by ask call.Done ids never fits = refl
@@ -197,6 +199,8 @@ kept_by ask call.Memory ids never fits = refl
 pub quiet_kept : (ask : Ask) (a : Answer) (ids : List ℕ) → IsQuiet ask → Fits ask a → received_after ids a ≡ ids
 quiet_kept (Get name) a ids quiet fits = kept_by (Get name) a ids (λ ms f. f) fits
 quiet_kept (GetHeld name l) a ids quiet fits = kept_by (GetHeld name l) a ids (λ ms f. f) fits
+quiet_kept (ListHeld tree l) a ids quiet fits = kept_by (ListHeld tree l) a ids (λ ms f. f) fits
+quiet_kept (RemoveHeld name l) a ids quiet fits = kept_by (RemoveHeld name l) a ids (λ ms f. f) fits
 quiet_kept (PutHeld name bytes one two) a ids quiet fits = kept_by (PutHeld name bytes one two) a ids (λ ms f. f) fits
 quiet_kept (Send q bytes) a ids quiet fits = absurd quiet
 quiet_kept (Receive q most) a ids quiet fits = absurd quiet

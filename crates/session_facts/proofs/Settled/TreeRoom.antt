@@ -1,6 +1,7 @@
 -- What a checkpoint of a tree knows leaves room for its calls: it got no node and visited no page twice, and no page is at or above the next free one.
 use Rattle.std.proofs.Common.{◌≡◌, ◌+◌, ◌<◌, ◌≤◌, ◌⊎◌, inl, inr, ℕ, Bool, true, false, List, [], ◌∷◌, length, map, Option, Some, None, refl, sym, ap, subst, ◌∙◌, arith}
-use Rattle.std.specs.Option.{option_map}
+use Rattle.std.specs.Option.{option_and_then}
+use Rattle.std.specs.Prelude.{unwrap_or}
 use Rattle.std.proofs.lemmas.List.{length-map}
 use Rattle.cloud_facts.proofs.Chains.Pieces.{none_in, in_first, in_rest, in_cases}
 use Rattle.cloud_facts.proofs.Decoding.Newest.{IsLast, last_cases, last_map}
@@ -19,7 +20,7 @@ use Rattle.cloud_trait.specs.declared.state.Version.{Version}
 use Rattle.db_base.specs.Ids.{IsTree}
 use Rattle.db_base.specs.declared.names.ObjName.TheVariants as object
 use Rattle.leaf_fold.specs.declared.folding.Folding.{Folding}
-use Rattle.node_codec.specs.Tree.{Tree, empty_tree}
+use Rattle.node_codec.specs.Tree.{Tree, empty_tree, tree_of}
 use Rattle.report_types.specs.declared.entry.Entry.{Entry}
 use Rattle.run_cursor.specs.Covered.{is_seen}
 use Rattle.session_facts.proofs.Settled.TreeCalls.{HasRoom, Reserving, own_of, FitsLeaf, FitsWork}
@@ -55,12 +56,17 @@ use Rattle.tree_rising.proofs.Held.{held_spelled}
 abbrev pub top_at : CloudState → ℕ → Tree
 top_at s tree = top_of (roots_of s tree)
 
+held_root : (bytes : Option (List ℕ)) → tree_held bytes ≡ unwrap_or (option_and_then tree_of bytes) empty_tree
+held_root None = refl
+held_root (Some bytes) = refl
+
 newest_top : (vs : List Version) → tree_held (newest_of vs) ≡ top_of (map root_in vs)
 newest_top vs = on (last_cases vs)
   where
     on : (vs ≡ []) ⊎ ((v : Version) × IsLast vs v) → tree_held (newest_of vs) ≡ top_of (map root_in vs)
     on (inl e) = subst (λ (ws : List Version). tree_held (newest_of ws) ≡ top_of (map root_in ws)) (sym e) refl
-    on (inr (v, last)) = ap (λ (o : Option Version). tree_held (option_map (λ (w : Version). w.bytes) o)) last ∙ sym (last_map root_in empty_tree vs v last)
+    on (inr (v, last)) =
+        ap (λ (o : Option Version). tree_held (option_and_then (λ (w : Version). w.bytes) o)) last ∙ held_root v.bytes ∙ sym (last_map root_in empty_tree vs v last)
 
 pub held_tree : (s : CloudState) (tree : ℕ) (got : Option (List ℕ)) → got ≡ newest s (object.Tree tree) → tree_held got ≡ top_at s tree
 held_tree s tree got e = ap tree_held e ∙ newest_top (s.versions (object.Tree tree))

@@ -4,7 +4,7 @@ use Rattle.std.proofs.lemmas.List.{length-map}
 use Rattle.ckpt_parts.specs.Deleting.{next_id}
 use Rattle.cloud_facts.specs.Calls.Call.{IsCall}
 use Rattle.cloud_trait.proofs.RowLemmas.{row_messages}
-use Rattle.cloud_trait.specs.Ask.{Ask, Get, GetHeld, PutHeld, Send, Receive, Delete, Take, Renew, Release}
+use Rattle.cloud_trait.specs.Ask.{Ask, Get, GetHeld, PutHeld, ListHeld, RemoveHeld, Send, Receive, Delete, Take, Renew, Release}
 use Rattle.cloud_trait.specs.Caller.{Caller}
 use Rattle.cloud_trait.specs.Delivery.{IsDelivering}
 use Rattle.cloud_trait.specs.Machine.{Next, Goes, Ends, Stops, Deed, Came, calls_of}
@@ -199,6 +199,8 @@ delivers_of who ask a c e s new l same = tt
 quiet_sends : (ask : Ask) → IsQuiet ask → SendsNothing ask
 quiet_sends (Get name) quiet = tt
 quiet_sends (GetHeld name l) quiet = tt
+quiet_sends (ListHeld tree l) quiet = tt
+quiet_sends (RemoveHeld name l) quiet = tt
 quiet_sends (PutHeld name bytes one two) quiet = tt
 quiet_sends (Send q bytes) quiet = quiet
 quiet_sends (Receive q most) quiet = tt

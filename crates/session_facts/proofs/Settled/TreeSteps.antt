@@ -10,7 +10,7 @@ use Rattle.cloud_facts.specs.Calls.Call.{IsCall}
 use Rattle.cloud_trait.proofs.NameLemmas.{object_cmp-equal, object_cmp-total}
 use Rattle.cloud_trait.proofs.RowLemmas.{row_versions}
 use Rattle.cloud_trait.proofs.StateLemmas.{put_at_by, put_at_same, newest_of-push}
-use Rattle.cloud_trait.specs.Ask.{Ask, Get, GetHeld, PutHeld, Send, Receive, Delete, Take, Renew, Release, Lands, PutsNothing, effect}
+use Rattle.cloud_trait.specs.Ask.{Ask, GetHeld, PutHeld, Send, Receive, Delete, Release, Lands, PutsNothing, effect}
 use Rattle.cloud_trait.specs.Caller.{Caller}
 use Rattle.cloud_trait.specs.Claim.{Claim}
 use Rattle.cloud_trait.specs.Names.{object_cmp}
@@ -34,15 +34,6 @@ use Rattle.tree_rising.specs.declared.rising.Rising.{Rising}
 
 -- ---- the newest version behind a call
 
--- the call puts these bytes of an object
-abbrev pub Puts : Ask → ObjName → List ℕ → Type 0
-Puts (PutHeld other bytes one two) name new = (other ≡ name) × (bytes ≡ new)
-Puts ask name new = ⊥
-
--- an object's newest version is as it was, or the call put it
-abbrev pub IsAfter : CloudState → CloudState → ObjName → Ask → Type 0
-IsAfter s t name ask = (newest t name ≡ newest s name) ⊎ ((bytes : List ℕ) × Puts ask name bytes × (newest t name ≡ Some bytes))
-
 pub newest_same : (who : Caller) (ask : Ask) (a : Answer) (s t : CloudState) (name : ObjName) → IsCall who ask a s t → PutsNothing ask
     → newest t name ≡ newest s name
 newest_same who ask a s t name call nothing =
@@ -57,34 +48,24 @@ put_leaves who other bytes one two b t name e =
     object_cmp object_cmp-equal b.versions other (b.versions other ++ new ∷ []) (inr (refl, newest_of-push (b.versions other) new)) (λ q. inl refl) name)
   where
     new : Version
-    new = record { who = who; bytes = bytes }
+    new = record { who = who; bytes = Some bytes }
 
 -- and lands itself
 put_lands : (who : Caller) (name : ObjName) (bytes : List ℕ) (one : Claim) (two : Option Claim) (b t : CloudState) → t ≡ effect who (PutHeld name bytes one two) b
     → newest t name ≡ Some bytes
 put_lands who name bytes one two b t e =
     ap (λ (u : CloudState). newest u name) e
-    ∙ ap newest_of (put_at_same object_cmp object_cmp-total b.versions name (b.versions name ++ record { who = who; bytes = bytes } ∷ []))
-    ∙ newest_of-push (b.versions name) (record { who = who; bytes = bytes })
+    ∙ ap newest_of (put_at_same object_cmp object_cmp-total b.versions name (b.versions name ++ record { who = who; bytes = Some bytes } ∷ []))
+    ∙ newest_of-push (b.versions name) (record { who = who; bytes = Some bytes })
 
-pub newest_after : (who : Caller) (ask : Ask) (a : Answer) (s t : CloudState) (name : ObjName) → IsCall who ask a s t → IsAfter s t name ask
-newest_after who (PutHeld other bytes one two) a s t name call = on (landed_or_not who (PutHeld other bytes one two) a s t call)
+-- where it may land
+pub put_after : (who : Caller) (other : ObjName) (bytes : List ℕ) (one : Claim) (two : Option Claim) (a : Answer) (s t : CloudState) (name : ObjName)
+    → IsCall who (PutHeld other bytes one two) a s t → (newest t name ≡ newest s name) ⊎ ((other ≡ name) × (newest t name ≡ Some bytes))
+put_after who other bytes one two a s t name call = on (landed_or_not who (PutHeld other bytes one two) a s t call)
   where
-    put : (newest t name ≡ newest s name) ⊎ ((other ≡ name) × (newest t name ≡ Some bytes)) → IsAfter s t name (PutHeld other bytes one two)
-    put (inl same) = inl same
-    put (inr new) = inr (bytes, (new.0, refl), new.1)
-
-    on : (t ≡ called who t.now s) ⊎ Lands who (PutHeld other bytes one two) (called who t.now s) t → IsAfter s t name (PutHeld other bytes one two)
+    on : (t ≡ called who t.now s) ⊎ Lands who (PutHeld other bytes one two) (called who t.now s) t → (newest t name ≡ newest s name) ⊎ ((other ≡ name) × (newest t name ≡ Some bytes))
     on (inl same) = inl (ap (λ (u : CloudState). newest u name) same)
-    on (inr lands) = put (put_leaves who other bytes one two (called who t.now s) t name lands.0)
-newest_after who (Get other) a s t name call = inl (newest_same who (Get other) a s t name call tt)
-newest_after who (GetHeld other l) a s t name call = inl (newest_same who (GetHeld other l) a s t name call tt)
-newest_after who (Send q bytes) a s t name call = inl (newest_same who (Send q bytes) a s t name call tt)
-newest_after who (Receive q most) a s t name call = inl (newest_same who (Receive q most) a s t name call tt)
-newest_after who (Delete q id) a s t name call = inl (newest_same who (Delete q id) a s t name call tt)
-newest_after who (Take l ticks) a s t name call = inl (newest_same who (Take l ticks) a s t name call tt)
-newest_after who (Renew l ticks) a s t name call = inl (newest_same who (Renew l ticks) a s t name call tt)
-newest_after who (Release l) a s t name call = inl (newest_same who (Release l) a s t name call tt)
+    on (inr lands) = put_leaves who other bytes one two (called who t.now s) t name lands.0
 
 -- ---- what is put in turn
 
@@ -125,10 +106,10 @@ module _ (tree : ℕ) (l : Claim) (second : Option Claim) (other : Ask) where
       → newest t (object.Tree tree) ≡ landed_root p (newest s (object.Tree tree))
   in_hand_lands p who a s t some done call = on p.reserved p.puts some call
     where
-      page : (x : PagePut) → IsAfter s t (object.Tree tree) (PutHeld (object.Page tree x.page) x.bytes l second)
+      page : (x : PagePut) → (newest t (object.Tree tree) ≡ newest s (object.Tree tree)) ⊎ ((object.Page tree x.page ≡ object.Tree tree) × (newest t (object.Tree tree) ≡ Some x.bytes))
           → newest t (object.Tree tree) ≡ newest s (object.Tree tree)
       page x (inl same) = same
-      page x (inr new) = absurd (let e : object.Page tree x.page ≡ object.Tree tree = new.1.0 in cc (e))
+      page x (inr new) = absurd (let e : object.Page tree x.page ≡ object.Tree tree = new.0 in cc (e))
 
       root : (bytes : List ℕ) → ((t ≡ called who t.now s) × (done_of a ≡ Ok tt → ⊥)) ⊎ Lands who (PutHeld (object.Tree tree) bytes l None) (called who t.now s) t
           → newest t (object.Tree tree) ≡ Some bytes
@@ -139,7 +120,7 @@ module _ (tree : ℕ) (l : Claim) (second : Option Claim) (other : Ask) where
           → IsCall who (unwrap_or (put_first tree l (put_next tree l second puts) reserved) other) a s t
           → newest t (object.Tree tree) ≡ landed_root (record { reserved = reserved; puts = puts }) (newest s (object.Tree tree))
       on (Some bytes) puts e c = root bytes (put_cases who (object.Tree tree) bytes l None a s t c)
-      on None (x ∷ puts) e c = page x (newest_after who (PutHeld (object.Page tree x.page) x.bytes l second) a s t (object.Tree tree) c)
+      on None (x ∷ puts) e c = page x (put_after who (object.Page tree x.page) x.bytes l second a s t (object.Tree tree) c)
       on None [] e c = absurd (cc (e))
 
 -- ---- wherever it stands

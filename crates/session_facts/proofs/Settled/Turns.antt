@@ -66,6 +66,7 @@ stepped who before after buffer (work.Settling k) c d new shown (Ended (answer.S
 stepped who before after buffer (work.Settling k) c d new shown (Ended (answer.Trouble t)) p q m e =
     subst (λ (y : Settling). IsStep who before after y p.1.1.did.answer new (Ended (answer.Trouble t))) (same_settling k m e) (p.1.1.did.made, tt)
 stepped who before after buffer (work.Settling k) c d new shown turn p q m e = absurd p.1
+stepped who before after buffer (work.Sweeping k) c d new shown turn p q m e = absurd (cc (e))
 stepped who before after buffer (work.Opening r) c d new shown turn p q m e = absurd (cc (e))
 stepped who before after buffer (work.Committing r) c d new shown turn p q m e = absurd (cc (e))
 stepped who before after buffer (work.Reading home r) c d new shown turn p q m e = absurd (cc (e))

@@ -2,7 +2,7 @@
 use Rattle.std.proofs.Common.{◌≡◌, ◌<◌, ◌+◌, ◌⊎◌, inl, inr, ℕ, zero, suc, List, [], ◌∷◌, ◌++◌, Some, None, refl, ap, arith}
 use Rattle.cloud_facts.specs.Calls.Acting.{Handles}
 use Rattle.cloud_trait.specs.declared.answer.Answer.{Answer}
-use Rattle.cloud_trait.specs.Ask.{Ask, Get, GetHeld, PutHeld, Send, Receive, Delete, Take, Renew, Release}
+use Rattle.cloud_trait.specs.Ask.{Ask, Get, GetHeld, PutHeld, ListHeld, RemoveHeld, Send, Receive, Delete, Take, Renew, Release}
 use Rattle.cloud_trait.specs.Caller.{Caller}
 use Rattle.cloud_trait.specs.Claim.{Claim}
 use Rattle.cloud_trait.specs.State.{CloudState}
@@ -27,6 +27,8 @@ below_above (l ∷ ls) x (suc place, is) = let less = below_above ls x (place, i
 -- the leases that a call names
 abbrev named : Ask → List Claim
 named (GetHeld name l) = l ∷ []
+named (ListHeld tree l) = l ∷ []
+named (RemoveHeld name l) = l ∷ []
 named (PutHeld name bytes one None) = one ∷ []
 named (PutHeld name bytes one (Some two)) = one ∷ two ∷ []
 named (Renew l ticks) = l ∷ []
@@ -45,6 +47,8 @@ module _ (home : Claim) (mine : List Claim) where
 
   owns_alone : (session : ℕ) (ask : Ask) → ((x : Claim) → IsIn (named ask) x → home ≡ x → ⊥) → Owns (λ n. home ∷ mine) session ask → Owns (λ n. mine) session ask
   owns_alone session (GetHeld name l) ne o = other l o (ne l (zero, refl))
+  owns_alone session (ListHeld tree l) ne o = other l o (ne l (zero, refl))
+  owns_alone session (RemoveHeld name l) ne o = other l o (ne l (zero, refl))
   owns_alone session (PutHeld name bytes one None) ne o = (other one o.0 (ne one (zero, refl)), tt)
   owns_alone session (PutHeld name bytes one (Some two)) ne o = (other one o.0 (ne one (zero, refl)), other two o.1 (ne two (suc zero, refl)))
   owns_alone session (Renew l ticks) ne o = other l o (ne l (zero, refl))

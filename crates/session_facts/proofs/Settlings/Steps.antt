@@ -6,7 +6,7 @@ use Rattle.cloud_facts.specs.Calls.Call.{IsCall}
 use Rattle.cloud_facts.proofs.Calls.Outcomes.{weaker}
 use Rattle.cloud_trait.specs.declared.answer.Answer.{Answer}
 use Rattle.cloud_trait.specs.declared.turn.CkptAnswer.{CkptAnswer}
-use Rattle.cloud_trait.specs.Ask.{Ask, Get, GetHeld, PutHeld, Send, Receive, Delete, Take, Renew, Release}
+use Rattle.cloud_trait.specs.Ask.{Ask, Get, GetHeld, PutHeld, ListHeld, RemoveHeld, Send, Receive, Delete, Take, Renew, Release}
 use Rattle.cloud_trait.specs.Caller.{Caller}
 use Rattle.cloud_trait.specs.Machine.{Next, Goes, Ends, Stops}
 use Rattle.cloud_trait.specs.State.{CloudState}
@@ -51,6 +51,8 @@ recovery_noted (PutHeld (object.Head other) bytes one two) client m a = refl
 recovery_noted (PutHeld (object.Tree tree) bytes one two) client m a = refl
 recovery_noted (Get name) client m a = refl
 recovery_noted (GetHeld name l) client m a = refl
+recovery_noted (ListHeld tree l) client m a = refl
+recovery_noted (RemoveHeld name l) client m a = refl
 recovery_noted (Send queue bytes) client m a = refl
 recovery_noted (Receive queue most) client m a = refl
 recovery_noted (Delete queue id) client m a = refl
@@ -64,6 +66,8 @@ making_noted (PutHeld (object.Head client) bytes one two) other m a = refl
 making_noted (PutHeld (object.Tree tree) bytes one two) other m a = refl
 making_noted (Get name) tree m a = refl
 making_noted (GetHeld name l) tree m a = refl
+making_noted (ListHeld of l) tree m a = refl
+making_noted (RemoveHeld name l) tree m a = refl
 making_noted (Send queue bytes) tree m a = refl
 making_noted (Receive queue most) tree m a = refl
 making_noted (Delete queue id) tree m a = refl
@@ -77,6 +81,8 @@ paging_noted (PutHeld (object.Head client) bytes one two) of_tree of_page m a = 
 paging_noted (PutHeld (object.Tree tree) bytes one two) of_tree of_page m a = refl
 paging_noted (Get name) tree page m a = refl
 paging_noted (GetHeld name l) tree page m a = refl
+paging_noted (ListHeld of l) tree page m a = refl
+paging_noted (RemoveHeld name l) tree page m a = refl
 paging_noted (Send queue bytes) tree page m a = refl
 paging_noted (Receive queue most) tree page m a = refl
 paging_noted (Delete queue id) tree page m a = refl
@@ -165,6 +171,7 @@ settling_outcome who s t book order parts m reply setting k sound call fits = re
   passes = o.passes;
   joins = o.joins;
   links = o.links;
+  gone = o.gone;
   part = o.part;
   homes = o.homes;
   knows = λ next leads.

@@ -35,7 +35,7 @@ use Rattle.session_facts.specs.PageCheckpoints.Checkpoint.{HasPage, HasRight, Ma
 use Rattle.session_facts.specs.PageCheckpoints.Rights.{IsLanded}
 use Rattle.session_facts.proofs.PageCheckpoints.Fences.{newest_landed}
 use Rattle.session_facts.proofs.PageCheckpoints.PageReads.{IsNamed, IsLinkedLeaf, named_is, named_leaf, linked_is}
-use Rattle.session_facts.proofs.PageCheckpoints.Steps.{got_may, received_may, done_may, given_may}
+use Rattle.session_facts.proofs.PageCheckpoints.Nexts.{got_may, received_may, done_may, given_may}
 use Rattle.session_facts.proofs.Settlings.PageSteps.{HasRead, Lacks, step_has}
 use Rattle.session_facts.proofs.Settlings.PageSteps as lacks
 use Rattle.session_facts.proofs.Settlings.Rights.{reads_nothing, first_comes, right_comes, right_unvisited}

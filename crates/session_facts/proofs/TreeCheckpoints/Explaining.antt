@@ -111,12 +111,12 @@ trouble_at w = trouble_of_ending (ending_of w)
 -- ---- what is taken in
 
 -- a message that is no record is damaged
-message_free : (q : QueueName) (cursor : List (ℕ × ℕ)) (read : Result (List PuItem) Message) (k : Trouble) → TakesItems q cursor read (Err k) → IsFree k
+pub message_free : (q : QueueName) (cursor : List (ℕ × ℕ)) (read : Result (List PuItem) Message) (k : Trouble) → TakesItems q cursor read (Err k) → IsFree k
 message_free q cursor (Err m) k is = let same : message_damage q m ≡ k = cc in subst IsFree same tt
 message_free q cursor (Ok items) k (run, is_run, is) = absurd (cc (is))
 
 -- and no deletion was tried
-none_tried : (q : QueueName) (cursor : List (ℕ × ℕ)) (read : Result (List PuItem) Message) (i : Intake) → TakesItems q cursor read (Ok i) → i.deletions.left ≡ 0
+pub none_tried : (q : QueueName) (cursor : List (ℕ × ℕ)) (read : Result (List PuItem) Message) (i : Intake) → TakesItems q cursor read (Ok i) → i.deletions.left ≡ 0
 none_tried q cursor (Err m) i is = absurd (cc (is))
 none_tried q cursor (Ok items) i (run, is_run, is) = let same : i ≡ intake_of items run = cc in ap (λ (x : Intake). x.deletions.left) same
 

@@ -1,5 +1,5 @@
 -- The leases of the tree and of a leaf guard what is put under them.
-use Rattle.std.proofs.Common.{◌≡◌, ◌+◌, ◌⊎◌, inl, inr, ℕ, List, [], ◌∷◌, ◌++◌, length, map, reverse, Option, Some, None, refl, sym, ap, subst, ◌∙◌, arith, length-append}
+use Rattle.std.proofs.Common.{◌≡◌, ◌+◌, ◌⊎◌, inl, inr, ℕ, Bool, false, List, [], ◌∷◌, ◌++◌, length, map, reverse, Option, Some, None, refl, sym, ap, subst, ◌∙◌, arith, length-append}
 use Rattle.cloud_facts.specs.Chains.Cuts.{leaf_node}
 use Rattle.cloud_facts.specs.Chains.Links.{top_of}
 use Rattle.cloud_facts.specs.Calls.Standing.{StandsUnder}
@@ -14,7 +14,7 @@ use Rattle.split_plan.specs.Part.{Part, LeafPart}
 use Rattle.split_plan.specs.Plan.{put_of, on_pages, leaf_bytes}
 use Rattle.cloud_facts.specs.Book.Book.{Book, Link}
 use Rattle.cloud_facts.specs.Book.Tally.{Node}
-use Rattle.cloud_facts.specs.Book.Telling.{nodes_of, roots_of}
+use Rattle.cloud_facts.specs.Book.Telling.{nodes_of, gone_of, roots_of}
 use Rattle.cloud_facts.specs.Tellings.Told.{store_of}
 use Rattle.session_facts.specs.Trees.Leaves.{IsPutting}
 use Rattle.session_facts.specs.Trees.Folds.{Reserves, PutsPieces}
@@ -23,13 +23,17 @@ use Rattle.cloud_facts.specs.Calls.Pages.{IsTreePage}
 use Rattle.session_facts.proofs.Trees.FoldPuts.{page_asked, root_asked}
 use Rattle.session_facts.proofs.Trees.PlacingLemmas.{last_cases, puts_more}
 use Rattle.cloud_facts.proofs.Calls.Guarding.{leaf_guard, tree_guard}
+use Rattle.session_facts.proofs.Runs.Leaves.{linked_kept}
 use Rattle.tree_parts.specs.Read.{tree_held}
 
--- a number that is reserved and was not put yet is a page of the tree's
-pub reserved_page : {A X : Type 0} (node : Part A X → Node) (chain : ℕ → List Link) (nodes : ℕ → List Node) (next first : ℕ) (middle : List (Part A X)) (last : Part A X)
-    (behind : List (Part A X)) → AreReserved node chain nodes next first (middle ++ last ∷ []) behind → IsTreePage nodes (first + length middle)
-reserved_page node chain nodes next first middle last behind r =
-    inl (r.absent (first + length middle) (omega arith) (omega (arith, more)), λ e. let above = r.above (first + length middle) (omega arith) (omega (arith, more)) in absurd (omega (arith, above, e)))
+-- a number that is reserved and was not put yet is a page of the tree's, and was not removed
+pub reserved_page : {A X : Type 0} (node : Part A X → Node) (chain : ℕ → List Link) (nodes : ℕ → List Node) (gone : ℕ → Bool) (next first : ℕ) (middle : List (Part A X)) (last : Part A X)
+    (behind : List (Part A X)) → AreReserved node chain nodes gone next first (middle ++ last ∷ []) behind
+    → (gone (first + length middle) ≡ false) × IsTreePage nodes (first + length middle)
+reserved_page node chain nodes gone next first middle last behind r = (
+  r.there (first + length middle) (omega arith) (omega (arith, more)),
+  inl (r.absent (first + length middle) (omega arith) (omega (arith, more)), λ e. let above = r.above (first + length middle) (omega arith) (omega (arith, more)) in absurd (omega (arith, above, e))),
+)
   where
     more : length (middle ++ last ∷ []) ≡ length middle + 1
     more = length-append middle (last ∷ [])
@@ -51,7 +55,8 @@ module _ (book : Book) (order : List Entry) (s : CloudState) (stands : StandsUnd
       left none is =
           subst (IsGuarded s now) (sym (page_asked f lease (record { page = f.page; bytes = leaf_bytes k.placing.front }) [] none lone))
           (λ lasts. let newest = k.newest lasts.1 in
-          inr (p.lock_is ∙ sym (leaf_guard s tree f.page stands.decodes (record { leaf = k.leaf; is = newest.is; absent = newest.absent }))))
+          inr (p.lock_is ∙ sym (leaf_guard s tree f.page stands.decodes (linked_kept (store_of book order s) stands.holds.gones tree 0 f.page k.linked)
+          (record { leaf = k.leaf; is = newest.is; absent = newest.absent }))))
         where
           lone : f.placing.puts ≡ record { page = f.page; bytes = leaf_bytes k.placing.front } ∷ []
           lone = k.placing.puts_are ∙ ap (λ (m : List LeafPart). reverse (map (put_of leaf_bytes) (on_pages f.page k.first (k.placing.front ∷ m)))) is
@@ -61,8 +66,8 @@ module _ (book : Book) (order : List Entry) (s : CloudState) (stands : StandsUnd
           subst (IsGuarded s now)
           (sym (page_asked f lease (record { page = k.first + length middle; bytes = leaf_bytes last }) (reverse (map (put_of leaf_bytes) (on_pages f.page k.first (k.placing.front ∷ middle)))) none puts))
           (λ lasts.
-          inl (lock_is ∙ sym (tree_guard s tree (k.first + length middle) stands.decodes
-          (reserved_page leaf_node (book.chain tree) (nodes_of s tree) (top_of (roots_of s tree)).next k.first middle last k.placing.behind (reserved lasts.0)))))
+          let own = reserved_page leaf_node (book.chain tree) (nodes_of s tree) (gone_of s tree) (top_of (roots_of s tree)).next k.first middle last k.placing.behind (reserved lasts.0) in
+          inl (lock_is ∙ sym (tree_guard s tree (k.first + length middle) stands.decodes own.0 own.1)))
         where
           puts : f.placing.puts
               ≡ record { page = k.first + length middle; bytes = leaf_bytes last } ∷ reverse (map (put_of leaf_bytes) (on_pages f.page k.first (k.placing.front ∷ middle)))
@@ -71,9 +76,9 @@ module _ (book : Book) (order : List Entry) (s : CloudState) (stands : StandsUnd
               ∙ (ap (λ (m : List LeafPart). reverse (map (put_of leaf_bytes) (on_pages f.page k.first (k.placing.front ∷ m)))) is
               ∙ puts_more leaf_bytes f.page k.first k.placing.front middle last)
 
-          reserved : Lasts now lease → AreReserved leaf_node (book.chain tree) (nodes_of s tree) (top_of (roots_of s tree)).next k.first (middle ++ last ∷ []) k.placing.behind
+          reserved : Lasts now lease → AreReserved leaf_node (book.chain tree) (nodes_of s tree) (gone_of s tree) (top_of (roots_of s tree)).next k.first (middle ++ last ∷ []) k.placing.behind
           reserved lasts =
-              subst (λ (m : List LeafPart). AreReserved leaf_node (book.chain tree) (nodes_of s tree) (top_of (roots_of s tree)).next k.first m k.placing.behind) is
+              subst (λ (m : List LeafPart). AreReserved leaf_node (book.chain tree) (nodes_of s tree) (gone_of s tree) (top_of (roots_of s tree)).next k.first m k.placing.behind) is
               (subst (λ (o : Option (List ℕ)). Reserves (store_of book order s) now lease tree (tree_held f.chart.root) k.first k.placing.middle k.placing.behind o) none k.reserves lasts)
 
       by_pieces : f.placing.reserved ≡ None → (k.placing.middle ≡ []) ⊎ ((front : List LeafPart) × (last : LeafPart) × (k.placing.middle ≡ front ++ last ∷ []))

@@ -2,14 +2,13 @@
 use Rattle.std.proofs.Common.{◌≡◌, ◌⊎◌, inl, inr, ℕ, zero, suc, List, [], ◌∷◌, Option, Some, None, Result, refl, sym, ap, subst, ◌∙◌}
 use Rattle.std.specs.Prelude.{unwrap_or}
 use Rattle.ckpt_parts.specs.Deleting.{next_id}
-use Rattle.ckpt_parts.specs.Leasing.{newest_lease, outstanding_after}
+use Rattle.ckpt_parts.specs.Leasing.{newest_lease}
 use Rattle.cloud_facts.specs.Calls.Acting.{Handles, Setting}
 use Rattle.cloud_facts.specs.Calls.Call.{IsCall}
 use Rattle.cloud_facts.specs.Calls.Standing.{StandsUnder}
 use Rattle.cloud_trait.specs.declared.answer.Answer.{Answer}
-use Rattle.cloud_trait.specs.declared.answer.Answer.TheVariants.{Given}
 use Rattle.cloud_trait.specs.declared.turn.CkptAnswer.{CkptAnswer}
-use Rattle.cloud_trait.specs.Ask.{Ask, GetHeld, Take, Renew, Release, MovesNoLock}
+use Rattle.cloud_trait.specs.Ask.{Ask, GetHeld}
 use Rattle.cloud_trait.specs.Caller.{Caller}
 use Rattle.cloud_trait.specs.Claim.{Claim}
 use Rattle.cloud_trait.specs.Machine.{Next, Goes, Ends, Stops}
@@ -21,7 +20,7 @@ use Rattle.cloud_facts.specs.Homes.Homes.{Parts}
 use Rattle.leaf_fold.specs.declared.folding.Folding.{Folding}
 use Rattle.leaf_fold.specs.Folding.{folding_ask}
 use Rattle.cloud_facts.specs.Leases.Guards.{IsGuarded}
-use Rattle.cloud_facts.specs.Leases.Leases.{AreOne, KeptBy, GainedBy, Owns, RenewedTo}
+use Rattle.cloud_facts.specs.Leases.Leases.{KeptBy, Owns, RenewedTo}
 use Rattle.report_types.specs.declared.entry.Entry.{Entry}
 use Rattle.split_plan.specs.declared.put_list.PagePut.{PagePut}
 use Rattle.cloud_facts.specs.Book.Book.{Book}
@@ -32,6 +31,8 @@ use Rattle.cloud_facts.specs.Tellings.Told.{store_of}
 use Rattle.tree_ckpt.specs.Making.{Making, making_ask, MakingLeads}
 use Rattle.tree_ckpt.specs.Standing.{OfTree, HasIds}
 use Rattle.tree_ckpt.proofs.Outcomes.{comes as taken_apart}
+use Rattle.session_facts.proofs.BesideHome.{quiet_renews, quiet_keeps}
+use Rattle.session_facts.proofs.BesideHome as beside
 use Rattle.session_facts.specs.TreeCheckpoints.Checkpoint.{OfPage, KnowsOnward, KnowsWork, KnowsMaking, leases_of_making, leases_next}
 use Rattle.session_facts.proofs.TreeCheckpoints.Guards.{leaf_guarded}
 use Rattle.session_facts.proofs.TreeCheckpoints.Held.{claims_next, within, leaf_quiet, up_quiet, delete_quiet, left_by, on_left}
@@ -93,27 +94,6 @@ delete_guarded : (s : CloudState) (now tree : ℕ) (ids : List ℕ) → HasIds i
 delete_guarded s now tree [] never = absurd never
 delete_guarded s now tree (id ∷ ids) has = tt
 
--- ---- what a call leaves in hand
-
-quiet_renews : (who : Caller) (ask : Ask) (x : Claim) (b t : CloudState) → MovesNoLock ask → RenewedTo who ask x b t
-quiet_renews who (Renew l ticks) x b t never = absurd never
-quiet_renews who ask x b t quiet = tt
-
-quiet_keeps : (ask : Ask) (x : Claim) → MovesNoLock ask → KeptBy ask x
-quiet_keeps (Renew l ticks) x never = absurd never
-quiet_keeps (Release l) x never = absurd never
-quiet_keeps ask x quiet = tt
-
--- what is outstanding was so before, or the call gave it
-outstanding_own : (ask : Ask) (a : Answer) (renewed : Claim) (cs : List Claim) (x : Claim) → (IsIn (outstanding_after ask a cs) x → KeptBy ask x) → IsIn (outstanding_after ask a cs) x
-    → (IsIn cs x × KeptBy ask x) ⊎ GainedBy ask a renewed x
-outstanding_own (Take k ticks) (Given l) renewed cs x kept (zero, is) = inr (sym (get_single l 0 x is))
-outstanding_own (Take k ticks) (Given l) renewed cs x kept (suc place, is) = inl ((place, is), tt)
-outstanding_own (Take k ticks) a renewed cs x kept there = inl (there, tt)
-outstanding_own (Release l) a renewed [] x kept there = inl (there, kept there)
-outstanding_own (Release l) a renewed (c ∷ cs) x kept there = inl ((suc there.0, there.1), kept there)
-outstanding_own ask a renewed cs x kept there = inl (there, kept there)
-
 -- where a lease in hand comes from
 pub record Led (tree : ℕ) (w : Work) (reply : Answer) (x : Claim) : Type 0 where
   pub next : Step
@@ -140,10 +120,6 @@ module _ (who : Caller) (s t : CloudState) (home : Claim) (client : ℕ) (home_l
       let same : h ≡ x = get_single h there.0 x there.1 in
       tree_no_page tree tree of_page.page (sym own ∙ (ap (λ (c : Claim). c.lock) same ∙ (e ∙ of_page.lock_is)))
 
-  apart_from : (l : Claim) (ls : List Claim) → (home.lock ≡ l.lock → ⊥) → ((x : Claim) → IsIn ls x → x.lock ≡ l.lock → ⊥) → (x : Claim) → IsIn (home ∷ ls) x → AreOne l x → ⊥
-  apart_from l ls home_apart rest x (zero, is) one = home_apart (ap (λ (c : Claim). c.lock) (get_single home 0 x is) ∙ sym one.lock)
-  apart_from l ls home_apart rest x (suc place, is) one = rest x (place, is) (sym one.lock)
-
   -- ---- where it stands
 
   module _ (book : Book) (order : List Entry) (stands : StandsUnder book order s) where
@@ -162,24 +138,12 @@ module _ (who : Caller) (s t : CloudState) (home : Claim) (client : ℕ) (home_l
     -- the home's lease stays in hand, and of those of the checkpoint what is outstanding
     hand : (w : Work) → KnowsWork st t.now tree w → Comes w → Owns (λ n. home ∷ claims_in w) who.session (work_ask tree w) → IsGuarded s t.now (work_ask tree w)
         → RenewedTo who (work_ask tree w) home (called who t.now s) t → ((x : Claim) → IsIn (home ∷ left_by tree w reply) x → KeptBy (work_ask tree w) x) → Hand w (work_ask tree w)
-    hand w k comes owns guarded renews kept = record {
-      owns = owns;
-      guarded = guarded;
-      renewed = home;
-      renews = renews;
-      own = λ x there. on x (comes x there);
-    }
+    hand w k comes owns guarded renews kept =
+        beside.hand who s t home reply after (work_ask tree w) (claims_in w) owns guarded renews kept (λ x there. on x (comes x there))
       where
-        on : (x : Claim) → (home ≡ x) ⊎ Led tree w reply x → (IsIn (home ∷ claims_in w) x × KeptBy (work_ask tree w) x) ⊎ GainedBy (work_ask tree w) reply home x
-        on x (inl same) = let first : Some home ≡ Some x = ap (λ (l : Claim). Some l) same in inl ((zero, first), kept x (zero, first))
-        on x (inr led) =
-            from (outstanding_own (work_ask tree w) reply home (claims_in w) x (λ there. kept x (suc there.0, there.1))
-            (within (left_by tree w reply) led.next (on_left st t.now tree k (taken_apart tree w reply led.next led.leads)) x led.there))
-          where
-            from : (IsIn (claims_in w) x × KeptBy (work_ask tree w) x) ⊎ GainedBy (work_ask tree w) reply home x
-                → (IsIn (home ∷ claims_in w) x × KeptBy (work_ask tree w) x) ⊎ GainedBy (work_ask tree w) reply home x
-            from (inl old) = inl ((suc old.0.0, old.0.1), old.1)
-            from (inr new) = inr new
+        on : (x : Claim) → (home ≡ x) ⊎ Led tree w reply x → (home ≡ x) ⊎ IsIn (left_by tree w reply) x
+        on x (inl same) = inl same
+        on x (inr led) = inr (within (left_by tree w reply) led.next (on_left st t.now tree k (taken_apart tree w reply led.next led.leads)) x led.there)
 
     onward_lock : (h : Held) (o : Onward) → KnowsOnward st t.now tree h o → OfTree tree h.lease
     onward_lock h (onward.Right c) k = k.0.lock_is
@@ -190,10 +154,10 @@ module _ (who : Caller) (s t : CloudState) (home : Claim) (client : ℕ) (home_l
         → Hand (work.Releasing (record { first = first; second = second }) end) (release_ask tree (newest_lease (record { first = first; second = second })))
     releases (Some l) (Some leaf) end k comes =
         hand (work.Releasing (record { first = Some l; second = Some leaf }) end) k comes (suc zero, refl) tt tt
-        (apart_from leaf (l ∷ []) (no_page leaf k.0.1) (alone l leaf k.0.0 k.0.1))
+        (beside.apart_from who s t home reply after leaf (l ∷ []) (no_page leaf k.0.1) (alone l leaf k.0.0 k.0.1))
     releases (Some l) None end k comes =
         hand (work.Releasing (record { first = Some l; second = None }) end) k comes (suc zero, refl) tt tt
-        (apart_from l [] (no_tree l k.0) (λ x there. absurd (in_none [] x refl there)))
+        (beside.apart_from who s t home reply after l [] (no_tree l k.0) (λ x there. absurd (in_none [] x refl there)))
     releases None second end k comes = absurd k.0
 
     pub work_hands : (w : Work) → KnowsWork st t.now tree w → Comes w → Hand w (work_ask tree w)
@@ -207,7 +171,7 @@ module _ (who : Caller) (s t : CloudState) (home : Claim) (client : ℕ) (home_l
         (at_leaf_guarded h f (lock_of tree f.chart.tree h.lease k.0) k.1) (quiet_renews who (folding_ask f h.lease) home (called who t.now s) t (leaf_quiet f h.lease))
         (λ x there. quiet_keeps (folding_ask f h.lease) x (leaf_quiet f h.lease))
     work_hands (work.ReleasingPage h l o) k comes =
-        hand (work.ReleasingPage h l o) k comes (suc zero, refl) tt tt (apart_from l (h.lease ∷ []) (no_page l k.0) (alone h.lease l (onward_lock h o k.1) k.0))
+        hand (work.ReleasingPage h l o) k comes (suc zero, refl) tt tt (beside.apart_from who s t home reply after l (h.lease ∷ []) (no_page l k.0) (alone h.lease l (onward_lock h o k.1) k.0))
     work_hands (work.LeftPage h o) k comes = absurd k
     work_hands (work.Rising h r) k comes =
         hand (work.Rising h r) k comes (up_owns (home ∷ h.lease ∷ []) who.session r.placing r h.lease r.last (suc zero, refl))

@@ -44,7 +44,7 @@ put_has who s t name bytes one two c =
     (version, subst (λ (vs : List Version). IsIn vs version) (sym behind) (in_back (s.versions name) (version ∷ []) version (0, refl)), refl)
   where
     version : Version
-    version = record { who = who; bytes = bytes }
+    version = record { who = who; bytes = Some bytes }
 
     behind : (landed who name bytes (called who t.now s)).versions name ≡ s.versions name ++ version ∷ []
     behind = put_at_same object_cmp object_cmp-total s.versions name (s.versions name ++ version ∷ [])

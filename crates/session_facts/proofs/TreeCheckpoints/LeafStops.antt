@@ -16,7 +16,7 @@ use Rattle.db_base.specs.declared.trouble.Trouble.{Trouble}
 use Rattle.leaf_edit.specs.Applied.{applied}
 use Rattle.leaf_fold.specs.declared.folding.Folding.{Folding}
 use Rattle.leaf_fold.specs.declared.plan.LeafPlan.{LeafPlan}
-use Rattle.leaf_fold.specs.Folding.{Step, planned, leaf_got, leaf_put, folding_next}
+use Rattle.leaf_fold.specs.Folding.{Step, leaf_got, leaf_put, folding_next}
 use Rattle.leaf_fold.specs.Plan.{planned_by, leaf_plan}
 use Rattle.leaf_fold.specs.Plan as plan
 use Rattle.leaf_view.specs.Leaf.{Leaf, leaf as leaf_format}

@@ -7,6 +7,7 @@ use Rattle.byte_format.proofs.Wholes.{whole_only}
 use Rattle.cloud_facts.proofs.Calls.Heads.{held_seen}
 use Rattle.cloud_facts.proofs.Calls.Pages.{none_landed}
 use Rattle.cloud_facts.proofs.Chains.Newest.{newest_is, last_in}
+use Rattle.cloud_facts.proofs.Chains.GoneLemmas.{links_kept}
 use Rattle.cloud_facts.proofs.Decoding.Values.{newest_page_decodes}
 use Rattle.cloud_facts.specs.Book.Book.{Book, Link}
 use Rattle.cloud_facts.specs.Book.Records.{IsIn}
@@ -153,7 +154,8 @@ module _ (book : Book) (order : List Entry) (s : CloudState) (stands : StandsUnd
         on : (x : Node) → IsNode bytes x → x ≡ Leafy l
         on (Leafy m) spells = let both = sym (whole_only leaf leaf_exact bytes m spells) ∙ holds in ap Leafy (cc (both))
         on (Branch m) spells = absurd (leaf_no_node bytes l m holds (inner_only bytes m spells))
-    leaf_brought None l is holds = ap (λ (ns : List Node). newest_node (λ p. ns) page) (none_landed s tree page is) ∙ ap Leafy (sym holds.1)
+    leaf_brought None l is holds =
+        ap (λ (ns : List Node). newest_node (λ p. ns) page) (none_landed s tree page stands.decodes (links_kept st stands.holds.gones tree level link linked) is) ∙ ap Leafy (sym holds.1)
 
     keys_short : (l : Leaf) → IsWellFormed l → AreShort l.records
     keys_short l formed = each l.records formed.records

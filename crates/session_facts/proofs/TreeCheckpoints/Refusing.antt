@@ -2,7 +2,7 @@
 use Rattle.std.proofs.Common.{◌≡◌, ◌+◌, ◌==◌, ℕ, Bool, true, false, cond, Some, None, Result, Ok, Err, refl, subst}
 use Rattle.std.specs.Prelude.{nat_lt}
 use Rattle.cloud_trait.specs.declared.answer.Answer.{Answer}
-use Rattle.cloud_trait.specs.declared.answer.Answer.TheVariants.{Got, Sent, Received, Done, Given, Held, Renewed, Late, Failed, Memory}
+use Rattle.cloud_trait.specs.declared.answer.Answer.TheVariants.{Got, Sent, Received, Listed, Done, Given, Held, Renewed, Late, Failed, Memory}
 use Rattle.cloud_trait.specs.Claim.{Claim}
 use Rattle.cloud_trait.specs.Machine.{Next, Goes, Ends, Stops}
 use Rattle.cloud_trait.specs.Views.{trouble_of, given_of, got_of, received_of, done_of}
@@ -44,6 +44,7 @@ refused_may : (a : Answer) → MayStop (trouble_of a)
 refused_may (Got v) = tt
 refused_may (Sent id) = tt
 refused_may (Received ms) = tt
+refused_may (Listed pages) = tt
 refused_may Done = tt
 refused_may (Given l) = tt
 refused_may (Held until) = tt

@@ -252,7 +252,7 @@ module _ (st : Store) (now : ℕ) (s t : CloudState) (tells : IsToldBy st s t) (
 
         records : (got : Option (List ℕ)) → newest s (object.Page tree f.page) ≡ got → HoldsLeaf f.page l got → length l.records ≤ 200 * length t.trace
         records (Some bytes) was holds =
-            subst (λ (m : Leaf). length m.records ≤ 200 * length t.trace) (whole_newest s tree f.page bytes l was holds) (tells.leaves tree f.page of_tree linked)
+            subst (λ (m : Leaf). length m.records ≤ 200 * length t.trace) (whole_newest s tree f.page bytes l tells.decodes was holds) (tells.leaves tree f.page of_tree linked)
         records None was holds = subst (λ (m : Leaf). length m.records ≤ 200 * length t.trace) (sym holds.1) (omega arith)
 
         there : (got : Option (List ℕ)) → newest t (object.Page tree f.page) ≡ got → HoldsLeaf f.page l got → (l ≡ empty_leaf) ⊎ IsIn (nodes_of t tree f.page) (Leafy l)

@@ -13,7 +13,7 @@ use Rattle.cloud_facts.proofs.Calls.Passing.{landing_passes}
 use Rattle.cloud_trait.specs.declared.answer.Answer.{Answer}
 use Rattle.cloud_trait.specs.declared.answer.Answer.TheVariants.{Given}
 use Rattle.cloud_trait.specs.declared.turn.CkptAnswer.{CkptAnswer}
-use Rattle.cloud_trait.specs.Ask.{Ask, Get, GetHeld, PutHeld, Send, Receive, Delete, Take, Renew, Release, Lands, PutsNothing, TouchesNoMessage}
+use Rattle.cloud_trait.specs.Ask.{Ask, Get, GetHeld, PutHeld, ListHeld, RemoveHeld, Send, Receive, Delete, Take, Renew, Release, Lands, PutsNothing, TouchesNoMessage}
 use Rattle.cloud_trait.specs.Caller.{Caller}
 use Rattle.cloud_trait.specs.Claim.{Claim}
 use Rattle.cloud_trait.specs.Machine.{Goes, Ends, Stops}
@@ -85,6 +85,7 @@ less_known who book order s t parts mine ask note K L less o = record {
   passes = o.passes;
   joins = o.joins;
   links = o.links;
+  gone = o.gone;
   part = o.part;
   homes = o.homes;
   knows = record { part_is = o.knows.part_is; heads = o.knows.heads; knows = less (store_of o.book_after o.order_after t) o.knows.knows };
@@ -107,6 +108,8 @@ leaf_note m h f (PutHeld (object.Page tree page) bytes one two) = refl
 leaf_note m h f (PutHeld (object.Tree tree) bytes one two) = refl
 leaf_note m h f (Get name) = refl
 leaf_note m h f (GetHeld name l) = refl
+leaf_note m h f (ListHeld tree l) = refl
+leaf_note m h f (RemoveHeld name l) = refl
 leaf_note m h f (Send queue bytes) = refl
 leaf_note m h f (Receive queue most) = refl
 leaf_note m h f (Delete queue id) = refl
@@ -121,6 +124,8 @@ up_note m h r (PutHeld (object.Page tree page) bytes one two) a = ap (λ (o : Li
 up_note m h r (PutHeld (object.Tree tree) bytes one two) a = refl
 up_note m h r (Get name) a = refl
 up_note m h r (GetHeld name l) a = refl
+up_note m h r (ListHeld tree l) a = refl
+up_note m h r (RemoveHeld name l) a = refl
 up_note m h r (Send queue bytes) a = refl
 up_note m h r (Receive queue most) a = refl
 up_note m h r (Delete queue id) a = refl

@@ -56,7 +56,7 @@ module _ (book : Book) (order : List Entry) (s : CloudState) (stands : StandsUnd
 
   -- and it is what a held get brings
   pub root_read : (v : Option (List ℕ)) → v ≡ newest s (object.Tree tree) → KnowsRoot st now lease tree (tree_held v)
-  root_read None e = let none = no_root s tree (sym e) in subst (KnowsRoot st now lease tree) none (top_known (inl none))
+  root_read None e = let none = no_root s tree stands.decodes (sym e) in subst (KnowsRoot st now lease tree) none (top_known (inl none))
   root_read (Some bytes) e = subst (KnowsRoot st now lease tree) (sym held) (top_known (inr spells.fits))
     where
       spells : SpellsTree bytes (newest_root (roots_of s) tree)

@@ -17,6 +17,7 @@ use Rattle.db_base.specs.declared.trouble.Trouble.{Trouble}
 use Rattle.cloud_facts.specs.Decoding.Kinds.{IsNode}
 use Rattle.cloud_facts.proofs.Decoding.Newest.{IsLast, last_cases, last_map}
 use Rattle.cloud_facts.proofs.Decoding.Reading.{node_reads}
+use Rattle.cloud_facts.proofs.Decoding.Versions.{among_nth}
 use Rattle.cloud_trait.specs.declared.state.Version.{Version}
 use Rattle.leaf_edit.proofs.Whole.{applied-formed}
 use Rattle.leaf_edit.specs.Applied.{applied}
@@ -42,7 +43,7 @@ use Rattle.split_plan.specs.Sizes.{count_of}
 use Rattle.cloud_facts.specs.Book.Book.{Book}
 use Rattle.cloud_facts.specs.Book.Records.{IsIn}
 use Rattle.cloud_facts.specs.Book.Tally.{Node, Leafy, Branch, Store}
-use Rattle.cloud_facts.specs.Book.Telling.{last_or, leaf_in, node_in, nodes_of, roots_of, newest_leaf}
+use Rattle.cloud_facts.specs.Book.Telling.{last_or, leaf_in, node_in, with_bytes, nodes_of, gone_of, roots_of, newest_leaf}
 use Rattle.cloud_facts.specs.Tellings.Told.{store_of}
 use Rattle.tree_parts.specs.declared.reserve.Reserved.{Reserved}
 use Rattle.tree_parts.specs.Read.{tree_held}
@@ -95,14 +96,14 @@ pub newest_formed : (book : Book) (order : List Entry) (s : CloudState) (tree pa
 newest_formed book order s tree page stands = on (last_cases vs)
   where
     vs : List Version
-    vs = s.versions (object.Page tree page)
+    vs = with_bytes (s.versions (object.Page tree page))
 
     on : (vs ≡ []) ⊎ ((v : Version) × IsLast vs v) → IsWellFormed (newest_leaf (nodes_of s) tree page) × ((newest_leaf (nodes_of s) tree page).version ≤ greatest)
     on (inl e) =
         subst (λ (l : Leaf). IsWellFormed l × (l.version ≤ greatest)) (sym (ap (λ (xs : List Version). leaf_in (last_or (Leafy empty_leaf) (map node_in xs))) e)) (empty_formed, omega arith)
     on (inr p) =
-        let k = stands.decodes.versions (object.Page tree page) (length vs - 1) p.0 p.1 in
-        subst (λ (n : Node). IsWellFormed (leaf_in n) × ((leaf_in n).version ≤ greatest)) (sym (last_map node_in (Leafy empty_leaf) vs p.0 p.1 ∙ node_reads p.0 k.0 k.1)) (node_formed p.0.bytes k.0 k.1)
+        let k = (among_nth (object.Page tree page) (s.versions (object.Page tree page)) (length vs - 1) p.0 (stands.decodes.versions (object.Page tree page)) p.1).1 in
+        subst (λ (n : Node). IsWellFormed (leaf_in n) × ((leaf_in n).version ≤ greatest)) (sym (last_map node_in (Leafy empty_leaf) vs p.0 p.1 ∙ node_reads p.0 k.0 k.2.0 k.1 k.2.1)) (node_formed k.0 k.2.0 k.2.1)
 
 module _ (book : Book) (order : List Entry) (s : CloudState) (stands : StandsUnder book order s) (now : ℕ) (lease : Claim) (f : Folding) (ids : List ℕ)
     (at : IsAtLeaf (store_of book order s) now lease f) (run : KnowsRun (store_of book order s) f.chart ids) (apart : AreApart f.chart.nodes) (least : IsLeast f.chart) where
@@ -205,11 +206,11 @@ module _ (book : Book) (order : List Entry) (s : CloudState) (stands : StandsUnd
       page_below : f.page ≤ (top_of (roots_of s tree)).next
       page_below = let less = (chained.pages.linked 0 (record { low = f.low; page = f.page }) at.way.at.linked).1 in omega (arith, less)
 
-      alone : (ps qs : List LeafPart) → length ps ≡ 0 → qs ≡ [] → AreReserved leaf_node (book.chain tree) (nodes_of s tree) (top_of (roots_of s tree)).next f.page ps qs
+      alone : (ps qs : List LeafPart) → length ps ≡ 0 → qs ≡ [] → AreReserved leaf_node (book.chain tree) (nodes_of s tree) (gone_of s tree) (top_of (roots_of s tree)).next f.page ps qs
       alone ps qs e g =
-          subst (λ (l : List LeafPart). AreReserved leaf_node (book.chain tree) (nodes_of s tree) (top_of (roots_of s tree)).next f.page l qs) (sym (none_in_middle ps e))
-          (subst (λ (l : List LeafPart). AreReserved leaf_node (book.chain tree) (nodes_of s tree) (top_of (roots_of s tree)).next f.page [] l) (sym g)
-          (none_reserved leaf_node (book.chain tree) (nodes_of s tree) (top_of (roots_of s tree)).next f.page page_below))
+          subst (λ (l : List LeafPart). AreReserved leaf_node (book.chain tree) (nodes_of s tree) (gone_of s tree) (top_of (roots_of s tree)).next f.page l qs) (sym (none_in_middle ps e))
+          (subst (λ (l : List LeafPart). AreReserved leaf_node (book.chain tree) (nodes_of s tree) (gone_of s tree) (top_of (roots_of s tree)).next f.page [] l) (sym g)
+          (none_reserved leaf_node (book.chain tree) (nodes_of s tree) (gone_of s tree) (top_of (roots_of s tree)).next f.page page_below))
 
       reserved : (q : Reserved) → Reserving (tree_held f.chart.root) f.page (count_of (length whole.records) - 1) q
           → Reserves st now lease tree (tree_held f.chart.root) q.first (pieces_placed f.page q.first whole).placing.middle (pieces_placed f.page q.first whole).placing.behind q.put

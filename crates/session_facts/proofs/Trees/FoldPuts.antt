@@ -31,7 +31,7 @@ use Rattle.cloud_facts.specs.Book.Effects.{after_leaf, after_page}
 use Rattle.cloud_facts.specs.Book.Premises.{IsItemOf}
 use Rattle.cloud_facts.specs.Book.Records.{IsIn}
 use Rattle.cloud_facts.specs.Book.Tally.{Node, Leafy, Store}
-use Rattle.cloud_facts.specs.Book.Telling.{last_or, leaf_in, nodes_of, roots_of, newest_leaf}
+use Rattle.cloud_facts.specs.Book.Telling.{last_or, leaf_in, nodes_of, gone_of, roots_of, newest_leaf}
 use Rattle.cloud_facts.proofs.Tellings.Names.{at2_same, at2_beside}
 use Rattle.cloud_facts.specs.Tellings.Told.{store_of}
 use Rattle.tree_parts.specs.Placing.{put_next, put_first, puts_after}
@@ -75,7 +75,7 @@ module _ (book : Book) (order : List Entry) (s : CloudState) (stands : StandsUnd
   same : k.leaf ≡ old
   same = ap leaf_in (sym (k.newest leaf_lasts).is)
 
-  reserved : AreReserved leaf_node (book.chain tree) (nodes_of s tree) (top_of (roots_of s tree)).next k.first k.placing.middle behind
+  reserved : AreReserved leaf_node (book.chain tree) (nodes_of s tree) (gone_of s tree) (top_of (roots_of s tree)).next k.first k.placing.middle behind
   reserved = subst (λ (o : Option (List ℕ)). Reserves st now lease tree (tree_held f.chart.root) k.first k.placing.middle behind o) none k.reserves lasts
 
   pub fit : AllByRecursion IsLeafPart (leaf_pieces k.first (applied old 0 run))
@@ -90,8 +90,8 @@ module _ (book : Book) (order : List Entry) (s : CloudState) (stands : StandsUnd
     abbrev number : ℕ
     number = k.first + length middle
 
-    pub reserved_last : AreReserved leaf_node (book.chain tree) (nodes_of s tree) (top_of (roots_of s tree)).next k.first (middle ++ last ∷ []) behind
-    reserved_last = subst (λ (m : List LeafPart). AreReserved leaf_node (book.chain tree) (nodes_of s tree) (top_of (roots_of s tree)).next k.first m behind) is reserved
+    pub reserved_last : AreReserved leaf_node (book.chain tree) (nodes_of s tree) (gone_of s tree) (top_of (roots_of s tree)).next k.first (middle ++ last ∷ []) behind
+    reserved_last = subst (λ (m : List LeafPart). AreReserved leaf_node (book.chain tree) (nodes_of s tree) (gone_of s tree) (top_of (roots_of s tree)).next k.first m behind) is reserved
 
     pub within : number < k.first + length (middle ++ last ∷ [])
     within = let more = length-append middle (last ∷ []) in omega (arith, more)
@@ -142,7 +142,7 @@ module _ (book : Book) (order : List Entry) (s : CloudState) (stands : StandsUnd
         puts_are = ap (λ (o : Option (List ℕ)). puts_after o f.placing.puts) none ∙ ap (λ (l : List PagePut). drop 1 l) puts_are;
       };
       reserves = λ still.
-          piece_landed leaf_node (book.chain tree) (nodes_of s tree) (piece_after.tally.nodes tree) (top_of (roots_of s tree)).next k.first middle last behind
+          piece_landed leaf_node (book.chain tree) (nodes_of s tree) (piece_after.tally.nodes tree) (gone_of s tree) (top_of (roots_of s tree)).next k.first middle last behind
           (at2_same tree number (nodes_of s tree number ++ leaf_node last ∷ []) (nodes_of s) tree number refl refl) page_stays reserved_last;
       lacks = k.lacks;
       rest = k.rest;
@@ -151,8 +151,8 @@ module _ (book : Book) (order : List Entry) (s : CloudState) (stands : StandsUnd
   -- ---- the leaf itself
 
   module _ (who : Caller) (is : k.placing.middle ≡ []) where
-    pub reserved_none : AreReserved leaf_node (book.chain tree) (nodes_of s tree) (top_of (roots_of s tree)).next k.first [] behind
-    reserved_none = subst (λ (m : List LeafPart). AreReserved leaf_node (book.chain tree) (nodes_of s tree) (top_of (roots_of s tree)).next k.first m behind) is reserved
+    pub reserved_none : AreReserved leaf_node (book.chain tree) (nodes_of s tree) (gone_of s tree) (top_of (roots_of s tree)).next k.first [] behind
+    reserved_none = subst (λ (m : List LeafPart). AreReserved leaf_node (book.chain tree) (nodes_of s tree) (gone_of s tree) (top_of (roots_of s tree)).next k.first m behind) is reserved
 
     pub pieces_left : leaf_pieces k.first (applied old 0 run) ≡ front ∷ behind
     pieces_left = pieces ∙ ap (λ (m : List LeafPart). front ∷ (m ++ behind)) is

@@ -29,7 +29,7 @@ use Rattle.split_plan.specs.Plan.{on_pages, entry_of, child_of, root_pieces, roo
 use Rattle.split_plan.specs.Sizes.{cuts_of}
 use Rattle.cloud_facts.specs.Book.Book.{Book, Link}
 use Rattle.cloud_facts.specs.Book.Effects.{after_root, after_raise}
-use Rattle.cloud_facts.specs.Book.Premises.{IsItemOf, CoversApplied}
+use Rattle.cloud_facts.specs.Book.Premises.{IsItemOf, CoversApplied, AreThere}
 use Rattle.cloud_facts.specs.Book.Records.{IsIn}
 use Rattle.cloud_facts.specs.Book.Tally.{Store}
 use Rattle.cloud_facts.specs.Book.Telling.{nodes_of, roots_of}
@@ -130,10 +130,10 @@ module _ (book : Book) (order : List Entry) (s : CloudState) (stands : StandsUnd
       links_are = cut_links entry_key (cuts_of (length last.entries)) first (first + 1) (part_of_node (node_of_root last))
 
   abbrev pub raise_landing : (who : Caller) (bytes : List ℕ) (one : Claim) (two : Option Claim) (first : ℕ) → HaveLanded inner_node (nodes_of s tree) first (root_pieces first last)
-      → ((piece : Link) → IsIn (piece_links first) piece → IsUnlinked (book.chain tree) piece.page) → SpellsTree bytes (above first)
+      → ((piece : Link) → IsIn (piece_links first) piece → IsUnlinked (book.chain tree) piece.page) → AreThere st tree (piece_links first) → SpellsTree bytes (above first)
       → Landing who st (PutHeld (object.Tree tree) bytes one two) (after_raise tree (above first) last.level (piece_links first) st)
-  raise_landing who bytes one two first landed unlinked spells =
-      raises_root tree (above first) last.level (piece_links first) bytes one two of_tree spells (last_covers (above first) refl) (raises first landed unlinked)
+  raise_landing who bytes one two first landed unlinked there spells =
+      raises_root tree (above first) last.level (piece_links first) bytes one two of_tree spells (last_covers (above first) refl) (raises first landed unlinked) there
 
   -- ---- then the messages that the run covers may be deleted
 

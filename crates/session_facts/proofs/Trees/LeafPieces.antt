@@ -40,10 +40,10 @@ use Rattle.split_plan.specs.Plan.{IsLeafPart, leaf_bytes, leaf_pieces}
 use Rattle.split_plan.specs.Sizes.{CanCut, cuts_of}
 use Rattle.cloud_facts.specs.Book.Book.{Book}
 use Rattle.cloud_facts.specs.Book.Effects.{Taking, after_leaf, after_page}
-use Rattle.cloud_facts.specs.Book.Premises.{IsItemOf, Takes, LandsFirst}
+use Rattle.cloud_facts.specs.Book.Premises.{IsItemOf, Takes, LandsFirst, AreThere}
 use Rattle.cloud_facts.specs.Book.Records.{IsIn}
 use Rattle.cloud_facts.specs.Book.Tally.{Store}
-use Rattle.cloud_facts.specs.Book.Telling.{nodes_of, roots_of, newest_leaf}
+use Rattle.cloud_facts.specs.Book.Telling.{nodes_of, gone_of, roots_of, newest_leaf}
 use Rattle.cloud_facts.proofs.Book.Places.{in_front, in_behind}
 use Rattle.cloud_facts.specs.Tellings.Pieces.{first_part, right_of, left_leaf}
 use Rattle.cloud_facts.specs.Tellings.Taking.{AreClients, IsLinked, LandsTaken, taking_of}
@@ -110,7 +110,7 @@ module _ (book : Book) (order : List Entry) (s : CloudState) (stands : StandsUnd
 
   module _ (who : Caller) (one : Claim) (two : Option Claim) (front : LeafPart) (middle : List LeafPart) (last : LeafPart) (behind : List LeafPart)
       (pieces : leaf_pieces first whole ≡ front ∷ ((middle ++ last ∷ []) ++ behind)) (fit : AllByRecursion IsLeafPart (leaf_pieces first whole))
-      (reserved : AreReserved leaf_node (book.chain tree) (nodes_of s tree) (top_of (roots_of s tree)).next first (middle ++ last ∷ []) behind)
+      (reserved : AreReserved leaf_node (book.chain tree) (nodes_of s tree) (gone_of s tree) (top_of (roots_of s tree)).next first (middle ++ last ∷ []) behind)
       (number : ℕ) (number_is : number ≡ first + length middle) (within : number < first + length (middle ++ last ∷ [])) where
     there : IsIn ((middle ++ last ∷ []) ++ behind) last
     there = in_front (middle ++ last ∷ []) behind last (in_behind middle (last ∷ []) last (zero, refl))
@@ -153,7 +153,7 @@ module _ (book : Book) (order : List Entry) (s : CloudState) (stands : StandsUnd
 
   module _ (who : Caller) (one : Claim) (two : Option Claim) (front : LeafPart) (behind : List LeafPart) (pieces : leaf_pieces first whole ≡ front ∷ behind)
       (fit : AllByRecursion IsLeafPart (leaf_pieces first whole))
-      (reserved : AreReserved leaf_node (book.chain tree) (nodes_of s tree) (top_of (roots_of s tree)).next first [] behind)
+      (reserved : AreReserved leaf_node (book.chain tree) (nodes_of s tree) (gone_of s tree) (top_of (roots_of s tree)).next first [] behind)
       (cursor : List (ℕ × ℕ)) (received : List PuItem) (top : List (ℕ × ℕ)) (is_run : IsRun cursor received run top)
       (covered : (client : ℕ) → IsClient client → number_of cursor client ≤ st.tally.cursor tree 0 client)
       (items : (x : PuItem) → IsIn received x → IsItemOf st tree 0 x) where
@@ -171,6 +171,11 @@ module _ (book : Book) (order : List Entry) (s : CloudState) (stands : StandsUnd
       where
         start : first + 0 ≡ first
         start = omega arith
+
+    pub pieces_there : AreThere st tree taken.pieces
+    pieces_there piece is =
+        let r = on_range first behind piece (subst (λ (ps : List LeafPart). IsIn (links_on first ps) piece) rest is) in
+        reserved.there piece.page r.0 (let high = r.1 in omega (arith, high))
 
     left_is : leaf_of_part front ≡ left_leaf (cuts_of (length whole.records)) first whole
     left_is = ap (λ (ps : List LeafPart). leaf_of_part (first_part (part_of_leaf whole) ps)) (sym pieces)
@@ -204,7 +209,7 @@ module _ (book : Book) (order : List Entry) (s : CloudState) (stands : StandsUnd
         taken_lands book order s tree of_tree stands.holds.chains stands.decodes who page 0 run (cuts_of (length whole.records)) first (leaf_bytes front) lands_taken left_spells
 
     abbrev pub leaf_landing : Landing who st (PutHeld (object.Page tree page) (leaf_bytes front) one two) (after_leaf taken st)
-    leaf_landing = puts_leaf taken (leaf_bytes front) one two left_spells takes leaf_lands
+    leaf_landing = puts_leaf taken (leaf_bytes front) one two left_spells takes leaf_lands pieces_there
 
   -- ---- what is applied then
 

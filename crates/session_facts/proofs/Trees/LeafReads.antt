@@ -4,6 +4,7 @@ use Rattle.std.specs.Prelude.{slice_get}
 use Rattle.std.proofs.lemmas.Bool.{eqb-true, ltb-false}
 use Rattle.byte_format.specs.Order.{bytes_below}
 use Rattle.cloud_facts.specs.Chains.Chain.{IsChained}
+use Rattle.cloud_facts.proofs.Chains.GoneLemmas.{links_kept}
 use Rattle.cloud_facts.specs.Chains.Links.{newest_node, EndsBefore, IsOfLevel}
 use Rattle.cloud_facts.proofs.Chains.Newest.{IsNewestOf, newest_is}
 use Rattle.cloud_facts.proofs.Chains.Pieces.{ascend_next}
@@ -92,7 +93,7 @@ module _ (book : Book) (order : List Entry) (s : CloudState) (stands : StandsUnd
   -- what a held get brings is that leaf
   pub absent_is : newest s (object.Page tree page) ≡ None → (page ≡ 1) × (leaf ≡ empty_leaf)
   absent_is none =
-      let nothing = none_landed s tree page none in
+      let nothing = none_landed s tree page stands.decodes (links_kept st stands.holds.gones tree 0 link way.at.linked) none in
       (leaf_absent nothing, ap (λ (ns : List Node). leaf_in (last_or (Leafy empty_leaf) ns)) nothing)
 
   pub spelled_is : (bytes : List ℕ) → newest s (object.Page tree page) ≡ Some bytes → leaf_read tree page bytes ≡ Ok leaf

@@ -1,5 +1,5 @@
 -- The pieces of a cut, one after another from the right end.
-use Rattle.std.proofs.Common.{◌≡◌, ◌≢◌, ◌+◌, ◌<◌, ◌≤◌, ◌⊎◌, inl, inr, ℕ, zero, List, [], ◌∷◌, ◌++◌, length, map, reverse, refl, sym, ap, subst, ◌∙◌, arith}
+use Rattle.std.proofs.Common.{◌≡◌, ◌≢◌, ◌+◌, ◌<◌, ◌≤◌, ◌⊎◌, inl, inr, ℕ, zero, Bool, false, List, [], ◌∷◌, ◌++◌, length, map, reverse, refl, sym, ap, subst, ◌∙◌, arith}
 use Rattle.std.proofs.lemmas.List.{reverse-append, map-append, length_push}
 use Rattle.cloud_facts.specs.Chains.Chain.{AreLevels, IsUnlinked, ArePages}
 use Rattle.cloud_facts.specs.Chains.Cuts.{links_on, HaveLanded}
@@ -64,14 +64,16 @@ landed_stays node nodes more free (p ∷ ps) same landed = (
 -- ---- numbers that were reserved
 
 -- they stay while their pages and the chains do, and no number is given back
-pub reserved_stays : {A X : Type 0} (node : Part A X → Node) (chain more : ℕ → List Link) (nodes new : ℕ → List Node) (next later first : ℕ) (middle behind : List (Part A X))
+pub reserved_stays : {A X : Type 0} (node : Part A X → Node) (chain more : ℕ → List Link) (nodes new : ℕ → List Node) (gone still : ℕ → Bool) (next later first : ℕ)
+    (middle behind : List (Part A X))
     → ((page : ℕ) → IsUnlinked chain page → IsUnlinked more page)
-    → ((page : ℕ) → first ≤ page → page < first + (length middle + length behind) → new page ≡ nodes page) → next ≤ later
-    → AreReserved node chain nodes next first middle behind → AreReserved node more new later first middle behind
-reserved_stays node chain more nodes new next later first middle behind links same rises r = record {
+    → ((page : ℕ) → first ≤ page → page < first + (length middle + length behind) → new page ≡ nodes page) → ((page : ℕ) → still page ≡ gone page) → next ≤ later
+    → AreReserved node chain nodes gone next first middle behind → AreReserved node more new still later first middle behind
+reserved_stays node chain more nodes new gone still next later first middle behind links same kept rises r = record {
   within = let w = r.within in omega (arith, w, rises);
   above = r.above;
   unlinked = λ page low high. links page (r.unlinked page low high);
+  there = λ page low high. kept page ∙ r.there page low high;
   absent = λ page low high. same page low (omega (arith, high)) ∙ r.absent page low high;
   landed =
       landed_stays node nodes new (first + length middle) behind
@@ -79,14 +81,15 @@ reserved_stays node chain more nodes new next later first middle behind links sa
 }
 
 -- the rightmost of those that are to be put lands
-pub piece_landed : {A X : Type 0} (node : Part A X → Node) (chain : ℕ → List Link) (nodes new : ℕ → List Node) (next first : ℕ) (middle : List (Part A X)) (last : Part A X)
-    (behind : List (Part A X)) → new (first + length middle) ≡ nodes (first + length middle) ++ node last ∷ []
+pub piece_landed : {A X : Type 0} (node : Part A X → Node) (chain : ℕ → List Link) (nodes new : ℕ → List Node) (gone : ℕ → Bool) (next first : ℕ) (middle : List (Part A X))
+    (last : Part A X) (behind : List (Part A X)) → new (first + length middle) ≡ nodes (first + length middle) ++ node last ∷ []
     → ((page : ℕ) → page ≢ first + length middle → new page ≡ nodes page)
-    → AreReserved node chain nodes next first (middle ++ last ∷ []) behind → AreReserved node chain new next first middle (last ∷ behind)
-piece_landed node chain nodes new next first middle last behind here there r = record {
+    → AreReserved node chain nodes gone next first (middle ++ last ∷ []) behind → AreReserved node chain new gone next first middle (last ∷ behind)
+piece_landed node chain nodes new gone next first middle last behind here there r = record {
   within = let w = r.within in omega (arith, w, count);
   above = λ page low high. r.above page low (omega (arith, high, count));
   unlinked = λ page low high. r.unlinked page low (omega (arith, high, count));
+  there = λ page low high. r.there page low (omega (arith, high, count));
   absent = λ page low high. there page (λ e. absurd (omega (arith, e, high))) ∙ r.absent page low (omega (arith, high, count));
   landed = (
     here ∙ ap (λ (ns : List Node). ns ++ node last ∷ []) (r.absent (first + length middle) (omega arith) (omega (arith, count))),
@@ -104,12 +107,14 @@ piece_landed node chain nodes new next first middle last behind here there r = r
 -- ---- fresh numbers
 
 -- the numbers from a root's `next` on have no version and are in no chain, so those that its next version reserves are free
-pub fresh_reserved : {A X : Type 0} (node : Part A X → Node) (chain : ℕ → List Link) (nodes : ℕ → List Node) (next later : ℕ) (height : ℕ) (middle : List (Part A X))
-    → AreLevels chain height → ArePages chain nodes next → later ≡ next + length middle → AreReserved node chain nodes later next middle []
-fresh_reserved {A} {X} node chain nodes next later height middle lv pages is = record {
+pub fresh_reserved : {A X : Type 0} (node : Part A X → Node) (chain : ℕ → List Link) (nodes : ℕ → List Node) (gone : ℕ → Bool) (next later : ℕ) (height : ℕ)
+    (middle : List (Part A X)) → AreLevels chain height → ArePages chain nodes next → ((page : ℕ) → nodes page ≡ [] → gone page ≡ false)
+    → later ≡ next + length middle → AreReserved node chain nodes gone later next middle []
+fresh_reserved {A} {X} node chain nodes gone next later height middle lv pages kept is = record {
   within = omega (arith, is);
   above = λ page low high. let first = two in omega (arith, first, low);
   unlinked = λ page low high. unlinked page low;
+  there = λ page low high. kept page (absent page low (nodes page) refl);
   absent = λ page low high. absent page low (nodes page) refl;
   landed = tt;
 }
@@ -131,12 +136,13 @@ fresh_reserved {A} {X} node chain nodes next later height middle lv pages is = r
         never q = cc
 
 -- a page without new pieces needs none
-pub none_reserved : {A X : Type 0} (node : Part A X → Node) (chain : ℕ → List Link) (nodes : ℕ → List Node) (next first : ℕ) → first ≤ next
-    → AreReserved {A = A} {X = X} node chain nodes next first [] []
-none_reserved node chain nodes next first less = record {
+pub none_reserved : {A X : Type 0} (node : Part A X → Node) (chain : ℕ → List Link) (nodes : ℕ → List Node) (gone : ℕ → Bool) (next first : ℕ) → first ≤ next
+    → AreReserved {A = A} {X = X} node chain nodes gone next first [] []
+none_reserved node chain nodes gone next first less = record {
   within = omega (arith, less);
   above = λ page low high. absurd (omega (arith, low, high));
   unlinked = λ page low high. absurd (omega (arith, low, high));
+  there = λ page low high. absurd (omega (arith, low, high));
   absent = λ page low high. absurd (omega (arith, low, high));
   landed = tt;
 }

@@ -2,6 +2,7 @@
 use Rattle.std.proofs.Common.{◌≡◌, ◌+◌, ◌≢◌, ◌-◌, ◌≤◌, ◌⊎◌, inl, inr, ℕ, zero, false, List, [], ◌∷◌, ◌++◌, length, Option, Some, None, refl, sym, ap, subst, ◌∙◌, arith}
 use Rattle.cloud_facts.specs.Chains.Chain.{IsChained}
 use Rattle.cloud_facts.specs.Chains.Landing.{LandsRoot, MayReserve}
+use Rattle.cloud_facts.proofs.Chains.GoneLemmas.{absent_kept}
 use Rattle.cloud_facts.specs.Chains.Links.{first_link, link_of, top_of, NamesBelow}
 use Rattle.cloud_facts.proofs.Chains.Newest.{last_in}
 use Rattle.cloud_facts.proofs.Chains.Pieces.{in_first, in_cases, none_in}
@@ -28,7 +29,7 @@ use Rattle.cloud_facts.specs.Book.Effects.{after_root}
 use Rattle.cloud_facts.specs.Book.Premises.{CoversApplied}
 use Rattle.cloud_facts.specs.Book.Records.{IsIn}
 use Rattle.cloud_facts.specs.Book.Tally.{Node, Store}
-use Rattle.cloud_facts.specs.Book.Telling.{nodes_of, roots_of}
+use Rattle.cloud_facts.specs.Book.Telling.{nodes_of, gone_of, roots_of}
 use Rattle.cloud_facts.proofs.Book.Names.{at_same}
 use Rattle.cloud_facts.proofs.Book.Places.{in_behind}
 use Rattle.cloud_facts.proofs.Tellings.Names.{at2_same}
@@ -163,12 +164,13 @@ module _ (book : Book) (order : List Entry) (s : CloudState) (stands : StandsUnd
 
     -- behind it the numbers are free
     pub reserved_then : {A X : Type 0} (node : Part A X → Node) (middle : List (Part A X)) → length middle ≡ count
-        → AreReserved node ((after_root tree next st).book.chain tree) ((after_root tree next st).tally.nodes tree) (top_of ((after_root tree next st).tally.roots tree)).next first middle []
+        → AreReserved node ((after_root tree next st).book.chain tree) ((after_root tree next st).tally.nodes tree) ((after_root tree next st).tally.gone tree) (top_of ((after_root tree next st).tally.roots tree)).next first middle []
     reserved_then {A} {X} node middle so_many =
-        subst (λ (n : ℕ). AreReserved node (book.chain tree) (nodes_of s tree) n first middle []) (sym later)
-        (subst (λ (n : ℕ). AreReserved node (book.chain tree) (nodes_of s tree) (root.next + count) n middle []) (sym is.first_is)
-        (subst (λ (n : ℕ). AreReserved node (book.chain tree) (nodes_of s tree) (root.next + count) n middle []) (ap (λ (t : Tree). t.next) newest)
-        (fresh_reserved node (book.chain tree) (nodes_of s tree) top.next (root.next + count) top.level middle chained.levels chained.pages
+        subst (λ (n : ℕ). AreReserved node (book.chain tree) (nodes_of s tree) (gone_of s tree) n first middle []) (sym later)
+        (subst (λ (n : ℕ). AreReserved node (book.chain tree) (nodes_of s tree) (gone_of s tree) (root.next + count) n middle []) (sym is.first_is)
+        (subst (λ (n : ℕ). AreReserved node (book.chain tree) (nodes_of s tree) (gone_of s tree) (root.next + count) n middle []) (ap (λ (t : Tree). t.next) newest)
+        (fresh_reserved node (book.chain tree) (nodes_of s tree) (gone_of s tree) top.next (root.next + count) top.level middle chained.levels chained.pages
+        (λ page none. absent_kept st stands.holds.gones tree page none)
         (ap (λ (t : Tree). t.next + count) (sym newest) ∙ ap (λ (n : ℕ). top.next + n) (sym so_many)))))
       where
         later : (top_of ((after_root tree next st).tally.roots tree)).next ≡ root.next + count

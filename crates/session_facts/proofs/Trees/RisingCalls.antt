@@ -101,7 +101,7 @@ module _ (who : Caller) (s t : CloudState) (book : Book) (order : List Entry) (p
               told : store_of e.after.book e.after.order (effect who (PutHeld name bytes lease None) (called who t.now s)) ≡ e.after
               told =
                   told_store (effect who (PutHeld name bytes lease None) (called who t.now s)) e.after
-                  (landing_tells who book order (called who t.now s) (PutHeld name bytes lease None) e.after first_stands.holds.chains first_stands.decodes e.lands e.follows)
+                  (landing_tells who book order (called who t.now s) (PutHeld name bytes lease None) e.after first_stands.holds.chains first_stands.holds.gones first_stands.decodes e.lands e.follows)
 
       on : ((t ≡ called who t.now s) × (done_of reply ≡ Ok tt → ⊥)) ⊎ Lands who (PutHeld name bytes lease None) (called who t.now s) t
           → Outcome who book order s t parts mine (PutHeld name bytes lease None) note Known

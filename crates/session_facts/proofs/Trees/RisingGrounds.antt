@@ -12,7 +12,7 @@ use Rattle.cloud_trait.specs.declared.state.Version.{Version}
 use Rattle.db_base.specs.Cursor.{number_of}
 use Rattle.db_base.specs.Ids.{IsClient, IsTree}
 use Rattle.db_base.specs.declared.names.ObjName.TheVariants as object
-use Rattle.cloud_facts.proofs.Decoding.Newest.{IsLast, last_cases, last_map}
+use Rattle.cloud_facts.proofs.Decoding.Newest.{IsLast, last_cases, last_map, has_nth, never_gone}
 use Rattle.cloud_facts.proofs.Decoding.Reading.{root_reads}
 use Rattle.log_codec.proofs.PuLaws.{pu_of-some}
 use Rattle.node_codec.specs.Tree.{HasTreeSpelling, empty_tree}
@@ -74,8 +74,9 @@ module _ (book : Book) (order : List Entry) (s : CloudState) (stands : StandsUnd
       on : (vs ≡ []) ⊎ ((v : Version) × IsLast vs v) → (top_of (roots_of s tree) ≡ empty_tree) ⊎ HasTreeSpelling (top_of (roots_of s tree))
       on (inl e) = inl (ap (λ (xs : List Version). last_or empty_tree (map root_in xs)) e)
       on (inr p) =
-          let k = stands.decodes.versions (object.Tree tree) (length vs - 1) p.0 p.1 in
-          inr (subst HasTreeSpelling (sym (last_map root_in empty_tree vs p.0 p.1 ∙ root_reads p.0 k.0 k.1)) k.1.fits)
+          let all = stands.decodes.versions (object.Tree tree) in
+          let k = has_nth (object.Tree tree) vs (length vs - 1) p.0 all (never_gone (object.Tree tree) vs (λ no. no) all) p.1 in
+          inr (subst HasTreeSpelling (sym (last_map root_in empty_tree vs p.0 p.1 ∙ root_reads p.0 k.0 k.2.0 k.1 k.2.1)) k.2.1.fits)
 
   pub top_most : (top_of (roots_of s tree)).next ≤ greatest
   top_most = (root_next (top_of (roots_of s tree)) (root_sound (top_of (roots_of s tree)) top_spelled)).1

@@ -28,9 +28,10 @@ use Rattle.split_plan.specs.Sizes.{cuts_of}
 use Rattle.cloud_facts.specs.Book.Book.{Book, Link}
 use Rattle.cloud_facts.specs.Book.Effects.{after_root, after_raise}
 use Rattle.cloud_facts.specs.Book.Growth.{Grows}
+use Rattle.cloud_facts.specs.Book.Premises.{AreThere}
 use Rattle.cloud_facts.specs.Book.Records.{IsIn}
 use Rattle.cloud_facts.specs.Book.Tally.{Store}
-use Rattle.cloud_facts.specs.Book.Telling.{nodes_of, roots_of}
+use Rattle.cloud_facts.specs.Book.Telling.{nodes_of, gone_of, roots_of}
 use Rattle.cloud_facts.proofs.Book.Places.{in_front, in_behind}
 use Rattle.cloud_facts.proofs.Tellings.Names.{at2_same, at2_beside}
 use Rattle.cloud_facts.specs.Tellings.Told.{store_of}
@@ -106,7 +107,7 @@ module _ (book : Book) (order : List Entry) (s : CloudState) (stands : StandsUnd
 
   module _ (p : PutsCut st now lease r bytes) where
     abbrev Free : List NodePart → List NodePart → Type 0
-    Free ps qs = AreReserved inner_node (book.chain tree) (nodes_of s tree) (top_of (roots_of s tree)).next p.first ps qs
+    Free ps qs = AreReserved inner_node (book.chain tree) (nodes_of s tree) (gone_of s tree) (top_of (roots_of s tree)).next p.first ps qs
 
     planned : (r.is_spent ≡ false → p.root.version ≡ root.version + 1) × (p.root.next ≡ root.next) × (Lasts now lease → Free p.middle p.behind)
     planned = subst (λ (o : Option (List ℕ)). ReservesRoot r.is_spent st now lease tree root p.root p.first p.middle p.behind o) none p.reserves
@@ -211,7 +212,7 @@ module _ (book : Book) (order : List Entry) (s : CloudState) (stands : StandsUnd
           λ whole. planned.0 whole ∙ ap (λ (t : Tree). t.version + 1) (sym same_root),
           planned.1 ∙ ap (λ (t : Tree). t.next) (sym same_root),
           λ still.
-              piece_landed inner_node (book.chain tree) (nodes_of s tree) (su.tally.nodes tree) (top_of (roots_of s tree)).next p.first middle last p.behind
+              piece_landed inner_node (book.chain tree) (nodes_of s tree) (su.tally.nodes tree) (gone_of s tree) (top_of (roots_of s tree)).next p.first middle last p.behind
               (at2_same tree number (nodes_of s tree number ++ inner_node last ∷ []) (nodes_of s) tree number refl refl) page_stays reserved_last,
         );
       }
@@ -287,6 +288,12 @@ module _ (book : Book) (order : List Entry) (s : CloudState) (stands : StandsUnd
           let high = q.1 in
           reserved_none.unlinked piece.page q.0 (omega (arith, high))
 
+      links_there : AreThere st tree links
+      links_there piece at =
+          let q = on_range p.first p.behind piece (subst (λ (ps : List NodePart). IsIn (links_on p.first ps) piece) all_pieces at) in
+          let high = q.1 in
+          reserved_none.there piece.page q.0 (omega (arith, high))
+
       -- it is put, since no piece is left
       put_whole : r.is_spent ≡ false
       put_whole = on r.is_spent refl
@@ -299,7 +306,7 @@ module _ (book : Book) (order : List Entry) (s : CloudState) (stands : StandsUnd
       above_effect = record {
         after = after_raise tree above_root p.root.level links st;
         lands = raise_landing book order s stands tree k.tree root newest r.chart.run.top p.root p.raises planned.1 k.run.took.received r.chart.run.items k.run.took.is_run k.run.took.items
-            k.run.done who bytes lease None p.first pieces_landed new_links (subst (λ (b : List ℕ). SpellsTree b above_root) (sym p.bytes_are) (spelled_root above_root p.fits));
+            k.run.done who bytes lease None p.first pieces_landed new_links links_there (subst (λ (b : List ℕ). SpellsTree b above_root) (sym p.bytes_are) (spelled_root above_root p.fits));
         follows = planned.0 put_whole ∙ ap (λ (t : Tree). t.version + 1) (sym newest);
         commits = tt;
         owes = record { lease = lease; held = held; lock_is = lock_is; lasts = lasts };

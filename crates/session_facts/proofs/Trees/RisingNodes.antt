@@ -18,7 +18,7 @@ use Rattle.split_plan.specs.Sizes.{count_of}
 use Rattle.cloud_facts.specs.Book.Book.{Book}
 use Rattle.cloud_facts.specs.Book.Records.{IsIn}
 use Rattle.cloud_facts.specs.Book.Tally.{Store}
-use Rattle.cloud_facts.specs.Book.Telling.{nodes_of, roots_of}
+use Rattle.cloud_facts.specs.Book.Telling.{nodes_of, gone_of, roots_of}
 use Rattle.cloud_facts.specs.Tellings.Told.{store_of}
 use Rattle.tree_parts.proofs.Reading.{inner_is}
 use Rattle.tree_parts.specs.declared.kept.KeptNode.{KeptNode}
@@ -105,12 +105,12 @@ module _ (book : Book) (order : List Entry) (s : CloudState) (stands : StandsUnd
     none_in (p ∷ ps) e = absurd (omega (arith, e))
 
     abbrev Free : List NodePart → List NodePart → Type 0
-    Free ps qs = AreReserved inner_node (book.chain tree) (nodes_of s tree) (top_of (roots_of s tree)).next kept.page ps qs
+    Free ps qs = AreReserved inner_node (book.chain tree) (nodes_of s tree) (gone_of s tree) (top_of (roots_of s tree)).next kept.page ps qs
 
     alone : (ps qs : List NodePart) → length ps ≡ 0 → qs ≡ [] → Free ps qs
     alone ps qs e g =
         subst (λ (l : List NodePart). Free l qs) (sym (none_in ps e))
-        (subst (λ (l : List NodePart). Free [] l) (sym g) (none_reserved inner_node (book.chain tree) (nodes_of s tree) (top_of (roots_of s tree)).next kept.page page_below))
+        (subst (λ (l : List NodePart). Free [] l) (sym g) (none_reserved inner_node (book.chain tree) (nodes_of s tree) (gone_of s tree) (top_of (roots_of s tree)).next kept.page page_below))
 
     reserved : (q : Reserved) → Reserving root kept.page count q
         → ReservesNodes st now lease tree root q.first (all_placed entry_key node_bytes kept.page q.first (part_of_node risen)).placing.middle

@@ -30,9 +30,10 @@ use Rattle.split_plan.specs.Sizes.{cuts_of}
 use Rattle.cloud_facts.specs.Book.Book.{Book, Link, with_pieces}
 use Rattle.cloud_facts.specs.Book.Effects.{after_inner}
 use Rattle.cloud_facts.specs.Book.Growth.{Grows}
+use Rattle.cloud_facts.specs.Book.Premises.{AreThere}
 use Rattle.cloud_facts.specs.Book.Records.{IsIn}
 use Rattle.cloud_facts.specs.Book.Tally.{Node, Branch, Store, version_of}
-use Rattle.cloud_facts.specs.Book.Telling.{nodes_of, roots_of}
+use Rattle.cloud_facts.specs.Book.Telling.{nodes_of, gone_of, roots_of}
 use Rattle.cloud_facts.proofs.Book.Places.{in_either, in_front, in_behind}
 use Rattle.cloud_facts.proofs.Tellings.Fences.{cut_common, cut_version}
 use Rattle.cloud_facts.proofs.Tellings.Names.{at2_same, at2_beside}
@@ -127,7 +128,7 @@ module _ (book : Book) (order : List Entry) (s : CloudState) (stands : StandsUnd
   behind = p.placing.behind
 
   abbrev Free : List NodePart → List NodePart → Type 0
-  Free ps qs = AreReserved inner_node (book.chain tree) (nodes_of s tree) (top_of (roots_of s tree)).next p.first ps qs
+  Free ps qs = AreReserved inner_node (book.chain tree) (nodes_of s tree) (gone_of s tree) (top_of (roots_of s tree)).next p.first ps qs
 
   reserved : Free p.placing.middle behind
   reserved = subst (λ (o : Option (List ℕ)). ReservesNodes st now lease tree (tree_held r.chart.root) p.first p.placing.middle behind o) none p.reserves lasts
@@ -245,7 +246,7 @@ module _ (book : Book) (order : List Entry) (s : CloudState) (stands : StandsUnd
         puts_are = left_is;
       };
       reserves = λ still.
-          piece_landed inner_node (book.chain tree) (nodes_of s tree) (su.tally.nodes tree) (top_of (roots_of s tree)).next p.first middle last behind
+          piece_landed inner_node (book.chain tree) (nodes_of s tree) (su.tally.nodes tree) (gone_of s tree) (top_of (roots_of s tree)).next p.first middle last behind
           (at2_same tree number (nodes_of s tree number ++ inner_node last ∷ []) (nodes_of s) tree number refl refl) page_stays reserved_last;
     }
 
@@ -310,6 +311,12 @@ module _ (book : Book) (order : List Entry) (s : CloudState) (stands : StandsUnd
         let high = q.1 in
         reserved_none.unlinked piece.page q.0 (omega (arith, high))
 
+    links_there : AreThere st tree links
+    links_there piece there =
+        let q = on_range p.first behind piece (subst (λ (ps : List NodePart). IsIn (links_on p.first ps) piece) rest there) in
+        let high = q.1 in
+        reserved_none.there piece.page q.0 (omega (arith, high))
+
     front_is : node_of_part front ≡ left
     front_is = ap (λ (ps : List NodePart). node_of_part (first_part (part_of_node risen) ps)) (sym pieces_left)
 
@@ -325,7 +332,7 @@ module _ (book : Book) (order : List Entry) (s : CloudState) (stands : StandsUnd
     abbrev left_lands : Landing who st (PutHeld (object.Page tree p.kept.page) (node_bytes front) lease None) left_after
     left_lands =
         puts_inner tree p.kept.page left links (node_bytes front) lease None k.tree spelled
-        (risen_lands book order s stands now lease tree k.tree p.kept p.node lasts p.known p.found p.first (node_bytes front) spelled pieces_landed new_links)
+        (risen_lands book order s stands now lease tree k.tree p.kept p.node lasts p.known p.found p.first (node_bytes front) spelled pieces_landed new_links) links_there
 
     left_grows : Grows st left_after
     left_grows = (landing_passes who st (PutHeld (object.Page tree p.kept.page) (node_bytes front) lease None) left_after stands.holds left_lands).grows

@@ -3,6 +3,7 @@ use Rattle.std.proofs.Common.{◌≡◌, ◌≢◌, ◌-◌, ◌<◌, ◌⊎◌,
 use Rattle.cloud_facts.specs.Chains.Chain.{IsChained}
 use Rattle.cloud_facts.specs.Chains.Links.{newest_node, IsOfLevel}
 use Rattle.cloud_facts.proofs.Chains.Newest.{newest_is, last_in}
+use Rattle.cloud_facts.proofs.Chains.GoneLemmas.{links_kept}
 use Rattle.cloud_facts.specs.Meanings.Meets.{IsAt}
 use Rattle.cloud_facts.proofs.Meanings.Stale.{stale_root, absent_root}
 use Rattle.cloud_facts.proofs.Meanings.Steps.{from_root, from_none}
@@ -154,5 +155,6 @@ module _ (book : Book) (order : List Change) (s : CloudState) (stands : StandsUn
 
       there : (fork_of (with_node d bytes) bytes ≡ Ok (forked_on d.chart.key node.0)) × KnowsWay st now lease (passed (with_node d bytes) (forked_on d.chart.key node.0))
       there = bytes_lead st now lease stands.holds.chains (with_node d bytes) bytes node.0 (with_known bytes is) (inner_is d.chart.tree d.page bytes node.0 reads) landed
-  got_leads (Ok None) seen = absurd (some (none_landed s d.chart.tree d.page (sym (seen None refl))))
+  got_leads (Ok None) seen =
+      absurd (some (none_landed s d.chart.tree d.page stands.decodes (links_kept st stands.holds.gones d.chart.tree d.level link k.way.at.linked) (sym (seen None refl))))
   got_leads (Err t) seen = refl

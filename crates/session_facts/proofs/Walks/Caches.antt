@@ -12,7 +12,7 @@ use Rattle.db_base.specs.declared.names.ObjName.TheVariants as object
 use Rattle.db_base.specs.declared.names.Place.TheVariants as place
 use Rattle.db_base.specs.declared.trouble.Trouble.TheVariants as trouble
 use Rattle.cloud_facts.specs.Decoding.Kinds.{IsNode}
-use Rattle.cloud_facts.proofs.Decoding.Reading.{node_reads}
+use Rattle.cloud_facts.proofs.Decoding.Reading.{node_spelled}
 use Rattle.leaf_view.specs.Leaf.{Leaf, leaf}
 use Rattle.leaf_view.specs.Lookup.{empty_leaf}
 use Rattle.node_codec.specs.Tree.{Tree, empty_tree}
@@ -71,7 +71,7 @@ served_known st c name version k e = looked (IsServed st) name version c.version
 one_leaf : (bytes : List ℕ) (node : Node) (l : Leaf) → IsNode bytes node → leaf_in bytes ≡ Some l → node ≡ Leafy l
 unfolding leaf_in leaf_of_bytes
 one_leaf bytes node l is reads =
-    sym (node_reads (record { who = record { session = 0; event = 0 }; bytes = bytes }) node is) ∙ ap (λ (o : Option Leaf). node_or o bytes) reads
+    sym (node_spelled bytes node is) ∙ ap (λ (o : Option Leaf). node_or o bytes) reads
 
 -- the version that bytes of a page have as a leaf is that of the node that they spell
 pub leaf_version_is : (bytes : List ℕ) (node : Node) (version : ℕ) → IsNode bytes node → leaf_version bytes ≡ Ok version → version_of node ≡ version

@@ -1,5 +1,5 @@
 -- Why a walk stops: a get failed or was stale. The newest version of a page that a link led to is there, and no older than any that was served.
-use Rattle.std.proofs.Common.{◌≡◌, ◌≤◌, ◌<◌, ◌+◌, ◌==◌, ◌⊎◌, inl, inr, ℕ, Bool, true, List, [], length, map, Option, Some, None, unwrap_or, refl, sym, ap, subst, ◌∙◌, arith}
+use Rattle.std.proofs.Common.{◌≡◌, ◌≤◌, ◌<◌, ◌==◌, ◌⊎◌, inl, inr, ℕ, Bool, true, false, List, [], length, map, Option, Some, None, unwrap_or, refl, sym, ap, subst, ◌∙◌, arith}
 use Rattle.std.specs.Map.{lookup}
 use Rattle.std.proofs.lemmas.Bool.{eq-eqb}
 use Rattle.cloud_facts.specs.Calls.Call.{IsCall}
@@ -7,10 +7,9 @@ use Rattle.cloud_facts.specs.Calls.Standing.{StandsUnder}
 use Rattle.cloud_facts.specs.Decoding.Kinds.{IsNth}
 use Rattle.cloud_facts.proofs.Book.Places.{get_within}
 use Rattle.cloud_facts.proofs.Calls.Calls.{call_of}
-use Rattle.cloud_facts.proofs.Decoding.Newest.{IsLast, last_cases}
-use Rattle.cloud_facts.proofs.Decoding.Reading.{node_reads}
+use Rattle.cloud_facts.proofs.Decoding.Newest.{no_version}
+use Rattle.cloud_facts.proofs.Chains.GoneLemmas.{links_kept}
 use Rattle.cloud_facts.proofs.Decoding.Values.{newest_decodes}
-use Rattle.cloud_facts.proofs.Numbers.Lists.{map_there}
 use Rattle.cloud_trait.specs.declared.answer.Answer.{Answer}
 use Rattle.cloud_trait.specs.declared.answer.Answer.TheVariants.{Got}
 use Rattle.cloud_trait.specs.declared.state.Version.{Version}
@@ -18,7 +17,7 @@ use Rattle.cloud_trait.specs.Caller.{Caller}
 use Rattle.cloud_trait.specs.Claim.{Claim}
 use Rattle.cloud_trait.specs.Machine.{Next, Goes, Ends, Stops}
 use Rattle.cloud_trait.specs.Seen.{Seen}
-use Rattle.cloud_trait.specs.State.{CloudState, newest, newest_of, called}
+use Rattle.cloud_trait.specs.State.{CloudState, newest, called}
 use Rattle.cloud_trait.specs.Weather.{Rose, Weather, Makes}
 use Rattle.db_base.specs.declared.names.ObjName.TheVariants as object
 use Rattle.db_base.specs.declared.trouble.Counter.{Counter}
@@ -30,25 +29,18 @@ use Rattle.report_types.specs.declared.entry.Entry.{Entry}
 use Rattle.cloud_facts.specs.Book.Book.{Book, Link}
 use Rattle.cloud_facts.specs.Book.Records.{IsIn}
 use Rattle.cloud_facts.specs.Book.Tally.{Node, Store, version_of}
-use Rattle.cloud_facts.specs.Book.Telling.{node_in, nodes_of}
+use Rattle.cloud_facts.specs.Book.Telling.{node_in, with_bytes, nodes_of, gone_of}
 use Rattle.cloud_facts.specs.Tellings.Told.{store_of}
 use Rattle.session_facts.specs.Sessions.Explaining.{IsShown}
 use Rattle.session_facts.specs.Walks.Caches.{KnowsCache}
 use Rattle.session_facts.specs.Walks.Walks.{KnowsWalk, KnowsWalking, MayStop, WalkLeads}
+use Rattle.session_facts.proofs.Runs.Leaves.{node_numbered}
 use Rattle.session_facts.proofs.Sessions.Showing.{row_of}
 use Rattle.session_facts.proofs.Walks.Caches.{leaf_version_is, served_known}
 use Rattle.session_facts.proofs.Walks.Walks.{walk_goes}
 use Rattle.tree_walk.specs.Causing.{IsOld, IsVersionOf, FailsSo, Shows}
 use Rattle.tree_walk.specs.Walk.{Spot, Walk, object_at, object_of, is_leaf, is_leaf_at, walk_ask, walk_next}
 use Rattle.tree_walk.proofs.Causes.{StopsBeside, next_stops}
-
--- an object without a newest version has none
-none_landed : (vs : List Version) → newest_of vs ≡ None → vs ≡ []
-none_landed vs e = on (last_cases vs)
-  where
-    on : (vs ≡ []) ⊎ ((v : Version) × IsLast vs v) → vs ≡ []
-    on (inl none) = none
-    on (inr (v, last)) = absurd (cc (e, last))
 
 no_length : (vs : List Version) → vs ≡ [] → length vs ≡ 0
 no_length vs e = ap length e
@@ -62,13 +54,16 @@ module _ (book : Book) (order : List Entry) (s : CloudState) (stands : StandsUnd
 
   -- ---- versions
 
+  -- a page without newest bytes that was not removed has none
+  no_versions : (tree page : ℕ) → gone_of s tree page ≡ false → newest s (object.Page tree page) ≡ None → landed_of tree page ≡ []
+  no_versions tree page there e = no_version (object.Page tree page) (landed_of tree page) (stands.decodes.versions (object.Page tree page)) there e
+
   -- a node that landed has at most the number of the newest version of its page
   node_within : (tree page : ℕ) (node : Node) → IsIn (nodes_of s tree page) node → version_of node ≤ length (landed_of tree page)
-  node_within tree page node (place, there) =
-      let v = map_there node_in (landed_of tree page) place node there in
-      let k = stands.decodes.versions (object.Page tree page) place v.0 v.1 in
-      let number : version_of node ≡ place + 1 = ap version_of (sym v.2 ∙ node_reads v.0 k.0 k.1) ∙ k.2 in
-      let within = get_within (landed_of tree page) place v.0 v.1 in
+  node_within tree page node is =
+      let n = node_numbered tree page (landed_of tree page) node (stands.decodes.versions (object.Page tree page)) is in
+      let number = n.3 in
+      let within = get_within (landed_of tree page) n.0 n.1 n.2 in
       omega (arith, number, within)
 
   -- and so has the greatest version that was served of a page
@@ -83,11 +78,11 @@ module _ (book : Book) (order : List Entry) (s : CloudState) (stands : StandsUnd
           let number = served.2 in
           omega (arith, within, number)
 
-  -- the newest version of a page has the number of versions that landed
-  newest_number : (tree page found : ℕ) (got : Option (List ℕ)) → got ≡ newest s (object.Page tree page) → IsVersionOf (object.Page tree page) true got found
+  -- the newest version of a page that was not removed has the number of versions that landed
+  newest_number : (tree page found : ℕ) (got : Option (List ℕ)) → gone_of s tree page ≡ false → got ≡ newest s (object.Page tree page) → IsVersionOf (object.Page tree page) true got found
       → found ≡ length (landed_of tree page)
-  newest_number tree page found None new version = version ∙ sym (no_length (landed_of tree page) (none_landed (landed_of tree page) (sym new)))
-  newest_number tree page found (Some bytes) new version =
+  newest_number tree page found None there new version = version ∙ sym (no_length (landed_of tree page) (no_versions tree page there (sym new)))
+  newest_number tree page found (Some bytes) there new version =
       let k : IsNth (object.Page tree page) (length (landed_of tree page)) bytes = newest_decodes s (object.Page tree page) bytes stands.decodes (sym new) in
       sym (leaf_version_is bytes k.0 found k.1 version) ∙ k.2
 
@@ -102,12 +97,16 @@ module _ (book : Book) (order : List Entry) (s : CloudState) (stands : StandsUnd
       within : served_at c (object.Page w.tree sp.page) ≤ length landed
       within = served_within c cache w.tree sp.page
 
-      -- a page that a link led to is absent at first alone, and it is page 1
+      -- a page that a link led to was not removed
+      kept : gone_of s w.tree sp.page ≡ false
+      kept = links_kept st stands.holds.gones w.tree sp.level (record { low = sp.low; page = sp.page }) k.stands.at.linked
+
+      -- it is absent at first alone, and it is page 1
       not_absent : got ≡ None → ⊥
       not_absent none =
-          let empty : landed ≡ [] = none_landed landed (sym new ∙ none) in
+          let empty : landed ≡ [] = no_versions w.tree sp.page kept (sym new ∙ none) in
           let link : Link = record { low = sp.low; page = sp.page } in
-          let first = (stands.holds.chains w.tree k.tree).newest.absent sp.level link k.stands.at.linked (ap (map node_in) empty) in
+          let first = (stands.holds.chains w.tree k.tree).newest.absent sp.level link k.stands.at.linked (ap (λ (vs : List Version). map node_in (with_bytes vs)) empty) in
           let same : sp.page ≡ old.page = cc (old.of) in
           let some = old.missed (eq-eqb sp.level 0 first.0) (sym same ∙ first.1) none in
           let none_there = no_length landed empty in
@@ -116,7 +115,7 @@ module _ (book : Book) (order : List Entry) (s : CloudState) (stands : StandsUnd
 
       not_older : (sp.level == 0) ≡ true → old.found < served_at c (object.Page w.tree sp.page) → ⊥
       not_older leaf less =
-          let number = newest_number w.tree sp.page old.found got new (subst (λ (b : Bool). IsVersionOf (object.Page w.tree sp.page) b got old.found) leaf old.version) in
+          let number = newest_number w.tree sp.page old.found got kept new (subst (λ (b : Bool). IsVersionOf (object.Page w.tree sp.page) b got old.found) leaf old.version) in
           let upto = within in
           omega (arith, less, number, upto)
 

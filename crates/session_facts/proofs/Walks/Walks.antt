@@ -12,7 +12,7 @@ use Rattle.cloud_trait.specs.Views.{got_of}
 use Rattle.cloud_trait.specs.Weather.{Weather}
 use Rattle.cloud_trait.specs.State.{called}
 use Rattle.cloud_trait.specs.declared.answer.Answer.{Answer}
-use Rattle.cloud_trait.specs.declared.answer.Answer.TheVariants.{Got, Sent, Received, Done, Given, Held, Renewed, Late, Failed, Memory}
+use Rattle.cloud_trait.specs.declared.answer.Answer.TheVariants.{Got, Sent, Received, Listed, Done, Given, Held, Renewed, Late, Failed, Memory}
 use Rattle.db_base.specs.Ids.{IsTree}
 use Rattle.db_base.specs.declared.names.ObjName.{ObjName}
 use Rattle.db_base.specs.declared.names.ObjName.TheVariants as object
@@ -55,6 +55,7 @@ module _ (book : Book) (order : List Entry) (s : CloudState) (stands : StandsUnd
   answered who name (Got v) t before after row = served name row.1.0 v row.1.1
   answered who name (Sent id) t before after row = absurd row
   answered who name (Received ms) t before after row = absurd row
+  answered who name (Listed pages) t before after row = absurd row
   answered who name Done t before after row = absurd row
   answered who name (Given l) t before after row = absurd row
   answered who name (Held until) t before after row = absurd row

@@ -1,12 +1,13 @@
 -- With which troubles a session may be answered, by what it has in hand: none that only damage could cause.
 use Rattle.client_work.specs.declared.work.Work.{Work}
-use Rattle.client_work.specs.declared.work.Work.TheVariants.{Closed, Idle, Opening, Committing, Reading, Scanning, Looking, Folding, Paging, Closing, Renewing, Settling, Broken}
+use Rattle.client_work.specs.declared.work.Work.TheVariants.{Closed, Idle, Opening, Committing, Reading, Scanning, Looking, Folding, Paging, Closing, Renewing, Settling, Sweeping, Broken}
 use Rattle.session_facts.specs.CommitRuns.Stopping.{MayStop as MayStopCommit}
 use Rattle.db_base.specs.declared.trouble.Trouble.{Trouble}
 use Rattle.db_base.specs.declared.trouble.Trouble.TheVariants as trouble
 use Rattle.session_facts.specs.Openings.Opening.{MayStop as MayStopOpening}
 use Rattle.session_facts.specs.PageCheckpoints.Checkpoint.{MayStop as MayStopPage}
 use Rattle.session_facts.specs.Sessions.Spent.{IsOfSettling}
+use Rattle.session_facts.specs.Sweeps.Sweep.{MayStop as MayStopSweep}
 use Rattle.session_facts.specs.TreeCheckpoints.Checkpoint.{MayStop as MayStopTree}
 use Rattle.session_facts.specs.Walks.Walks.{MayStop as MayStopWalk}
 
@@ -40,6 +41,7 @@ MayAnswer (Paging home p) t = MayStopPage p.page t
 MayAnswer (Closing l) t = MayRefuse t
 MayAnswer (Renewing home) t = MayRefuse t
 MayAnswer (Settling m) t = MaySettle t
+MayAnswer (Sweeping m) t = MayStopSweep t
 MayAnswer Closed t = ⊥
 MayAnswer (Idle home) t = ⊥
 MayAnswer (Broken l) t = ⊥

@@ -1,12 +1,12 @@
 -- The one service call of a step of a session, and what the step explains of it.
 use Rattle.std.specs.Prelude.{ℕ, ◌≡◌, ◌≢◌, ◌⊎◌, List, Some, None, Ok}
 use Rattle.attr_index.specs.Look.{Look}
-use Rattle.client_work.specs.Session.{Acting, StepsSession, StepsAt, ShowsAt, StepsOpening, StepsCommit, ReadsBy, LooksBy, StepsPaging, StepsFolding, StepsClosing, StepsRenewing, StepsSettling, ask_of_work}
+use Rattle.client_work.specs.Session.{Acting, StepsSession, StepsAt, ShowsAt, StepsOpening, StepsCommit, ReadsBy, LooksBy, StepsPaging, StepsFolding, StepsClosing, StepsRenewing, StepsSettling, StepsSweeping, ask_of_work}
 use Rattle.client_work.specs.declared.answer.Answer.{Answer}
 use Rattle.client_work.specs.declared.answer.Answer.TheVariants as answer
 use Rattle.client_work.specs.declared.shown.Shown.{Shown}
 use Rattle.client_work.specs.declared.work.Work.{Work}
-use Rattle.client_work.specs.declared.work.Work.TheVariants.{Closed, Idle, Opening, Committing, Reading, Scanning, Looking, Folding, Paging, Closing, Renewing, Settling, Broken}
+use Rattle.client_work.specs.declared.work.Work.TheVariants.{Closed, Idle, Opening, Committing, Reading, Scanning, Looking, Folding, Paging, Closing, Renewing, Settling, Sweeping, Broken}
 use Rattle.cloud_trait.specs.declared.answer.Answer.{Answer as Reply}
 use Rattle.cloud_trait.specs.declared.answer.Answer.TheVariants.{Memory}
 use Rattle.cloud_trait.specs.declared.turn.Turn.{Turn}
@@ -25,6 +25,8 @@ use Rattle.page_ckpt.specs.Paging.{Paging as Page}
 use Rattle.recover_run.specs.declared.home.Home.{Home}
 use Rattle.recover_run.specs.Recovery.{Recovery}
 use Rattle.session_facts.specs.Sessions.Explaining.{Explains, Meets, left_in, trouble_in}
+use Rattle.orphan_sweep.specs.Sweeping.{Sweeping as SweepingState}
+use Rattle.orphan_sweep.specs.Sweeping.{Sweeping as SweepingState}
 use Rattle.settle_run.specs.Settling.{Settling as SettlingState}
 use Rattle.tree_ckpt.specs.Making.{Making}
 use Rattle.tree_walk.specs.Walk.{Walk}
@@ -86,6 +88,12 @@ settling_reply who before after m work (Ended (answer.Settled n)) p = p.1.did.an
 settling_reply who before after m work (Ended (answer.Trouble k)) p = p.1.did.answer
 settling_reply who before after m work turn p = absurd p
 
+abbrev pub sweeping_reply : (who : Caller) (before after : Seen) (m : SweepingState) (work : Work) (turn : Turn Answer) → StepsSweeping who before after m work turn → Reply
+sweeping_reply who before after m work More p = p.1.did.answer
+sweeping_reply who before after m work (Ended (answer.Swept x)) p = p.1.did.answer
+sweeping_reply who before after m work (Ended (answer.Trouble k)) p = p.1.did.answer
+sweeping_reply who before after m work turn p = absurd p
+
 -- whatever was at work
 abbrev pub reply_at : (who : Caller) (before after : Seen) (buffer : List Noted) (old : Work) (c d : Cache) (new : Work) (shown : Shown) (turn : Turn Answer) → StepsAt who before after old new turn
     → ShowsAt who before after buffer old c d new shown turn → Reply
@@ -99,6 +107,7 @@ reply_at who before after buffer (Folding home m) c d new shown turn p q = foldi
 reply_at who before after buffer (Closing lease) c d new shown turn p q = closing_reply lease who before after new turn p
 reply_at who before after buffer (Renewing home) c d new shown turn p q = renewing_reply home who before after new turn p
 reply_at who before after buffer (Settling m) c d new shown turn p q = settling_reply who before after m new turn p.1
+reply_at who before after buffer (Sweeping m) c d new shown turn p q = sweeping_reply who before after m new turn p
 reply_at who before after buffer Closed c d new shown turn p q = absurd p
 reply_at who before after buffer (Idle home) c d new shown turn p q = absurd p
 reply_at who before after buffer (Broken lease) c d new shown turn p q = absurd p

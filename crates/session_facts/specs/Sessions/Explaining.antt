@@ -4,7 +4,7 @@ use Rattle.cloud_trait.specs.Calm.{NamesLasting, TakesFree}
 use Rattle.client_work.specs.declared.answer.Answer.{Answer}
 use Rattle.client_work.specs.declared.answer.Answer.TheVariants as answer
 use Rattle.client_work.specs.declared.work.Work.{Work}
-use Rattle.client_work.specs.declared.work.Work.TheVariants.{Closed, Idle, Opening, Committing, Reading, Scanning, Looking, Folding, Paging, Closing, Renewing, Settling, Broken}
+use Rattle.client_work.specs.declared.work.Work.TheVariants.{Closed, Idle, Opening, Committing, Reading, Scanning, Looking, Folding, Paging, Closing, Renewing, Settling, Sweeping, Broken}
 use Rattle.cloud_facts.specs.Book.Records.{IsIn}
 use Rattle.cloud_trait.specs.declared.turn.CkptAnswer.{CkptAnswer}
 use Rattle.cloud_trait.specs.declared.turn.Turn.{Turn}
@@ -83,6 +83,7 @@ trouble_in (Paging home p) = p.trouble
 trouble_in (Closing l) = None
 trouble_in (Renewing home) = None
 trouble_in (Settling m) = trouble_of_part m.part
+trouble_in (Sweeping m) = m.trouble
 trouble_in (Broken l) = None
 
 -- ---- how many deletions of a checkpoint failed
@@ -126,6 +127,7 @@ left_in (Paging home p) = p.deletions.left
 left_in (Closing l) = 0
 left_in (Renewing home) = 0
 left_in (Settling m) = left_of_part m.part
+left_in (Sweeping m) = 0
 left_in (Broken l) = 0
 
 -- ---- what a step brings
@@ -146,6 +148,7 @@ trouble_of_answer (answer.Commit c) = trouble_of_commit c
 trouble_of_answer answer.Value = None
 trouble_of_answer answer.Scan = None
 trouble_of_answer (answer.Settled n) = None
+trouble_of_answer (answer.Swept x) = None
 trouble_of_answer (answer.Trouble t) = Some t
 
 abbrev pub trouble_of_turn : Turn Answer → Option Trouble
@@ -181,6 +184,7 @@ spent_for (Committing r) = IsSpentToCommit
 spent_for (Folding home m) = IsSpentInTree m.tree
 spent_for (Paging home p) = IsSpentInPages p.tree
 spent_for (Settling m) = IsSpentToSettle
+spent_for (Sweeping m) = λ t what. ⊥
 spent_for (Reading home m) = λ t what. ⊥
 spent_for (Scanning home m) = λ t what. ⊥
 spent_for (Looking home m) = λ t what. ⊥

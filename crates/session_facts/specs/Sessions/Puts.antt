@@ -2,7 +2,7 @@
 use Rattle.std.specs.Prelude.{ℕ, ◌≡◌, ◌⊎◌, List, Some, None}
 use Rattle.client_work.specs.Session.{opens_of, committing_of}
 use Rattle.client_work.specs.declared.work.Work.{Work}
-use Rattle.client_work.specs.declared.work.Work.TheVariants.{Closed, Idle, Opening, Committing, Reading, Scanning, Looking, Folding, Paging, Closing, Renewing, Settling, Broken}
+use Rattle.client_work.specs.declared.work.Work.TheVariants.{Closed, Idle, Opening, Committing, Reading, Scanning, Looking, Folding, Paging, Closing, Renewing, Settling, Sweeping, Broken}
 use Rattle.commit_run.specs.Run.{home_of as home_of_run}
 use Rattle.commit_run.specs.Sound.{IsSoundRun}
 use Rattle.head_codec.specs.Spelling.{head_of}
@@ -27,6 +27,7 @@ IsSoundWork (Idle home) = Unit {0}
 IsSoundWork (Closing l) = Unit {0}
 IsSoundWork (Renewing home) = Unit {0}
 IsSoundWork (Settling m) = IsSoundPart m.part
+IsSoundWork (Sweeping m) = Unit {0}
 IsSoundWork (Broken l) = Unit {0}
 
 -- it is at work for a client
@@ -43,6 +44,7 @@ IsClientOf (Idle home) client = home.client ≡ client
 IsClientOf (Closing l) client = ⊥
 IsClientOf (Renewing home) client = home.client ≡ client
 IsClientOf (Settling m) client = IsAtClient m.part client
+IsClientOf (Sweeping m) client = ⊥
 IsClientOf (Broken l) client = ⊥
 
 -- the head opens a transaction of the changes that are committed

@@ -4,7 +4,7 @@ use Rattle.client_work.specs.Session.{Acting}
 use Rattle.client_work.specs.declared.op.Op.{Op}
 use Rattle.client_work.specs.declared.op.Op.TheVariants as op
 use Rattle.client_work.specs.declared.work.Work.{Work}
-use Rattle.client_work.specs.declared.work.Work.TheVariants.{Closed, Idle, Opening, Committing, Reading, Scanning, Looking, Folding, Paging, Closing, Renewing, Settling, Broken}
+use Rattle.client_work.specs.declared.work.Work.TheVariants.{Closed, Idle, Opening, Committing, Reading, Scanning, Looking, Folding, Paging, Closing, Renewing, Settling, Sweeping, Broken}
 use Rattle.cloud_facts.specs.Calls.Looks.{audit_of}
 use Rattle.cloud_facts.specs.Calls.Standing.{StandsUnder}
 use Rattle.cloud_trait.specs.Claim.{Claim}
@@ -26,6 +26,7 @@ use Rattle.session_facts.specs.Looks.Looks.{KnowsLook}
 use Rattle.session_facts.specs.Scans.Scans.{KnowsScan}
 use Rattle.session_facts.specs.Sessions.Noting.{audited}
 use Rattle.session_facts.specs.Settlings.Settling.{KnowsSettling, leases_of_settling}
+use Rattle.session_facts.specs.Sweeps.Sweep.{KnowsSweep, leases_of_sweep}
 use Rattle.cloud_facts.specs.Book.Book.{Book}
 use Rattle.cloud_facts.specs.Book.Growth.{Grows}
 use Rattle.cloud_facts.specs.Book.Tally.{Store, at}
@@ -48,6 +49,7 @@ leases_of (Paging home p) = home.lease ∷ leases_of_paging p
 leases_of (Closing l) = l ∷ []
 leases_of (Renewing home) = home.lease ∷ []
 leases_of (Settling m) = leases_of_settling m
+leases_of (Sweeping m) = leases_of_sweep m
 leases_of (Broken l) = l ∷ []
 
 -- an open client that works on no commit
@@ -68,6 +70,7 @@ KnowsWork st now c (Paging home p) part = IsHome st now home part × KnowsPaging
 KnowsWork st now c (Closing l) part = part ≡ Away
 KnowsWork st now c (Renewing home) part = IsHome st now home part
 KnowsWork st now c (Settling m) part = KnowsSettling st now m part
+KnowsWork st now c (Sweeping m) part = KnowsSweep st now m part
 KnowsWork st now c (Broken l) part = part ≡ Away
 
 -- what its cache keeps landed; a session in doubt looks at nothing that it keeps

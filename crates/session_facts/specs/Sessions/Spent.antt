@@ -1,5 +1,6 @@
 -- Counters that stand at their last value, by what a cloud tells.
 use Rattle.std.specs.Prelude.{ℕ, ◌≡◌, ◌<◌, ◌≤◌, ◌⊎◌, ◌+◌, ◌-◌, ◌*◌, ◌^◌, length, Some}
+use Rattle.std.specs.Option.{option_and_then}
 use Rattle.cloud_facts.specs.Book.Records.{IsIn}
 use Rattle.cloud_facts.specs.Book.Tally.{Node, Leafy, version_of}
 use Rattle.cloud_facts.specs.Book.Telling.{nodes_of, roots_of}
@@ -23,7 +24,7 @@ pub record HasLastEpoch (t : CloudState) : Type 0 where
   pub version : Version
   pub head : Head
   pub landed : IsIn (t.versions (object.Head client)) version
-  pub reads : head_of version.bytes ≡ Some head
+  pub reads : option_and_then head_of version.bytes ≡ Some head
   pub last : head.epoch ≡ 2 ^ 64 - 1
 
 -- a page of a tree has landed, as a leaf or a node, in its last version
@@ -45,7 +46,7 @@ pub record HasLastNumber (t : CloudState) : Type 0 where
   pub version : Version
   pub head : Head
   pub landed : IsIn (t.versions (object.Head client)) version
-  pub reads : head_of version.bytes ≡ Some head
+  pub reads : option_and_then head_of version.bytes ≡ Some head
   pub tree : ℕ
   pub page : ℕ
   pub last : 2 ^ 64 - 1 < number_of_queue head.counters tree page + 200

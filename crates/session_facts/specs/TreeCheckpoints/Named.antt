@@ -39,7 +39,7 @@ pub record CameTold (s : CloudState) (m : Making) : Type 0 where
 
 -- these bytes landed as a version of the object
 abbrev pub HasLanded : CloudState → ObjName → List ℕ → Type 0
-HasLanded s name bytes = (v : Version) × IsIn (s.versions name) v × (v.bytes ≡ bytes)
+HasLanded s name bytes = (v : Version) × IsIn (s.versions name) v × (v.bytes ≡ Some bytes)
 
 -- a version that landed has the entry: one of an inner node of the level, or of the tree object
 abbrev pub IsTold : CloudState → ℕ → ℕ → Entry → Type 0

@@ -63,7 +63,7 @@ pub record IsNewestLeaf (nodes : ℕ → List Node) (page : ℕ) (l : Leaf) : Ty
 abbrev pub Reserves : Store → ℕ → Claim → ℕ → Tree → ℕ → List LeafPart → List LeafPart → Option (List ℕ) → Type 0
 Reserves st now lease tree root first middle behind (Some bytes) = (behind ≡ []) × IsReservation root (length middle) first bytes
 Reserves st now lease tree root first middle behind None =
-    Lasts now lease → AreReserved leaf_node (st.book.chain tree) (st.tally.nodes tree) (top_of (st.tally.roots tree)).next first middle behind
+    Lasts now lease → AreReserved leaf_node (st.book.chain tree) (st.tally.nodes tree) (st.tally.gone tree) (top_of (st.tally.roots tree)).next first middle behind
 
 -- a leaf that was read is the newest of its page while its lease lasts, and what is put are its pieces with the run applied
 pub record PutsPieces (st : Store) (now : ℕ) (lease : Claim) (f : Folding) (run : List PuItem) : Type 0 where

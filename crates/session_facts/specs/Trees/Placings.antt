@@ -1,5 +1,5 @@
 -- The pieces of a page that is cut, on their way: they are put from the right end on, on numbers that were reserved for them.
-use Rattle.std.specs.Prelude.{ℕ, ◌≡◌, ◌+◌, ◌<◌, ◌≤◌, List, [], ◌∷◌, ◌++◌, length, map, reverse}
+use Rattle.std.specs.Prelude.{ℕ, ◌≡◌, ◌+◌, ◌<◌, ◌≤◌, Bool, false, List, [], ◌∷◌, ◌++◌, length, map, reverse}
 use Rattle.cloud_facts.specs.Chains.Chain.{IsUnlinked}
 use Rattle.cloud_facts.specs.Chains.Cuts.{HaveLanded}
 use Rattle.node_codec.specs.Tree.{Tree, tree_bytes, HasTreeSpelling}
@@ -17,11 +17,13 @@ pub record IsPlacing {A X : Type 0} (bytes : Part A X → List ℕ) (page first 
   pub pieces_are : pieces ≡ front ∷ (middle ++ behind)
   pub puts_are : puts ≡ reverse (map (put_of bytes) (on_pages page first (front ∷ middle)))
 
--- the numbers from `first` on are these pieces': reserved and in no chain; those that landed did so once, and the others have no version
-pub record AreReserved {A X : Type 0} (node : Part A X → Node) (chain : ℕ → List Link) (nodes : ℕ → List Node) (next first : ℕ) (middle behind : List (Part A X)) : Type 0 where
+-- the numbers from `first` on are these pieces': reserved, in no chain and not removed; those that landed did so once, and the others have no version
+pub record AreReserved {A X : Type 0} (node : Part A X → Node) (chain : ℕ → List Link) (nodes : ℕ → List Node) (gone : ℕ → Bool) (next first : ℕ)
+    (middle behind : List (Part A X)) : Type 0 where
   pub within : first + (length middle + length behind) ≤ next
   pub above : (page : ℕ) → first ≤ page → page < first + (length middle + length behind) → 1 < page
   pub unlinked : (page : ℕ) → first ≤ page → page < first + (length middle + length behind) → IsUnlinked chain page
+  pub there : (page : ℕ) → first ≤ page → page < first + (length middle + length behind) → gone page ≡ false
   pub absent : (page : ℕ) → first ≤ page → page < first + length middle → nodes page ≡ []
   pub landed : HaveLanded node nodes (first + length middle) behind
 

@@ -66,7 +66,7 @@ piece_links k first n = links_at (k.level + 1) (drop 1 (map entry_of (on_pages k
 abbrev pub ReservesNodes : Store → ℕ → Claim → ℕ → Tree → ℕ → List NodePart → List NodePart → Option (List ℕ) → Type 0
 ReservesNodes st now lease tree root first middle behind (Some bytes) = (behind ≡ []) × IsReservation root (length middle) first bytes
 ReservesNodes st now lease tree root first middle behind None =
-    Lasts now lease → AreReserved inner_node (st.book.chain tree) (st.tally.nodes tree) (top_of (st.tally.roots tree)).next first middle behind
+    Lasts now lease → AreReserved inner_node (st.book.chain tree) (st.tally.nodes tree) (st.tally.gone tree) (top_of (st.tally.roots tree)).next first middle behind
 
 -- what is put are the pieces of a node that was got, with the links that were known; those of its new pieces are noted for the level above
 pub record PutsNode (st : Store) (now : ℕ) (lease : Claim) (r : Rising) : Type 0 where
@@ -108,7 +108,7 @@ ReservesRoot spent st now lease tree root t first middle behind (Some bytes) =
     (behind ≡ []) × IsReservation root (length middle) first bytes × (spent ≡ false → t.version ≡ root.version + 1 + 1) × (t.next ≡ root.next + length middle)
 ReservesRoot spent st now lease tree root t first middle behind None =
     (spent ≡ false → t.version ≡ root.version + 1) × (t.next ≡ root.next)
-    × (Lasts now lease → AreReserved inner_node (st.book.chain tree) (st.tally.nodes tree) (top_of (st.tally.roots tree)).next first middle behind)
+    × (Lasts now lease → AreReserved inner_node (st.book.chain tree) (st.tally.nodes tree) (st.tally.gone tree) (top_of (st.tally.roots tree)).next first middle behind)
 
 -- The reservation of a cut takes the last version of the tree object: before it lands the tree object stands at the last but one, and behind it at
 -- the last.

@@ -1,0 +1,19 @@
+-- Sweeps: that others leave what the sweep of a tree knows, what its held gets and its listing bring, and that each of its calls keeps it.
+pub mod Asks
+pub mod Leases
+pub mod Noted
+pub mod Places
+pub mod Firsts
+pub mod Reads
+pub mod Going
+pub mod SweepOthers
+pub mod Clearing
+pub mod Nexts
+pub mod Steps
+pub mod Hands
+pub mod Begins
+pub mod Ending
+pub mod Reached
+pub mod Remaining
+pub mod Resting
+pub mod Telling

@@ -22,7 +22,7 @@ use Rattle.ckpt_policy.specs.declared.role.Role.TheVariants.{Writer, Reader, Wat
 use Rattle.event_text.specs.declared.event.Event.{Event}
 use Rattle.event_text.specs.declared.event.Event.TheVariants as event
 use Rattle.event_text.specs.declared.keyword.Keyword.{Keyword}
-use Rattle.event_text.specs.declared.keyword.Keyword.TheVariants.{Open, Close, Renew, Insert, Put, Update, Delete, Add, Commit, Abort, Read, Scan, Lookup, Page, Tree, Policy, Work, Step, Run, Crash, Wait, Report, Settle}
+use Rattle.event_text.specs.declared.keyword.Keyword.TheVariants.{Open, Close, Renew, Insert, Put, Update, Delete, Add, Commit, Abort, Read, Scan, Lookup, Page, Tree, Policy, Work, Step, Run, Crash, Wait, Report, Sweep, Settle}
 use Rattle.event_text.specs.Keyword.{keyword_of, keyword_text, keywords, is_shell}
 use Rattle.event_text.specs.RoleWord.{role_of, role_text, roles}
 use Rattle.event_text.specs.Event.{wish_words, crash_words, event_words, line_of, spelling, IsWish, IsInRange, IsEvent, IsShellLine}
@@ -92,6 +92,7 @@ keyword_of-again Run = refl
 keyword_of-again Crash = refl
 keyword_of-again Wait = refl
 keyword_of-again Report = refl
+keyword_of-again Sweep = refl
 keyword_of-again Settle = refl
 
 -- ---- wishes
@@ -344,6 +345,7 @@ event_by-takes Crash session words e small h =
     rw (← m.2) (small, behind _ (behind _ (done_of-takes words m.0 m.1)))
 event_by-takes Wait session words e small h = absurd (nothing e h)
 event_by-takes Report session words e small h = absurd (nothing e h)
+event_by-takes Sweep session words e small h = absurd (nothing e h)
 event_by-takes Settle session words e small h = absurd (nothing e h)
 
 session_event-takes : (keyword : Keyword) (words : List (List ℕ)) (e : Event) → session_event keyword words ≡ Some e → IsInRange e × (keyword_text keyword ∷ words ≡ event_words e)
@@ -362,6 +364,10 @@ event_behind-takes Wait words e h =
     rw (← m.2) (x.0, behind _ x.1)
 event_behind-takes Report words e h =
     let m = mapped event.Report (one_of words) e h in
+    let x = one_of-takes words m.0 m.1 in
+    rw (← m.2) (x.0, behind _ x.1)
+event_behind-takes Sweep words e h =
+    let m = mapped event.Sweep (one_of words) e h in
     let x = one_of-takes words m.0 m.1 in
     rw (← m.2) (x.0, behind _ x.1)
 event_behind-takes Settle words e h =
@@ -422,6 +428,7 @@ event_of_words-again (event.Run session) h = rw (number_at-again session [] h, a
 event_of_words-again (event.Crash session done) h = rw (number_at-again session (crash_words done) h, done_of-again done) refl
 event_of_words-again (event.Wait ticks) h = rw (one_of-again ticks h) refl
 event_of_words-again (event.Report tree) h = rw (one_of-again tree h) refl
+event_of_words-again (event.Sweep tree) h = rw (one_of-again tree h) refl
 event_of_words-again event.Settle h = alone-again event.Settle
 
 -- ---- spaces
@@ -482,6 +489,7 @@ event_lacks (event.Run session) h = rw (lacks_number session h) refl
 event_lacks (event.Crash session done) h = rw (lacks_number session h, crash_lacks done) refl
 event_lacks (event.Wait ticks) h = rw (lacks_number ticks h) refl
 event_lacks (event.Report tree) h = rw (lacks_number tree h) refl
+event_lacks (event.Sweep tree) h = rw (lacks_number tree h) refl
 event_lacks event.Settle h = refl
 
 -- words that are read, and have no space, are the parts of their text
@@ -545,6 +553,7 @@ shell_behind Run h rest = absurd cc
 shell_behind Crash h rest = absurd cc
 shell_behind Wait h rest = absurd cc
 shell_behind Report h rest = absurd cc
+shell_behind Sweep h rest = absurd cc
 shell_behind Settle h rest = absurd cc
 shell_behind Put h rest = absurd cc
 shell_behind Lookup h rest = absurd cc

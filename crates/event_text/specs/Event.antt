@@ -10,7 +10,7 @@ use Rattle.event_text.specs.declared.event.Event.{Event}
 use Rattle.event_text.specs.declared.keyword.Keyword.{Keyword}
 use Rattle.event_text.specs.RoleWord.{role_text}
 use Rattle.event_text.specs.Keyword.{keyword_text, is_shell}
-use Rattle.event_text.specs.declared.event.Event.TheVariants.{Open, Close, Renew, Insert, Put, Update, Delete, Add, Commit, Abort, Read, Scan, Lookup, Page, Tree, Policy, Work, Step, Run, Crash, Wait, Report, Settle}
+use Rattle.event_text.specs.declared.event.Event.TheVariants.{Open, Close, Renew, Insert, Put, Update, Delete, Add, Commit, Abort, Read, Scan, Lookup, Page, Tree, Policy, Work, Step, Run, Crash, Wait, Report, Sweep, Settle}
 
 -- the words of a wish
 abbrev pub wish_words : Wish → List (List ℕ)
@@ -50,6 +50,7 @@ event_words (Run session) = codes "run" ∷ decimal session ∷ []
 event_words (Crash session done) = codes "crash" ∷ decimal session ∷ crash_words done
 event_words (Wait ticks) = codes "wait" ∷ decimal ticks ∷ []
 event_words (Report tree) = codes "report" ∷ decimal tree ∷ []
+event_words (Sweep tree) = codes "sweep" ∷ decimal tree ∷ []
 event_words Settle = codes "settle" ∷ []
 
 -- words as a line
@@ -93,6 +94,7 @@ IsInRange (Run session) = session < 2 ^ 64
 IsInRange (Crash session done) = session < 2 ^ 64
 IsInRange (Wait ticks) = ticks < 2 ^ 64
 IsInRange (Report tree) = tree < 2 ^ 64
+IsInRange (Sweep tree) = tree < 2 ^ 64
 IsInRange Settle = Unit {0}
 
 -- a line that spells an event

@@ -3,7 +3,7 @@ use Rattle.std.specs.Prelude.{ℕ, Bool, true, false, List, [], ◌∷◌, Optio
 use Rattle.std.specs.List.{find}
 use Rattle.std.specs.Str.{bytes_eq}
 use Rattle.event_text.specs.declared.keyword.Keyword.{Keyword}
-use Rattle.event_text.specs.declared.keyword.Keyword.TheVariants.{Open, Close, Renew, Insert, Put, Update, Delete, Add, Commit, Abort, Read, Scan, Lookup, Page, Tree, Policy, Work, Step, Run, Crash, Wait, Report, Settle}
+use Rattle.event_text.specs.declared.keyword.Keyword.TheVariants.{Open, Close, Renew, Insert, Put, Update, Delete, Add, Commit, Abort, Read, Scan, Lookup, Page, Tree, Policy, Work, Step, Run, Crash, Wait, Report, Sweep, Settle}
 
 -- the spelling of a keyword
 abbrev pub keyword_text : Keyword → List ℕ
@@ -29,11 +29,12 @@ keyword_text Run = codes "run"
 keyword_text Crash = codes "crash"
 keyword_text Wait = codes "wait"
 keyword_text Report = codes "report"
+keyword_text Sweep = codes "sweep"
 keyword_text Settle = codes "settle"
 
 -- all keywords
 abbrev pub keywords : List Keyword
-keywords = Open ∷ Close ∷ Renew ∷ Insert ∷ Put ∷ Update ∷ Delete ∷ Add ∷ Commit ∷ Abort ∷ Read ∷ Scan ∷ Lookup ∷ Page ∷ Tree ∷ Policy ∷ Work ∷ Step ∷ Run ∷ Crash ∷ Wait ∷ Report ∷ Settle ∷ []
+keywords = Open ∷ Close ∷ Renew ∷ Insert ∷ Put ∷ Update ∷ Delete ∷ Add ∷ Commit ∷ Abort ∷ Read ∷ Scan ∷ Lookup ∷ Page ∷ Tree ∷ Policy ∷ Work ∷ Step ∷ Run ∷ Crash ∷ Wait ∷ Report ∷ Sweep ∷ Settle ∷ []
 
 -- the keyword that a word spells
 abbrev pub keyword_of : List ℕ → Option Keyword
@@ -59,6 +60,7 @@ is_shell Run = false
 is_shell Crash = false
 is_shell Wait = false
 is_shell Report = false
+is_shell Sweep = false
 is_shell Settle = false
 is_shell Put = false
 is_shell Lookup = false

@@ -8,7 +8,7 @@ use Rattle.ckpt_policy.specs.declared.role.Role.{Role}
 use Rattle.event_text.specs.declared.event.Event.{Event}
 use Rattle.event_text.specs.declared.event.Event.TheVariants as event
 use Rattle.event_text.specs.declared.keyword.Keyword.{Keyword}
-use Rattle.event_text.specs.declared.keyword.Keyword.TheVariants.{Open, Close, Renew, Insert, Put, Update, Delete, Add, Commit, Abort, Read, Scan, Lookup, Page, Tree, Policy, Work, Step, Run, Crash, Wait, Report, Settle}
+use Rattle.event_text.specs.declared.keyword.Keyword.TheVariants.{Open, Close, Renew, Insert, Put, Update, Delete, Add, Commit, Abort, Read, Scan, Lookup, Page, Tree, Policy, Work, Step, Run, Crash, Wait, Report, Sweep, Settle}
 use Rattle.event_text.specs.Keyword.{keyword_of, is_shell}
 use Rattle.event_text.specs.RoleWord.{role_of}
 
@@ -97,6 +97,7 @@ event_by Run session words = alone (event.Run session) words
 event_by Crash session words = option_map (event.Crash session) (done_of words)
 event_by Wait session words = None
 event_by Report session words = None
+event_by Sweep session words = None
 event_by Settle session words = None
 
 -- the event of a session's line behind its keyword
@@ -109,6 +110,7 @@ session_event keyword words = do
 unfoldable pub event_behind : Keyword → List (List ℕ) → Option Event
 event_behind Wait words = option_map event.Wait (one_of words)
 event_behind Report words = option_map event.Report (one_of words)
+event_behind Sweep words = option_map event.Sweep (one_of words)
 event_behind Settle words = alone event.Settle words
 event_behind keyword words = session_event keyword words
 

@@ -123,6 +123,10 @@ pub enum Event {
     Report {
         tree: u64,
     },
+    /// Removes the page objects of a tree that nothing reaches.
+    Sweep {
+        tree: u64,
+    },
     /// Makes a whole settling.
     Settle,
 }
@@ -211,6 +215,7 @@ impl Drop for Event {
             } => {}
             Event::Wait { ticks: _ } => {}
             Event::Report { tree: _ } => {}
+            Event::Sweep { tree: _ } => {}
             Event::Settle => {}
         }
     }

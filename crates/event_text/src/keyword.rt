@@ -47,12 +47,14 @@ pub enum Keyword {
     Wait,
     /// `report`
     Report,
+    /// `sweep`
+    Sweep,
     /// `settle`
     Settle,
 }
 
 /// All keywords.
-const KEYWORDS: [Keyword; 23] = [
+const KEYWORDS: [Keyword; 24] = [
     Keyword::Open,
     Keyword::Close,
     Keyword::Renew,
@@ -75,6 +77,7 @@ const KEYWORDS: [Keyword; 23] = [
     Keyword::Crash,
     Keyword::Wait,
     Keyword::Report,
+    Keyword::Sweep,
     Keyword::Settle,
 ];
 
@@ -108,6 +111,7 @@ impl Keyword {
             Keyword::Crash => "crash",
             Keyword::Wait => "wait",
             Keyword::Report => "report",
+            Keyword::Sweep => "sweep",
             Keyword::Settle => "settle",
         }
     }
@@ -131,7 +135,8 @@ impl Keyword {
             Keyword::Abort | Keyword::Read | Keyword::Scan | Keyword::Page => true,
             Keyword::Tree | Keyword::Renew | Keyword::Add => true,
             Keyword::Open | Keyword::Close | Keyword::Step | Keyword::Run => false,
-            Keyword::Crash | Keyword::Wait | Keyword::Report | Keyword::Settle => false,
+            Keyword::Crash | Keyword::Wait | Keyword::Report => false,
+            Keyword::Sweep | Keyword::Settle => false,
             Keyword::Put | Keyword::Lookup | Keyword::Policy | Keyword::Work => false,
         }
     }

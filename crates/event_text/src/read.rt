@@ -253,6 +253,7 @@ fn event_by(
         }
         Keyword::Wait => Err(TextFault::NotInGrammar),
         Keyword::Report => Err(TextFault::NotInGrammar),
+        Keyword::Sweep => Err(TextFault::NotInGrammar),
         Keyword::Settle => Err(TextFault::NotInGrammar),
     }
 }
@@ -279,6 +280,10 @@ fn event_behind(alloc: Global, keyword: Keyword, words: Parts<'_>) -> Result<Eve
         Keyword::Report => {
             let tree = words.one_number()?;
             Ok(Event::Report { tree })
+        }
+        Keyword::Sweep => {
+            let tree = words.one_number()?;
+            Ok(Event::Sweep { tree })
         }
         Keyword::Settle => alone(Event::Settle, words),
         other => session_event(alloc, other, words),

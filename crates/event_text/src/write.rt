@@ -264,6 +264,7 @@ impl Event {
             } => number_line(alloc, "crash", *session),
             Event::Wait { ticks } => number_line(alloc, "wait", *ticks),
             Event::Report { tree } => number_line(alloc, "report", *tree),
+            Event::Sweep { tree } => number_line(alloc, "sweep", *tree),
             Event::Settle => String::from_str(alloc, "settle\n"),
         }
     }

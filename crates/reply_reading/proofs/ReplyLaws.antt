@@ -157,6 +157,10 @@ reply_by-takes answer.Settled words r e =
     let m = mapped reply.Settled (one_of words) r e in
     let x = one_of-takes words m.0 m.1 in
     rw (← m.2) (x.0, single (behind _ x.1))
+reply_by-takes answer.Swept words r e =
+    let m = mapped (λ (x : ℕ × ℕ). reply.Swept x.0 x.1) (two_of words) r e in
+    let x = two_of-takes words m.0 m.1 in
+    rw (← m.2) ((x.0, x.1), single (behind _ x.2))
 reply_by-takes answer.Worked words r e =
     let m = mapped (λ (x : ℕ × ℕ). reply.Worked x.0 x.1) (two_of words) r e in
     let x = two_of-takes words m.0 m.1 in
@@ -286,6 +290,7 @@ reply_of_lines-again (reply.Value payload) h = at_first (codes "value" ∷ hexad
 reply_of_lines-again reply.NoValue h = word_again (codes "none") reply.NoValue (rw end_at-again refl) refl
 reply_of_lines-again (reply.Scan pairs) h = at_first (codes "scan" ∷ decimal (length pairs) ∷ map pair_word pairs) [] _ (rw (visible_number (length pairs) h.1, scan_visible pairs h.0) refl) (rw (end_at-again, scan_of-again pairs h) refl)
 reply_of_lines-again (reply.Settled calls) h = at_first (codes "settled" ∷ decimal calls ∷ []) [] _ (rw (visible_number calls h) refl) (rw (end_at-again, one_of-again calls h) refl)
+reply_of_lines-again (reply.Swept kept removed) h = at_first (codes "swept" ∷ decimal kept ∷ decimal removed ∷ []) [] _ (rw (visible_number kept h.0, visible_number removed h.1) refl) (rw (end_at-again, two_of-again kept removed h.0 h.1) refl)
 reply_of_lines-again (reply.Worked done passed) h = at_first (codes "worked" ∷ decimal done ∷ decimal passed ∷ []) [] _ (rw (visible_number done h.0, visible_number passed h.1) refl) (rw (end_at-again, two_of-again done passed h.0 h.1) refl)
 reply_of_lines-again (reply.NotSettled t) h = at_first (codes "not-settled" ∷ trouble_words t) [] _ (rw (visible_trouble t h) refl) (rw (end_at-again, trouble_of-again t h) refl)
 reply_of_lines-again (reply.Trouble t) h = at_first (trouble_words t) [] _ (visible_trouble t h) (trouble_again t h ∙ ap (option_map reply.Trouble) (trouble_of-again t h))
@@ -310,6 +315,7 @@ visible_lines (reply.Value payload) h = rw (visible_bytes payload h) refl
 visible_lines reply.NoValue h = refl
 visible_lines (reply.Scan pairs) h = rw (visible_number (length pairs) h.1, scan_visible pairs h.0) refl
 visible_lines (reply.Settled calls) h = rw (visible_number calls h) refl
+visible_lines (reply.Swept kept removed) h = rw (visible_number kept h.0, visible_number removed h.1) refl
 visible_lines (reply.Worked done passed) h = rw (visible_number done h.0, visible_number passed h.1) refl
 visible_lines (reply.NotSettled t) h = rw (visible_trouble t h) refl
 visible_lines (reply.Trouble t) h = rw (visible_trouble t h) refl

@@ -33,12 +33,13 @@ reply_kind_text answer.Value = codes "value"
 reply_kind_text answer.NoValue = codes "none"
 reply_kind_text answer.Scan = codes "scan"
 reply_kind_text answer.Settled = codes "settled"
+reply_kind_text answer.Swept = codes "swept"
 reply_kind_text answer.Worked = codes "worked"
 reply_kind_text answer.NotSettled = codes "not-settled"
 
 -- all of them
 abbrev pub reply_kinds : List ReplyKind
-reply_kinds = answer.Begun ∷ answer.Called ∷ answer.Noted ∷ answer.Aborted ∷ answer.Crashed ∷ answer.Waited ∷ answer.Refused ∷ answer.Opened ∷ answer.Closed ∷ answer.Renewed ∷ answer.Committed ∷ answer.InDoubt ∷ answer.NotCommitted ∷ answer.CommittedOpen ∷ answer.Done ∷ answer.Value ∷ answer.NoValue ∷ answer.Scan ∷ answer.Settled ∷ answer.Worked ∷ answer.NotSettled ∷ []
+reply_kinds = answer.Begun ∷ answer.Called ∷ answer.Noted ∷ answer.Aborted ∷ answer.Crashed ∷ answer.Waited ∷ answer.Refused ∷ answer.Opened ∷ answer.Closed ∷ answer.Renewed ∷ answer.Committed ∷ answer.InDoubt ∷ answer.NotCommitted ∷ answer.CommittedOpen ∷ answer.Done ∷ answer.Value ∷ answer.NoValue ∷ answer.Scan ∷ answer.Settled ∷ answer.Swept ∷ answer.Worked ∷ answer.NotSettled ∷ []
 
 -- the kind of reply that a word begins
 abbrev pub reply_kind_of : List ℕ → Option ReplyKind

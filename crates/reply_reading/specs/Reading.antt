@@ -131,6 +131,7 @@ reply_by answer.Value words = option_map reply.Value (bytes_alone words)
 reply_by answer.NoValue words = alone reply.NoValue words
 reply_by answer.Scan words = option_map reply.Scan (scan_of words)
 reply_by answer.Settled words = option_map reply.Settled (one_of words)
+reply_by answer.Swept words = option_map (λ x. reply.Swept x.0 x.1) (two_of words)
 reply_by answer.Worked words = option_map (λ x. reply.Worked x.0 x.1) (two_of words)
 reply_by answer.NotSettled words = option_map reply.NotSettled (trouble_of words)
 

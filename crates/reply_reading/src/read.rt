@@ -149,6 +149,10 @@ fn reply_by(alloc: Global, kind: ReplyKind, words: Parts<'_>) -> Result<Reply, T
             let calls = words.one_number()?;
             Ok(Reply::Settled { calls })
         }
+        ReplyKind::Swept => {
+            let (kept, removed) = words.two_numbers()?;
+            Ok(Reply::Swept { kept, removed })
+        }
         ReplyKind::Worked => {
             let (done, passed) = words.two_numbers()?;
             Ok(Reply::Worked { done, passed })

@@ -41,6 +41,8 @@ pub enum ReplyKind {
     Scan,
     /// `settled`
     Settled,
+    /// `swept`
+    Swept,
     /// `worked`
     Worked,
     /// `not-settled`
@@ -48,7 +50,7 @@ pub enum ReplyKind {
 }
 
 /// All of them.
-const REPLY_KINDS: [ReplyKind; 21] = [
+const REPLY_KINDS: [ReplyKind; 22] = [
     ReplyKind::Begun,
     ReplyKind::Called,
     ReplyKind::Noted,
@@ -68,6 +70,7 @@ const REPLY_KINDS: [ReplyKind; 21] = [
     ReplyKind::NoValue,
     ReplyKind::Scan,
     ReplyKind::Settled,
+    ReplyKind::Swept,
     ReplyKind::Worked,
     ReplyKind::NotSettled,
 ];
@@ -99,6 +102,7 @@ impl ReplyKind {
             ReplyKind::NoValue => "none",
             ReplyKind::Scan => "scan",
             ReplyKind::Settled => "settled",
+            ReplyKind::Swept => "swept",
             ReplyKind::Worked => "worked",
             ReplyKind::NotSettled => "not-settled",
         }

@@ -127,6 +127,7 @@ IsInRange (reply.Value payload) = AreBytes payload
 IsInRange reply.NoValue = Unit {0}
 IsInRange (reply.Scan pairs) = IsListOf IsRecord pairs
 IsInRange (reply.Settled calls) = calls < 2 ^ 64
+IsInRange (reply.Swept kept removed) = (kept < 2 ^ 64) × (removed < 2 ^ 64)
 IsInRange (reply.Worked done passed) = (done < 2 ^ 64) × (passed < 2 ^ 64)
 IsInRange (reply.NotSettled trouble) = IsTrouble trouble
 IsInRange (reply.Trouble trouble) = IsTrouble trouble

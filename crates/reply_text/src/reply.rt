@@ -40,6 +40,8 @@ pub enum Reply {
     Scan(PairList),
     /// The settling is done, after so many calls.
     Settled { calls: u64 },
+    /// The sweep is done: so many of the listed pages were kept, and so many were removed.
+    Swept { kept: u64, removed: u64 },
     /// The checkpoints of what was due are made: so many were done, and so many were passed over.
     Worked { done: u64, passed: u64 },
     /// Why the settling stopped.

@@ -416,6 +416,7 @@ impl Reply {
             Reply::NoValue => plain_text(alloc, "none"),
             Reply::Scan(pairs) => scan_text(alloc, pairs.as_slice()),
             Reply::Settled { calls } => number_text(alloc, "settled", *calls),
+            Reply::Swept { kept, removed } => two_numbers_text(alloc, "swept", *kept, *removed),
             Reply::Worked { done, passed } => two_numbers_text(alloc, "worked", *done, *passed),
             Reply::NotSettled(trouble) => stopped_text(alloc, "not-settled", trouble),
             Reply::Trouble(trouble) => trouble_text(alloc, trouble),

@@ -4,7 +4,7 @@ use std::process::Abort;
 use words::fault::TextFault;
 
 /// Every line of a schedule.
-const LINES: [&str; 36] = [
+const LINES: [&str; 38] = [
     "open 1 64\n",
     "close 16\n",
     "renew 2\n",
@@ -40,11 +40,13 @@ const LINES: [&str; 36] = [
     "crash 1 done\n",
     "wait 1000000\n",
     "report 1\n",
+    "sweep 1\n",
+    "sweep 18446744073709551615\n",
     "settle\n",
 ];
 
 /// Lines that are nearly in the grammar.
-const NEAR_MISSES: [&str; 39] = [
+const NEAR_MISSES: [&str; 43] = [
     "",
     "\n",
     "open 1 64",
@@ -83,6 +85,10 @@ const NEAR_MISSES: [&str; 39] = [
     "step 1 give\n",
     "step 1 old\n",
     "crash 1 Done\n",
+    "sweep\n",
+    "sweep 01\n",
+    "sweep 18446744073709551616\n",
+    "sweep 1 1\n",
     "settle 0\n",
 ];
 
@@ -104,11 +110,12 @@ const SHELL_LINES: [(&str, &str); 13] = [
 ];
 
 /// Lines of a schedule that are no shell's lines.
-const NO_SHELL_LINES: [&str; 10] = [
+const NO_SHELL_LINES: [&str; 11] = [
     "open 1\n",
     "close\n",
     "run\n",
     "wait 1\n",
+    "sweep 1\n",
     "settle\n",
     "commit 1\n",
     "insert 1 6b 76 61 61\n",

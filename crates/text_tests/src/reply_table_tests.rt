@@ -4,7 +4,7 @@ use std::alloc::Global;
 use words::fault::TextFault;
 
 /// Every reply of one line that is no trouble.
-const ANSWERS: [&str; 34] = [
+const ANSWERS: [&str; 36] = [
     "begun",
     "called",
     "noted",
@@ -37,6 +37,8 @@ const ANSWERS: [&str; 34] = [
     "scan 0",
     "scan 2 6b=76 6c=-",
     "settled 320",
+    "swept 0 0",
+    "swept 7 18446744073709551615",
     "not-settled failed",
     "not-settled busy client:64 600",
 ];
@@ -75,7 +77,7 @@ const REPORTS: [&str; 3] = [
 ];
 
 /// Lines that are nearly in the grammar.
-const NEAR_ANSWERS: [&str; 40] = [
+const NEAR_ANSWERS: [&str; 44] = [
     "",
     "\n",
     "begun ",
@@ -114,6 +116,10 @@ const NEAR_ANSWERS: [&str; 40] = [
     "not-committed",
     "not-committed none",
     "not-settled settled 1",
+    "swept",
+    "swept 7",
+    "swept 7 1 1",
+    "not-swept failed",
     "done 1 2",
     "done 1 2 3 4",
 ];

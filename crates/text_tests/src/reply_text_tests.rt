@@ -67,6 +67,14 @@ fn are_numbers_written(alloc: Global) -> bool {
     is_written(alloc, Reply::Opened { epoch: 1 }, "opened 1")
         && is_written(alloc, Reply::Renewed { end: 600 }, "renewed 600")
         && is_written(alloc, Reply::Settled { calls: 320 }, "settled 320")
+        && is_written(
+            alloc,
+            Reply::Swept {
+                kept: 7,
+                removed: 2,
+            },
+            "swept 7 2",
+        )
 }
 
 fn is_checkpoint_written(alloc: Global) -> bool {

@@ -6,7 +6,7 @@ use Rattle.client_work.specs.declared.phase.Phase.{Phase}
 use Rattle.client_work.specs.declared.shown.Shown.{Shown}
 use Rattle.client_work.specs.declared.shown.Shown.TheVariants.{Nothing}
 use Rattle.client_work.specs.declared.work.Work.{Work}
-use Rattle.client_work.specs.declared.work.Work.TheVariants.{Closed, Idle, Opening, Committing, Reading, Scanning, Looking, Paging, Folding, Closing, Renewing, Settling, Broken}
+use Rattle.client_work.specs.declared.work.Work.TheVariants.{Closed, Idle, Opening, Committing, Reading, Scanning, Looking, Paging, Folding, Closing, Renewing, Settling, Sweeping, Broken}
 use Rattle.client_work.specs.BrokenOff.{broken_off, broken_work}
 use Rattle.client_work.specs.Causing.{HasCome}
 use Rattle.client_work.specs.Phase.{kept_in, noted_in, phase_of}
@@ -28,6 +28,7 @@ unscanned (Folding home m) buffer c = (tt, tt)
 unscanned (Closing lease) buffer c = (tt, tt)
 unscanned (Renewing home) buffer c = (tt, tt)
 unscanned (Settling m) buffer c = (tt, tt)
+unscanned (Sweeping m) buffer c = (tt, tt)
 unscanned (Broken lease) buffer c = (tt, tt)
 
 module _ (work was left : Work) (buffer noted : List Noted) (c kept : Cache) (earlier : Shown) (p q : Phase) (is_was : was ≡ work) (is_left : left ≡ broken_work was)

@@ -7,7 +7,7 @@ use Rattle.client_work.specs.declared.op.Op.{Op}
 use Rattle.client_work.specs.declared.op.Op.TheVariants as op
 use Rattle.client_work.specs.declared.shown.Shown.{Shown}
 use Rattle.client_work.specs.declared.work.Work.{Work}
-use Rattle.client_work.specs.declared.work.Work.TheVariants.{Closed, Idle, Opening, Committing, Reading, Scanning, Looking, Paging, Folding, Closing, Renewing, Settling, Broken}
+use Rattle.client_work.specs.declared.work.Work.TheVariants.{Closed, Idle, Opening, Committing, Reading, Scanning, Looking, Paging, Folding, Closing, Renewing, Settling, Sweeping, Broken}
 use Rattle.client_work.specs.Phase.{BeginsAt, kept_in, noted_in, phase_of}
 use Rattle.client_work.specs.Session.{Acting, Begins, noted_behind, shown_behind}
 
@@ -25,6 +25,7 @@ noted_by (Folding home m) buffer = refl
 noted_by (Closing lease) buffer = refl
 noted_by (Renewing home) buffer = refl
 noted_by (Settling m) buffer = refl
+noted_by (Sweeping m) buffer = refl
 noted_by (Broken lease) buffer = refl
 
 -- the cache goes where no client is open, and nowhere else
@@ -41,6 +42,7 @@ kept_by (Folding home m) c = refl
 kept_by (Closing lease) c = refl
 kept_by (Renewing home) c = refl
 kept_by (Settling m) c = refl
+kept_by (Sweeping m) c = refl
 kept_by (Broken lease) c = refl
 
 -- what was shown before does not count for what begins

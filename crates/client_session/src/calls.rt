@@ -32,6 +32,10 @@ impl<H: Hand> SessionCalls for Session<H> {
         Session::settling(alloc)
     }
 
+    fn sweeping(alloc: Global, tree: TreeId) -> Result<Session<H>, Refused> {
+        Session::sweeping(alloc, tree)
+    }
+
     fn note(&mut self, tree: TreeId, change: Change) -> Result<(), Refused> {
         Session::note(self, tree, change)
     }

@@ -64,7 +64,7 @@ impl<H: Hand> Model for Session<H> {
 
 impl<H: Hand> Session<H> {
     ghost use Rattle.client_work.specs.BrokenOff.{broken_off};
-    ghost use Rattle.client_work.specs.Session.{Acting, closed_session, rule_of, MayIndex, NoteRefused, PutRefused, AbortRefused, Begins, StepsSession, settling_session, ask_of_work, committing_of, opens_of, applying_of, value_of, items_of, open_client};
+    ghost use Rattle.client_work.specs.Session.{Acting, closed_session, rule_of, MayIndex, NoteRefused, PutRefused, AbortRefused, Begins, StepsSession, settling_session, sweeping_session, ask_of_work, committing_of, opens_of, applying_of, value_of, items_of, open_client};
 
     /// A closed session without changes. Refused for memory alone.
     pub fn new(alloc: Global) -> Result<Session<H>, Refused>
@@ -89,6 +89,16 @@ impl<H: Hand> Session<H> {
     {
         let mut session = Session::<H>::new(alloc)?;
         session.work = H::settling(alloc);
+        Ok(session)
+    }
+
+    /// A session that stands for no client and sweeps a tree. Refused for memory alone.
+    pub fn sweeping(alloc: Global, tree: TreeId) -> Result<Session<H>, Refused>
+        ensures ok { IfOk result (λ s. s ≡ sweeping_session tree) }
+        ensures memory { IfErr result (λ e. e ≡ Refused.Memory) }
+    {
+        let mut session = Session::<H>::new(alloc)?;
+        session.work = H::sweeping(alloc, tree);
         Ok(session)
     }
 
@@ -171,7 +181,7 @@ impl<H: Hand> Session<H> {
     }
 
     /// Breaks off what the session has in hand, as want of memory does: of an open client its lease is left, and nothing of an
-    /// opening, a close or a settling. No call is made.
+    /// opening, a close, a settling or a sweep. No call is made.
     pub fn break_off(&mut self)
         ensures { self.new ≡ broken_off self.old }
     {

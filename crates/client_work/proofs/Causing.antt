@@ -31,14 +31,17 @@ use Rattle.settle_run.specs.declared.settled.Settled.{Settled}
 use Rattle.settle_run.specs.Settling.{Settling as SettlingState}
 use Rattle.settle_run.specs.Meaning.{Stepped as SettlingStepped}
 use Rattle.settle_run.proofs.Ranging.{own_calls}
+use Rattle.orphan_sweep.specs.declared.swept.Swept.{Swept}
+use Rattle.orphan_sweep.specs.Stepped.{Stepped as SweepStepped}
+use Rattle.orphan_sweep.specs.Sweeping.{Sweeping as SweepingState}
 use Rattle.client_work.specs.declared.answer.Answer.{Answer}
 use Rattle.client_work.specs.declared.answer.Answer.TheVariants as answer
 use Rattle.client_work.specs.declared.listing.Listing.{Listing}
 use Rattle.client_work.specs.declared.shown.Shown.{Shown}
 use Rattle.client_work.specs.declared.work.Work.{Work}
-use Rattle.client_work.specs.declared.work.Work.TheVariants.{Closed, Idle, Opening, Committing, Reading, Scanning, Looking, Paging, Folding, Closing, Renewing, Settling, Broken}
-use Rattle.client_work.specs.Causing.{OpeningBy, CommitBy, ScanAnswers, PagingBy, FoldingBy, MachineSteps, HasCome, OpeningCauses, CommitCauses, ReadingCauses, LookingCauses, PagingCauses, FoldingCauses, SettlingCauses, CausesAt}
-use Rattle.client_work.specs.Session.{StepsAt, ShowsAt, ReadsBy, LooksBy, StepsScanning, StepsSettling, Follows, ListsLeaf, StepsClosing, StepsRenewing}
+use Rattle.client_work.specs.declared.work.Work.TheVariants.{Closed, Idle, Opening, Committing, Reading, Scanning, Looking, Paging, Folding, Closing, Renewing, Settling, Sweeping, Broken}
+use Rattle.client_work.specs.Causing.{OpeningBy, CommitBy, ScanAnswers, PagingBy, FoldingBy, MachineSteps, HasCome, OpeningCauses, CommitCauses, ReadingCauses, LookingCauses, PagingCauses, FoldingCauses, SettlingCauses, SweepingCauses, CausesAt}
+use Rattle.client_work.specs.Session.{StepsAt, ShowsAt, ReadsBy, LooksBy, StepsScanning, StepsSettling, StepsSweeping, Follows, ListsLeaf, StepsClosing, StepsRenewing}
 use Rattle.client_work.specs.Showing.{IsUnderWay, IsKnown, own_of}
 
 -- ---- a step that is more than it was said to be
@@ -160,6 +163,18 @@ module _ (who : Caller) (before after : Seen) (buffer : List Noted) (c d : Cache
     by (Ended (answer.Trouble t)) (n, stepped, is) = (n, on n (Stopped t) stepped)
     by turn never = absurd never
 
+  sweeping_causes : (m : SweepingState) (left : Work) (turn : Turn Answer) → HasCome (Sweeping m) c → StepsSweeping who before after m left turn
+      → CausesAt who before after (Sweeping m) c d left turn
+  sweeping_causes m left turn (h, went, is) steps = by turn steps where
+    on : (n : SweepingState) (t : Turn Swept) → SweepStepped who before after m n t → SweepingCauses who before after m n t
+    on n t stepped = record { earlier = h; went = went; stepped = stepped }
+
+    by : (turn : Turn Answer) → StepsSweeping who before after m left turn → CausesAt who before after (Sweeping m) c d left turn
+    by More (n, stepped, is, less) = (n, on n More stepped, is)
+    by (Ended (answer.Swept x)) (n, stepped, is) = (n, on n (Ended x) stepped)
+    by (Ended (answer.Trouble t)) (n, stepped, is) = (n, on n (Stopped t) stepped)
+    by turn never = absurd never
+
   trouble_is : (k t : Trouble) → ◌≡◌ {A = Turn Answer} (Ended (answer.Trouble k)) (Ended (answer.Trouble t)) → k ≡ t
   trouble_is k t e = cc
 
@@ -189,6 +204,7 @@ module _ (who : Caller) (before after : Seen) (buffer : List Noted) (c d : Cache
   step_causes noted (Closing lease) left shown turn known came steps shows machine = closing_causes lease left turn steps
   step_causes noted (Renewing home) left shown turn known came steps shows machine = renewing_causes home left turn steps
   step_causes noted (Settling m) left shown turn known came steps shows machine = settling_causes m left turn came steps.1
+  step_causes noted (Sweeping m) left shown turn known came steps shows machine = sweeping_causes m left turn came steps
   step_causes noted Closed left shown turn known came steps shows machine = absurd steps
   step_causes noted (Idle home) left shown turn known came steps shows machine = absurd steps
   step_causes noted (Broken lease) left shown turn known came steps shows machine = absurd steps

@@ -26,6 +26,7 @@ use Rattle.page_ckpt.specs.Standing.{fresh as fresh_page}
 use Rattle.page_ckpt.proofs.Outcomes as outcome
 use Rattle.page_ckpt.specs.declared.link.Link.{Link}
 use Rattle.tree_ckpt.specs.Making.{Making, new_making, making_ask, MakingLeads, KeepsLeases as KeepsTreeLeases}
+use Rattle.orphan_sweep.specs.Sweeping.{Sweeping as SweepingState}
 use Rattle.settle_run.specs.Settling.{Settling as SettlingState}
 use Rattle.client_work.specs.declared.answer.Answer.{Answer}
 use Rattle.client_work.specs.declared.answer.Answer.TheVariants as answer
@@ -36,12 +37,13 @@ use Rattle.client_work.specs.declared.op.Op.TheVariants as op
 use Rattle.client_work.specs.declared.listing.Listing.{Listing}
 use Rattle.client_work.specs.declared.shown.Shown.{Shown}
 use Rattle.client_work.specs.declared.work.Work.{Work}
-use Rattle.client_work.specs.declared.work.Work.TheVariants.{Closed, Idle, Opening, Committing, Reading, Scanning, Looking, Paging, Folding, Closing, Renewing, Settling, Broken}
+use Rattle.client_work.specs.declared.work.Work.TheVariants.{Closed, Idle, Opening, Committing, Reading, Scanning, Looking, Paging, Folding, Closing, Renewing, Settling, Sweeping, Broken}
 use Rattle.client_work.specs.Causing.{MachineSteps, HasCome, deed_by}
 use Rattle.client_work.specs.Settling.{IsUntold}
 use Rattle.client_work.specs.Session.{Acting, Begins, HasInHand, CommitsOf, CommitsNoted, ReadsOf, ReadsBy, LooksOf, LooksBy, Follows, ListsLeaf, StepsAt, ShowsAt, stopped_work, opened_work, committed_work, opening_of, old_lease, paging_begun_by, folding_begun_by, shown_behind}
 use Rattle.client_work.specs.Showing.{own_of}
 use Rattle.client_work.proofs.Settles.{untold, made_untold, follows_untold, settles_on}
+use Rattle.client_work.proofs.Sweeps.{sweeps_on}
 
 -- ---- one call more
 
@@ -156,6 +158,7 @@ kept_come (Folding home m) d h = h
 kept_come (Closing lease) d h = h
 kept_come (Renewing home) d h = h
 kept_come (Settling m) d h = h
+kept_come (Sweeping m) d h = h
 kept_come (Broken lease) d h = h
 
 come_as : (w v : Work) (d : Cache) → w ≡ v → HasCome v d → HasCome w d
@@ -237,6 +240,12 @@ module _ (who : Caller) (before after : Seen) (buffer : List Noted) (c d : Cache
   settling_come m left (Ended (answer.Trouble k)) came steps = rest_come left d (rest_as left Closed steps.1.2 tt)
   settling_come m left turn came steps = absurd steps.1
 
+  sweeping_come : (m : SweepingState) (left : Work) (turn : Turn Answer) → HasCome (Sweeping m) c → StepsAt who before after (Sweeping m) left turn → HasCome left d
+  sweeping_come m left More came (n, stepped, left_is, less) = come_as left (Sweeping n) d left_is (sweeps_on who before after m n More stepped.did refl came)
+  sweeping_come m left (Ended (answer.Swept x)) came steps = rest_come left d (rest_as left Closed steps.2 tt)
+  sweeping_come m left (Ended (answer.Trouble k)) came steps = rest_come left d (rest_as left Closed steps.2 tt)
+  sweeping_come m left turn came steps = absurd steps
+
   step_come : (was left : Work) (shown : Shown) (turn : Turn Answer) → HasCome was c → StepsAt who before after was left turn → ShowsAt who before after buffer was c d left shown turn
       → MachineSteps who before after was c d left turn → HasCome left d
   step_come (Opening m) left shown turn came steps shows machine = opening_come m left turn came steps machine
@@ -253,6 +262,7 @@ module _ (who : Caller) (before after : Seen) (buffer : List Noted) (c d : Cache
   step_come (Renewing home) left shown (Ended (answer.Trouble k)) came steps shows machine = rest_come left d (rest_as left (stopped_work k steps.0) steps.2 (stopped_rests k steps.0))
   step_come (Renewing home) left shown turn came steps shows machine = absurd steps
   step_come (Settling m) left shown turn came steps shows machine = settling_come m left turn came steps
+  step_come (Sweeping m) left shown turn came steps shows machine = sweeping_come m left turn came steps
   step_come Closed left shown turn came steps shows machine = absurd steps
   step_come (Idle home) left shown turn came steps shows machine = absurd steps
   step_come (Broken lease) left shown turn came steps shows machine = absurd steps

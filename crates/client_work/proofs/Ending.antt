@@ -5,7 +5,7 @@ use Rattle.cloud_trait.specs.Caller.{Caller}
 use Rattle.cloud_trait.specs.Seen.{Seen}
 use Rattle.range_scan.specs.Ending.{calls_left as scanning_left}
 use Rattle.client_work.specs.declared.work.Work.{Work}
-use Rattle.client_work.specs.declared.work.Work.TheVariants.{Closed, Idle, Opening, Committing, Reading, Scanning, Looking, Paging, Folding, Closing, Renewing, Settling, Broken}
+use Rattle.client_work.specs.declared.work.Work.TheVariants.{Closed, Idle, Opening, Committing, Reading, Scanning, Looking, Paging, Folding, Closing, Renewing, Settling, Sweeping, Broken}
 use Rattle.client_work.specs.Session.{Acting, StepsSession, StepsAt, ScansLess, calls_left}
 
 -- a scan that goes on has fewer calls left
@@ -22,6 +22,7 @@ scan_less left (Folding home m) p = absurd p
 scan_less left (Closing lease) p = absurd p
 scan_less left (Renewing home) p = absurd p
 scan_less left (Settling m) p = absurd p
+scan_less left (Sweeping m) p = absurd p
 scan_less left (Broken lease) p = absurd p
 
 work_less : (who : Caller) (before after : Seen) (w new : Work) → StepsAt who before after w new More → calls_left new < calls_left w
@@ -37,6 +38,7 @@ work_less who before after (Idle home) new p = absurd p
 work_less who before after (Closing lease) new p = absurd p
 work_less who before after (Renewing home) new p = absurd p
 work_less who before after (Settling m) new p = subst (λ (z : Work). calls_left z < calls_left (Settling m)) (sym p.1.2) p.1.3
+work_less who before after (Sweeping m) new p = subst (λ (z : Work). calls_left z < calls_left (Sweeping m)) (sym p.2) p.3
 work_less who before after (Broken lease) new p = absurd p
 
 -- a step that goes on leaves fewer calls than before

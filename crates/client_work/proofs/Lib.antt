@@ -8,4 +8,5 @@ pub mod Resting
 pub mod Settles
 pub mod Stepped
 pub mod Stopping
+pub mod Sweeps
 pub mod Showing

@@ -48,7 +48,7 @@ use Rattle.client_work.specs.declared.op.Op.{Op}
 use Rattle.client_work.specs.declared.op.Op.TheVariants as op
 use Rattle.client_work.specs.declared.shown.Shown.{Shown}
 use Rattle.client_work.specs.declared.work.Work.{Work}
-use Rattle.client_work.specs.declared.work.Work.TheVariants.{Closed, Idle, Opening, Committing, Reading, Scanning, Looking, Paging, Folding, Closing, Renewing, Settling, Broken}
+use Rattle.client_work.specs.declared.work.Work.TheVariants.{Closed, Idle, Opening, Committing, Reading, Scanning, Looking, Paging, Folding, Closing, Renewing, Settling, Sweeping, Broken}
 use Rattle.client_work.specs.Session.{Acting, Begins, HasInHand, CommitsOf, CommitsNoted, ReadsOf, ScansOf, LooksOf, Follows, ListsLeaf, StepsAt, ShowsAt, ReadsBy, StepsScanning, LooksBy, ShowsWhole, stopped_work, opened_work, committed_work, opening_of, old_lease, paging_begun_by, folding_begun_by, noted_behind, shown_behind, value_in, items_in}
 use Rattle.client_work.specs.Showing.{ShowsValue, pair_of, sight_in, IsSeen, Lists, IsUnderWay, ShowsRecords, IsKnown, read_deed, scan_deed, own_of, IsLooking, look_deed, ShowsFound}
 
@@ -117,6 +117,10 @@ module _ (who : Caller) (before after : Seen) where
   work_plain (Settling m) left (Ended (answer.Settled n)) o p = plain_as left Closed p.1.2 tt
   work_plain (Settling m) left (Ended (answer.Trouble k)) o p = plain_as left Closed p.1.2 tt
   work_plain (Settling m) left turn o p = absurd p.1
+  work_plain (Sweeping m) left More o p = plain_as left (Sweeping p.0) p.2 tt
+  work_plain (Sweeping m) left (Ended (answer.Swept x)) o p = plain_as left Closed p.2 tt
+  work_plain (Sweeping m) left (Ended (answer.Trouble k)) o p = plain_as left Closed p.2 tt
+  work_plain (Sweeping m) left turn o p = absurd p
   work_plain Closed left turn o p = absurd p
   work_plain (Idle home) left turn o p = absurd p
   work_plain (Broken lease) left turn o p = absurd p
@@ -309,6 +313,7 @@ kept_known buffer w d k = plain_again w k where
   plain_again (Closing lease) k = k
   plain_again (Renewing home) k = k
   plain_again (Settling m) k = k
+  plain_again (Sweeping m) k = k
   plain_again (Broken lease) k = k
 
 -- an operation that neither reads nor scans nor looks up is not answered by a value or a list
@@ -348,6 +353,9 @@ tells_none who before after (Renewing home) left turn o p = tt
 tells_none who before after (Settling m) left (Ended answer.Value) o p = absurd p.1
 tells_none who before after (Settling m) left (Ended answer.Scan) o p = absurd p.1
 tells_none who before after (Settling m) left turn o p = tt
+tells_none who before after (Sweeping m) left (Ended answer.Value) o p = absurd p
+tells_none who before after (Sweeping m) left (Ended answer.Scan) o p = absurd p
+tells_none who before after (Sweeping m) left turn o p = tt
 tells_none who before after Closed left turn o p = absurd p
 tells_none who before after (Idle home) left turn o p = absurd p
 tells_none who before after (Broken lease) left turn o p = absurd p
@@ -415,6 +423,7 @@ module _ (who : Caller) (before after : Seen) (buffer noted : List Noted) (c d :
   step_known (Closing lease) left shown turn same known steps shows = other_known (Closing lease) left shown turn tt tt steps
   step_known (Renewing home) left shown turn same known steps shows = other_known (Renewing home) left shown turn tt tt steps
   step_known (Settling m) left shown turn same known steps shows = other_known (Settling m) left shown turn tt tt steps
+  step_known (Sweeping m) left shown turn same known steps shows = other_known (Sweeping m) left shown turn tt tt steps
   step_known Closed left shown turn same known steps shows = absurd steps
   step_known (Idle home) left shown turn same known steps shows = absurd steps
   step_known (Broken lease) left shown turn same known steps shows = absurd steps

@@ -47,11 +47,15 @@ use Rattle.settle_run.specs.declared.settled.Settled.{Settled}
 use Rattle.settle_run.specs.Meaning.{Went as SettlingWent, Stepped as StepsSettling}
 use Rattle.settle_run.specs.Parts.{PartWent}
 use Rattle.settle_run.specs.Settling.{Settling as SettlingState}
+use Rattle.orphan_sweep.specs.declared.swept.Swept.{Swept}
+use Rattle.orphan_sweep.specs.Standing.{Went as SweepWent}
+use Rattle.orphan_sweep.specs.Stepped.{Stepped as SweepStepped}
+use Rattle.orphan_sweep.specs.Sweeping.{Sweeping as SweepingState}
 use Rattle.client_work.specs.Settling.{IsUntold}
 use Rattle.client_work.specs.declared.answer.Answer.{Answer}
 use Rattle.client_work.specs.declared.answer.Answer.TheVariants as answer
 use Rattle.client_work.specs.declared.work.Work.{Work}
-use Rattle.client_work.specs.declared.work.Work.TheVariants.{Closed, Idle, Opening, Committing, Reading, Scanning, Looking, Paging, Folding, Closing, Renewing, Settling, Broken}
+use Rattle.client_work.specs.declared.work.Work.TheVariants.{Closed, Idle, Opening, Committing, Reading, Scanning, Looking, Paging, Folding, Closing, Renewing, Settling, Sweeping, Broken}
 
 -- ---- what a session answers where its machine took such a step: where that stopped, its trouble
 
@@ -107,6 +111,12 @@ SettlingBy Step work (Ended (answer.Settled a)) = (m : SettlingState) × Step m 
 SettlingBy Step work (Ended (answer.Trouble t)) = (m : SettlingState) × Step m (Stopped t)
 SettlingBy Step work turn = ⊥
 
+abbrev pub SweepingBy : (SweepingState → Turn Swept → Type 0) → Work → Turn Answer → Type 0
+SweepingBy Step work More = (m : SweepingState) × Step m More × (work ≡ Sweeping m)
+SweepingBy Step work (Ended (answer.Swept x)) = (m : SweepingState) × Step m (Ended x)
+SweepingBy Step work (Ended (answer.Trouble t)) = (m : SweepingState) × Step m (Stopped t)
+SweepingBy Step work turn = ⊥
+
 -- ---- what the machine at work did, by its own contract
 
 -- an opening, a commit and the two checkpoints took a step with all that their contracts say of its one answer; of the others what they show, or
@@ -129,6 +139,7 @@ HasCome (Looking home m) c = (start : Walk × Cache) × (h : List Deed) × IsBeg
 HasCome (Paging home m) c = (h : List Deed) × PageWent h m × IsUntold h
 HasCome (Folding home m) c = (h : List Deed) × MakingWent h m × IsUntold h
 HasCome (Settling m) c = (h : List Deed) × SettlingWent h m × IsUntold h
+HasCome (Sweeping m) c = (h : List Deed) × SweepWent h m × IsUntold h
 HasCome work c = Unit {0}
 
 -- ---- why a step came to this
@@ -206,6 +217,12 @@ pub record SettlingCauses (who : Caller) (before after : Seen) (old new : Settli
   pub part_went : PartWent own old.part
   pub stepped : StepsSettling who before after old new turn
 
+-- of a sweep: its step, which tells what its answer came to behind these calls
+pub record SweepingCauses (who : Caller) (before after : Seen) (old new : SweepingState) (turn : Turn Swept) : Type 0 where
+  pub earlier : List Deed
+  pub went : SweepWent earlier old
+  pub stepped : SweepStepped who before after old new turn
+
 -- of a close or a renewal: its trouble is what its one call answered
 pub record CallCauses {X : Type 0} (ask : Ask) (told : Heard → Result X Trouble) (who : Caller) (before after : Seen) (turn : Turn Answer) : Type 0 where
   pub heard : Heard
@@ -224,6 +241,7 @@ CausesAt who before after (Folding home m) c d work turn = FoldingBy home (Foldi
 CausesAt who before after (Closing lease) c d work turn = CallCauses (Release lease) done_of who before after turn
 CausesAt who before after (Renewing home) c d work turn = CallCauses (Renew home.lease 600) renewed_of who before after turn
 CausesAt who before after (Settling m) c d work turn = SettlingBy (SettlingCauses who before after m) work turn
+CausesAt who before after (Sweeping m) c d work turn = SweepingBy (SweepingCauses who before after m) work turn
 CausesAt who before after Closed c d work turn = ⊥
 CausesAt who before after (Idle home) c d work turn = ⊥
 CausesAt who before after (Broken lease) c d work turn = ⊥

@@ -6,3 +6,4 @@ pub mod Phase
 pub mod Session
 pub mod Settling
 pub mod Showing
+pub mod Sweeping

@@ -9,7 +9,7 @@ use Rattle.client_work.specs.declared.op.Op.TheVariants as op
 use Rattle.client_work.specs.declared.phase.Phase.{Phase}
 use Rattle.client_work.specs.declared.phase.Phase.TheVariants as phase
 use Rattle.client_work.specs.declared.work.Work.{Work}
-use Rattle.client_work.specs.declared.work.Work.TheVariants.{Closed, Idle, Opening, Committing, Reading, Scanning, Looking, Paging, Folding, Closing, Renewing, Settling, Broken}
+use Rattle.client_work.specs.declared.work.Work.TheVariants.{Closed, Idle, Opening, Committing, Reading, Scanning, Looking, Paging, Folding, Closing, Renewing, Settling, Sweeping, Broken}
 use Rattle.client_work.specs.declared.answer.Begun.{Begun}
 use Rattle.client_work.specs.declared.shown.Shown.{Shown}
 use Rattle.client_work.specs.declared.shown.Shown.TheVariants.{Nothing}
@@ -28,6 +28,7 @@ phase_of (Folding home m) = phase.Working
 phase_of (Closing lease) = phase.Closing
 phase_of (Renewing home) = phase.Working
 phase_of (Settling m) = phase.Working
+phase_of (Sweeping m) = phase.Working
 phase_of (Broken lease) = phase.Broken
 
 -- the rule that refuses an operation of an open client, where one does

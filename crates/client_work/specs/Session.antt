@@ -57,6 +57,9 @@ use Rattle.settle_run.specs.Ending.{calls_left as settling_left}
 use Rattle.settle_run.specs.Meaning.{Stepped as SettlingStepped}
 use Rattle.settle_run.specs.Parts.{part_applying, IsSoundPart}
 use Rattle.settle_run.specs.Settling.{Settling as SettlingState, new_settling, settle_ask}
+use Rattle.orphan_sweep.specs.Ending.{calls_left as sweeping_left}
+use Rattle.orphan_sweep.specs.Stepped.{Stepped as SweepStepped}
+use Rattle.orphan_sweep.specs.Sweeping.{Sweeping as SweepingState, new_sweeping, sweep_ask}
 use Rattle.client_work.specs.declared.listing.Listing.{Listing}
 use Rattle.client_work.specs.declared.shown.Shown.{Shown}
 use Rattle.client_work.specs.declared.shown.Shown.TheVariants.{Nothing, Read, Listed}
@@ -67,7 +70,7 @@ use Rattle.client_work.specs.declared.answer.Begun.TheVariants.{Working, Answere
 use Rattle.client_work.specs.declared.op.Op.{Op}
 use Rattle.client_work.specs.declared.op.Op.TheVariants as op
 use Rattle.client_work.specs.declared.work.Work.{Work}
-use Rattle.client_work.specs.declared.work.Work.TheVariants.{Closed, Idle, Opening, Committing, Reading, Scanning, Looking, Paging, Folding, Closing, Renewing, Settling, Broken}
+use Rattle.client_work.specs.declared.work.Work.TheVariants.{Closed, Idle, Opening, Committing, Reading, Scanning, Looking, Paging, Folding, Closing, Renewing, Settling, Sweeping, Broken}
 use Rattle.client_work.specs.Causing.{CausesAt}
 use Rattle.client_work.specs.Showing.{pair_of, own_of, ShowsValue, ShowsRecords, ShowsFound}
 
@@ -86,6 +89,10 @@ closed_session = record { buffer = []; work = Closed; cache = empty_cache; shown
 abbrev pub settling_session : Acting
 settling_session = record closed_session { work = Settling new_settling }
 
+-- .. and that sweeps a tree
+abbrev pub sweeping_session : ℕ → Acting
+sweeping_session tree = record closed_session { work = Sweeping (new_sweeping tree) }
+
 -- the rule that refuses an operation of an open client, where one does
 abbrev pub rule_of : Work → Option Refusal
 rule_of Closed = Some rule.NotOpen
@@ -100,6 +107,7 @@ rule_of (Folding home m) = Some rule.AtWork
 rule_of (Closing lease) = Some rule.AtWork
 rule_of (Renewing home) = Some rule.AtWork
 rule_of (Settling m) = Some rule.AtWork
+rule_of (Sweeping m) = Some rule.AtWork
 rule_of (Broken lease) = Some rule.Broken
 
 -- the client of an open session with nothing at work; or the rule that refuses an operation of it
@@ -116,6 +124,7 @@ open_client (Folding home m) = Err rule.AtWork
 open_client (Closing lease) = Err rule.AtWork
 open_client (Renewing home) = Err rule.AtWork
 open_client (Settling m) = Err rule.AtWork
+open_client (Sweeping m) = Err rule.AtWork
 open_client (Broken lease) = Err rule.Broken
 
 -- ---- what is refused
@@ -162,6 +171,7 @@ opening_rule_of (Folding home m) = Some rule.AtWork
 opening_rule_of (Closing lease) = Some rule.AtWork
 opening_rule_of (Renewing home) = Some rule.AtWork
 opening_rule_of (Settling m) = Some rule.AtWork
+opening_rule_of (Sweeping m) = Some rule.AtWork
 opening_rule_of (Broken lease) = None
 
 -- the lease that a broken session still has
@@ -179,6 +189,7 @@ old_lease (Folding home m) = None
 old_lease (Closing lease) = None
 old_lease (Renewing home) = None
 old_lease (Settling m) = None
+old_lease (Sweeping m) = None
 
 -- the opening of a client, behind the release of an old lease where one is left
 abbrev pub opening_of : ℕ → Option Claim → Work
@@ -377,11 +388,17 @@ abbrev pub behind_settling : SettlingState → Turn Answer → Work
 behind_settling m More = Settling m
 behind_settling m turn = Closed
 
+-- the same of a sweep
+abbrev pub behind_sweeping : SweepingState → Turn Answer → Work
+behind_sweeping m More = Sweeping m
+behind_sweeping m turn = Closed
+
 -- the same of whatever is in hand: what is none of these stays
 abbrev pub ended_by : Work → Turn Answer → Work
 ended_by (Committing m) turn = behind_step m turn
 ended_by (Folding home m) turn = behind_fold home m turn
 ended_by (Settling m) turn = behind_settling m turn
+ended_by (Sweeping m) turn = behind_sweeping m turn
 ended_by work turn = work
 
 -- a call was made, and answered
@@ -458,6 +475,16 @@ StepsSettling who before after old work (Ended (answer.Trouble k)) =
     (m : SettlingState) × SettlingStepped who before after old m (Stopped k) × (work ≡ Closed)
 StepsSettling who before after old work turn = ⊥
 
+-- one step of a sweep, and what it leaves in hand; at its end all orphans are removed
+abbrev pub StepsSweeping : Caller → Seen → Seen → SweepingState → Work → Turn Answer → Type 0
+StepsSweeping who before after old work More =
+    (m : SweepingState) × SweepStepped who before after old m More × (work ≡ Sweeping m) × (sweeping_left m < sweeping_left old)
+StepsSweeping who before after old work (Ended (answer.Swept x)) =
+    (m : SweepingState) × SweepStepped who before after old m (Ended x) × (work ≡ Closed)
+StepsSweeping who before after old work (Ended (answer.Trouble k)) =
+    (m : SweepingState) × SweepStepped who before after old m (Stopped k) × (work ≡ Closed)
+StepsSweeping who before after old work turn = ⊥
+
 -- a lease is given back: what the call answered, and what that comes to
 pub record GivesBack (lease : Claim) (who : Caller) (before after : Seen) (result : Result (Unit {0}) Trouble) : Type 0 where
   pub answer : Heard
@@ -498,6 +525,7 @@ StepsAt who before after (Folding home m) work turn = StepsFolding home who befo
 StepsAt who before after (Closing lease) work turn = StepsClosing lease who before after work turn
 StepsAt who before after (Renewing home) work turn = StepsRenewing home who before after work turn
 StepsAt who before after (Settling m) work turn = IsSoundPart m.part × StepsSettling who before after m work turn
+StepsAt who before after (Sweeping m) work turn = StepsSweeping who before after m work turn
 StepsAt who before after Closed work turn = ⊥
 StepsAt who before after (Idle home) work turn = ⊥
 StepsAt who before after (Broken lease) work turn = ⊥
@@ -515,9 +543,10 @@ is_working (Idle home) = false
 is_working (Closing lease) = true
 is_working (Renewing home) = true
 is_working (Settling m) = true
+is_working (Sweeping m) = true
 is_working (Broken lease) = false
 
--- whether something is at work that is neither a commit nor a tree checkpoint nor a settling
+-- whether something is at work that is neither a commit nor a tree checkpoint nor a settling nor a sweep
 abbrev pub is_other : Work → Bool
 is_other (Opening m) = true
 is_other (Committing m) = false
@@ -531,6 +560,7 @@ is_other (Idle home) = false
 is_other (Closing lease) = true
 is_other (Renewing home) = true
 is_other (Settling m) = false
+is_other (Sweeping m) = false
 is_other (Broken lease) = false
 
 -- one step of what is in hand; where nothing is at work it is refused and changes nothing
@@ -619,6 +649,7 @@ calls_left (Idle home) = 0
 calls_left (Closing lease) = 1
 calls_left (Renewing home) = 1
 calls_left (Settling m) = settling_left m
+calls_left (Sweeping m) = sweeping_left m
 calls_left (Broken lease) = 0
 
 -- the call in hand, where something is at work
@@ -635,6 +666,7 @@ ask_of_work (Idle home) = None
 ask_of_work (Closing lease) = Some (Release lease)
 ask_of_work (Renewing home) = Some (Renew home.lease 600)
 ask_of_work (Settling m) = Some (settle_ask m)
+ask_of_work (Sweeping m) = Some (sweep_ask m)
 ask_of_work (Broken lease) = None
 
 -- the changes of the commit at work
@@ -651,6 +683,7 @@ committing_of (Idle home) = None
 committing_of (Closing lease) = None
 committing_of (Renewing home) = None
 committing_of (Settling m) = None
+committing_of (Sweeping m) = None
 committing_of (Broken lease) = None
 
 -- the head that the put in hand opens, where it commits
@@ -667,6 +700,7 @@ opens_of (Idle home) = None
 opens_of (Closing lease) = None
 opens_of (Renewing home) = None
 opens_of (Settling m) = None
+opens_of (Sweeping m) = None
 opens_of (Broken lease) = None
 
 -- the items that the put in hand applies
@@ -683,4 +717,5 @@ applying_of (Idle home) = []
 applying_of (Closing lease) = []
 applying_of (Renewing home) = []
 applying_of (Settling m) = part_applying m.part
+applying_of (Sweeping m) = []
 applying_of (Broken lease) = []

@@ -1,5 +1,6 @@
 use cloud_trait::turn::CkptAnswer;
 use db_base::trouble::{CommitAnswer, Trouble};
+use orphan_sweep::Swept;
 use settle_run::Settled;
 
 /// What the begin of an operation answers.
@@ -30,6 +31,8 @@ pub enum Answer {
     Scan,
     /// A settling came to its end.
     Settled(Settled),
+    /// A sweep came to its end.
+    Swept(Swept),
     /// Why the operation stopped.
     Trouble(Trouble),
 }

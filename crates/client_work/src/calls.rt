@@ -5,7 +5,7 @@ ghost use Rattle.std.specs.Option.{option_map, option_copied};
 ghost use Rattle.cloud_trait.specs.Call.{ask_of};
 ghost use Rattle.txn_buffer.specs.Noted.{noted_in, put_in};
 ghost use Rattle.client_work.specs.BrokenOff.{broken_off};
-ghost use Rattle.client_work.specs.Session.{Acting, closed_session, settling_session, rule_of, MayIndex, NoteRefused, PutRefused, AbortRefused, Begins, StepsSession, ask_of_work, committing_of, opens_of, applying_of, value_of, items_of, open_client};
+ghost use Rattle.client_work.specs.Session.{Acting, closed_session, settling_session, sweeping_session, rule_of, MayIndex, NoteRefused, PutRefused, AbortRefused, Begins, StepsSession, ask_of_work, committing_of, opens_of, applying_of, value_of, items_of, open_client};
 
 use crate::answer::{Answer, Begun};
 use crate::op::Op;
@@ -38,6 +38,11 @@ pub trait SessionCalls: Drop {
     /// A session that stands for no client and settles. Refused for memory alone.
     fn settling(alloc: Global) -> Result<Self, Refused>
         ensures ok { IfOk result (λ s. acting s ≡ settling_session) }
+        ensures memory { IfErr result (λ e. e ≡ Refused.Memory) };
+
+    /// A session that stands for no client and sweeps a tree. Refused for memory alone.
+    fn sweeping(alloc: Global, tree: TreeId) -> Result<Self, Refused>
+        ensures ok { IfOk result (λ s. acting s ≡ sweeping_session tree) }
         ensures memory { IfErr result (λ e. e ≡ Refused.Memory) };
 
     /// Notes a change of an open client. A refusal changes nothing.
@@ -73,7 +78,7 @@ pub trait SessionCalls: Drop {
         ensures { acting self.new ≡ closed_session };
 
     /// Breaks off what the session has in hand, as want of memory does: of an open client its lease is left, and nothing of an
-    /// opening, a close or a settling. No call is made.
+    /// opening, a close, a settling or a sweep. No call is made.
     fn break_off(&mut self)
         ensures { acting self.new ≡ broken_off (acting self.old) };
 

@@ -3,9 +3,10 @@
 ghost use Rattle.std.specs.Prelude.{◌≡◌, true, None};
 ghost use Rattle.std.specs.Option.{option_map, option_copied};
 ghost use Rattle.cloud_trait.specs.Call.{ask_of};
+ghost use Rattle.orphan_sweep.specs.Sweeping.{new_sweeping};
 ghost use Rattle.settle_run.specs.Settling.{new_settling};
 ghost use Rattle.client_work.specs.declared.work.Work.{Work};
-ghost use Rattle.client_work.specs.declared.work.Work.TheVariants.{Closed, Settling};
+ghost use Rattle.client_work.specs.declared.work.Work.TheVariants.{Closed, Settling, Sweeping};
 ghost use Rattle.client_work.specs.BrokenOff.{broken_work};
 ghost use Rattle.client_work.specs.Causing.{MachineSteps};
 ghost use Rattle.client_work.specs.Phase.{BeginsAt, bar_of, phase_of};
@@ -19,7 +20,7 @@ use cloud_trait::call::Call;
 use cloud_trait::cloud::Cloud;
 use cloud_trait::turn::Turn;
 use cloud_trait::who::Who;
-use db_base::ids::ClientId;
+use db_base::ids::{ClientId, TreeId};
 use db_base::refusal::Refusal;
 use db_base::value::Value;
 use head_codec::head::Head;
@@ -40,6 +41,10 @@ pub trait Hand: Drop {
     /// A settling before its first call: no client is open.
     fn settling(alloc: Global) -> Self
         ensures { work result ≡ Settling new_settling };
+
+    /// A sweep of a tree before its first call: no client is open.
+    fn sweeping(alloc: Global, tree: TreeId) -> Self
+        ensures { work result ≡ Sweeping (new_sweeping tree) };
 
     /// How a session stands that has this in hand.
     fn phase(&self) -> Phase
@@ -86,7 +91,8 @@ pub trait Hand: Drop {
         requires { bar_of op (work self) ≡ None }
         ensures { BeginsAt op buffer.old (work self) cache.old buffer.new (work result.0) cache.new result.1 result.2 };
 
-    /// What is left in hand once this is broken off: of an open client its lease, and nothing of an opening, a close or a settling.
+    /// What is left in hand once this is broken off: of an open client its lease, and nothing of an opening, a close, a settling
+    /// or a sweep.
     fn break_off(self) -> Self
         ensures { work result ≡ broken_work (work self) };
 

@@ -19,4 +19,5 @@ mod renewing;
 mod scanning;
 pub mod settling;
 pub mod shown;
+pub mod sweeping;
 pub mod work;

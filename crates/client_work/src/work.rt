@@ -1,7 +1,7 @@
 ghost use Rattle.std.specs.Prelude.{◌≡◌, true, None};
 ghost use Rattle.client_work.specs.Causing.{MachineSteps};
 ghost use Rattle.client_work.specs.Left.{at_rest, behind_opening, behind_commit, behind_read, behind_scan, behind_look, behind_page, behind_tree};
-ghost use Rattle.client_work.specs.Session.{ShowsAt, StepsAt, behind_settling, ended_by, is_other, old_lease, rule_of, stopped_work};
+ghost use Rattle.client_work.specs.Session.{ShowsAt, StepsAt, behind_settling, behind_sweeping, ended_by, is_other, old_lease, rule_of, stopped_work};
 
 use crate::answer::{Answer, Begun};
 use crate::closing::step_close;
@@ -20,6 +20,7 @@ use crate::renewing::step_renewal;
 use crate::scanning::{begin_scanning, step_scanning};
 use crate::settling::SettlingRun;
 use crate::shown::Shown;
+use crate::sweeping::SweepingRun;
 use attr_index::Lookup;
 use cloud_trait::call::Call;
 use cloud_trait::cloud::Cloud;
@@ -27,7 +28,7 @@ use cloud_trait::lease::Lease;
 use cloud_trait::turn::Turn;
 use cloud_trait::who::Who;
 use commit_run::CommitRun;
-use db_base::ids::ClientId;
+use db_base::ids::{ClientId, TreeId};
 use db_base::refusal::Refusal;
 use db_base::trouble::Trouble;
 use db_base::value::Value;
@@ -70,6 +71,8 @@ pub enum Work {
     Renewing(Home),
     /// A settling under way: no client is open.
     Settling(SettlingRun),
+    /// A sweep of a tree under way: no client is open.
+    Sweeping(SweepingRun),
     /// The lease of a client whose newest operation left it in doubt.
     Broken(Lease),
 }
@@ -90,6 +93,7 @@ impl Drop for Work {
             Work::Closing(_) => {}
             Work::Renewing(_) => {}
             Work::Settling(_) => {}
+            Work::Sweeping(_) => {}
             Work::Broken(_) => {}
         }
     }
@@ -111,6 +115,10 @@ impl Hand for Work {
         Work::Settling(SettlingRun::new(alloc))
     }
 
+    fn sweeping(alloc: Global, tree: TreeId) -> Work {
+        Work::Sweeping(SweepingRun::new(alloc, tree))
+    }
+
     fn phase(&self) -> Phase {
         match self {
             Work::Closed => Phase::Closed,
@@ -125,6 +133,7 @@ impl Hand for Work {
             Work::Closing(_) => Phase::Closing,
             Work::Renewing(_) => Phase::Working,
             Work::Settling(_) => Phase::Working,
+            Work::Sweeping(_) => Phase::Working,
             Work::Broken(_) => Phase::Broken,
         }
     }
@@ -143,6 +152,7 @@ impl Hand for Work {
             Work::Closing(_) => Err(Refusal::AtWork),
             Work::Renewing(_) => Err(Refusal::AtWork),
             Work::Settling(_) => Err(Refusal::AtWork),
+            Work::Sweeping(_) => Err(Refusal::AtWork),
             Work::Broken(_) => Err(Refusal::Broken),
         }
     }
@@ -159,6 +169,7 @@ impl Hand for Work {
             Work::Closing(lease) => Some(Call::Release(lease)),
             Work::Renewing(home) => Some(Call::Renew(&home.lease, CLIENT_TICKS)),
             Work::Settling(machine) => Some(machine.in_hand()),
+            Work::Sweeping(machine) => Some(machine.in_hand()),
             Work::Closed => None,
             Work::Idle(_) => None,
             Work::Broken(_) => None,
@@ -179,6 +190,7 @@ impl Hand for Work {
             Work::Closing(_) => None,
             Work::Renewing(_) => None,
             Work::Settling(_) => None,
+            Work::Sweeping(_) => None,
             Work::Broken(_) => None,
         }
     }
@@ -197,6 +209,7 @@ impl Hand for Work {
             Work::Closing(_) => None,
             Work::Renewing(_) => None,
             Work::Settling(_) => None,
+            Work::Sweeping(_) => None,
             Work::Broken(_) => None,
         }
     }
@@ -215,6 +228,7 @@ impl Hand for Work {
             Work::Closing(_) => &[],
             Work::Renewing(_) => &[],
             Work::Settling(machine) => machine.applying(),
+            Work::Sweeping(_) => &[],
             Work::Broken(_) => &[],
         }
     }
@@ -317,11 +331,12 @@ impl Hand for Work {
             Work::Opening(_) => Work::Closed,
             Work::Closing(_) => Work::Closed,
             Work::Settling(_) => Work::Closed,
+            Work::Sweeping(_) => Work::Closed,
         }
     }
 
-    // Commits, tree checkpoints and settlings go on where they stand: most steps are theirs, and to move one costs as much as a step of
-    // it. Here stands nothing that would need room for a whole machine, since that would be cleared at each step.
+    // Commits, tree checkpoints, settlings and sweeps go on where they stand: most steps are theirs, and to move one costs as much as a
+    // step of it. Here stands nothing that would need room for a whole machine, since that would be cleared at each step.
     fn step<C: Cloud>(
         &mut self,
         alloc: Global,
@@ -352,13 +367,20 @@ impl Hand for Work {
                     (Shown::Nothing, turn)
                 }
             },
+            Work::Sweeping(machine) => match machine.step(alloc, cloud, who) {
+                Turn::More => (Shown::Nothing, Turn::More),
+                turn => {
+                    self.end(&turn);
+                    (Shown::Nothing, turn)
+                }
+            },
             _ => self.step_apart(alloc, cloud, who, cache, buffer),
         }
     }
 }
 
 impl Work {
-    /// What is in hand behind the last step of a commit, a tree checkpoint or a settling.
+    /// What is in hand behind the last step of a commit, a tree checkpoint, a settling or a sweep.
     fn ended(self, turn: &Turn<Answer>) -> Work
         ensures { result ≡ ended_by self turn.now }
     {
@@ -366,11 +388,12 @@ impl Work {
             Work::Committing(machine) => after_commit(left_by(machine, turn)),
             Work::Folding(home, machine) => after_tree(left_by_fold(home, machine, turn)),
             Work::Settling(machine) => after_settling(machine, turn),
+            Work::Sweeping(machine) => after_sweeping(machine, turn),
             other => other,
         }
     }
 
-    /// Has in hand what the last step of a commit, a tree checkpoint or a settling leaves.
+    /// Has in hand what the last step of a commit, a tree checkpoint, a settling or a sweep leaves.
     fn end(&mut self, turn: &Turn<Answer>)
         ensures { self.new ≡ ended_by self.old turn.now }
     {
@@ -448,6 +471,7 @@ impl Work {
             Work::Committing(_) => unreachable!(),
             Work::Folding(_, _) => unreachable!(),
             Work::Settling(_) => unreachable!(),
+            Work::Sweeping(_) => unreachable!(),
             Work::Closed => unreachable!(),
             Work::Idle(_) => unreachable!(),
             Work::Broken(_) => unreachable!(),
@@ -562,6 +586,16 @@ fn after_settling(machine: SettlingRun, turn: &Turn<Answer>) -> Work
 {
     match turn {
         Turn::More => Work::Settling(machine),
+        _ => Work::Closed,
+    }
+}
+
+/// What is in hand behind a sweep.
+fn after_sweeping(machine: SweepingRun, turn: &Turn<Answer>) -> Work
+    ensures { result ≡ behind_sweeping machine turn.now }
+{
+    match turn {
+        Turn::More => Work::Sweeping(machine),
         _ => Work::Closed,
     }
 }

@@ -170,7 +170,7 @@ sees_pages before tree Holds h = record {
 
 version_of : Option (List ℕ) → List Version
 version_of None = []
-version_of (Some bytes) = record { who = record { session = 0; event = 0 }; bytes = bytes } ∷ []
+version_of (Some bytes) = record { who = record { session = 0; event = 0 }; bytes = Some bytes } ∷ []
 
 newest_is : (bytes : Option (List ℕ)) → newest_of (version_of bytes) ≡ bytes
 unfolding version_of

@@ -5,7 +5,7 @@ use crate::output::output;
 use std::io;
 
 /// Their names, the shortest walks first.
-const NAMES: [&str; 23] = [
+const NAMES: [&str; 24] = [
     "first-path",
     "two-transactions",
     "three-trees",
@@ -26,6 +26,7 @@ const NAMES: [&str; 23] = [
     "two-hundred-keys",
     "late-update",
     "half-cut",
+    "sweep",
     "settling",
     "days-use",
     "three-levels",

@@ -1,10 +1,10 @@
 -- What stands in a state stands in later ones, and what landed up to a line stood behind it.
 use Rattle.std.proofs.Common.{◌≡◌, ◌≤◌, ◌<◌, ◌-◌, ℕ, zero, suc, Bool, List, [], ◌++◌, length, take, cond, Option, Some, None, refl, sym, ap, subst, ◌∙◌, arith}
 use Rattle.std.specs.Prelude.{slice_get, All, nat_le, ◌==◌}
-use Rattle.std.specs.Option.{option_map}
+use Rattle.std.specs.Option.{option_and_then}
 use Rattle.std.proofs.lemmas.Bool.{le-leb}
 use Rattle.client_work.specs.declared.work.Work.{Work}
-use Rattle.client_work.specs.declared.work.Work.TheVariants.{Closed, Idle, Opening, Committing, Reading, Scanning, Looking, Paging, Folding, Closing, Renewing, Settling, Broken}
+use Rattle.client_work.specs.declared.work.Work.TheVariants.{Closed, Idle, Opening, Committing, Reading, Scanning, Looking, Paging, Folding, Closing, Renewing, Settling, Sweeping, Broken}
 use Rattle.cloud_facts.proofs.Book.Places.{get_map, get_within, in_front}
 use Rattle.cloud_facts.proofs.Numbers.Lists.{map_there, filter_there, filter_at}
 use Rattle.cloud_facts.specs.Book.Records.{IsIn}
@@ -93,7 +93,7 @@ version_kept : (vs more : List Version) (k : ℕ) → k ≤ length vs → versio
 version_kept vs more zero h = refl
 version_kept vs more (suc i) h =
     let before : suc i - 1 < length vs = omega arith in
-    ap (λ (o : Option Version). cond (suc i == 0) None (option_map (λ (x : Version). x.bytes) o)) (slice_get-append_left vs more (suc i - 1) before)
+    ap (λ (o : Option Version). cond (suc i == 0) None (option_and_then (λ (x : Version). x.bytes) o)) (slice_get-append_left vs more (suc i - 1) before)
 
 -- and put there what it put
 lands_before : (s u : CloudState) (row : Landing) (client : ℕ) (head : Head) → ((name : ObjName) → BeginsWith (s.versions name) (u.versions name)) → IsPlaced s.versions row
@@ -127,6 +127,7 @@ resting (Folding home f) s acts e = let is = acts.0 in absurd (cc)
 resting (Closing lease) s acts e = absurd (cc)
 resting (Renewing home) s acts e = let is = acts.0 in absurd (cc)
 resting (Settling m) s acts e = absurd acts
+resting (Sweeping m) s acts e = absurd acts
 resting (Broken lease) s acts e = absurd (cc)
 
 -- the rows of a cloud that was empty are of the epoch of the client, which rests, and of one of the transactions that it has begun

@@ -19,7 +19,7 @@ use Rattle.replay_meaning.specs.Committed.{committed}
 use Rattle.replay_meaning.specs.Right.{HoldsAll, stored_below}
 use Rattle.replay_meaning.specs.Standing.{Line}
 use Rattle.session_facts.proofs.LeftLemmas.{nothing_left}
-use Rattle.session_facts.proofs.Sessions.Laws.{reports, chains, decodes, numbers}
+use Rattle.session_facts.proofs.Sessions.Laws.{reports, chains, decodes, gones, numbers}
 use Rattle.session_facts.specs.Facts.{Stands}
 use Rattle.session_facts.specs.Sessions.Sessions.{Sessions, SessionsStand}
 use Rattle.replay_meaning.specs.Chain.{Walked, records_of}
@@ -47,7 +47,7 @@ contents_are lines sessions a blind t tree records stands is heads messages up i
     stand = stands.holds.stand
 
     read : IsRead t tree (leaves_in st tree) (st.tally.value tree)
-    read = store_reads t st tree refl (chains book order t sessions stand) is (decodes book order t sessions stand)
+    read = store_reads t st tree refl (chains book order t sessions stand) (gones book order t sessions stand) is (decodes book order t sessions stand)
 
     reportable : IsReportable st tree
     reportable = reports book order t sessions stand tree

@@ -23,6 +23,7 @@ use Rattle.replay_meaning.specs.Standing.{Standing}
 use Rattle.reply_text.specs.declared.reply.Reply.{Reply}
 use Rattle.reply_text.specs.declared.reply.Reply.TheVariants as reply
 use Rattle.session_facts.proofs.RunSteps.{RunsFor, IsRefusal, run_begins}
+use Rattle.session_facts.specs.Errands.{settles}
 use Rattle.session_facts.specs.Facts.{ActsAs, session_at}
 use Rattle.txn_buffer.specs.Noted.{Noted}
 use Rattle.load_facts.proofs.AtOnce.{IsFair}
@@ -34,7 +35,7 @@ use Rattle.world_core.specs.Handled.{Answers, Handled, SettlesOn}
 use Rattle.world_core.specs.Replying.{declined, done_reply, RepliesBegun, RepliesSettled, trouble_reply, unsettled_reply}
 use Rattle.world_core.specs.World.{World}
 use Rattle.world_core.specs.declared.asked.Asked.{Asked}
-use Rattle.world_core.specs.declared.asked.Asked.TheVariants.{Session, Wait, Report, Settle}
+use Rattle.world_core.specs.declared.asked.Asked.TheVariants.{Session, Wait, Report, Settle, Sweep}
 use Rattle.world_core.specs.declared.asked.Request.TheVariants.{Begin, Note, Abort, Policy, Work as WorksDue, Step, Run, Crash}
 use Rattle.world_core.specs.declared.world.WorldFault.{WorldFault}
 
@@ -61,6 +62,7 @@ module _ (n : ℕ) (before after : Seen) (old new : World) (r : Reply) where
   open_fair session client (Wait ticks) asks p epoch is = asks
   open_fair session client (Report tree) asks p epoch is = asks
   open_fair session client Settle asks p epoch is = asks
+  open_fair session client (Sweep t) asks p epoch is = asks
 
   -- ---- an insert
 
@@ -83,6 +85,7 @@ module _ (n : ℕ) (before after : Seen) (old new : World) (r : Reply) where
   insert_fair session tree key payload attr (Wait ticks) asks p is = asks
   insert_fair session tree key payload attr (Report t) asks p is = asks
   insert_fair session tree key payload attr Settle asks p is = asks
+  insert_fair session tree key payload attr (Sweep t) asks p is = asks
 
   -- ---- a commit
 
@@ -104,6 +107,7 @@ module _ (n : ℕ) (before after : Seen) (old new : World) (r : Reply) where
   commits_not txn home buffer c b (Answered answer.Value) some (inr h) e is = h.1
   commits_not txn home buffer c b (Answered answer.Scan) some (inr h) e is = h.1
   commits_not txn home buffer c b (Answered (answer.Settled s)) some (inr h) e is = h.1
+  commits_not txn home buffer c b (Answered (answer.Swept x)) some (inr h) e is = h.1
 
   begun_not : (txn : ℕ) (a b : Acting) (begun : Result Begun Refused) → 1 ≤ length a.buffer → Begins op.Commit a b begun → RepliesBegun begun b (Ok r) → r ≡ reply.Commit (Committed txn) → ⊥
   begun_not txn a b (Ok begun) some begins e is = commits_not txn begins.0 a.buffer a.cache b begun some begins.2.1 e is
@@ -122,6 +126,7 @@ module _ (n : ℕ) (before after : Seen) (old new : World) (r : Reply) where
   commit_fair session s (Wait ticks) acts asks p one some txn is = asks
   commit_fair session s (Report tree) acts asks p one some txn is = asks
   commit_fair session s Settle acts asks p one some txn is = asks
+  commit_fair session s (Sweep t) acts asks p one some txn is = asks
 
   -- ---- a settling
 
@@ -134,7 +139,7 @@ module _ (n : ℕ) (before after : Seen) (old new : World) (r : Reply) where
   settled_not (answer.Trouble t) e is = unsettled_not t e is
   settled_not a never is = never
 
-  settles_on_not : (begun : World) → SettlesOn (record { session = 0; event = n }) before after begun new (Ok r) → r ≡ reply.Begun → ⊥
+  settles_on_not : (begun : World) → SettlesOn settles (record { session = 0; event = n }) before after begun new (Ok r) → r ≡ reply.Begun → ⊥
   settles_on_not begun (inl s) is = settled_not s.answer s.replies is
   settles_on_not begun (inr memory) is = absurd (no_memory r memory.0)
 
@@ -144,6 +149,7 @@ module _ (n : ℕ) (before after : Seen) (old new : World) (r : Reply) where
   settle_fair (Session k request) asks p is = absurd (cc)
   settle_fair (Wait ticks) asks p is = absurd (cc)
   settle_fair (Report tree) asks p is = absurd (cc)
+  settle_fair (Sweep t) asks p is = absurd (cc)
 
   -- ---- every line
 

@@ -9,7 +9,7 @@ use Rattle.client_work.specs.declared.answer.Begun.TheVariants.{Working, Answere
 use Rattle.client_work.specs.declared.op.Op.{Op}
 use Rattle.client_work.specs.declared.op.Op.TheVariants as op
 use Rattle.client_work.specs.declared.work.Work.{Work}
-use Rattle.client_work.specs.declared.work.Work.TheVariants.{Closed, Idle, Opening, Committing, Reading, Scanning, Looking, Paging, Folding, Closing, Renewing, Settling, Broken}
+use Rattle.client_work.specs.declared.work.Work.TheVariants.{Closed, Idle, Opening, Committing, Reading, Scanning, Looking, Paging, Folding, Closing, Renewing, Settling, Sweeping, Broken}
 use Rattle.cloud_facts.proofs.Book.Names.{at_same, at_other}
 use Rattle.cloud_trait.specs.Caller.{Caller}
 use Rattle.cloud_trait.specs.Claim.{Claim}
@@ -35,6 +35,7 @@ use Rattle.recover_run.specs.declared.stage.Stage.TheVariants as stage
 use Rattle.reply_text.specs.declared.reply.Reply.{Reply}
 use Rattle.reply_text.specs.declared.reply.Reply.TheVariants as reply
 use Rattle.session_facts.proofs.CommitNumbers.{BeginsAt, RunsAt, run_begins_at, run_ends_within, run_goes_at}
+use Rattle.session_facts.specs.Errands.{settles}
 use Rattle.session_facts.specs.Facts.{session_at}
 use Rattle.world_core.proofs.EveryLine.{does_own, asked_is}
 use Rattle.world_core.proofs.StandsLemmas.{changed_at, changed_was, has_at, no_memory}
@@ -45,7 +46,7 @@ use Rattle.world_core.specs.Replying.{RepliesBegun, RepliesTo, value_reply}
 use Rattle.world_core.specs.Sessions.{Changes, NotesIn}
 use Rattle.world_core.specs.World.{World}
 use Rattle.world_core.specs.declared.asked.Asked.{Asked}
-use Rattle.world_core.specs.declared.asked.Asked.TheVariants.{Session, Wait, Report, Settle}
+use Rattle.world_core.specs.declared.asked.Asked.TheVariants.{Session, Wait, Report, Settle, Sweep}
 use Rattle.world_core.specs.declared.asked.Noting.{Noting}
 use Rattle.world_core.specs.declared.asked.Request.{Request}
 use Rattle.world_core.specs.declared.asked.Request.TheVariants.{Begin, Note, Abort, Policy, Work as WorksDue, Step, Run, Crash}
@@ -66,6 +67,7 @@ Numbered n (Opening r) = n ≡ 0
 Numbered n Closed = Unit {0}
 Numbered n (Closing lease) = Unit {0}
 Numbered n (Settling m) = Unit {0}
+Numbered n (Sweeping m) = Unit {0}
 Numbered n (Broken lease) = Unit {0}
 
 -- .. so many at most
@@ -155,6 +157,10 @@ module _ (n : ℕ) where
   step_numbered who before after (Settling m) new (Ended (answer.Settled k)) (sound, p) h = then Closed new p.2 tt
   step_numbered who before after (Settling m) new (Ended (answer.Trouble k)) (sound, p) h = then Closed new p.2 tt
   step_numbered who before after (Settling m) new turn p h = absurd p.1
+  step_numbered who before after (Sweeping m) new More p h = then (Sweeping p.0) new p.2 tt
+  step_numbered who before after (Sweeping m) new (Ended (answer.Swept x)) p h = then Closed new p.2 tt
+  step_numbered who before after (Sweeping m) new (Ended (answer.Trouble k)) p h = then Closed new p.2 tt
+  step_numbered who before after (Sweeping m) new turn p h = absurd p
   step_numbered who before after Closed new turn p h = absurd p
   step_numbered who before after (Idle home) new turn p h = absurd p
   step_numbered who before after (Broken lease) new turn p h = absurd p
@@ -175,6 +181,7 @@ answered_not answer.Value left r e is = on (value_of left) e
     on (Some value) f = absurd (cc)
 answered_not answer.Scan left r e is = absurd (cc)
 answered_not (answer.Settled s) left r e is = absurd (cc)
+answered_not (answer.Swept x) left r e is = absurd (cc)
 answered_not (answer.Trouble trouble.Memory) left r e is = absurd (cc)
 answered_not (answer.Trouble t) left r e is = absurd (cc)
 
@@ -285,6 +292,7 @@ module _ (m n : ℕ) (before after : Seen) (old new : World) (r : Reply) (h : Nu
   keeps_so session o (Wait ticks) one law asks p = absurd asks
   keeps_so session o (Report tree) one law asks p = absurd asks
   keeps_so session o Settle one law asks p = absurd asks
+  keeps_so session o (Sweep t) one law asks p = absurd asks
 
   folds_so : (session tree : ℕ) (asked : Asked) → session ≡ 1 → Asks (event.Tree session tree) asked → Answers m asked before after old new (Ok r) → Numbered n (own_work new)
   folds_so session tree (Session k (Ok request)) one asks (inl p) =
@@ -294,6 +302,7 @@ module _ (m n : ℕ) (before after : Seen) (old new : World) (r : Reply) (h : Nu
   folds_so session tree (Wait ticks) one asks p = absurd asks
   folds_so session tree (Report t) one asks p = absurd asks
   folds_so session tree Settle one asks p = absurd asks
+  folds_so session tree (Sweep t) one asks p = absurd asks
 
   opening_so : (session client : ℕ) (asked : Asked) → session ≡ 1 → r ≡ reply.Begun → Asks (event.Open session client) asked → Answers m asked before after old new (Ok r)
       → Numbered 0 (own_work new)
@@ -304,6 +313,7 @@ module _ (m n : ℕ) (before after : Seen) (old new : World) (r : Reply) (h : Nu
   opening_so session client (Wait ticks) one is asks p = absurd asks
   opening_so session client (Report tree) one is asks p = absurd asks
   opening_so session client Settle one is asks p = absurd asks
+  opening_so session client (Sweep t) one is asks p = absurd asks
 
   committing_so : (session : ℕ) (asked : Asked) → session ≡ 1 → r ≡ reply.Begun → Asks (event.Commit session) asked → Answers m asked before after old new (Ok r)
       → Numbered (n + 1) (own_work new)
@@ -314,6 +324,7 @@ module _ (m n : ℕ) (before after : Seen) (old new : World) (r : Reply) (h : Nu
   committing_so session (Wait ticks) one is asks p = absurd asks
   committing_so session (Report tree) one is asks p = absurd asks
   committing_so session Settle one is asks p = absurd asks
+  committing_so session (Sweep t) one is asks p = absurd asks
 
   -- an opening that does not begin leaves it so
   opens_else : (client : ℕ) → (r ≡ reply.Begun → ⊥) → (a b : Acting) (begun : Result Begun Refused) → Begins (op.Open client) a b begun → RepliesBegun begun b (Ok r) → Numbered n a.work → Numbered n b.work
@@ -331,6 +342,7 @@ module _ (m n : ℕ) (before after : Seen) (old new : World) (r : Reply) (h : Nu
   opening_else session client (Wait ticks) one never asks p = absurd asks
   opening_else session client (Report tree) one never asks p = absurd asks
   opening_else session client Settle one never asks p = absurd asks
+  opening_else session client (Sweep t) one never asks p = absurd asks
 
   -- a commit that is answered at once has taken one at most
   answers_else : (x : Answer) (home : Home) (a b : Acting) → home.attempt ≡ n → CommitsNoted home a.buffer a.cache b.cache b.work (Answered x) → AtMost (n + 1) b.work
@@ -359,6 +371,7 @@ module _ (m n : ℕ) (before after : Seen) (old new : World) (r : Reply) (h : Nu
   committing_else session (Wait ticks) one never asks p = absurd asks
   committing_else session (Report tree) one never asks p = absurd asks
   committing_else session Settle one never asks p = absurd asks
+  committing_else session (Sweep t) one never asks p = absurd asks
 
   -- a note
   noted_so : (noting : Noting) → Does m 1 (Note noting) before after old new (Ok r) → Numbered n (own_work new)
@@ -386,6 +399,7 @@ module _ (m n : ℕ) (before after : Seen) (old new : World) (r : Reply) (h : Nu
   insert_so session tree key payload attr (Wait ticks) one asks p = absurd asks
   insert_so session tree key payload attr (Report t) one asks p = absurd asks
   insert_so session tree key payload attr Settle one asks p = absurd asks
+  insert_so session tree key payload attr (Sweep t) one asks p = absurd asks
 
   -- a run
   runs_on : Runs m 1 before after old new (Ok r) → Numbered n (own_work new)
@@ -402,12 +416,13 @@ module _ (m n : ℕ) (before after : Seen) (old new : World) (r : Reply) (h : Nu
   run_so session (Wait ticks) one asks p = absurd asks
   run_so session (Report tree) one asks p = absurd asks
   run_so session Settle one asks p = absurd asks
+  run_so session (Sweep t) one asks p = absurd asks
 
   -- a settling
   has_work : (k : ℕ) (a : Acting) (world then : World) → 1 ≢ k → Has k a world then → own_work then ≡ own_work world
   has_work k a world then other has = ap (λ (z : Acting). z.work) (has_at k a world then has 1 ∙ at_other k a (session_at world.sessions) 1 other)
 
-  settles_on : (begun : World) → own_work begun ≡ own_work old → SettlesOn (record { session = 0; event = m }) before after begun new (Ok r) → Numbered n (own_work new)
+  settles_on : (begun : World) → own_work begun ≡ own_work old → SettlesOn settles (record { session = 0; event = m }) before after begun new (Ok r) → Numbered n (own_work new)
   settles_on begun is (inl s) =
       let who : Caller = record { session = 0; event = m } in
       let other : 1 ≢ 0 = λ e. absurd (omega (arith, e)) in
@@ -422,6 +437,7 @@ module _ (m n : ℕ) (before after : Seen) (old new : World) (r : Reply) (h : Nu
   settle_so (Session k request) asks p = absurd (cc)
   settle_so (Wait ticks) asks p = absurd (cc)
   settle_so (Report tree) asks p = absurd (cc)
+  settle_so (Sweep tree) asks p = absurd (cc)
 
   line_so : (e : Event) → LoadLine e r → (asked : Asked) → Asks e asked → Answers m asked before after old new (Ok r) → Numbered (number_by e r n) (own_work new)
   line_so (event.Open session client) l asked asks p =

@@ -2,7 +2,7 @@
 use Rattle.std.proofs.Common.{◌≡◌, ◌+◌, ◌-◌, ◌⊎◌, inl, inr, ℕ, zero, suc, Bool, true, false, List, [], ◌∷◌, cond, Option, Some, None, refl, sym, ap, subst, ◌∙◌, arith, eqb-true}
 use Rattle.std.specs.Prelude.{slice_get, All, ◌==◌}
 use Rattle.std.specs.List.{flat_map}
-use Rattle.std.specs.Option.{option_map}
+use Rattle.std.specs.Option.{option_and_then}
 use Rattle.cloud_facts.specs.Book.Records.{StandsAt, IsIn}
 use Rattle.cloud_facts.proofs.Book.Places.{in_either, in_front, in_behind, get_map}
 use Rattle.cloud_facts.proofs.Numbers.Lists.{map_there, filter_there}
@@ -176,9 +176,9 @@ opened_by t client epoch txn traced w =
       head = w.head;
       lands = record {
         site = refl;
-        bytes = w.version.bytes;
-        put = ap (λ k. cond (1 + w.place == 0) None (option_map (λ (v : Version). v.bytes) (slice_get (t.versions name) k))) before
-            ∙ later (1 + w.place == 0) refl ∙ ap (λ (o : Option Version). option_map (λ (v : Version). v.bytes) o) w.there;
+        bytes = w.bytes;
+        put = ap (λ k. cond (1 + w.place == 0) None (option_and_then (λ (v : Version). v.bytes) (slice_get (t.versions name) k))) before
+            ∙ later (1 + w.place == 0) refl ∙ ap (λ (o : Option Version). option_and_then (λ (v : Version). v.bytes) o) w.there ∙ w.put;
         spells = w.spells;
         count = w.count;
         opens = w.opens;
@@ -187,8 +187,8 @@ opened_by t client epoch txn traced w =
       txn_is = w.txn_is;
     }
   where
-    later : (b : Bool) → (1 + w.place == 0) ≡ b → cond b None (option_map (λ (v : Version). v.bytes) (slice_get (t.versions (object.Head client)) w.place))
-        ≡ option_map (λ (v : Version). v.bytes) (slice_get (t.versions (object.Head client)) w.place)
+    later : (b : Bool) → (1 + w.place == 0) ≡ b → cond b None (option_and_then (λ (v : Version). v.bytes) (slice_get (t.versions (object.Head client)) w.place))
+        ≡ option_and_then (λ (v : Version). v.bytes) (slice_get (t.versions (object.Head client)) w.place)
     later false e = refl
     later true e = let zero_is : 1 + w.place ≡ 0 = eqb-true (1 + w.place) 0 e in absurd (omega (arith, zero_is))
 
@@ -199,23 +199,23 @@ was_opened t row client head o = on (row.position == 0) refl o.put
     vs : List Version
     vs = t.versions (object.Head client)
 
-    found : (v : Option Version) → slice_get vs (row.position - 1) ≡ v → option_map (λ (z : Version). z.bytes) v ≡ Some o.bytes → WasOpened t client head.epoch head.txn
-    found (Some v) at e =
-        let same : v.bytes ≡ o.bytes = cc in
-        record {
-          place = row.position - 1;
-          version = v;
-          there = at;
-          head = head;
-          spells = ap head_of same ∙ o.spells;
-          epoch_is = refl;
-          txn_is = refl;
-          count = o.count;
-          opens = o.opens;
-        }
+    found : (v : Option Version) → slice_get vs (row.position - 1) ≡ v → option_and_then (λ (z : Version). z.bytes) v ≡ Some o.bytes → WasOpened t client head.epoch head.txn
+    found (Some v) at e = record {
+      place = row.position - 1;
+      version = v;
+      there = at;
+      bytes = o.bytes;
+      put = e;
+      head = head;
+      spells = o.spells;
+      epoch_is = refl;
+      txn_is = refl;
+      count = o.count;
+      opens = o.opens;
+    }
     found None at e = absurd (cc)
 
-    on : (b : Bool) → (row.position == 0) ≡ b → cond b None (option_map (λ (v : Version). v.bytes) (slice_get vs (row.position - 1))) ≡ Some o.bytes
+    on : (b : Bool) → (row.position == 0) ≡ b → cond b None (option_and_then (λ (v : Version). v.bytes) (slice_get vs (row.position - 1))) ≡ Some o.bytes
         → WasOpened t client head.epoch head.txn
     on true e put = absurd (cc)
     on false e put = found (slice_get vs (row.position - 1)) refl put

@@ -4,7 +4,7 @@ use Rattle.std.specs.Prelude.{slice_get}
 use Rattle.client_work.specs.Session.{Acting, StepsSession, StepsAt}
 use Rattle.client_work.specs.declared.answer.Answer.TheVariants as answer
 use Rattle.client_work.specs.declared.work.Work.{Work}
-use Rattle.client_work.specs.declared.work.Work.TheVariants.{Closed, Idle, Opening, Committing, Reading, Scanning, Looking, Paging, Folding, Closing, Renewing, Settling, Broken}
+use Rattle.client_work.specs.declared.work.Work.TheVariants.{Closed, Idle, Opening, Committing, Reading, Scanning, Looking, Paging, Folding, Closing, Renewing, Settling, Sweeping, Broken}
 use Rattle.cloud_facts.proofs.Book.Names.{at_same}
 use Rattle.cloud_facts.proofs.Book.Places.{get_front, get_map, in_front}
 use Rattle.cloud_facts.proofs.Numbers.Lists.{map_there}
@@ -201,6 +201,7 @@ module _ (lines : List Line) (line : Line) (who : Caller) (wish : Wish) (before 
   by_lines Closed is acts steps has = absurd steps
   by_lines (Closing lease) is acts steps has = absurd steps
   by_lines (Settling m) is acts steps has = absurd acts
+  by_lines (Sweeping m) is acts steps has = absurd acts
   by_lines (Broken lease) is acts steps has = absurd steps
 
   pub step_sends : SentAt u (committed (lines ++ line ∷ []) u) (standing lines who.session).client (standing lines who.session).posture (session_at new.sessions who.session).work (Committed txn)

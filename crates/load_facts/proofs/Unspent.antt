@@ -8,7 +8,7 @@ use Rattle.client_work.specs.declared.answer.Begun.{Begun}
 use Rattle.client_work.specs.declared.answer.Begun.TheVariants.{Working, Answered}
 use Rattle.client_work.specs.declared.op.Op.TheVariants as op
 use Rattle.client_work.specs.declared.work.Work.{Work}
-use Rattle.client_work.specs.declared.work.Work.TheVariants.{Idle, Opening, Committing, Scanning, Looking, Settling}
+use Rattle.client_work.specs.declared.work.Work.TheVariants.{Idle, Opening, Committing, Scanning, Looking, Settling, Sweeping}
 use Rattle.client_work.specs.declared.shown.Shown.{Shown}
 use Rattle.cloud_trait.specs.Caller.{Caller}
 use Rattle.cloud_trait.specs.Seen.{Seen}
@@ -38,7 +38,7 @@ use Rattle.world_core.specs.Replying.{RepliesBegun, RepliesTo, declined, value_r
 use Rattle.world_core.specs.World.{World}
 use Rattle.world_core.specs.declared.world.WorldFault.{WorldFault}
 use Rattle.world_core.specs.declared.asked.Asked.{Asked}
-use Rattle.world_core.specs.declared.asked.Asked.TheVariants.{Session, Wait, Report, Settle}
+use Rattle.world_core.specs.declared.asked.Asked.TheVariants.{Session, Wait, Report, Settle, Sweep}
 use Rattle.world_core.specs.declared.asked.Request.TheVariants.{Begin, Run}
 use Rattle.load_facts.proofs.Fair.{declined_not}
 use Rattle.load_facts.proofs.Numbered.{AtMost, own_work, changes_work}
@@ -59,6 +59,7 @@ answers_commit answer.Value left r y e is = on (value_of left) e
     on (Some value) f = absurd (cc)
 answers_commit answer.Scan left r y e is = absurd (cc)
 answers_commit (answer.Settled s) left r y e is = absurd (cc)
+answers_commit (answer.Swept x) left r y e is = absurd (cc)
 answers_commit (answer.Trouble trouble.Memory) left r y e is = absurd (cc)
 answers_commit (answer.Trouble t) left r y e is = absurd (cc)
 
@@ -74,6 +75,7 @@ module _ (y : CommitAnswer) (is : y ≡ NotCommitted no_attempt) where
   step_unspent who before after (Committing m) new (sound, c, d, p) = steps_unspent who before after m c d new y p is
   step_unspent who before after (Opening m) new p = absurd p.1
   step_unspent who before after (Settling m) new p = absurd p.1
+  step_unspent who before after (Sweeping m) new p = absurd p
   step_unspent who before after (Scanning home m) new (buffer, c, d, shown, p) = lists home buffer (record { scan = p.scan; pairs = m.pairs }) d p.moved new shown p.follows
   step_unspent who before after (Looking home m) new (buffer, c, d, shown, never) = absurd never
   step_unspent who before after w new p = absurd p
@@ -102,6 +104,7 @@ module _ (y : CommitAnswer) (is : y ≡ NotCommitted no_attempt) where
     run_asked session (Wait ticks) asks p = absurd asks
     run_asked session (Report tree) asks p = absurd asks
     run_asked session Settle asks p = absurd asks
+    run_asked session (Sweep t) asks p = absurd asks
 
     -- a run never tells it
     pub run_unspent : (session : ℕ) → Handled m (event.Run session) before after old new (Ok r) → ⊥
@@ -136,6 +139,7 @@ module _ (y : CommitAnswer) (is : y ≡ NotCommitted no_attempt) where
     commit_asked n session (Wait ticks) one few asks p = absurd asks
     commit_asked n session (Report tree) one few asks p = absurd asks
     commit_asked n session Settle one few asks p = absurd asks
+    commit_asked n session (Sweep t) one few asks p = absurd asks
 
     -- a commit of session 1 tells it only behind so many that were begun
     pub commit_spent : (n session : ℕ) → session ≡ 1 → AtMost n (own_work old) → Handled m (event.Commit session) before after old new (Ok r) → 2 ^ 64 - 1 ≤ n

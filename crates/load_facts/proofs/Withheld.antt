@@ -13,6 +13,7 @@ use Rattle.event_text.specs.declared.event.Event.{Event}
 use Rattle.event_text.specs.declared.event.Event.TheVariants as event
 use Rattle.reply_text.specs.declared.reply.Reply.{Reply}
 use Rattle.session_facts.proofs.Steps.{made_call}
+use Rattle.session_facts.specs.Errands.{Errand, settles, sweeps}
 use Rattle.world_core.proofs.StandsLemmas.{no_memory}
 use Rattle.world_core.specs.Asked.{Asks}
 use Rattle.world_core.specs.EachStep.{EachWent, EachCome, EachSettlingOn, EachSettling, EachAsked, EachStep}
@@ -20,7 +21,7 @@ use Rattle.world_core.specs.Handled.{Declines, StepsLooked, MakesStep, Went, sta
 use Rattle.world_core.specs.Settled.{StepDelivers}
 use Rattle.world_core.specs.World.{World}
 use Rattle.world_core.specs.declared.asked.Asked.{Asked}
-use Rattle.world_core.specs.declared.asked.Asked.TheVariants.{Session, Wait, Report, Settle}
+use Rattle.world_core.specs.declared.asked.Asked.TheVariants.{Session, Wait, Report, Settle, Sweep}
 use Rattle.world_core.specs.declared.asked.Request.{Request}
 use Rattle.world_core.specs.declared.asked.Request.TheVariants.{Begin, Note, Abort, Policy, Work as WorksDue, Step, Run, Crash}
 
@@ -140,9 +141,9 @@ module _ (n : ℕ) (before after : Seen) (old new : World) (r : Reply) where
   does k Run h = run k h
   does k (Crash done) h = crash k done h
 
-  settling : (who : Caller) (begun : World) → SettlesOn who before after begun new (Ok r) → Withholds before after
-  settling who begun (inl s) = comes who before after begun s.left s.answer s.comes
-  settling who begun (inr memory) = absurd (no_memory r memory.0)
+  settling : (errand : Errand) (who : Caller) (begun : World) → SettlesOn errand who before after begun new (Ok r) → Withholds before after
+  settling errand who begun (inl s) = comes who before after begun s.left s.answer s.comes
+  settling errand who begun (inr memory) = absurd (no_memory r memory.0)
 
   asked : (a : Asked) → Answers n a before after old new (Ok r) → Withholds before after
   asked (Session k (Ok request)) (inl h) = does k request h.1
@@ -151,16 +152,19 @@ module _ (n : ℕ) (before after : Seen) (old new : World) (r : Reply) where
   asked (Wait ticks) (inl h) = let e = ap (λ (c : Counts). c.withheld) h.0.no_call.counts in omega (arith, e)
   asked (Wait ticks) (inr long) = declines _ long.declines
   asked (Report tree) h = let e = h.looked.withheld in omega (arith, e)
-  asked Settle (inl h) = settling _ h.begun h.settles
+  asked Settle (inl h) = settling settles _ h.begun h.settles
   asked Settle (inr memory) = absurd (no_memory r memory.0)
+  asked (Sweep (Ok tree)) (is, inl h) = settling (sweeps tree) _ h.begun h.settles
+  asked (Sweep (Ok tree)) (is, inr memory) = absurd (no_memory r memory.0)
+  asked (Sweep (Err why)) h = declines why h
 
   -- a settling in which the count did not rise delivered in each step
-  settling_delivers : (begun : World) → (s : SettlesOn (record { session = 0; event = n }) before after begun new (Ok r)) → after.counts.withheld ≤ before.counts.withheld
-      → EachSettlingOn StepDelivers (record { session = 0; event = n }) before after begun new (Ok r) s
+  settling_delivers : (begun : World) → (s : SettlesOn settles (record { session = 0; event = n }) before after begun new (Ok r)) → after.counts.withheld ≤ before.counts.withheld
+      → EachSettlingOn StepDelivers settles (record { session = 0; event = n }) before after begun new (Ok r) s
   settling_delivers begun (inl s) still = comes_delivers _ before after begun s.left s.answer s.comes still
   settling_delivers begun (inr memory) still = tt
 
-  settles_deliver : (s : Settles n before after old new (Ok r)) → after.counts.withheld ≤ before.counts.withheld → EachSettling StepDelivers n before after old new (Ok r) s
+  settles_deliver : (s : Settles settles n before after old new (Ok r)) → after.counts.withheld ≤ before.counts.withheld → EachSettling StepDelivers settles n before after old new (Ok r) s
   settles_deliver (inl h) still = settling_delivers h.begun h.settles still
   settles_deliver (inr memory) still = tt
 
@@ -170,6 +174,7 @@ module _ (n : ℕ) (before after : Seen) (old new : World) (r : Reply) where
   asked_delivers (Session k request) asks h still = absurd (cc)
   asked_delivers (Wait ticks) asks h still = absurd (cc)
   asked_delivers (Report tree) asks h still = absurd (cc)
+  asked_delivers (Sweep tree) asks h still = absurd (cc)
 
 -- the count does not fall in a line that was handled
 pub handled_withholds : (n : ℕ) (e : Event) (before after : Seen) (old new : World) (r : Reply) → Handled n e before after old new (Ok r) → Withholds before after

@@ -36,8 +36,10 @@ pub record WasOpened (t : CloudState) (client epoch txn : ℕ) : Type 0 where
   pub place : ℕ
   pub version : Version
   pub there : slice_get (t.versions (HeadName client)) place ≡ Some version
+  pub bytes : List ℕ
+  pub put : version.bytes ≡ Some bytes
   pub head : Head
-  pub spells : head_of version.bytes ≡ Some head
+  pub spells : head_of bytes ≡ Some head
   pub epoch_is : head.epoch ≡ epoch
   pub txn_is : head.txn ≡ txn
   pub count : ℕ

@@ -1,4 +1,4 @@
-//! Tests of what the program runs: replays, generated schedules, shells, settlings, dumps and loads.
+//! Tests of what the program runs: replays, generated schedules, shells, settlings, sweeps, dumps and loads.
 #![tactic(auto)]
 
 #[cfg(test)]
@@ -37,6 +37,8 @@ mod shells;
 mod short_loads;
 #[cfg(test)]
 mod sizes;
+#[cfg(test)]
+mod sweeps;
 #[cfg(test)]
 mod theorem;
 #[cfg(test)]

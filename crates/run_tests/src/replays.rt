@@ -15,7 +15,7 @@ fn replays_the_worked_example(rt: HostRuntime) {
     assert!(rt; writes(rt.alloc(), WORKED, Status::Done, WORKED_OUT));
 }
 
-const ROWS: [(&[u8], Status, &[u8]); 10] = [
+const ROWS: [(&[u8], Status, &[u8]); 11] = [
     (b"", Status::Done, b""),
     (
         b"open 1 1\nrun 1\ncommit 1\nrun 1\n",
@@ -61,6 +61,11 @@ const ROWS: [(&[u8], Status, &[u8]); 10] = [
         b"open 1 1\nrun 1\nopen 2 1\nrun 2\ninsert 1 1 6b 76\ncommit 1\nstep 1 plain\ncrash 1 done\nreport 1\nwait 600\nopen 2 1\nrun 2\nreport 1\n",
         Status::Done,
         b"1 begun\n2 opened 1\n3 begun\n4 busy client:1 600\n5 noted\n6 begun\n7 called\n8 crashed\n9 report 1\ncommitted 1\n1 1 1 insert 6b 76\norder 0\ncontents 0\nleft 1 0\n10 waited\n11 begun\n12 opened 2\n13 report 1\ncommitted 1\n1 1 1 insert 6b 76\norder 0\ncontents 0\nleft 0 1\n",
+    ),
+    (
+        b"sweep 17\nsweep 1\nopen 1 1\nrun 1\ninsert 1 1 6b 76\ncommit 1\nrun 1\ntree 1 1\nrun 1\nsweep 1\nsweep 2\nreport 1\nsweep 0\nsweep 01\n",
+        Status::BadLine,
+        b"1 refused 5 bad-number\n2 swept 0 0\n3 begun\n4 opened 1\n5 noted\n6 begun\n7 committed 1\n8 begun\n9 done 1 1 0\n10 swept 1 0\n11 swept 0 0\n12 report 1\ncommitted 1\n1 1 1 insert 6b 76\norder 1\n1 1 1 insert 6b 76\ncontents 1\n6b 76\nleft 0 0\n13 refused 5 bad-number\nbad line 14\n",
     ),
 ];
 

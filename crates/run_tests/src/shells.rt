@@ -18,7 +18,7 @@ fn sums_a_generated_schedule(rt: HostRuntime) {
 }
 
 /// Shells one after the other.
-const SHELLS: [(&[&str], &[u8], Status, &[u8]); 4] = [
+const SHELLS: [(&[&str], &[u8], Status, &[u8]); 5] = [
     (
         &["shell", "1", "db"],
         b"insert 1 6b 76\ncommit\ntree 1\nread 1 6b\n",
@@ -45,6 +45,13 @@ const SHELLS: [(&[&str], &[u8], Status, &[u8]); 4] = [
         b"",
         Status::Done,
         b"0 opened 1\n1 closed\n",
+    ),
+    // A sweep is the settler's.
+    (
+        &["shell", "3", "db"],
+        b"sweep 1\n",
+        Status::BadLine,
+        b"0 opened 1\nbad line 1\n",
     ),
 ];
 

@@ -17,6 +17,7 @@ use Rattle.session_facts.proofs.BookLemmas.{was_left, empty_left}
 use Rattle.session_facts.proofs.StartLemmas.{closed_at}
 use Rattle.session_facts.specs.Acknowledged.{IsKeptReply}
 use Rattle.client_work.specs.declared.work.Work.{Work}
+use Rattle.session_facts.specs.Errands.{settles}
 use Rattle.session_facts.specs.Facts.{session_at, SomeBookStands, WasLeft}
 use Rattle.session_facts.specs.LeftNone.{IsLeftReply}
 use Rattle.session_facts.specs.Sessions.Sessions.{Sessions}
@@ -33,7 +34,7 @@ use Rattle.world_core.specs.Replying.{RepliesSettled, unsettled_reply}
 use Rattle.world_core.specs.Stands.{LeftIsRight}
 use Rattle.world_core.specs.World.{World}
 use Rattle.world_core.specs.declared.asked.Asked.{Asked}
-use Rattle.world_core.specs.declared.asked.Asked.TheVariants.{Session, Wait, Report, Settle}
+use Rattle.world_core.specs.declared.asked.Asked.TheVariants.{Session, Wait, Report, Settle, Sweep}
 use Rattle.world_core.specs.declared.world.WorldFault.{WorldFault}
 use Rattle.schedule_run.proofs.SoundLemmas.{leaves_so, ends_so}
 use Rattle.schedule_run.specs.Answered.{IsNew, WentOn, start, further, SettlesSo, AreSettled, IsOfRuns, LeavesOne}
@@ -63,6 +64,7 @@ no_run lines n Settle before after old new result is answers = tt
 no_run lines n (Session k request) before after old new result is answers = absurd (cc (is))
 no_run lines n (Wait ticks) before after old new result is answers = tt
 no_run lines n (Report tree) before after old new result is answers = tt
+no_run lines n (Sweep tree) before after old new result is answers = absurd (cc (is))
 
 -- and none of a checkpoint
 no_checkpoint : (n : ℕ) (asked : Asked) (before after : Seen) (old new : World) (result : Result Reply WorldFault) → asked ≡ Settle → (answers : Answers n asked before after old new result)
@@ -71,6 +73,7 @@ no_checkpoint n Settle before after old new result is answers = tt
 no_checkpoint n (Session k request) before after old new result is answers = absurd (cc (is))
 no_checkpoint n (Wait ticks) before after old new result is answers = tt
 no_checkpoint n (Report tree) before after old new result is answers = tt
+no_checkpoint n (Sweep tree) before after old new result is answers = absurd (cc (is))
 
 -- and passes none over
 no_passed : (n : ℕ) (asked : Asked) (before after : Seen) (old new : World) (result : Result Reply WorldFault) → asked ≡ Settle → (answers : Answers n asked before after old new result)
@@ -79,6 +82,7 @@ no_passed n Settle before after old new result is answers = tt
 no_passed n (Session k request) before after old new result is answers = absurd (cc (is))
 no_passed n (Wait ticks) before after old new result is answers = tt
 no_passed n (Report tree) before after old new result is answers = tt
+no_passed n (Sweep tree) before after old new result is answers = absurd (cc (is))
 
 -- what holds of each reply to a settling holds of its own
 unsettled_is : (P : Reply → Type 0) (r : Reply) (q : Trouble) → ((k : Trouble) → P (reply.NotSettled k)) → (let result : Result Reply WorldFault = Ok r in result ≡ unsettled_reply q) → P r
@@ -86,7 +90,7 @@ unsettled_is P r trouble.Memory each e = absurd (cc (e))
 unsettled_is P r q each e = let is : r ≡ reply.NotSettled q = cc (e) in subst P (sym is) (each q)
 
 settled_is : (P : Reply → Type 0) → ((calls : ℕ) → P (reply.Settled calls)) → ((k : Trouble) → P (reply.NotSettled k)) → (n : ℕ) (before after : Seen) (old new : World) (r : Reply)
-    → SettlesLine n before after old new (Ok r) → P r
+    → SettlesLine settles n before after old new (Ok r) → P r
 settled_is P settled unsettled n before after old new r (inr memory) = absurd (no_memory r memory.0)
 settled_is P settled unsettled n before after old new r (inl h) = by_end h.settles
   where
@@ -95,19 +99,19 @@ settled_is P settled unsettled n before after old new r (inl h) = by_end h.settl
     replied (answer.Trouble q) e = unsettled_is P r q unsettled e
     replied a e = absurd e
 
-    by_end : SettlesOn (record { session = 0; event = n }) before after h.begun new (Ok r) → P r
+    by_end : SettlesOn settles (record { session = 0; event = n }) before after h.begun new (Ok r) → P r
     by_end (inr memory) = absurd (no_memory r memory.0)
     by_end (inl s) = replied s.answer s.replies
 
 -- it acknowledges nothing, ends no commit, and is no report
-settled_keeps : (entries : List Entry) (client : ℕ) (posture : Posture) (n : ℕ) (before after : Seen) (old new : World) (r : Reply) → SettlesLine n before after old new (Ok r)
+settled_keeps : (entries : List Entry) (client : ℕ) (posture : Posture) (n : ℕ) (before after : Seen) (old new : World) (r : Reply) → SettlesLine settles n before after old new (Ok r)
     → IsKeptReply entries client posture r
 settled_keeps entries client posture = settled_is (IsKeptReply entries client posture) (λ calls. tt) (λ k. tt)
 
-settled_counts : (u : CloudState) (n : ℕ) (before after : Seen) (old new : World) (r : Reply) → SettlesLine n before after old new (Ok r) → LeftIsRight u r
+settled_counts : (u : CloudState) (n : ℕ) (before after : Seen) (old new : World) (r : Reply) → SettlesLine settles n before after old new (Ok r) → LeftIsRight u r
 settled_counts u = settled_is (LeftIsRight u) (λ calls. tt) (λ k. tt)
 
-settled_commits : (entries : List Entry) (posture : Posture) (work : Work) (n : ℕ) (before after : Seen) (old new : World) (r : Reply) → SettlesLine n before after old new (Ok r)
+settled_commits : (entries : List Entry) (posture : Posture) (work : Work) (n : ℕ) (before after : Seen) (old new : World) (r : Reply) → SettlesLine settles n before after old new (Ok r)
     → IsLeftReply entries posture work r
 settled_commits entries posture work = settled_is (IsLeftReply entries posture work) (λ calls. tt) (λ k. tt)
 

@@ -15,6 +15,7 @@ use Rattle.load_plan.specs.declared.first_look.LookStop.{LookStop}
 use Rattle.load_plan.specs.declared.first_look.LookStop.TheVariants as look
 use Rattle.load_plan.proofs.EventLemmas.{Each, each_both, each_first, each_last, before_settling, load_split, load_each}
 use Rattle.reply_text.specs.declared.reply.Reply.{Reply}
+use Rattle.session_facts.specs.Errands.{settles}
 use Rattle.world_core.specs.Asked.{Asks}
 use Rattle.world_core.specs.Handled.{IsNewestCall, Went, start, further, StopsShort, FallsShort, ComesTo, Runs, RunsTo, Settles, SettlesOn, Does, Serves, Answers, Handled}
 use Rattle.world_core.specs.World.{World}
@@ -96,10 +97,10 @@ runs_plain n number a b old new (Ok r) own (inr (inl run)) = comes_plain (record
 runs_plain n number a b old new (Err why) own (inr (inl run)) = comes_plain (record { session = number; event = n }) a b old run.left run.answer own run.comes
 runs_plain n number a b old new result own (inr (inr memory)) = short_plain (record { session = number; event = n }) a b old new own memory.1
 
-settles_plain : (n : ℕ) (a b : Seen) (old new : World) (result : Result Reply WorldFault) → Settles n a b old new result → CallsPlainly a b
-settles_plain n a b old new result (inl settles) = on settles.begun settles.settles
+settles_plain : (n : ℕ) (a b : Seen) (old new : World) (result : Result Reply WorldFault) → Settles settles n a b old new result → CallsPlainly a b
+settles_plain n a b old new result (inl goes) = on goes.begun goes.settles
   where
-    on : (begun : World) → SettlesOn (record { session = 0; event = n }) a b begun new result → CallsPlainly a b
+    on : (begun : World) → SettlesOn settles (record { session = 0; event = n }) a b begun new result → CallsPlainly a b
     on begun (inl to) = comes_plain (record { session = 0; event = n }) a b begun to.left to.answer (inl refl) to.comes
     on begun (inr memory) = short_plain (record { session = 0; event = n }) a b begun memory.1.left (inl refl) memory.1.stops
 settles_plain n a b old new result (inr memory) = plain_none a b memory.1.seen
@@ -122,6 +123,7 @@ IsPlainAsked (asked.Session number r) = (number ≡ 1) × IsPlainServed r
 IsPlainAsked asked.Settle = Unit {0}
 IsPlainAsked (asked.Wait ticks) = ⊥
 IsPlainAsked (asked.Report tree) = ⊥
+IsPlainAsked (asked.Sweep tree) = ⊥
 
 abbrev pub IsPlainLine : Event → Type 0
 IsPlainLine e = (q : Asked) → Asks e q → IsPlainAsked q
@@ -143,6 +145,7 @@ answers_plain n (asked.Session number r) a b old new result plain (inr none) = p
 answers_plain n asked.Settle a b old new result plain answers = settles_plain n a b old new result answers
 answers_plain n (asked.Wait ticks) a b old new result plain answers = absurd plain
 answers_plain n (asked.Report tree) a b old new result plain answers = absurd plain
+answers_plain n (asked.Sweep tree) a b old new result plain answers = absurd plain
 
 handled_plain : (n : ℕ) (e : Event) (a b : Seen) (old new : World) (result : Result Reply WorldFault) → IsPlainLine e → Handled n e a b old new result → CallsPlainly a b
 handled_plain n e a b old new result plain handled = answers_plain n handled.asked a b old new result (plain handled.asked handled.asks) handled.answers
@@ -155,6 +158,7 @@ plain_opening (asked.Session number (Err why)) asks = (asks.0, tt)
 plain_opening asked.Settle asks = tt
 plain_opening (asked.Wait ticks) asks = absurd asks
 plain_opening (asked.Report tree) asks = absurd asks
+plain_opening (asked.Sweep tree) asks = absurd asks
 
 plain_insert : (p : Placed) → IsPlainLine (insert_of p)
 plain_insert p (asked.Session number (Ok (request.Note noting))) asks = (asks.0, tt)
@@ -163,12 +167,14 @@ plain_insert p (asked.Session number (Err why)) asks = (asks.0, tt)
 plain_insert p asked.Settle asks = tt
 plain_insert p (asked.Wait ticks) asks = absurd asks
 plain_insert p (asked.Report tree) asks = absurd asks
+plain_insert p (asked.Sweep tree) asks = absurd asks
 
 plain_commit : IsPlainLine (event.Commit 1)
 plain_commit (asked.Session number r) asks = (asks.0, subst IsPlainServed (sym asks.1) tt)
 plain_commit asked.Settle asks = tt
 plain_commit (asked.Wait ticks) asks = absurd asks
 plain_commit (asked.Report tree) asks = absurd asks
+plain_commit (asked.Sweep tree) asks = absurd asks
 
 plain_checkpoint : (tree : ℕ) → IsPlainLine (event.Tree 1 tree)
 plain_checkpoint tree (asked.Session number (Ok r)) (one, (of, is)) = (one, subst IsPlainRequest (sym is) tt)
@@ -176,24 +182,28 @@ plain_checkpoint tree (asked.Session number (Err why)) asks = (asks.0, tt)
 plain_checkpoint tree asked.Settle asks = tt
 plain_checkpoint tree (asked.Wait ticks) asks = absurd asks
 plain_checkpoint tree (asked.Report of) asks = absurd asks
+plain_checkpoint tree (asked.Sweep of) asks = absurd asks
 
 plain_renewal : IsPlainLine (event.Renew 1)
 plain_renewal (asked.Session number r) asks = (asks.0, subst IsPlainServed (sym asks.1) tt)
 plain_renewal asked.Settle asks = tt
 plain_renewal (asked.Wait ticks) asks = absurd asks
 plain_renewal (asked.Report tree) asks = absurd asks
+plain_renewal (asked.Sweep tree) asks = absurd asks
 
 plain_closing : IsPlainLine (event.Close 1)
 plain_closing (asked.Session number r) asks = (asks.0, subst IsPlainServed (sym asks.1) tt)
 plain_closing asked.Settle asks = tt
 plain_closing (asked.Wait ticks) asks = absurd asks
 plain_closing (asked.Report tree) asks = absurd asks
+plain_closing (asked.Sweep tree) asks = absurd asks
 
 plain_run : IsPlainLine (event.Run 1)
 plain_run (asked.Session number r) asks = (asks.0, subst IsPlainServed (sym asks.1) tt)
 plain_run asked.Settle asks = tt
 plain_run (asked.Wait ticks) asks = absurd asks
 plain_run (asked.Report tree) asks = absurd asks
+plain_run (asked.Sweep tree) asks = absurd asks
 
 plain_settling : IsPlainLine event.Settle
 plain_settling q asks = subst IsPlainAsked (sym asks) tt

@@ -2,7 +2,7 @@
 use Rattle.std.proofs.Common.{◌≡◌, ◌<◌, ◌≤◌, ◌+◌, ◌-◌, ◌⊎◌, ℕ, zero, suc, Bool, true, false, List, [], ◌∷◌, ◌++◌, length, take, Option, Some, Ok, Err, refl, sym, ap, ap₂, subst, ◌∙◌, inl, inr, append_assoc, arith, length-append}
 use Rattle.std.specs.Prelude.{slice_get, All, cond, None}
 use Rattle.std.specs.Bool.{◌==◌}
-use Rattle.std.specs.Option.{option_map}
+use Rattle.std.specs.Option.{option_and_then}
 use Rattle.std.proofs.lemmas.Bool.{cases_lt}
 use Rattle.std.proofs.lemmas.List.{take-append-le}
 use Rattle.std.proofs.lemmas.List.Concat.{flat_map-append}
@@ -33,6 +33,7 @@ use Rattle.reply_text.specs.declared.reply.Reply.{Reply}
 use Rattle.reply_text.specs.declared.reply.Reply.TheVariants as reply
 use Rattle.txn_buffer.specs.Noted.{Noted}
 use Rattle.session_facts.specs.Acknowledged.{IsKeptAt, IsKeptReply}
+use Rattle.session_facts.specs.Errands.{Errand, settles, sweeps}
 use Rattle.session_facts.specs.Facts.{IsPlaced, IsPlacedAt}
 use Rattle.session_facts.proofs.Acknowledged.{kept_on}
 use Rattle.session_facts.proofs.CommittedLemmas.{committed_same, committed_line, slice_get-append_left}
@@ -41,7 +42,7 @@ use Rattle.db_base.specs.declared.names.QueueName.{QueueName}
 use Rattle.ckpt_policy.specs.declared.role.Role.{Role}
 use Rattle.world_core.specs.World.{World}
 use Rattle.world_core.specs.declared.asked.Asked.{Asked}
-use Rattle.world_core.specs.declared.asked.Asked.TheVariants.{Session, Wait, Report, Settle}
+use Rattle.world_core.specs.declared.asked.Asked.TheVariants.{Session, Wait, Report, Settle, Sweep}
 use Rattle.world_core.specs.declared.asked.Request.{Request}
 use Rattle.world_core.specs.declared.asked.Request.TheVariants.{Begin, Note, Abort, Policy, Work as WorksDue, Step, Run, Crash}
 use Rattle.world_core.specs.Handled.{SetsWish, StepsLooked, Went, start as went_start, further as went_further, ComesTo, MakesStep, Runs, Crashes, SettlesOn, Settles, Does, Answers, Policies, Works, WorksThrough, checkpoint_more, no_checkpoint}
@@ -181,13 +182,13 @@ module _ (n : ℕ) (before after : Seen) (old new : World) (r : Reply) where
   lands_does k Run h = lands_run k h
   lands_does k (Crash done) h = lands_crash k done h
 
-  lands_settled : (begun : World) → SettlesOn (who 0) before after begun new (Ok r) → Lands n before after
-  lands_settled begun (inl s) = lands_come (who 0) before after begun s.left s.answer s.comes
-  lands_settled begun (inr memory) = absurd (no_memory r memory.0)
+  lands_settled : (errand : Errand) (begun : World) → SettlesOn errand (who 0) before after begun new (Ok r) → Lands n before after
+  lands_settled errand begun (inl s) = lands_come (who 0) before after begun s.left s.answer s.comes
+  lands_settled errand begun (inr memory) = absurd (no_memory r memory.0)
 
-  lands_settles : Settles n before after old new (Ok r) → Lands n before after
-  lands_settles (inl h) = lands_settled h.begun h.settles
-  lands_settles (inr memory) = absurd (no_memory r memory.0)
+  lands_settles : (errand : Errand) → Settles errand n before after old new (Ok r) → Lands n before after
+  lands_settles errand (inl h) = lands_settled errand h.begun h.settles
+  lands_settles errand (inr memory) = absurd (no_memory r memory.0)
 
   pub lands_asked : (asked : Asked) → Answers n asked before after old new (Ok r) → Lands n before after
   lands_asked (Session k (Ok request)) (inl served) = lands_does k request served.1
@@ -196,7 +197,9 @@ module _ (n : ℕ) (before after : Seen) (old new : World) (r : Reply) where
   lands_asked (Wait ticks) (inl waits) = lands_wait n ticks before after waits.0.waited
   lands_asked (Wait ticks) (inr long) = lands_same n before after long.declines.seen
   lands_asked (Report tree) reports = lands_not n before after reports.looked.stays
-  lands_asked Settle settles = lands_settles settles
+  lands_asked Settle goes = lands_settles settles goes
+  lands_asked (Sweep (Ok tree)) (is, goes) = lands_settles (sweeps tree) goes
+  lands_asked (Sweep (Err why)) declines = lands_same n before after declines.seen
 
 -- ---- what was committed stays
 
@@ -204,7 +207,7 @@ version_kept : (vs more : List Version) (k : ℕ) → k ≤ length vs → versio
 version_kept vs more zero h = refl
 version_kept vs more (suc i) h =
     let before : suc i - 1 < length vs = omega arith in
-    ap (λ (o : Option Version). cond (suc i == 0) None (option_map (λ (x : Version). x.bytes) o)) (slice_get-append_left vs more (suc i - 1) before)
+    ap (λ (o : Option Version). cond (suc i == 0) None (option_and_then (λ (x : Version). x.bytes) o)) (slice_get-append_left vs more (suc i - 1) before)
 
 -- what a row that is placed commits stays under more versions
 site_kept : (changes : List Noted) (v w : Versions) → ((name : ObjName) → BeginsWith (v name) (w name)) → (position : ℕ) (site : Site) → IsPlacedAt v position site

@@ -28,9 +28,9 @@ use std::alloc::Global;
 /// How many records a transaction takes.
 const PART: u64 = 200;
 
-/// How many puts and sends a load makes at most, far more than the longest text takes: 2^27 - 1. Before as many landed no counter
-/// of a store that was empty is spent.
-pub const MOST_LANDINGS: u64 = 134_217_727;
+/// How many service calls a load makes at most, far more than the longest text takes: 2^27 - 1. Before as many puts and sends
+/// landed no counter of a store that was empty is spent.
+pub const MOST_CALLS: u64 = 134_217_727;
 
 /// What a load did.
 #[derive(Clone, Copy, Debug, PartialEq, Eq)]
@@ -54,12 +54,12 @@ pub enum LoadStop {
     Commit(CommitAnswer),
     /// The settling stopped.
     Settling(Trouble),
-    /// Memory ran out, or as many puts and sends were made as the load may make.
+    /// Memory ran out, or as many calls were made as the load may make.
     Memory,
 }
 
-/// Commits the records of a dump to an empty database, 200 a transaction, by session 1 of client 1, and settles. One put or send more
-/// than `most`, which is below 2^27, is not made: the load stops as where memory ran out.
+/// Commits the records of a dump to an empty database, 200 a transaction, by session 1 of client 1, and settles. One call more than
+/// `most`, which is below 2^27, is not made: the load stops as where memory ran out.
 pub fn load<C: Bench>(
     alloc: Global,
     cloud: &mut C,

@@ -4,7 +4,7 @@ ghost use Rattle.db_io.specs.Output.{WasWritten};
 ghost use Rattle.run_text.specs.Written.{bad_line, plain_line};
 ghost use Rattle.schedule_run.specs.Loading.{FillEnded, FillWent, SpellsNoDump, Tells, end_of, load_end, load_text};
 
-use crate::load::{LoadStop, Loaded, MOST_LANDINGS, load};
+use crate::load::{LoadStop, Loaded, MOST_CALLS, load};
 use cloud_trait::cloud::Bench;
 use db_io::output::{OutputFault, write_text};
 use db_io::sink::Sink;
@@ -97,7 +97,7 @@ fn fill_from<O: Sink, C: Bench>(
     ensures good { result ≡ Err LoadingFault.BadLine → ⊥ }
     ensures went { FillWent dump.now.trees result (O.told sink.old) (O.told sink.new) (C.seen cloud.old) (C.seen cloud.new) }
 {
-    match load(alloc, cloud, dump, MOST_LANDINGS) {
+    match load(alloc, cloud, dump, MOST_CALLS) {
         Ok(loaded) => write_loaded(alloc, sink, loaded),
         Err(stop) => write_stop(alloc, sink, stop),
     }

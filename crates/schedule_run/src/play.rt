@@ -18,7 +18,7 @@ pub(crate) struct Play<S: SessionCalls> {
     world: World<S>,
     // How many events it has handled.
     handled: u64,
-    // How many puts and sends it may still make.
+    // How many calls it may still make.
     quota: Quota,
 }
 
@@ -62,7 +62,7 @@ impl<S: SessionCalls> Play<S> {
         Play::within(alloc, u64::MAX)
     }
 
-    /// The same for events that make at most so many puts and sends. Refused for memory alone.
+    /// The same for events that make at most so many calls. Refused for memory alone.
     pub fn within(alloc: Global, most: u64) -> Result<Play<S>, Refused>
         ensures fresh { IfOk result (λ play. IsFresh true play) }
         ensures left { IfOk result (λ play. play.left ≡ most) }
@@ -75,7 +75,7 @@ impl<S: SessionCalls> Play<S> {
         })
     }
 
-    /// Handles the next event. A put or send that it may not make any more is told as want of memory.
+    /// Handles the next event. A call that it may not make any more is told as want of memory.
     pub fn take<C: Bench>(
         &mut self,
         alloc: Global,

@@ -303,7 +303,7 @@ root_slip before tree result e is slip = shown_always before object.Tree (RootFo
 
 version_of : Bytes → List Version
 version_of None = []
-version_of (Some bytes) = record { who = record { session = 0; event = 0 }; bytes = bytes } ∷ []
+version_of (Some bytes) = record { who = record { session = 0; event = 0 }; bytes = Some bytes } ∷ []
 
 newest_is : (bytes : Bytes) → newest_of (version_of bytes) ≡ bytes
 unfolding version_of

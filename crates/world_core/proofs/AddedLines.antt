@@ -16,19 +16,20 @@ use Rattle.client_work.specs.Session.{Acting, rule_of, paging_begun_by, folding_
 use Rattle.replay_meaning.specs.Standing.{Line, Standing, standing, after_own, session_of, joins}
 use Rattle.session_facts.specs.Facts.{ActsAs}
 use Rattle.session_facts.proofs.LineLemmas.{line_of, refused_own}
+use Rattle.session_facts.specs.Errands.{settles, sweeps}
 use Rattle.world_core.specs.World.{World}
 use Rattle.world_core.specs.declared.asked.Noting.{Noting}
 use Rattle.world_core.specs.declared.asked.Request.{Request}
 use Rattle.world_core.specs.declared.asked.Request.TheVariants.{Begin, Note, Abort, Policy, Work as WorksDue, Step, Run, Crash}
 use Rattle.world_core.specs.declared.asked.Asked.{Asked}
-use Rattle.world_core.specs.declared.asked.Asked.TheVariants.{Session, Wait, Report, Settle}
+use Rattle.world_core.specs.declared.asked.Asked.TheVariants.{Session, Wait, Report, Settle, Sweep}
 use Rattle.world_core.specs.Asked.{bound_of, IsOpening, IsReading, IsScanning, IsLookingUp, IsPaging, IsFolding, IsNoted, IsStep, OfSession, Asks, noting_of}
 use Rattle.world_core.specs.Replying.{done_reply}
 use Rattle.world_core.specs.Sessions.{NotesIn, AbortsIn, joined}
 use Rattle.world_core.specs.Handled.{NotesChange, DropsChanges, Does, Answers, Handled}
 use Rattle.world_core.specs.Added.{WorldAdds}
 use Rattle.world_core.proofs.WorkerRows.{adds_work}
-use Rattle.world_core.proofs.AddedSteps.{adds_policy, adds_declined, adds_quietly, adds_step, adds_run, adds_crash, adds_settle, adds_wait, adds_report}
+use Rattle.world_core.proofs.AddedSteps.{adds_policy, adds_declined, adds_quietly, adds_step, adds_run, adds_crash, adds_errand, adds_wait, adds_report}
 use Rattle.world_core.proofs.BeginLemmas.{IsOk, refused_is, opens, has_in_hand, commits, reads, scans, looks, works_with}
 use Rattle.world_core.proofs.EveryLine.{does_own, asked_is}
 
@@ -47,6 +48,7 @@ request_adds n k event Is (Session number request) before after old new r lines 
 request_adds n k event Is (Wait ticks) before after old new r lines first belongs answers w served = absurd belongs
 request_adds n k event Is (Report tree) before after old new r lines first belongs answers w served = absurd belongs
 request_adds n k event Is Settle before after old new r lines first belongs answers w served = absurd belongs
+request_adds n k event Is (Sweep tree) before after old new r lines first belongs answers w served = absurd belongs
 
 -- ---- a change is noted, and changes are dropped
 
@@ -182,7 +184,11 @@ module _ (n : ℕ) (before after : Seen) (old new : World) (r : Reply) (lines : 
   asked_adds (event.Report tree) asked asks answers =
       adds_report lines first tree r before after old new w (subst (λ z. Answers n z before after old new (Ok r)) asks answers)
   asked_adds event.Settle asked asks answers =
-      adds_settle lines first n r before after old new at w (subst (λ z. Answers n z before after old new (Ok r)) asks answers)
+      adds_errand settles lines first n r before after old new at w (subst (λ z. Answers n z before after old new (Ok r)) asks answers)
+  asked_adds (event.Sweep number) (Sweep (Ok tree)) asks answers =
+      subst (λ (k : ℕ). WorldAdds (lines ++ line_of (event.Sweep k) r ∷ []) first new after) asks.0 (adds_errand (sweeps tree) lines first n r before after old new at w answers.1)
+  asked_adds (event.Sweep number) (Sweep (Err why)) asks answers = adds_declined lines (event.Sweep number) r why first before after old new answers w
+  asked_adds (event.Sweep number) asked asks answers = absurd asks
   asked_adds e asked asks answers = by_request (session_of e) e (IsNoted (noting_of e)) asked asks answers
       (λ request some is done. noted_adds lines e n (session_of e) (noting_of e) request before after old new r first refl some (λ q z. refl) w is done)
 

@@ -4,7 +4,6 @@ use Rattle.cloud_trait.specs.Caller.{Caller}
 use Rattle.cloud_trait.specs.Seen.{Seen}
 use Rattle.cloud_trait.specs.State.{CloudState}
 use Rattle.client_work.specs.declared.answer.Answer.{Answer}
-use Rattle.client_work.specs.Session.{settling_session}
 use Rattle.db_base.specs.declared.wish.Wish.{Wish}
 use Rattle.db_base.specs.declared.wish.Wish.TheVariants.{Plain}
 use Rattle.event_text.specs.declared.event.Event.{Event}
@@ -15,13 +14,13 @@ use Rattle.session_facts.specs.Added.{AddsTo}
 use Rattle.session_facts.specs.Facts.{session_at}
 use Rattle.session_facts.specs.Sessions.Sessions.{Sessions}
 use Rattle.session_facts.proofs.AddedRows.{adds_same, adds_line}
-use Rattle.session_facts.proofs.CallKinds.{IsSettlersRow}
 use Rattle.session_facts.proofs.LineLemmas.{line_of}
-use Rattle.session_facts.proofs.SettlerLemmas.{settler_row}
+use Rattle.session_facts.proofs.SettlerLemmas.{errand_row}
+use Rattle.session_facts.specs.Errands.{Errand, settles, sweeps, event_for, session_for, AreRowsOf}
 use Rattle.ckpt_policy.specs.declared.role.Role.{Role}
 use Rattle.world_core.specs.World.{World}
 use Rattle.world_core.specs.declared.asked.Asked.{Asked}
-use Rattle.world_core.specs.declared.asked.Asked.TheVariants.{Session, Wait, Report, Settle}
+use Rattle.world_core.specs.declared.asked.Asked.TheVariants.{Session, Wait, Report, Settle, Sweep}
 use Rattle.world_core.specs.declared.asked.Request.{Request}
 use Rattle.world_core.specs.declared.asked.Request.TheVariants.{Begin, Note, Abort, Policy, Work as WorksDue, Step, Run, Crash}
 use Rattle.world_core.specs.declared.world.WorldFault.{WorldFault}
@@ -68,6 +67,7 @@ asks_work (event.Crash session done) k asks = absurd (cc (asks.1))
 asks_work (event.Wait ticks) k asks = absurd (cc)
 asks_work (event.Report tree) k asks = absurd (cc)
 asks_work event.Settle k asks = absurd (cc)
+asks_work (event.Sweep tree) k asks = absurd asks
 asks_work e k asks = absurd asks.1
 
 module _ (lines : List Line) (first : CloudState) (n : ℕ) (before after : Seen) (old new : World) (result : Result Reply WorldFault) (number : length lines + 1 ≡ n)
@@ -130,39 +130,39 @@ module _ (lines : List Line) (first : CloudState) (n : ℕ) (before after : Seen
   does_rows k Run other h = run_rows k h
   does_rows k (Crash done) other h = crash_rows k done h
 
-  -- ---- a settling
+  -- ---- the settler
 
-  settling_rows : (r : Reply) (begun : World) → Has 0 settling_session old begun → SettlesOn (settler n) before after begun new result
-      → AddsTo n (lines ++ line_of event.Settle r ∷ []) first after
-  settling_rows r begun begins on = by_end on
+  settling_rows : (errand : Errand) (r : Reply) (begun : World) → Has 0 (session_for errand) old begun → SettlesOn errand (settler n) before after begun new result
+      → AddsTo n (lines ++ line_of (event_for errand) r ∷ []) first after
+  settling_rows errand r begun begins on = by_end on
     where
       all : List Line
-      all = lines ++ line_of event.Settle r ∷ []
+      all = lines ++ line_of (event_for errand) r ∷ []
 
       others : Sessions
       others = session_at old.sessions
 
-      row : IsSettlersRow all (settler n)
-      row = settler_row lines r (settler n) refl (sym number)
+      row : AreRowsOf errand all (settler n)
+      row = errand_row errand lines r (settler n) refl (sym number)
 
-      begun_so : SettlerAdds n all first others begun before
-      begun_so = begun_way lines first n r before old begun number w begins
+      begun_so : SettlerAdds errand n all first others begun before
+      begun_so = begun_way errand lines first n r before old begun number w begins
 
-      short : (mid : Seen) (world left : World) → SettlerAdds n all first others world mid → RunsShort (settler n) Plain mid after world left → AddsTo n all first after
+      short : (mid : Seen) (world left : World) → SettlerAdds errand n all first others world mid → RunsShort (settler n) Plain mid after world left → AddsTo n all first after
       short mid world left so s = falls s.falls
         where
           falls : FallsShort (settler n) Plain mid after world s.left → AddsTo n all first after
           falls (inl un) = rows_stay n all first mid after un.looked.stays so.rows
           falls (inr p) =
-              settler_rows_called n all first others row mid p.from p.under p.to after world s.left p.turn so p.look_before p.wishes p.session p.look_after
+              settler_rows_called errand n all first others row mid p.from p.under p.to after world s.left p.turn so p.look_before p.wishes p.session p.look_after
 
-      by_end : SettlesOn (settler n) before after begun new result → AddsTo n all first after
+      by_end : SettlesOn errand (settler n) before after begun new result → AddsTo n all first after
       by_end (inl s) =
-          settler_rows n all first others row s.comes.mid after s.comes.world s.left _
-          (settler_went n all first others row before begun s.comes.mid s.comes.world begun_so s.comes.went) s.comes.steps
+          settler_rows errand n all first others row s.comes.mid after s.comes.world s.left _
+          (settler_went errand n all first others row before begun s.comes.mid s.comes.world begun_so s.comes.went) s.comes.steps
       by_end (inr memory) =
           let s = memory.1.stops in
-          short s.mid s.world memory.1.left (settler_went n all first others row before begun s.mid s.world begun_so s.went) s.short
+          short s.mid s.world memory.1.left (settler_went errand n all first others row before begun s.mid s.world begun_so s.went) s.short
 
   -- ---- every line
 
@@ -171,9 +171,9 @@ module _ (lines : List Line) (first : CloudState) (n : ℕ) (before after : Seen
       subst (λ m. AddsTo m (lines ++ line_of event r ∷ []) first after) number
       (record { state = a.state; told = a.told; adds = adds_line (length lines + 1) lines (line_of event r) first a.state refl a.adds })
 
-  settles_rows : (r : Reply) → Settles n before after old new result → AddsTo n (lines ++ line_of event.Settle r ∷ []) first after
-  settles_rows r (inl h) = settling_rows r h.begun h.begins h.settles
-  settles_rows r (inr memory) = with_line event.Settle r (as_seen memory.1.seen)
+  settles_rows : (errand : Errand) (r : Reply) → Settles errand n before after old new result → AddsTo n (lines ++ line_of (event_for errand) r ∷ []) first after
+  settles_rows errand r (inl h) = settling_rows errand r h.begun h.begins h.settles
+  settles_rows errand r (inr memory) = with_line (event_for errand) r (as_seen memory.1.seen)
 
   wait_rows : (ticks : ℕ) → Answers n (Wait ticks) before after old new result → RowsNow
   wait_rows ticks (inl h) =
@@ -206,10 +206,16 @@ module _ (lines : List Line) (first : CloudState) (n : ℕ) (before after : Seen
   asked_rows e r (Session k request) asks (inr none) = with_line e r (as_seen none.declines.seen)
   asked_rows e r (Wait ticks) asks h = with_line e r (wait_rows ticks h)
   asked_rows e r (Report tree) asks h = with_line e r (rows_stay (length lines + 1) lines first before after h.looked.stays way.rows)
-  asked_rows event.Settle r Settle asks h = settles_rows r h
+  asked_rows event.Settle r Settle asks h = settles_rows settles r h
   asked_rows (event.Wait ticks) r Settle asks h = absurd (cc)
   asked_rows (event.Report tree) r Settle asks h = absurd (cc)
   asked_rows e r Settle asks h = absurd asks
+  asked_rows (event.Sweep number) r (Sweep (Ok tree)) asks h = subst (λ (k : ℕ). AddsTo n (lines ++ line_of (event.Sweep k) r ∷ []) first after) asks.0 (settles_rows (sweeps tree) r h.1)
+  asked_rows event.Settle r (Sweep (Ok tree)) asks h = absurd (cc (asks))
+  asked_rows (event.Wait ticks) r (Sweep (Ok tree)) asks h = absurd (cc (asks))
+  asked_rows (event.Report number) r (Sweep (Ok tree)) asks h = absurd (cc (asks))
+  asked_rows e r (Sweep (Ok tree)) asks h = absurd asks
+  asked_rows e r (Sweep (Err why)) asks h = with_line e r (as_seen h.seen)
 
 -- a line that was handled, whatever its result and whatever reply it would have had
 pub handled_rows : (n : ℕ) (event : Event) (before after : Seen) (old new : World) (result : Result Reply WorldFault) (lines : List Line) (first : CloudState) → length lines + 1 ≡ n

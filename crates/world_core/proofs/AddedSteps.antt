@@ -1,4 +1,4 @@
--- What a line adds to the trace of any cloud is of its kind: lines that make no call, steps, deaths and settlings.
+-- What a line adds to the trace of any cloud is of its kind: lines that make no call, steps, deaths, settlings and sweeps.
 use Rattle.std.proofs.Common.{◌≡◌, ◌+◌, ◌≤◌, ℕ, List, [], ◌∷◌, ◌++◌, length, Some, Ok, refl, sym, ap, subst, ◌∙◌, ◌⊎◌, ◌≢◌, inl, inr, Bool, true, false, arith, length-append}
 use Rattle.std.proofs.lemmas.Bool.{cases_eq}
 use Rattle.db_base.specs.declared.refusal.Refused.{Refused}
@@ -15,19 +15,20 @@ use Rattle.cloud_trait.specs.Seen.{Seen}
 use Rattle.cloud_trait.specs.declared.turn.Turn.{Turn}
 use Rattle.cloud_trait.specs.declared.turn.Turn.TheVariants.{More, Ended, Stopped}
 use Rattle.client_work.specs.declared.answer.Answer.{Answer}
-use Rattle.client_work.specs.Session.{Acting, closed_session, settling_session, StepsSession, noted_behind}
+use Rattle.client_work.specs.Session.{Acting, closed_session, StepsSession, noted_behind}
 use Rattle.cloud_facts.specs.Book.Tally.{at}
 use Rattle.cloud_facts.proofs.Book.Names.{at_same, at_other}
 use Rattle.session_facts.specs.Sessions.Sessions.{Sessions}
 use Rattle.replay_meaning.specs.Standing.{Line, Standing, standing, after_line, after_own, session_of, steps}
 use Rattle.session_facts.specs.Added.{AddsKinds, AddsTo}
 use Rattle.session_facts.specs.Facts.{session_at, ActsAs, AllAct, SettlerRests}
-use Rattle.session_facts.proofs.AddedRows.{adds_same, adds_line, adds_later, session_adds, settler_adds}
+use Rattle.session_facts.proofs.AddedRows.{adds_same, adds_line, adds_later, session_adds, errand_adds}
 use Rattle.session_facts.proofs.Acting.{goes_as, goes_noted, ends_as}
-use Rattle.session_facts.proofs.CallKinds.{IsSettling, IsSettlersRow, settling_goes}
+use Rattle.session_facts.proofs.CallKinds.{errand_goes}
 use Rattle.session_facts.proofs.CommittedLemmas.{standing_line}
 use Rattle.session_facts.proofs.LineLemmas.{line_of, AllActWith, own_line, still_line, refused_own, acts_set}
-use Rattle.session_facts.proofs.SettlerLemmas.{settler_row}
+use Rattle.session_facts.proofs.SettlerLemmas.{errand_row}
+use Rattle.session_facts.specs.Errands.{Errand, event_for, session_for, WorksOn, AreRowsOf}
 use Rattle.world_audit.specs.Look.{Looked}
 use Rattle.ckpt_policy.specs.declared.role.Role.{Role}
 use Rattle.world_core.specs.World.{World}
@@ -35,6 +36,7 @@ use Rattle.world_core.specs.Replying.{RepliesTo, RepliesTurn}
 use Rattle.world_core.specs.Sessions.{Changes}
 use Rattle.world_core.specs.Handled.{Declines, Has, MakesNoCall, SetsWish, StepsLooked, MakesStep, Went, start, further, RunsTo, Runs, SettlesTo, SettlesOn, Settles, Dies, DiesDone, Crashes, WaitsFor, WaitsTooLong, Reports, Policies}
 use Rattle.world_core.specs.Added.{WorldAdds}
+use Rattle.world_core.proofs.Errands.{still_stands, works_first}
 use Rattle.world_core.proofs.StandsLemmas.{refused_is, changed_at, changed_was, changed_rests, went_rests, replies_to, no_stop, no_memory, crashed_own, closed_twice, has_at, settler}
 
 -- ---- a line that is through
@@ -286,17 +288,17 @@ adds_crash lines first k n true r before after old new at some w (inl idle) = di
 adds_crash lines first k n true r before after old new at some w (inr (inl done)) = done_adding lines first k n r before after old new at some w done
 adds_crash lines first k n true r before after old new at some w (inr (inr memory)) = absurd (no_memory r memory.0)
 
--- ---- a settling
+-- ---- the settler
 
 -- the settler is under way within its line, which is one of these lines from its begin on, and the other sessions rest
-pub record SettlerAdds (n : ℕ) (lines : List Line) (first : CloudState) (others : Sessions) (world : World) (seen : Seen) : Type 0 where
+pub record SettlerAdds (errand : Errand) (n : ℕ) (lines : List Line) (first : CloudState) (others : Sessions) (world : World) (seen : Seen) : Type 0 where
   pub rows : AddsTo n lines first seen
-  pub works : IsSettling (session_at world.sessions 0).work
+  pub works : WorksOn errand (session_at world.sessions 0).work
   pub rest : (m : ℕ) → m ≢ 0 → session_at world.sessions m ≡ others m
 
 -- its call, between two looks
-module _ (n : ℕ) (lines : List Line) (first : CloudState) (others : Sessions) (row : IsSettlersRow lines (settler n)) (before from under to after : Seen) (old new : World)
-    (turn : Turn Answer) (way : SettlerAdds n lines first others old before) (look_before : Looked before from) (wishes : SetsWish Plain from under)
+module _ (errand : Errand) (n : ℕ) (lines : List Line) (first : CloudState) (others : Sessions) (row : AreRowsOf errand lines (settler n)) (before from under to after : Seen) (old new : World)
+    (turn : Turn Answer) (way : SettlerAdds errand n lines first others old before) (look_before : Looked before from) (wishes : SetsWish Plain from under)
     (session : Changes 0 (λ a b. StepsSession (settler n) under to a b (Ok turn)) old.sessions new.sessions) (look_after : Looked to after) where
   settler_called : StepsSession (settler n) under to (session_at old.sessions 0) session.after (Ok turn)
   settler_called = subst (λ a. StepsSession (settler n) under to a session.after (Ok turn)) (sym (changed_was 0 _ old.sessions new.sessions session)) session.does
@@ -307,79 +309,79 @@ module _ (n : ℕ) (lines : List Line) (first : CloudState) (others : Sessions) 
   pub settler_rows_called : AddsTo n lines first after
   settler_rows_called =
       rows_stay n lines first to after look_after.stays
-      (settler_adds n lines (settler n) under to first settler_under.state (session_at old.sessions 0).work session.after.work turn (omega arith) settler_under.told way.works row
+      (errand_adds errand n lines (settler n) under to first settler_under.state (session_at old.sessions 0).work session.after.work turn (omega arith) settler_under.told way.works row
       settler_called.work settler_under.adds)
 
-module _ (n : ℕ) (lines : List Line) (first : CloudState) (others : Sessions) (row : IsSettlersRow lines (settler n)) (before after : Seen) (old new : World) (turn : Turn Answer)
-    (way : SettlerAdds n lines first others old before) (p : StepsLooked (settler n) Plain before after old new turn) where
+module _ (errand : Errand) (n : ℕ) (lines : List Line) (first : CloudState) (others : Sessions) (row : AreRowsOf errand lines (settler n)) (before after : Seen) (old new : World) (turn : Turn Answer)
+    (way : SettlerAdds errand n lines first others old before) (p : StepsLooked (settler n) Plain before after old new turn) where
   settler_step : StepsSession (settler n) p.under p.to (session_at old.sessions 0) p.session.after (Ok turn)
-  settler_step = settler_called n lines first others row before p.from p.under p.to after old new turn way p.look_before p.wishes p.session p.look_after
+  settler_step = settler_called errand n lines first others row before p.from p.under p.to after old new turn way p.look_before p.wishes p.session p.look_after
 
   pub settler_rows : AddsTo n lines first after
-  settler_rows = settler_rows_called n lines first others row before p.from p.under p.to after old new turn way p.look_before p.wishes p.session p.look_after
+  settler_rows = settler_rows_called errand n lines first others row before p.from p.under p.to after old new turn way p.look_before p.wishes p.session p.look_after
 
   settler_rest : (m : ℕ) → m ≢ 0 → session_at new.sessions m ≡ others m
   settler_rest m ne = changed_at 0 _ old.sessions new.sessions p.session m ∙ at_other 0 p.session.after (session_at old.sessions) m ne ∙ way.rest m ne
 
-settler_more : (n : ℕ) (lines : List Line) (first : CloudState) (others : Sessions) → IsSettlersRow lines (settler n) → (before after : Seen) (old new : World)
-    → SettlerAdds n lines first others old before → StepsLooked (settler n) Plain before after old new More → SettlerAdds n lines first others new after
-settler_more n lines first others row before after old new way p =
-    let own = settler_step n lines first others row before after old new More way p in
+settler_more : (errand : Errand) (n : ℕ) (lines : List Line) (first : CloudState) (others : Sessions) → AreRowsOf errand lines (settler n) → (before after : Seen) (old new : World)
+    → SettlerAdds errand n lines first others old before → StepsLooked (settler n) Plain before after old new More → SettlerAdds errand n lines first others new after
+settler_more errand n lines first others row before after old new way p =
+    let own = settler_step errand n lines first others row before after old new More way p in
     record {
-      rows = settler_rows n lines first others row before after old new More way p;
-      works = subst (λ (a : Acting). IsSettling a.work) (sym (changed_at 0 _ old.sessions new.sessions p.session 0 ∙ at_same 0 p.session.after (session_at old.sessions) 0 refl))
-          (settling_goes (settler n) p.under p.to (session_at old.sessions 0).work p.session.after.work own.work way.works);
-      rest = settler_rest n lines first others row before after old new More way p;
+      rows = settler_rows errand n lines first others row before after old new More way p;
+      works = subst (λ (a : Acting). WorksOn errand a.work) (sym (changed_at 0 _ old.sessions new.sessions p.session 0 ∙ at_same 0 p.session.after (session_at old.sessions) 0 refl))
+          (errand_goes errand (settler n) p.under p.to (session_at old.sessions 0).work p.session.after.work own.work way.works);
+      rest = settler_rest errand n lines first others row before after old new More way p;
     }
 
-pub settler_went : (n : ℕ) (lines : List Line) (first : CloudState) (others : Sessions) → IsSettlersRow lines (settler n) → (before : Seen) (old : World) (after : Seen) (new : World)
-    → SettlerAdds n lines first others old before → Went (settler n) before old after new → SettlerAdds n lines first others new after
-settler_went n lines first others row before old after new way start = way
-settler_went n lines first others row before old after new way (further mid _ world _ went step) =
-    settler_more n lines first others row mid after world new (settler_went n lines first others row before old mid world way went) step
+pub settler_went : (errand : Errand) (n : ℕ) (lines : List Line) (first : CloudState) (others : Sessions) → AreRowsOf errand lines (settler n) → (before : Seen) (old : World) (after : Seen) (new : World)
+    → SettlerAdds errand n lines first others old before → Went (settler n) before old after new → SettlerAdds errand n lines first others new after
+settler_went errand n lines first others row before old after new way start = way
+settler_went errand n lines first others row before old after new way (further mid _ world _ went step) =
+    settler_more errand n lines first others row mid after world new (settler_went errand n lines first others row before old mid world way went) step
 
--- a line that settles begins
-module _ (lines : List Line) (first : CloudState) (n : ℕ) (r : Reply) (before : Seen) (old begun : World) (number : length lines + 1 ≡ n) (w : WorldAdds lines first old before)
-    (begins : Has 0 settling_session old begun) where
-  begun_rows : AddsTo n (lines ++ line_of event.Settle r ∷ []) first before
+-- the settler's line begins
+module _ (errand : Errand) (lines : List Line) (first : CloudState) (n : ℕ) (r : Reply) (before : Seen) (old begun : World) (number : length lines + 1 ≡ n) (w : WorldAdds lines first old before)
+    (begins : Has 0 (session_for errand) old begun) where
+  begun_rows : AddsTo n (lines ++ line_of (event_for errand) r ∷ []) first before
   begun_rows =
       let a = rows_begin lines first before w.rows in
-      subst (λ m. AddsTo m (lines ++ line_of event.Settle r ∷ []) first before) number
-      (record { state = a.state; told = a.told; adds = adds_line (length lines + 1) lines (line_of event.Settle r) first a.state refl a.adds })
+      subst (λ m. AddsTo m (lines ++ line_of (event_for errand) r ∷ []) first before) number
+      (record { state = a.state; told = a.told; adds = adds_line (length lines + 1) lines (line_of (event_for errand) r) first a.state refl a.adds })
 
-  pub begun_way : SettlerAdds n (lines ++ line_of event.Settle r ∷ []) first (session_at old.sessions) begun before
+  pub begun_way : SettlerAdds errand n (lines ++ line_of (event_for errand) r ∷ []) first (session_at old.sessions) begun before
   begun_way = record {
     rows = begun_rows;
-    works = subst (λ (a : Acting). IsSettling a.work) (sym (has_at 0 settling_session old begun begins 0 ∙ at_same 0 settling_session (session_at old.sessions) 0 refl)) refl;
-    rest = λ m ne. has_at 0 settling_session old begun begins m ∙ at_other 0 settling_session (session_at old.sessions) m ne;
+    works = subst (λ (a : Acting). WorksOn errand a.work) (sym (has_at 0 (session_for errand) old begun begins 0 ∙ at_same 0 (session_for errand) (session_at old.sessions) 0 refl)) (works_first errand);
+    rest = λ m ne. has_at 0 (session_for errand) old begun begins m ∙ at_other 0 (session_for errand) (session_at old.sessions) m ne;
   }
 
-settles_adding : (lines : List Line) (first : CloudState) (n : ℕ) (r : Reply) (before after : Seen) (old begun new : World) → length lines + 1 ≡ n → WorldAdds lines first old before
-    → Has 0 settling_session old begun → SettlesTo (settler n) before after begun new (Ok r) → WorldAdds (lines ++ line_of event.Settle r ∷ []) first new after
-settles_adding lines first n r before after old begun new number w begins h = record {
+settles_adding : (errand : Errand) (lines : List Line) (first : CloudState) (n : ℕ) (r : Reply) (before after : Seen) (old begun new : World) → length lines + 1 ≡ n → WorldAdds lines first old before
+    → Has 0 (session_for errand) old begun → SettlesTo errand (settler n) before after begun new (Ok r) → WorldAdds (lines ++ line_of (event_for errand) r ∷ []) first new after
+settles_adding errand lines first n r before after old begun new number w begins h = record {
   rows = subst (λ m. AddsTo m all first after) whole s;
-  acts = λ m. subst (λ z. ActsAs (session_at new.sessions m) z) (sym (standing_line lines (line_of event.Settle r) m))
-      (still_line lines event.Settle r (session_at new.sessions) (λ z. refl) acts m);
+  acts = λ m. subst (λ z. ActsAs (session_at new.sessions m) z) (sym (standing_line lines (line_of (event_for errand) r) m))
+      (still_line lines (event_for errand) r (session_at new.sessions) (still_stands errand r) acts m);
   rests = rests;
 }
   where
     all : List Line
-    all = lines ++ line_of event.Settle r ∷ []
+    all = lines ++ line_of (event_for errand) r ∷ []
 
     whole : n ≡ length all
-    whole = omega (arith, number, length-append lines (line_of event.Settle r ∷ []))
+    whole = omega (arith, number, length-append lines (line_of (event_for errand) r ∷ []))
 
     others : Sessions
     others = session_at old.sessions
 
-    row : IsSettlersRow all (settler n)
-    row = settler_row lines r (settler n) refl (sym number)
+    row : AreRowsOf errand all (settler n)
+    row = errand_row errand lines r (settler n) refl (sym number)
 
-    way : SettlerAdds n all first others h.comes.world h.comes.mid
-    way = settler_went n all first others row before begun h.comes.mid h.comes.world (begun_way lines first n r before old begun number w begins) h.comes.went
+    way : SettlerAdds errand n all first others h.comes.world h.comes.mid
+    way = settler_went errand n all first others row before begun h.comes.mid h.comes.world (begun_way errand lines first n r before old begun number w begins) h.comes.went
 
     s : AddsTo n all first after
-    s = settler_rows n all first others row h.comes.mid after h.comes.world h.left (Ended h.answer) way h.comes.steps
+    s = settler_rows errand n all first others row h.comes.mid after h.comes.world h.left (Ended h.answer) way h.comes.steps
 
     rests : SettlerRests (session_at new.sessions)
     rests = has_at 0 closed_session h.left new h.closes 0 ∙ at_same 0 closed_session (session_at h.left.sessions) 0 refl
@@ -395,17 +397,17 @@ settles_adding lines first n r before after old begun new number w begins h = re
         on (inr ne) =
             subst (λ a. ActsAs a (standing lines m))
             (sym (has_at 0 closed_session h.left new h.closes m ∙ at_other 0 closed_session (session_at h.left.sessions) m ne
-            ∙ settler_rest n all first others row h.comes.mid after h.comes.world h.left (Ended h.answer) way h.comes.steps m ne)) (w.acts m)
+            ∙ settler_rest errand n all first others row h.comes.mid after h.comes.world h.left (Ended h.answer) way h.comes.steps m ne)) (w.acts m)
 
-settles_on : (lines : List Line) (first : CloudState) (n : ℕ) (r : Reply) (before after : Seen) (old begun new : World) → length lines + 1 ≡ n → WorldAdds lines first old before
-    → Has 0 settling_session old begun → SettlesOn (settler n) before after begun new (Ok r) → WorldAdds (lines ++ line_of event.Settle r ∷ []) first new after
-settles_on lines first n r before after old begun new number w begins (inl h) = settles_adding lines first n r before after old begun new number w begins h
-settles_on lines first n r before after old begun new number w begins (inr memory) = absurd (no_memory r memory.0)
+settles_on : (errand : Errand) (lines : List Line) (first : CloudState) (n : ℕ) (r : Reply) (before after : Seen) (old begun new : World) → length lines + 1 ≡ n → WorldAdds lines first old before
+    → Has 0 (session_for errand) old begun → SettlesOn errand (settler n) before after begun new (Ok r) → WorldAdds (lines ++ line_of (event_for errand) r ∷ []) first new after
+settles_on errand lines first n r before after old begun new number w begins (inl h) = settles_adding errand lines first n r before after old begun new number w begins h
+settles_on errand lines first n r before after old begun new number w begins (inr memory) = absurd (no_memory r memory.0)
 
-pub adds_settle : (lines : List Line) (first : CloudState) (n : ℕ) (r : Reply) (before after : Seen) (old new : World) → length lines + 1 ≡ n → WorldAdds lines first old before
-    → Settles n before after old new (Ok r) → WorldAdds (lines ++ line_of event.Settle r ∷ []) first new after
-adds_settle lines first n r before after old new number w (inl h) = settles_on lines first n r before after old h.begun new number w h.begins h.settles
-adds_settle lines first n r before after old new number w (inr memory) = absurd (no_memory r memory.0)
+pub adds_errand : (errand : Errand) (lines : List Line) (first : CloudState) (n : ℕ) (r : Reply) (before after : Seen) (old new : World) → length lines + 1 ≡ n → WorldAdds lines first old before
+    → Settles errand n before after old new (Ok r) → WorldAdds (lines ++ line_of (event_for errand) r ∷ []) first new after
+adds_errand errand lines first n r before after old new number w (inl h) = settles_on errand lines first n r before after old h.begun new number w h.begins h.settles
+adds_errand errand lines first n r before after old new number w (inr memory) = absurd (no_memory r memory.0)
 
 -- ---- waits and reports
 

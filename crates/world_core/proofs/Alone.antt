@@ -37,7 +37,7 @@ use Rattle.world_core.specs.Handled.{Answers, BeginsCheckpoint, BeginsOp, ComesT
 use Rattle.world_core.specs.Sessions.{AbortsIn, Changes, NotesIn}
 use Rattle.world_core.specs.World.{World}
 use Rattle.world_core.specs.declared.asked.Asked.{Asked}
-use Rattle.world_core.specs.declared.asked.Asked.TheVariants.{Session, Wait, Report, Settle}
+use Rattle.world_core.specs.declared.asked.Asked.TheVariants.{Session, Wait, Report, Settle, Sweep}
 use Rattle.world_core.specs.declared.asked.Noting.{Noting}
 use Rattle.world_core.specs.declared.asked.Request.{Request}
 use Rattle.world_core.specs.declared.asked.Request.TheVariants.{Begin, Note, Abort, Policy, Work as WorksDue, Step, Run, Crash}
@@ -153,6 +153,7 @@ AsksAlone session (Session j (Err why)) = Unit {0}
 AsksAlone session (Wait ticks) = Unit {0}
 AsksAlone session (Report tree) = Unit {0}
 AsksAlone session Settle = ⊥
+AsksAlone session (Sweep tree) = ⊥
 
 module _ (n session : ℕ) (before after : Seen) (old new : World) (r : Reply) (h : IsAloneSeen session old before) where
   abbrev result : Result Reply WorldFault
@@ -267,6 +268,7 @@ module _ (n session : ℕ) (before after : Seen) (old new : World) (r : Reply) (
     },
   )
   asked_alone Settle never a goes undisturbed = absurd never
+  asked_alone (Sweep tree) never a goes undisturbed = absurd never
 
 -- ---- every line
 
@@ -279,6 +281,7 @@ module _ (session : ℕ) where
   of_session s Is plain (Wait ticks) belongs own = absurd belongs
   of_session s Is plain (Report tree) belongs own = absurd belongs
   of_session s Is plain Settle belongs own = absurd belongs
+  of_session s Is plain (Sweep tree) belongs own = absurd belongs
 
   same_request : (own request : Request) → IsNoCrash own → request ≡ own → IsNoCrash request
   same_request own request plain e = subst IsNoCrash (sym e) plain
@@ -323,6 +326,7 @@ module _ (session : ℕ) where
   leaves_it (event.Wait ticks) asked asks own = subst (AsksAlone session) (sym asks) tt
   leaves_it (event.Report tree) asked asks own = subst (AsksAlone session) (sym asks) tt
   leaves_it event.Settle asked asks never = absurd never
+  leaves_it (event.Sweep tree) asked asks never = absurd never
   leaves_it (event.Crash s done) asked asks never = absurd never
 
 pub keeps_alone : (n : ℕ) (e : Event) (before after : Seen) (old new : World) (result : Result Reply WorldFault) → KeepsAlone n e before after old new result

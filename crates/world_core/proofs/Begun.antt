@@ -35,7 +35,7 @@ use Rattle.client_work.specs.declared.shown.Shown.{Shown}
 use Rattle.client_work.specs.declared.work.Work.{Work}
 use Rattle.reply_text.specs.declared.reply.Reply.{Reply}
 use Rattle.world_core.specs.declared.asked.Asked.{Asked}
-use Rattle.world_core.specs.declared.asked.Asked.TheVariants.{Session, Wait, Report, Settle}
+use Rattle.world_core.specs.declared.asked.Asked.TheVariants.{Session, Wait, Report, Settle, Sweep}
 use Rattle.world_core.specs.declared.asked.Request.{Request}
 use Rattle.world_core.specs.declared.asked.Request.TheVariants.{Begin, Note, Abort, Policy, Work as WorksDue, Step, Run, Crash}
 use Rattle.world_core.specs.World.{World}
@@ -77,6 +77,7 @@ scan_stopped home buffer m c (Ended page) work shown (Ended (answer.Commit a)) b
 scan_stopped home buffer m c (Ended page) work shown (Ended (answer.Done a)) begun t follows begins is other = absurd follows
 scan_stopped home buffer m c (Ended page) work shown (Ended answer.Value) begun t follows begins is other = absurd follows
 scan_stopped home buffer m c (Ended page) work shown (Ended (answer.Settled a)) begun t follows begins is other = absurd follows
+scan_stopped home buffer m c (Ended page) work shown (Ended (answer.Swept a)) begun t follows begins is other = absurd follows
 scan_stopped home buffer m c (Ended page) work shown (Stopped s) begun t follows begins is other = absurd follows
 
 scan_shown : (home : Home) (buffer : List Noted) (start : Scan) (c d : Cache) (work : Work) (shown : Shown) (begun : Begun) (t : Trouble) → ScansOf home buffer start c d work shown begun
@@ -150,3 +151,4 @@ module _ (n : ℕ) (before after : Seen) (old new : World) (result : Result Repl
   asked_begun (Wait ticks) waits = tt
   asked_begun (Report tree) reports = tt
   asked_begun Settle settles = tt
+  asked_begun (Sweep tree) sweeps = tt

@@ -26,7 +26,7 @@ use Rattle.world_core.proofs.StandsLemmas.{IsUnderWay, way_begins, went_on}
 use Rattle.event_text.specs.declared.event.Event.TheVariants as event
 use Rattle.reply_text.specs.declared.reply.Reply.TheVariants as reply
 use Rattle.world_core.specs.declared.asked.Asked.{Asked}
-use Rattle.world_core.specs.declared.asked.Asked.TheVariants.{Session, Wait, Report, Settle}
+use Rattle.world_core.specs.declared.asked.Asked.TheVariants.{Session, Wait, Report, Settle, Sweep}
 use Rattle.world_core.specs.declared.asked.Request.{Request}
 use Rattle.world_core.specs.declared.asked.Request.TheVariants.{Begin, Note, Abort, Policy, Work as WorksDue, Step, Run, Crash}
 use Rattle.world_core.specs.World.{World}
@@ -147,6 +147,7 @@ module _ (lines : List Line) (n : ℕ) (before after : Seen) (old new : World) (
   answers_soon (Wait ticks) h = tt
   answers_soon (Report tree) h = tt
   answers_soon Settle h = tt
+  answers_soon (Sweep tree) h = tt
 
 pub few_calls : (n : ℕ) (event : Event) (before after : Seen) (old new : World) (result : Result Reply WorldFault) → MakesFewCalls n event before after old new result
 few_calls n event before after old new result lines t number told stands handled =

@@ -3,7 +3,7 @@ use Rattle.std.proofs.Common.{◌≡◌, ℕ}
 use Rattle.head_codec.specs.declared.head.Head.{Head}
 use Rattle.commit_run.specs.Run.{home_of}
 use Rattle.client_work.specs.declared.work.Work.{Work}
-use Rattle.client_work.specs.declared.work.Work.TheVariants.{Closed, Idle, Opening, Committing, Reading, Scanning, Looking, Paging, Folding, Closing, Renewing, Settling, Broken}
+use Rattle.client_work.specs.declared.work.Work.TheVariants.{Closed, Idle, Opening, Committing, Reading, Scanning, Looking, Paging, Folding, Closing, Renewing, Settling, Sweeping, Broken}
 use Rattle.client_work.specs.BrokenOff.{broken_work}
 use Rattle.session_facts.proofs.OpenedCalls.{Leads, away_leads}
 
@@ -20,4 +20,5 @@ broken_away (Folding home m) b Was Is e = away_leads Was Is (Broken home.lease) 
 broken_away (Closing lease) b Was Is e = away_leads Was Is Closed b e (λ head. tt) tt (λ client h. h)
 broken_away (Renewing home) b Was Is e = away_leads Was Is (Broken home.lease) b e (λ head. tt) tt (λ client h. h)
 broken_away (Settling m) b Was Is e = away_leads Was Is Closed b e (λ head. tt) tt (λ client h. h)
+broken_away (Sweeping m) b Was Is e = away_leads Was Is Closed b e (λ head. tt) tt (λ client h. h)
 broken_away (Broken lease) b Was Is e = away_leads Was Is (Broken lease) b e (λ head. tt) tt (λ client h. h)

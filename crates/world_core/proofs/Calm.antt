@@ -1,15 +1,12 @@
 -- A line whose calls are all calm is answered well.
 use Rattle.std.proofs.Common.{◌≡◌, ◌+◌, arith, inl, inr, ℕ, List, [], length, Bool, true, false, Option, Some, None, Result, Ok, Err, refl, sym, ap, subst, ◌∙◌}
-use Rattle.std.specs.Prelude.{unwrap_or}
-use Rattle.client_work.specs.Session.{Acting, StepsSession, StepsAt, Follows, Begins, closed_session, paging_begun_by, settling_session, value_of}
+use Rattle.client_work.specs.Session.{Acting, StepsSession, Begins, closed_session, paging_begun_by, value_of}
 use Rattle.client_work.specs.declared.answer.Answer.{Answer}
 use Rattle.client_work.specs.declared.answer.Answer.TheVariants as answer
 use Rattle.client_work.specs.declared.answer.Begun.{Begun}
 use Rattle.client_work.specs.declared.answer.Begun.TheVariants.{Working as BegunWorking, Answered}
-use Rattle.client_work.specs.declared.listing.Listing.{Listing}
 use Rattle.client_work.specs.declared.op.Op.{Op}
 use Rattle.client_work.specs.declared.op.Op.TheVariants as op
-use Rattle.client_work.specs.declared.shown.Shown.{Shown}
 use Rattle.client_work.specs.declared.work.Work.{Work}
 use Rattle.client_work.specs.declared.work.Work.TheVariants as work
 use Rattle.cloud_facts.proofs.Book.Names.{at_same}
@@ -20,10 +17,10 @@ use Rattle.cloud_trait.specs.State.{CloudState}
 use Rattle.cloud_trait.specs.declared.turn.Turn.{Turn}
 use Rattle.cloud_trait.specs.declared.turn.Turn.TheVariants.{More, Ended, Stopped}
 use Rattle.db_base.specs.declared.refusal.Refusal.{Refusal}
+use Rattle.db_base.specs.declared.refusal.Refusal.TheVariants.{BadNumber}
 use Rattle.db_base.specs.declared.refusal.Refused.{Refused}
 use Rattle.db_base.specs.declared.refusal.Refused.TheVariants as refused
 use Rattle.db_base.specs.declared.trouble.CommitAnswer.{CommitAnswer}
-use Rattle.db_base.specs.declared.trouble.Counter.{Counter}
 use Rattle.db_base.specs.declared.trouble.Trouble.{Trouble}
 use Rattle.db_base.specs.declared.trouble.Trouble.TheVariants as trouble
 use Rattle.db_base.specs.declared.wish.Wish.{Wish}
@@ -31,194 +28,48 @@ use Rattle.db_base.specs.declared.wish.Wish.TheVariants.{Plain}
 use Rattle.db_base.specs.Value.{Value}
 use Rattle.event_text.specs.declared.event.Event.{Event}
 use Rattle.event_text.specs.declared.event.Event.TheVariants as event
-use Rattle.page_cache.specs.Cache.{Cache}
-use Rattle.recover_run.specs.declared.home.Home.{Home}
-use Rattle.replay_meaning.specs.Standing.{Line, Task, Opening, Closing, Renewing, Committing, Reading, Scanning, LookingUp, Paging, Folding, Posture, Working, Standing, session_of, standing}
+use Rattle.replay_meaning.specs.Standing.{Line, Task, Opening, Closing, Renewing, Committing, Reading, Scanning, LookingUp, Paging, Folding, Posture, Working, session_of, standing}
 use Rattle.session_facts.specs.Answers.{IsSoundReply}
-use Rattle.session_facts.specs.Facts.{session_at, WorksAs}
+use Rattle.session_facts.proofs.CallKinds.{errand_goes}
+use Rattle.session_facts.specs.Errands.{Errand, settles, sweeps, event_for, session_for, WorksOn}
+use Rattle.session_facts.specs.Facts.{session_at}
+use Rattle.session_facts.specs.Sweeps.Sweep.{MayStop as MayStopSweep}
+use Rattle.reply_text.specs.Reply.{HasText}
 use Rattle.reply_text.specs.declared.reply.Reply.{Reply}
 use Rattle.reply_text.specs.declared.reply.Reply.TheVariants as reply
-use Rattle.session_facts.specs.Sessions.Explaining.{left_told, spent_for, trouble_of_answer}
+use Rattle.session_facts.specs.Sessions.Explaining.{spent_for}
 use Rattle.session_facts.specs.Sessions.Sessions.{Sessions, IsRightOp}
 use Rattle.session_facts.specs.Sessions.Untroubled.{StepsCalmly, IsOfNoCall, IsUntroubled}
 use Rattle.session_facts.proofs.CommitRuns.Telling.{IsTold}
 use Rattle.session_facts.proofs.Sessions.AtOnce.{IsAtOnce, begins_at_once, begins_untroubled}
-use Rattle.session_facts.proofs.Sessions.Untroubled.{IsAtRest, no_call_by, rested, untroubled_later, step_untroubled, answer_untroubled, answered_rests, closed_rests, at_rest, rests_as, commit_tells, commit_well}
-use Rattle.tree_walk.specs.Walk.{sought}
-use Rattle.txn_buffer.specs.Noted.{Noted}
+use Rattle.session_facts.proofs.Sessions.Untroubled.{IsAtRest, rested, untroubled_later, step_untroubled, answer_untroubled, answered_rests, closed_rests, at_rest, rests_as, commit_tells}
 use Rattle.ckpt_policy.specs.declared.role.Role.{Role}
-use Rattle.world_core.proofs.SpentTroubles.{opening_spent, commit_spent, tree_spent, settled_spent, page_spent, refuse_never, walk_never}
+use Rattle.world_core.proofs.SpentTroubles.{settled_spent}
 use Rattle.world_core.proofs.UnsentSteps.{IsPagingOf, UnsentAt, answer_unsent, answers_page, paging_went, rests_unsent, step_unsent, went_unsent}
 use Rattle.world_core.proofs.Workers.{HoldsWithin, open_rests, within_works}
 use Rattle.world_core.specs.declared.asked.Asked.{Asked}
-use Rattle.world_core.specs.declared.asked.Asked.TheVariants.{Session, Wait, Report, Settle}
+use Rattle.world_core.specs.declared.asked.Asked.TheVariants.{Session, Wait, Report, Settle, Sweep}
 use Rattle.world_core.specs.declared.asked.Noting.{Noting}
 use Rattle.world_core.specs.declared.asked.Request.{Request}
 use Rattle.world_core.specs.declared.asked.Request.TheVariants.{Begin, Note, Abort, Policy, Work as WorksDue, Step, Run, Crash}
 use Rattle.world_core.specs.World.{World}
 use Rattle.world_core.specs.declared.world.WorldFault.{WorldFault}
 use Rattle.world_core.specs.Asked.{Asks, OfSession, IsOpening, IsReading, IsScanning, IsLookingUp, IsPaging, IsFolding, IsNoted, IsStep, bound_of, noting_of}
-use Rattle.world_core.specs.Calm.{StepIsCalm, spent_by, work_at, DoesWell, BeginsWell, RunsWell, StepsWell, SettlesWell, RepliesWell, AnswersWell, WorksWell}
+use Rattle.world_core.specs.Calm.{StepIsCalm, spent_by, work_at, DoesWell, BeginsWell, RunsWell, StepsWell, RepliesWell, SweepsWell, AnswersWell, WorksWell}
 use Rattle.world_core.specs.EachStep.{EachWent, EachMade, EachRun, EachSettlingOn, EachSettling, EachDone, EachAsked}
 use Rattle.world_core.specs.Explained.{StepExplains}
 use Rattle.world_core.specs.Handled.{Declines, Has, BeginsOp, NotesChange, DropsChanges, StepsLooked, MakesStep, Went, start, further, Runs, SettlesOn, Settles, Crashes, Does, Answers, Policies, WorksThrough}
-use Rattle.world_core.specs.Replying.{RepliesTo, RepliesBegun, RepliesSettled, RepliesTurn, value_reply}
+use Rattle.world_core.specs.Replying.{declined, RepliesTo, RepliesBegun, RepliesFor, RepliesTurn, value_reply}
 use Rattle.world_core.specs.Sessions.{Changes, NotesIn, AbortsIn}
-use Rattle.world_core.specs.Sound.{IsSoundFor}
+use Rattle.world_core.specs.Sound.{IsSoundSweep, IsSoundFor}
 use Rattle.world_core.specs.UnsentPages.{GoesOnUnsent, IsOfUnsent, KeepsUnsent, LeavesUnsent, RepliesUnsent}
 use Rattle.world_core.proofs.Behind.{LinesStand}
 use Rattle.world_core.proofs.Explained.{explained}
 use Rattle.world_core.proofs.Sound.{sound_after}
-use Rattle.world_core.proofs.Texts.{commit_is}
+use Rattle.world_core.proofs.Errands.{works_first}
+use Rattle.world_core.proofs.Texts.{commit_is, told_is}
 use Rattle.world_core.proofs.StandsLemmas.{IsUnderWay, changed_at, changed_was, has_at, way_begins, steps_own, went_on, no_stop, no_memory, replies_to, end_later, settler}
-
--- ---- the answer of an operation
-
--- which answers an operation has beside a trouble
-abbrev IsAnswerOf : Task → Answer → Type 0
-IsAnswerOf Opening (answer.Opened epoch) = Unit {0}
-IsAnswerOf Closing answer.Closed = Unit {0}
-IsAnswerOf Renewing (answer.Renewed end) = Unit {0}
-IsAnswerOf (Committing changes) (answer.Commit c) = Unit {0}
-IsAnswerOf (Reading tree key) answer.Value = Unit {0}
-IsAnswerOf (Scanning tree from to) answer.Scan = Unit {0}
-IsAnswerOf (LookingUp tree attr) answer.Scan = Unit {0}
-IsAnswerOf (Paging tree page) (answer.Done n) = Unit {0}
-IsAnswerOf (Folding tree) (answer.Done n) = Unit {0}
-IsAnswerOf task (answer.Trouble k) = Unit {0}
-IsAnswerOf task a = ⊥
-
--- what a session at work has is answered so, and counts on what its task counts on
-record AnswersAs (w : Work) (s : Standing) (a : Answer) : Type 0 where
-  task : Task
-  counts : (u : CloudState) (what : Counter) → spent_for w u what → spent_by task u what
-  posture : s.posture ≡ Working task
-  of : IsAnswerOf task a
-
-scan_answers : (home : Home) (buffer : List Noted) (m : Listing) (c : Cache) (moved : Turn ℕ) (new : Work) (shown : Shown) (a : Answer) (tree : ℕ) (from to : List ℕ)
-    → Follows home buffer m c moved new shown (Ended a) → IsAnswerOf (Scanning tree from to) a
-scan_answers home buffer m c moved new shown answer.Scan tree from to f = tt
-scan_answers home buffer m c moved new shown (answer.Trouble k) tree from to f = tt
-scan_answers home buffer m c More new shown a tree from to f = absurd (cc (f.2))
-scan_answers home buffer m c (Ended page) new shown a tree from to never = absurd never
-scan_answers home buffer m c (Stopped t) new shown a tree from to f = absurd (cc (f.2))
-
-answers_as : (who : Caller) (before after : Seen) (w new : Work) (s : Standing) (a : Answer) → StepsAt who before after w new (Ended a) → WorksAs w s → AnswersAs w s a
-answers_as who before after (work.Opening m) new s (answer.Opened epoch) p acts = record { task = Opening; counts = λ u what is. is; posture = acts.0; of = tt }
-answers_as who before after (work.Opening m) new s (answer.Trouble k) p acts = record { task = Opening; counts = λ u what is. is; posture = acts.0; of = tt }
-answers_as who before after (work.Opening m) new s a p acts = absurd p.1
-answers_as who before after (work.Committing m) new s (answer.Commit c) p acts = record { task = Committing m.draft.writes.changes; counts = λ u what is. is; posture = acts.0; of = tt }
-answers_as who before after (work.Committing m) new s (answer.Trouble k) p acts = record { task = Committing m.draft.writes.changes; counts = λ u what is. is; posture = acts.0; of = tt }
-answers_as who before after (work.Committing m) new s a p acts = absurd p.3
-answers_as who before after (work.Reading home m) new s answer.Value p acts = record { task = _; counts = λ u what is. is; posture = acts.0; of = tt }
-answers_as who before after (work.Reading home m) new s (answer.Trouble k) p acts = record { task = _; counts = λ u what is. is; posture = acts.0; of = tt }
-answers_as who before after (work.Reading home m) new s a p acts = absurd p
-answers_as who before after (work.Scanning home m) new s a (buffer, c, d, shown, p) acts = record {
-  task = Scanning m.scan.walk.tree (sought m.scan.walk) (unwrap_or m.scan.to []);
-  counts = λ u what is. is;
-  posture = acts.0;
-  of = scan_answers home buffer (record { scan = p.scan; pairs = m.pairs }) d p.moved new shown a m.scan.walk.tree (sought m.scan.walk) (unwrap_or m.scan.to []) p.follows;
-}
-answers_as who before after (work.Looking home m) new s answer.Scan p acts = record { task = _; counts = λ u what is. is; posture = acts.0; of = tt }
-answers_as who before after (work.Looking home m) new s (answer.Trouble k) p acts = record { task = _; counts = λ u what is. is; posture = acts.0; of = tt }
-answers_as who before after (work.Looking home m) new s a (buffer, c, d, shown, never) acts = absurd never
-answers_as who before after (work.Paging home m) new s (answer.Done n) p acts = record { task = Paging m.tree m.page; counts = λ u what is. is; posture = acts.0; of = tt }
-answers_as who before after (work.Paging home m) new s (answer.Trouble k) p acts = record { task = Paging m.tree m.page; counts = λ u what is. is; posture = acts.0; of = tt }
-answers_as who before after (work.Paging home m) new s a p acts = absurd p
-answers_as who before after (work.Folding home m) new s (answer.Done n) p acts = record { task = Folding m.tree; counts = λ u what is. is; posture = acts.0; of = tt }
-answers_as who before after (work.Folding home m) new s (answer.Trouble k) p acts = record { task = Folding m.tree; counts = λ u what is. is; posture = acts.0; of = tt }
-answers_as who before after (work.Folding home m) new s a p acts = absurd p
-answers_as who before after (work.Closing lease) new s answer.Closed p acts = record { task = Closing; counts = λ u what is. is; posture = acts; of = tt }
-answers_as who before after (work.Closing lease) new s (answer.Trouble k) p acts = record { task = Closing; counts = λ u what is. is; posture = acts; of = tt }
-answers_as who before after (work.Closing lease) new s a p acts = absurd p
-answers_as who before after (work.Renewing home) new s (answer.Renewed end) p acts = record { task = Renewing; counts = λ u what is. is; posture = acts.0; of = tt }
-answers_as who before after (work.Renewing home) new s (answer.Trouble k) p acts = record { task = Renewing; counts = λ u what is. is; posture = acts.0; of = tt }
-answers_as who before after (work.Renewing home) new s a p acts = absurd p
-answers_as who before after (work.Settling m) new s a p acts = absurd acts
-answers_as who before after work.Closed new s a p acts = absurd p
-answers_as who before after (work.Idle home) new s a p acts = absurd p
-answers_as who before after (work.Broken lease) new s a p acts = absurd p
-
--- what is known of an answer: no call brought its trouble, no deletion failed, and what a commit tells
-pub record IsOfNone (Spent : CloudState → Counter → Type 0) (u : CloudState) (w : Work) (a : Answer) : Type 0 where
-  pub trouble : (k : Trouble) → trouble_of_answer a ≡ Some k → IsOfNoCall Spent u k
-  pub left : left_told w (Ended a) ≡ 0
-  pub told : (c : CommitAnswer) → a ≡ answer.Commit c → IsTold c
-
-counts_on : (Spent Other : CloudState → Counter → Type 0) (u : CloudState) (w : Work) (a : Answer) → ((what : Counter) → Spent u what → Other u what) → IsOfNone Spent u w a → IsOfNone Other u w a
-counts_on Spent Other u w a more none = record { trouble = λ k e. no_call_by Spent Other u u more k (none.trouble k e); left = none.left; told = none.told }
-
--- a sound reply to it is one that the operation did well
-trouble_well : (u : CloudState) (task : Task) (k : Trouble) → IsSoundReply (Working task) (reply.Trouble k) → IsOfNoCall (spent_by task) u k → (k ≡ trouble.Memory → ⊥) → DoesWell u task (reply.Trouble k)
-trouble_well u Opening k may none other = opening_spent u k may none other
-trouble_well u Closing k may none other = refuse_never u (spent_by Closing) k may none other
-trouble_well u Renewing k may none other = refuse_never u (spent_by Renewing) k may none other
-trouble_well u (Committing changes) k may none other = commit_spent u k may none other
-trouble_well u (Reading tree key) k may none other = walk_never u (spent_by (Reading tree key)) k may none other
-trouble_well u (Scanning tree from to) k may none other = walk_never u (spent_by (Scanning tree from to)) k may none other
-trouble_well u (LookingUp tree attr) k may none other = walk_never u (spent_by (LookingUp tree attr)) k may none other
-trouble_well u (Paging tree page) k may none other = page_spent u tree page k may none other
-trouble_well u (Folding tree) k may none other = tree_spent u tree k may none other
-
-value_well : (u : CloudState) (tree : ℕ) (key : List ℕ) (value : Option Value) (r : Reply) → r ≡ value_reply value → DoesWell u (Reading tree key) r
-value_well u tree key None r e = subst (DoesWell u (Reading tree key)) (sym e) tt
-value_well u tree key (Some value) r e = subst (DoesWell u (Reading tree key)) (sym e) tt
-
-troubled : (u : CloudState) (task : Task) (k : Trouble) (left : Acting) (r : Reply) → IsSoundReply (Working task) r → RepliesTo (answer.Trouble k) left (Ok r) → IsOfNoCall (spent_by task) u k → DoesWell u task r
-troubled u task k left r sound e none =
-    let is = replies_to (answer.Trouble k) left r e in
-    subst (DoesWell u task) (sym is.0.0) (trouble_well u task k (subst (IsSoundReply (Working task)) is.0.0 sound) none is.0.1)
-
-answer_well : (u : CloudState) (task : Task) (a : Answer) (left : Acting) (r : Reply) → IsAnswerOf task a → IsSoundReply (Working task) r → RepliesTo a left (Ok r) → IsOfNone (spent_by task) u left.work a → DoesWell u task r
-answer_well u task (answer.Trouble k) left r of sound e none = troubled u task k left r sound e (none.trouble k refl)
-answer_well u Opening (answer.Opened epoch) left r of sound e none = let is : r ≡ reply.Opened epoch = cc in subst (DoesWell u Opening) (sym is) tt
-answer_well u Closing answer.Closed left r of sound e none = let is : r ≡ reply.Closed = cc in subst (DoesWell u Closing) (sym is) tt
-answer_well u Renewing (answer.Renewed end) left r of sound e none = let is : r ≡ reply.Renewed end = cc in subst (DoesWell u Renewing) (sym is) tt
-answer_well u (Committing changes) (answer.Commit c) left r of sound e none =
-    let is = (commit_is c r e).0 in
-    subst (DoesWell u (Committing changes)) (sym is) (commit_well u c (none.told c refl) none.trouble (subst (IsSoundReply (Working (Committing changes))) is sound))
-answer_well u (Reading tree key) answer.Value left r of sound e none = value_well u tree key (value_of left) r e
-answer_well u (Scanning tree from to) answer.Scan left r of sound e none = subst (DoesWell u (Scanning tree from to)) (sym e) tt
-answer_well u (LookingUp tree attr) answer.Scan left r of sound e none = subst (DoesWell u (LookingUp tree attr)) (sym e) tt
-answer_well u (Paging tree page) (answer.Done n) left r of sound e none =
-    let is : r ≡ reply.Done n = cc in
-    subst (DoesWell u (Paging tree page)) (sym is) none.left
-answer_well u (Folding tree) (answer.Done n) left r of sound e none =
-    let is : r ≡ reply.Done n = cc in
-    subst (DoesWell u (Folding tree)) (sym is) none.left
-answer_well u Opening a left r of sound e none = absurd of
-answer_well u Closing a left r of sound e none = absurd of
-answer_well u Renewing a left r of sound e none = absurd of
-answer_well u (Committing changes) a left r of sound e none = absurd of
-answer_well u (Reading tree key) a left r of sound e none = absurd of
-answer_well u (Scanning tree from to) a left r of sound e none = absurd of
-answer_well u (LookingUp tree attr) a left r of sound e none = absurd of
-answer_well u (Paging tree page) a left r of sound e none = absurd of
-answer_well u (Folding tree) a left r of sound e none = absurd of
-
--- ---- the checkpoint of a page
-
--- what a session at work on it has in hand
-paging_of : (w : Work) (s : Standing) (tree page : ℕ) → WorksAs w s → s.posture ≡ Working (Paging tree page) → IsPagingOf tree page w
-paging_of (work.Paging home p) s tree page acts is = let same : Working (Paging p.tree p.page) ≡ Working (Paging tree page) = sym acts.0 ∙ is in (cc (same), cc (same))
-paging_of work.Closed s tree page acts is = absurd (cc (acts, is))
-paging_of (work.Idle home) s tree page acts is = absurd (cc (acts.0, is))
-paging_of (work.Opening m) s tree page acts is = absurd (cc (acts.0, is))
-paging_of (work.Committing m) s tree page acts is = absurd (cc (acts.0, is))
-paging_of (work.Reading home m) s tree page acts is = absurd (cc (acts.0, is))
-paging_of (work.Scanning home m) s tree page acts is = absurd (cc (acts.0, is))
-paging_of (work.Looking home m) s tree page acts is = absurd (cc (acts.0, is))
-paging_of (work.Folding home m) s tree page acts is = absurd (cc (acts.0, is))
-paging_of (work.Closing lease) s tree page acts is = absurd (cc (acts, is))
-paging_of (work.Renewing home) s tree page acts is = absurd (cc (acts.0, is))
-paging_of (work.Settling m) s tree page acts is = absurd acts
-paging_of (work.Broken lease) s tree page acts is = absurd (cc (acts, is))
-
--- of other sessions nothing is said
-goes_unsent : (t u : CloudState) (posture : Posture) (v w : Work) (r : Reply)
-    → ((tree page : ℕ) → posture ≡ Working (Paging tree page) → KeepsUnsent tree page t v → RepliesUnsent tree page u w r) → GoesOnUnsent t u posture v w r
-goes_unsent t u (Working (Paging tree page)) v w r each = each tree page refl
-goes_unsent t u posture v w r each = tt
+use Rattle.world_core.proofs.CalmAnswers.{answers_as, IsOfNone, counts_on, answer_well, paging_of, goes_unsent}
 
 -- ---- steps
 
@@ -602,6 +453,7 @@ module _ (lines : List Line) (n k : ℕ) (before after : Seen) (old new : World)
   request_well Well rules Is (Wait ticks) belongs h calm explains served = absurd belongs
   request_well Well rules Is (Report tree) belongs h calm explains served = absurd belongs
   request_well Well rules Is Settle belongs h calm explains served = absurd belongs
+  request_well Well rules Is (Sweep tree) belongs h calm explains served = absurd belongs
 
   -- the one that was asked
   as_asked : (request own : Request) → (let a : Result Request Refused = Ok request in let b : Result Request Refused = Ok own in a ≡ b) → DoesCalmly k request → DoesCalmly k own
@@ -618,59 +470,84 @@ module _ (lines : List Line) (n k : ℕ) (before after : Seen) (old new : World)
   noted_well noting Run is does = absurd is
   noted_well noting (Crash done) is does = absurd is
 
--- ---- a settling
+-- ---- the settler
 
 module _ (lines : List Line) (n : ℕ) (before after : Seen) (old new : World) (r : Reply) (t u : CloudState) (told : before.state ≡ Some t)
-    (told_after : after.state ≡ Some u) (sound : IsSoundReply (standing lines 0).posture r) where
+    (told_after : after.state ≡ Some u) where
   abbrev first : Caller
   first = settler n
 
-  unsettled_is : (q : Trouble) → RepliesSettled (answer.Trouble q) (Ok r) → (r ≡ reply.NotSettled q) × (q ≡ trouble.Memory → ⊥)
-  unsettled_is trouble.Memory e = absurd (cc (e))
-  unsettled_is trouble.Failed e = (cc (e), λ m. absurd (cc (m)))
-  unsettled_is (trouble.Late end now) e = (cc (e), λ m. absurd (cc (m)))
-  unsettled_is (trouble.Busy lock until) e = (cc (e), λ m. absurd (cc (m)))
-  unsettled_is (trouble.Waiting have need) e = (cc (e), λ m. absurd (cc (m)))
-  unsettled_is (trouble.Stale page least got) e = (cc (e), λ m. absurd (cc (m)))
-  unsettled_is (trouble.Absent page) e = (cc (e), λ m. absurd (cc (m)))
-  unsettled_is (trouble.NotALeaf page) e = (cc (e), λ m. absurd (cc (m)))
-  unsettled_is (trouble.Damaged place offset) e = (cc (e), λ m. absurd (cc (m)))
-  unsettled_is (trouble.BadFence page expected found) e = (cc (e), λ m. absurd (cc (m)))
-  unsettled_is (trouble.Loop page) e = (cc (e), λ m. absurd (cc (m)))
-  unsettled_is (trouble.Exhausted what) e = (cc (e), λ m. absurd (cc (m)))
+  -- a sweep counts on no counter, and a call that is calm brings it no trouble
+  never_swept : (v : Work) (tree : ℕ) (q : Trouble) → WorksOn (sweeps tree) v → MayStopSweep q → IsOfNoCall (spent_for v) u q → (q ≡ trouble.Memory → ⊥) → ⊥
+  never_swept (work.Sweeping m) tree trouble.Failed works may none other = none
+  never_swept (work.Sweeping m) tree (trouble.Late end now) works may none other = none
+  never_swept (work.Sweeping m) tree (trouble.Busy lock until) works may none other = none
+  never_swept (work.Sweeping m) tree trouble.Memory works may none other = other refl
+  never_swept (work.Sweeping m) tree q works may none other = may
+  never_swept v tree q works may none other = absurd works
 
-  settled_as : (v w : Work) (a : Answer) → IsOfNone (spent_for v) u w a → RepliesSettled a (Ok r) → SettlesWell u r
-  settled_as v w (answer.Settled x) none e = let is : r ≡ reply.Settled x.calls = cc (e) in subst (SettlesWell u) (sym is) tt
-  settled_as v w (answer.Trouble q) none e =
-      let is = unsettled_is q e in
-      subst (SettlesWell u) (sym is.0) (settled_spent u v q (subst (IsSoundReply (standing lines 0).posture) is.0 sound) (none.trouble q refl) is.1)
-  settled_as v w a none e = absurd e
+  -- how the reply to a line of the settler is then
+  abbrev EndsWell : Errand → Reply → Type 0
+  EndsWell errand q = RepliesWell u (event_for errand) (standing lines 0).posture q
 
-  begun_untroubled : (begun : World) → Has 0 settling_session old begun → IsAtRest (work_at begun 0)
-  begun_untroubled begun has =
-      subst (λ (a : Acting). IsAtRest a.work) (sym (has_at 0 settling_session old begun has 0 ∙ at_same 0 settling_session (session_at old.sessions) 0 refl))
-      (at_rest settling_session.work refl refl)
+  replied_well : (errand : Errand) (v w : Work) (a : Answer) → WorksOn errand v → IsSoundFor (event_for errand) (standing lines 0).posture r → IsOfNone (spent_for v) u w a → RepliesFor errand a (Ok r)
+      → EndsWell errand r
+  replied_well settles v w (answer.Settled x) works sound none e = let is : r ≡ reply.Settled x.calls = cc (e) in subst (EndsWell settles) (sym is) tt
+  replied_well settles v w (answer.Trouble q) works sound none e =
+      let is = told_is (λ k. reply.NotSettled k) q r e in
+      subst (EndsWell settles) (sym is.0) (settled_spent u v q (subst (IsSoundReply (standing lines 0).posture) is.0 sound) (none.trouble q refl) (λ m. subst HasText m is.1))
+  replied_well settles v w a works sound none e = absurd e
+  replied_well (sweeps tree) v w (answer.Swept x) works sound none e = let is : r ≡ reply.Swept x.kept x.removed = cc (e) in subst (EndsWell (sweeps tree)) (sym is) tt
+  replied_well (sweeps tree) v w (answer.Trouble q) works sound none e =
+      let is = told_is (λ k. reply.Trouble k) q r e in
+      absurd (never_swept v tree q works (subst IsSoundSweep is.0 sound) (none.trouble q refl) (λ m. subst HasText m is.1))
+  replied_well (sweeps tree) v w a works sound none e = absurd e
 
-  pub settles_well : (h : Settles n before after old new (Ok r)) → EachSettling StepIsCalm n before after old new (Ok r) h → EachSettling StepExplains n before after old new (Ok r) h
-      → SessionIsUntroubled 0 after new × SettlesWell u r
-  settles_well (inr memory) calm explains = absurd (no_memory r memory.0)
-  settles_well (inl h) calm explains = on h.settles calm explains
-    where
-      on : (s : SettlesOn first before after h.begun new (Ok r)) → EachSettlingOn StepIsCalm first before after h.begun new (Ok r) s
-          → EachSettlingOn StepExplains first before after h.begun new (Ok r) s → SessionIsUntroubled 0 after new × SettlesWell u r
-      on (inr memory) calm explains = absurd (no_memory r memory.0)
-      on (inl s) calm explains =
-          let c = s.comes in (
-            rests_in 0 after new (has_closed 0 s.left new s.closes),
-            settled_as c.steps.session.before.work c.steps.session.after.work s.answer
-                (subst (λ (x : CloudState). IsOfNone (spent_for c.steps.session.before.work) x c.steps.session.after.work s.answer)
-                (state_is calm.1.calm.after u (sym (c.steps.look_after.stays calm.1.calm.after calm.1.calm.left) ∙ told_after))
-                (answers_calmly first Plain c.mid after c.world s.left s.answer c.steps calm.1 explains.1
-                (went_calmly first before h.begun c.mid c.world c.went calm.0 explains.0 (t, told, rested t (work_at h.begun 0) (begun_untroubled h.begun h.begins)))))
-                s.replies,
-          )
+  module _ (errand : Errand) where
+    first_rests : (own : Errand) → IsAtRest (session_for own).work
+    first_rests settles = at_rest (session_for settles).work refl refl
+    first_rests (sweeps tree) = at_rest (session_for (sweeps tree)).work refl refl
+
+    begun_is : (begun : World) → Has 0 (session_for errand) old begun → session_at begun.sessions 0 ≡ session_for errand
+    begun_is begun has = has_at 0 (session_for errand) old begun has 0 ∙ at_same 0 (session_for errand) (session_at old.sessions) 0 refl
+
+    begun_untroubled : (begun : World) → Has 0 (session_for errand) old begun → IsAtRest (work_at begun 0)
+    begun_untroubled begun has = subst (λ (a : Acting). IsAtRest a.work) (sym (begun_is begun has)) (first_rests errand)
+
+    -- it stays at its errand
+    works_on : (from : Seen) (world : World) (to : Seen) (left : World) → WorksOn errand (work_at world 0) → Went first from world to left → WorksOn errand (work_at left 0)
+    works_on from world to left works start = works
+    works_on from world to left works (further mid _ prior _ went p) =
+        let had = subst (λ (a : Acting). WorksOn errand a.work) (changed_was 0 _ prior.sessions left.sessions p.session) (works_on from world mid prior works went) in
+        subst (λ (a : Acting). WorksOn errand a.work) (sym (changed_at 0 _ prior.sessions left.sessions p.session 0 ∙ at_same 0 p.session.after (session_at prior.sessions) 0 refl))
+        (errand_goes errand first p.under p.to p.session.before.work p.session.after.work p.session.does.work had)
+
+    pub errand_well : (h : Settles errand n before after old new (Ok r)) → EachSettling StepIsCalm errand n before after old new (Ok r) h
+        → EachSettling StepExplains errand n before after old new (Ok r) h → IsSoundFor (event_for errand) (standing lines 0).posture r → SessionIsUntroubled 0 after new × EndsWell errand r
+    errand_well (inr memory) calm explains sound = absurd (no_memory r memory.0)
+    errand_well (inl h) calm explains sound = on h.settles calm explains
+      where
+        on : (s : SettlesOn errand first before after h.begun new (Ok r)) → EachSettlingOn StepIsCalm errand first before after h.begun new (Ok r) s
+            → EachSettlingOn StepExplains errand first before after h.begun new (Ok r) s → SessionIsUntroubled 0 after new × EndsWell errand r
+        on (inr memory) calm explains = absurd (no_memory r memory.0)
+        on (inl s) calm explains =
+            let c = s.comes in
+            let begun = subst (λ (a : Acting). WorksOn errand a.work) (sym (begun_is h.begun h.begins)) (works_first errand) in
+            let works = subst (λ (a : Acting). WorksOn errand a.work) (changed_was 0 _ c.world.sessions s.left.sessions c.steps.session) (works_on before h.begun c.mid c.world begun c.went) in (
+              rests_in 0 after new (has_closed 0 s.left new s.closes),
+              replied_well errand c.steps.session.before.work c.steps.session.after.work s.answer works sound
+                  (subst (λ (x : CloudState). IsOfNone (spent_for c.steps.session.before.work) x c.steps.session.after.work s.answer)
+                  (state_is calm.1.calm.after u (sym (c.steps.look_after.stays calm.1.calm.after calm.1.calm.left) ∙ told_after))
+                  (answers_calmly first Plain c.mid after c.world s.left s.answer c.steps calm.1 explains.1
+                  (went_calmly first before h.begun c.mid c.world c.went calm.0 explains.0 (t, told, rested t (work_at h.begun 0) (begun_untroubled h.begun h.begins)))))
+                  s.replies,
+            )
 
 -- ---- every line
+
+refused_number : (why : Refused) (r : Reply) → why ≡ refused.Rule BadNumber → (let own : Result Reply WorldFault = Ok r in own ≡ declined why) → r ≡ reply.Refused BadNumber
+refused_number (refused.Rule rule) r is e = cc (is, e)
+refused_number refused.Memory r is e = absurd (cc (is))
 
 module _ (lines : List Line) (n : ℕ) (before after : Seen) (old new : World) (r : Reply) (t : CloudState) (number : length lines + 1 ≡ n) (told : before.state ≡ Some t)
     (stands : LinesStand lines old t) (u : CloudState) (told_after : after.state ≡ Some u) where
@@ -765,7 +642,13 @@ module _ (lines : List Line) (n : ℕ) (before after : Seen) (old new : World) (
       (goes_in 0 after new (t, reports.looked.stays t told, subst (λ (w : World). IsUntroubled t (work_at w 0)) (sym reports.world) (well t told)), tt)
   asked_well event.Settle asked asks h calm explains sound well =
       let d = subst AnswersCalmly asks (h, calm, explains) in
-      settles_well lines n before after old new r t u told told_after sound d.0 d.1 d.2
+      errand_well lines n before after old new r t u told told_after settles d.0 d.1 d.2 sound
+  asked_well (event.Sweep number) (Sweep (Ok tree)) asks h calm explains sound well =
+      subst (λ (k : ℕ). IsSoundFor (event.Sweep k) (standing lines 0).posture r → Well (event.Sweep k)) asks.0
+      (errand_well lines n before after old new r t u told told_after (sweeps tree) h.1 calm explains) sound
+  asked_well (event.Sweep number) (Sweep (Err why)) asks h calm explains sound well =
+      (unchanged 0 before after old new h.seen h.world well, subst (SweepsWell number) (sym (refused_number why r asks.1 h.reply)) (refl, asks.0))
+  asked_well (event.Sweep number) asked asks h calm explains sound well = absurd asks
   asked_well e asked asks h calm explains sound well =
       request_well lines n (session_of e) before after old new r t number told stands well u told_after (λ q. Unit {0}) (λ rule. tt)
       (IsNoted (noting_of e)) asked asks h calm explains

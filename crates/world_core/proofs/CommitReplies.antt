@@ -18,7 +18,6 @@ use Rattle.db_base.specs.declared.refusal.Refused.{Refused}
 use Rattle.db_base.specs.declared.refusal.Refused.TheVariants as refused
 use Rattle.db_base.specs.declared.trouble.CommitAnswer.{CommitAnswer}
 use Rattle.db_base.specs.declared.trouble.Trouble.{Trouble}
-use Rattle.db_base.specs.declared.trouble.Trouble.TheVariants as trouble
 use Rattle.db_base.specs.declared.wish.Wish.{Wish}
 use Rattle.db_base.specs.declared.wish.Wish.TheVariants.{Plain}
 use Rattle.db_base.specs.Value.{Value}
@@ -31,17 +30,18 @@ use Rattle.session_facts.specs.Facts.{session_at, WorksAs}
 use Rattle.session_facts.specs.Sessions.Sessions.{Sessions}
 use Rattle.ckpt_policy.specs.declared.role.Role.{Role}
 use Rattle.world_core.specs.declared.asked.Asked.{Asked}
-use Rattle.world_core.specs.declared.asked.Asked.TheVariants.{Session, Wait, Report, Settle}
+use Rattle.world_core.specs.declared.asked.Asked.TheVariants.{Session, Wait, Report, Settle, Sweep}
 use Rattle.world_core.specs.declared.asked.Request.{Request}
 use Rattle.world_core.specs.declared.asked.Request.TheVariants.{Begin, Note, Abort, Policy, Work as WorksDue, Step, Run, Crash}
 use Rattle.world_core.specs.declared.world.WorldFault.{WorldFault}
 use Rattle.world_core.specs.Asked.{Asks, OfSession, IsOpening, IsReading, IsScanning, IsLookingUp, IsPaging, IsFolding, IsNoted, IsStep, noting_of}
 use Rattle.world_core.specs.Handled.{Declines, BeginsOp, StepsLooked, MakesStep, Runs, Settles, SettlesOn, Crashes, Reports, Does, Answers, Policies, WorksThrough}
-use Rattle.world_core.specs.Replying.{declined, done_reply, unsettled_reply, value_reply, RepliesTo, RepliesSettled, RepliesBegun, RepliesTurn}
+use Rattle.session_facts.specs.Errands.{Errand, settles, sweeps}
+use Rattle.world_core.specs.Replying.{declined, done_reply, value_reply, RepliesTo, RepliesBegun, RepliesTurn}
 use Rattle.world_core.specs.Sessions.{Changes}
 use Rattle.world_core.proofs.Behind.{LinesStand}
 use Rattle.world_core.specs.World.{World}
-use Rattle.world_core.proofs.Texts.{commit_is}
+use Rattle.world_core.proofs.Texts.{commit_is, errand_is}
 use Rattle.world_core.proofs.StandsLemmas.{IsUnderWay, changed_was, way_begins, went_on, no_stop, no_memory, replies_to}
 
 -- ---- replies
@@ -87,11 +87,8 @@ module _ (Holds : Posture → Work → CommitAnswer → Type 0) (posture : Postu
   answer_keeps answer.Value left r e ends = value_keeps (value_of left) r e
   answer_keeps answer.Scan left r e ends = subst Keeps (sym e) tt
   answer_keeps (answer.Settled s) left r e ends = plainly r (reply.Settled s.calls) e tt
+  answer_keeps (answer.Swept x) left r e ends = plainly r (reply.Swept x.kept x.removed) e tt
   answer_keeps (answer.Trouble t) left r e ends = let is = replies_to (answer.Trouble t) left r e in subst Keeps (sym is.0.0) tt
-
-  unsettled_keeps : (r : Reply) (q : Trouble) → IsOk r (unsettled_reply q) → Keeps r
-  unsettled_keeps r trouble.Memory e = absurd (cc)
-  unsettled_keeps r q e = plainly r (reply.NotSettled q) e tt
 
 -- nothing is said of a session at no work
 pub record SaysNothing (Holds : Posture → Work → CommitAnswer → Type 0) : Type 0 where
@@ -233,27 +230,23 @@ module _ (Holds : Posture → Work → CommitAnswer → Type 0) (nothing : SaysN
   request_keeps Is (Wait ticks) belongs answers = absurd belongs
   request_keeps Is (Report tree) belongs answers = absurd belongs
   request_keeps Is Settle belongs answers = absurd belongs
+  request_keeps Is (Sweep tree) belongs answers = absurd belongs
 
 -- ---- every line
 
--- a wait, a report and a settling are answered with the end of no commit
+-- a wait, a report, a settling and a sweep are answered with the end of no commit
 module _ (Holds : Posture → Work → CommitAnswer → Type 0) (posture : Posture) (hand : Work) where
   wait_keeps : (ticks n : ℕ) (before after : Seen) (old new : World) (r : Reply) → Answers n (Wait ticks) before after old new (Ok r) → OfReply Holds posture hand r
   wait_keeps ticks n before after old new r (inl h) = plainly Holds posture hand r reply.Waited h.0.replies tt
   wait_keeps ticks n before after old new r (inr long) = declines_keeps Holds posture hand r _ before after old new long.declines
 
-  settle_keeps : (n : ℕ) (before after : Seen) (old new : World) (r : Reply) → Settles n before after old new (Ok r) → OfReply Holds posture hand r
-  settle_keeps n before after old new r (inr memory) = absurd (no_memory r memory.0)
-  settle_keeps n before after old new r (inl h) = by_end h.settles
+  errand_keeps : (errand : Errand) (n : ℕ) (before after : Seen) (old new : World) (r : Reply) → Settles errand n before after old new (Ok r) → OfReply Holds posture hand r
+  errand_keeps errand n before after old new r (inr memory) = absurd (no_memory r memory.0)
+  errand_keeps errand n before after old new r (inl h) = by_end h.settles
     where
-      on : (a : Answer) → RepliesSettled a (Ok r) → OfReply Holds posture hand r
-      on (answer.Settled x) e = plainly Holds posture hand r (reply.Settled x.calls) e tt
-      on (answer.Trouble q) e = unsettled_keeps Holds posture hand r q e
-      on a e = absurd e
-
-      by_end : SettlesOn (record { session = 0; event = n }) before after h.begun new (Ok r) → OfReply Holds posture hand r
+      by_end : SettlesOn errand (record { session = 0; event = n }) before after h.begun new (Ok r) → OfReply Holds posture hand r
       by_end (inr memory) = absurd (no_memory r memory.0)
-      by_end (inl s) = on s.answer s.replies
+      by_end (inl s) = errand_is (λ q. OfReply Holds posture hand q) (λ calls. tt) (λ k text. tt) (λ kept removed. tt) (λ k text. tt) errand s.answer r s.replies
 
   report_keeps : (tree : ℕ) (before after : Seen) (old new : World) (r : Reply) → Reports tree before after old new (Ok r) → OfReply Holds posture hand r
   report_keeps tree before after old new (reply.Commit a) h = absurd h.reply
@@ -295,5 +288,8 @@ module _ (Holds : Posture → Work → CommitAnswer → Type 0) (nothing : SaysN
   asked_keeps (event.Wait ticks) ends asked asks answers = wait_keeps Holds _ _ ticks n before after old new r (subst (λ z. Answers n z before after old new (Ok r)) asks answers)
   asked_keeps (event.Report tree) ends asked asks answers =
       report_keeps Holds _ _ tree before after old new r (subst (λ z. Answers n z before after old new (Ok r)) asks answers)
-  asked_keeps event.Settle ends asked asks answers = settle_keeps Holds _ _ n before after old new r (subst (λ z. Answers n z before after old new (Ok r)) asks answers)
+  asked_keeps event.Settle ends asked asks answers = errand_keeps Holds _ _ settles n before after old new r (subst (λ z. Answers n z before after old new (Ok r)) asks answers)
+  asked_keeps (event.Sweep number) ends (Sweep (Ok tree)) asks answers = errand_keeps Holds _ _ (sweeps tree) n before after old new r answers.1
+  asked_keeps (event.Sweep number) ends (Sweep (Err why)) asks answers = declines_keeps Holds _ _ r why before after old new answers
+  asked_keeps (event.Sweep number) ends asked asks answers = absurd asks
   asked_keeps e ends asked asks answers = of_session e ends (IsNoted (noting_of e)) asked asks answers

@@ -2,7 +2,7 @@
 use Rattle.std.proofs.Common.{◌≡◌, ◌≢◌, ◌+◌, ◌≤◌, ◌⊎◌, inl, inr, ℕ, Bool, true, false, cond, List, [], ◌∷◌, ◌++◌, length, Option, Some, Result, Ok, Err, refl, sym, ap, subst, ◌∙◌, arith, ne_eqb}
 use Rattle.std.specs.Prelude.{◌==◌}
 use Rattle.std.proofs.lemmas.Bool.{cases_eq, eq-eqb}
-use Rattle.client_work.specs.Session.{Acting, Follows, Begins, BeginsWith, HasInHand, CommitsNoted, CommitsOf, StepsSession, closed_session, settling_session, stopped_work, paging_begun_by, folding_begun_by}
+use Rattle.client_work.specs.Session.{Acting, Follows, Begins, BeginsWith, HasInHand, CommitsNoted, CommitsOf, StepsSession, closed_session, stopped_work, paging_begun_by, folding_begun_by}
 use Rattle.client_work.specs.declared.answer.Answer.{Answer}
 use Rattle.client_work.specs.declared.answer.Answer.TheVariants as answer
 use Rattle.client_work.specs.declared.answer.Begun.{Begun}
@@ -40,9 +40,10 @@ use Rattle.reply_text.specs.declared.reply.Reply.TheVariants as reply
 use Rattle.report_types.specs.declared.entry.Entry.{Entry}
 use Rattle.session_facts.proofs.LineLemmas.{line_of}
 use Rattle.session_facts.proofs.Sessions.CheckpointCalls.{IsOther, Leads, begun_counts, page_begun, counts_beside, other_counts, session_few, session_names, more_counts, end_counts}
-use Rattle.session_facts.proofs.SettlerLemmas.{settler_row}
+use Rattle.session_facts.proofs.SettlerLemmas.{errand_row}
+use Rattle.session_facts.specs.Errands.{Errand, settles, sweeps, event_for, session_for, AreRowsOf}
 use Rattle.session_facts.proofs.Steps.{CallLeaves, CallLeavesUpto, wish_holds}
-use Rattle.session_facts.proofs.CallKinds.{IsSettlersRow, IsWorkersRow}
+use Rattle.session_facts.proofs.CallKinds.{IsWorkersRow}
 use Rattle.session_facts.specs.Counted.{counted, counted_line, counted_from, calls_told, CountsWork, CountsAll, FewFor}
 use Rattle.session_facts.specs.Facts.{session_at, CloudHolds}
 use Rattle.session_facts.specs.Few.{next_page}
@@ -54,17 +55,19 @@ use Rattle.ckpt_policy.specs.declared.role.Role.{Role}
 use Rattle.world_core.proofs.Workers.{IsInside, HoldsWithin, IsIdle, IsBetween, holds_begun, holds_went, holds_works, open_rests, within_begun, within_went, within_works, worker, worker_begins, worker_call, worker_own, worker_rows}
 use Rattle.world_core.proofs.Behind.{LinesStand}
 use Rattle.world_core.proofs.EveryLine.{line_leaves}
-use Rattle.world_core.proofs.StandsLemmas.{IsUnderWay, IsNoReport, SettlerGoes, changed_at, changed_was, has_at, way_begins, went_on, call, steps_own, no_stop, no_memory, refused_is, settler, settler_went, settler_own, settler_call, settler_begins, settled_plain, end_later}
+use Rattle.world_core.proofs.StandsLemmas.{IsUnderWay, IsNoReport, SettlerGoes, changed_at, changed_was, has_at, way_begins, went_on, call, steps_own, no_stop, no_memory, refused_is, settler, settler_went, settler_own, settler_call, settler_begins, errand_plain, end_later}
+use Rattle.world_core.proofs.Errands.{IsRightErrand}
+use Rattle.world_core.proofs.Texts.{errand_is}
 use Rattle.world_core.specs.Asked.{Asks}
 use Rattle.world_core.specs.Bounded.{steps_of}
 use Rattle.world_core.specs.Handled.{Declines, Has, MakesNoCall, BeginsOp, NotesChange, DropsChanges, StepsLooked, MakesStep, Went, start, further, ComesTo, Runs, SettlesOn, Settles, Dies, Crashes, Does, Serves, ReportReply, Reports, Answers, Handled, BeginsCheckpoint, Checkpoints, Policies, Works, WorksThrough, checkpoint_more, checkpoint_of, no_checkpoint}
 use Rattle.world_core.specs.Named.{StepNames}
-use Rattle.world_core.specs.Replying.{declined, done_reply, unsettled_reply, RepliesBegun, RepliesTurn, RepliesSettled}
+use Rattle.world_core.specs.Replying.{declined, done_reply, RepliesBegun, RepliesTurn, RepliesFor}
 use Rattle.world_core.specs.Sessions.{Changes, NotesIn, AbortsIn}
 use Rattle.world_core.specs.Stands.{StandsOn}
 use Rattle.world_core.specs.World.{World}
 use Rattle.world_core.specs.declared.asked.Asked.{Asked}
-use Rattle.world_core.specs.declared.asked.Asked.TheVariants.{Session, Wait, Report, Settle}
+use Rattle.world_core.specs.declared.asked.Asked.TheVariants.{Session, Wait, Report, Settle, Sweep}
 use Rattle.world_core.specs.declared.asked.Noting.{Noting}
 use Rattle.world_core.specs.declared.asked.Request.{Request}
 use Rattle.world_core.specs.declared.asked.Request.TheVariants.{Begin, Note, Abort, Policy, Work as WorksDue, Step, Run, Crash}
@@ -471,6 +474,7 @@ own_session : (e : Event) (k : ℕ) (request : Result Request Refused) → Asks 
 own_session (event.Wait ticks) k request asks = absurd (cc (asks))
 own_session (event.Report tree) k request asks = absurd (cc (asks))
 own_session event.Settle k request asks = absurd (cc (asks))
+own_session (event.Sweep tree) k request asks = absurd asks
 own_session e k request asks = sym asks.0
 
 -- ---- a line behind lines
@@ -689,19 +693,19 @@ module _ (lines : List Line) (n : ℕ) (number : length lines + 1 ≡ n) (before
     serves (Ok request) h = does request h
     serves (Err why) h = declined_counts why h
 
-  -- ---- a settling
+  -- ---- the settler
 
-  module _ (begun : World) (begins : Has 0 settling_session old begun) (plain : IsNoReport r) (still : (calls : ℕ) → counted r calls ≡ calls) where
+  module _ (errand : Errand) (right : IsRightErrand errand) (begun : World) (begins : Has 0 (session_for errand) old begun) (plain : IsNoReport r) (still : (calls : ℕ) → counted r calls ≡ calls) where
     abbrev lined : List Line
-    lined = lines ++ line_of event.Settle r ∷ []
+    lined = lines ++ line_of (event_for errand) r ∷ []
 
-    row : IsSettlersRow lined (settler n)
-    row = settler_row lines r (settler n) refl (sym number)
+    row : AreRowsOf errand lined (settler n)
+    row = errand_row errand lines r (settler n) refl (sym number)
 
-    goes : SettlerGoes n lined (session_at old.sessions) begun before
-    goes = settler_begins lines n before old begun t (sym number) told stands begins r plain
+    goes : SettlerGoes errand n lined (session_at old.sessions) begun before
+    goes = settler_begins errand right lines n before old begun t (sym number) told stands begins r plain
 
-    step_on : (mid end : Seen) (world next : World) (turn : Turn Answer) → (g : SettlerGoes n lined (session_at old.sessions) world mid)
+    step_on : (mid end : Seen) (world next : World) (turn : Turn Answer) → (g : SettlerGoes errand n lined (session_at old.sessions) world mid)
         → (p : StepsLooked (settler n) Plain mid end world next turn) → (calls : ℕ → ℕ) → CountsAll calls g.state (session_at world.sessions)
         → (s : CloudState) → end.state ≡ Some s → (turn ≡ More) ⊎ ((a : Answer) × (turn ≡ Ended a))
         → (own : ℕ) × CountsAll (at 0 own calls) s (session_at next.sessions)
@@ -711,10 +715,10 @@ module _ (lines : List Line) (n : ℕ) (number : length lines + 1 ≡ n) (before
         h = wish_holds n lined (session_at world.sessions) world.audit world.blind g.state Plain g.holds
 
         c : CallLeavesUpto n lined p.to (session_at world.sessions) 0 p.session.after next.audit next.blind
-        c = settler_call n lined (session_at old.sessions) row mid end world next turn g p
+        c = settler_call errand n lined (session_at old.sessions) row mid end world next turn g p
 
         its : StepsSession (settler n) p.under p.to (session_at world.sessions 0) p.session.after (Ok turn)
-        its = settler_own n lined (session_at old.sessions) row mid end world next turn g p
+        its = settler_own errand n lined (session_at old.sessions) row mid end world next turn g p
 
         on : (turn ≡ More) ⊎ ((a : Answer) × (turn ≡ Ended a)) → (own : ℕ) × CountsAll (at 0 own calls) s (session_at next.sessions)
         on (inl more) = (
@@ -730,16 +734,20 @@ module _ (lines : List Line) (n : ℕ) (number : length lines + 1 ≡ n) (before
       subst (λ (z : CloudState). CountsAll (at 0 0 (calls_told lines)) z (session_at begun.sessions)) (same_Some t s (sym told ∙ at_end)) (λ m. on m (cases_eq m 0)),
     )
       where
+        none : (own : Errand) (made : ℕ) → CountsWork made t (session_for own).work
+        none settles made = tt
+        none (sweeps tree) made = tt
+
         on : (m : ℕ) → (m ≡ 0) ⊎ (m ≢ 0) → CountsWork (at 0 0 (calls_told lines) m) t (session_at begun.sessions m).work
         on m (inl same) =
             subst (λ (a : Acting). CountsWork (at 0 0 (calls_told lines) m) t a.work)
-            (sym (has_at 0 settling_session old begun begins m ∙ at_same 0 settling_session (session_at old.sessions) m same)) tt
+            (sym (has_at 0 (session_for errand) old begun begins m ∙ at_same 0 (session_for errand) (session_at old.sessions) m same)) (none errand (at 0 0 (calls_told lines) m))
         on m (inr other) =
             subst (λ (a : Acting). CountsWork (at 0 0 (calls_told lines) m) t a.work)
-            (sym (has_at 0 settling_session old begun begins m ∙ at_other 0 settling_session (session_at old.sessions) m other))
+            (sym (has_at 0 (session_for errand) old begun begins m ∙ at_other 0 (session_for errand) (session_at old.sessions) m other))
             (subst (λ (c : ℕ). CountsWork c t (session_at old.sessions m).work) (sym (at_other 0 0 (calls_told lines) m other)) (all m))
     settler_counts end world (further mid _ prior _ went step) s at_end =
-        let g = settler_went n lined (session_at old.sessions) row before begun mid prior goes went in
+        let g = settler_went errand n lined (session_at old.sessions) row before begun mid prior goes went in
         let was = settler_counts mid prior went g.state g.told in
         let one = step_on mid end prior world More g step (at 0 was.0 (calls_told lines)) was.1 s at_end (inl refl) in (
           one.0,
@@ -750,8 +758,8 @@ module _ (lines : List Line) (n : ℕ) (number : length lines + 1 ≡ n) (before
     settled_counts : (left : World) (a : Answer) → ComesTo (settler n) before after begun left a → Has 0 closed_session left new → Behind
     settled_counts left a comes closes = λ m. on m (cases_eq m 0)
       where
-        g : SettlerGoes n lined (session_at old.sessions) comes.world comes.mid
-        g = settler_went n lined (session_at old.sessions) row before begun comes.mid comes.world goes comes.went
+        g : SettlerGoes errand n lined (session_at old.sessions) comes.world comes.mid
+        g = settler_went errand n lined (session_at old.sessions) row before begun comes.mid comes.world goes comes.went
 
         was : (own : ℕ) × CountsAll (at 0 own (calls_told lines)) g.state (session_at comes.world.sessions)
         was = settler_counts comes.mid comes.world comes.went g.state g.told
@@ -794,29 +802,25 @@ module _ (lines : List Line) (n : ℕ) (number : length lines + 1 ≡ n) (before
       (counts_like (calls_told lines) (calls_told (lines ++ line_of e r ∷ [])) t (session_at old.sessions) (session_at new.sessions)
       (still_tells lines e r (report_still r tree h.reply)) (λ k. ap (λ (w : World). session_at w.sessions k) h.world) all)
 
-  settled_still : (a : Answer) (q : Reply) → RepliesSettled a (Ok q) → (calls : ℕ) → counted q calls ≡ calls
-  settled_still (answer.Settled m) q h calls = let is : q ≡ reply.Settled m.calls = cc (h) in ap (λ (z : Reply). counted z calls) is
-  settled_still (answer.Trouble k) q h calls = on k h
-    where
-      on : (k : Trouble) → IsOkOf q (unsettled_reply k) → counted q calls ≡ calls
-      on trouble.Memory g = absurd (cc (g))
-      on k g = let is : q ≡ reply.NotSettled k = cc (g) in ap (λ (z : Reply). counted z calls) is
-  settled_still a q h calls = absurd h
+  errand_still : (errand : Errand) (a : Answer) (q : Reply) → RepliesFor errand a (Ok q) → (calls : ℕ) → counted q calls ≡ calls
+  errand_still errand a q e calls = errand_is (λ (z : Reply). counted z calls ≡ calls) (λ made. refl) (λ k text. refl) (λ kept removed. refl) (λ k text. refl) errand a q e
 
-  settles : Settles n before after old new (Ok r) → Behind
-  settles (inl h) = on h.settles
+  errand_counts : (errand : Errand) → IsRightErrand errand → Settles errand n before after old new (Ok r) → Behind
+  errand_counts errand right (inl h) = on h.settles
     where
-      on : SettlesOn (settler n) before after h.begun new (Ok r) → Behind
-      on (inl s) = settled_counts h.begun h.begins (settled_plain s.answer r s.replies) (settled_still s.answer r s.replies) s.left s.answer s.comes s.closes
+      on : SettlesOn errand (settler n) before after h.begun new (Ok r) → Behind
+      on (inl s) = settled_counts errand right h.begun h.begins (errand_plain errand s.answer r s.replies) (errand_still errand s.answer r s.replies) s.left s.answer s.comes s.closes
       on (inr memory) = absurd (no_memory r memory.0)
-  settles (inr memory) = absurd (no_memory r memory.0)
+  errand_counts errand right (inr memory) = absurd (no_memory r memory.0)
 
   answers_count : (asked : Asked) → Asks e asked → Answers n asked before after old new (Ok r) → Behind
   answers_count (Session k request) asks (inl served) = serves k (own_session e k request asks) request served.1
   answers_count (Session k request) asks (inr none) = declined_counts _ none.declines
   answers_count (Wait ticks) asks h = waited ticks h
   answers_count (Report tree) asks h = reported tree h
-  answers_count Settle asks h = settles h
+  answers_count Settle asks h = errand_counts settles tt h
+  answers_count (Sweep (Ok tree)) asks h = errand_counts (sweeps tree) h.0 h.1
+  answers_count (Sweep (Err why)) asks h = declined_counts why h
 
 -- ---- what stands behind a line
 

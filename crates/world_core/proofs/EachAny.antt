@@ -8,8 +8,9 @@ use Rattle.db_base.specs.declared.refusal.Refused.{Refused}
 use Rattle.db_base.specs.declared.wish.Wish.{Wish}
 use Rattle.reply_text.specs.declared.reply.Reply.{Reply}
 use Rattle.db_base.specs.declared.names.QueueName.{QueueName}
+use Rattle.session_facts.specs.Errands.{Errand, settles, sweeps}
 use Rattle.world_core.specs.declared.asked.Asked.{Asked}
-use Rattle.world_core.specs.declared.asked.Asked.TheVariants.{Session, Wait, Report, Settle}
+use Rattle.world_core.specs.declared.asked.Asked.TheVariants.{Session, Wait, Report, Settle, Sweep}
 use Rattle.world_core.specs.declared.asked.Request.{Request}
 use Rattle.world_core.specs.declared.asked.Request.TheVariants.{Begin, Note, Abort, Policy, Work as WorksDue, Step, Run, Crash}
 use Rattle.world_core.specs.World.{World}
@@ -79,11 +80,11 @@ module _ (Holds : StepFact)
     serves_each k (Ok request) h = does_each k request h
     serves_each k (Err why) h = tt
 
-    settles_each : (h : Settles n before after old new result) → EachSettling Holds n before after old new result h
-    settles_each (inr memory) = tt
-    settles_each (inl h) = on h.settles
+    settles_each : (errand : Errand) (h : Settles errand n before after old new result) → EachSettling Holds errand n before after old new result h
+    settles_each errand (inr memory) = tt
+    settles_each errand (inl h) = on h.settles
       where
-        on : (s : SettlesOn (record { session = 0; event = n }) before after h.begun new result) → EachSettlingOn Holds (record { session = 0; event = n }) before after h.begun new result s
+        on : (s : SettlesOn errand (record { session = 0; event = n }) before after h.begun new result) → EachSettlingOn Holds errand (record { session = 0; event = n }) before after h.begun new result s
         on (inr memory) = tt
         on (inl s) = comes_each _ before after h.begun s.left s.answer s.comes
 
@@ -92,4 +93,6 @@ module _ (Holds : StepFact)
     asked_each (Session k request) (inr none) = tt
     asked_each (Wait ticks) waits = tt
     asked_each (Report tree) reports = tt
-    asked_each Settle settles = settles_each settles
+    asked_each Settle h = settles_each settles h
+    asked_each (Sweep (Ok tree)) h = settles_each (sweeps tree) h.1
+    asked_each (Sweep (Err why)) h = tt

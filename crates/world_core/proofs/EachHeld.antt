@@ -12,9 +12,10 @@ use Rattle.db_base.specs.declared.wish.Wish.TheVariants.{Plain}
 use Rattle.event_text.specs.declared.event.Event.TheVariants as event
 use Rattle.replay_meaning.specs.Standing.{Line}
 use Rattle.session_facts.specs.Facts.{session_at, CloudHolds}
-use Rattle.session_facts.proofs.CallKinds.{IsSettlersRow, IsWorkersRow}
+use Rattle.session_facts.proofs.CallKinds.{IsWorkersRow}
 use Rattle.session_facts.proofs.LineLemmas.{line_of}
-use Rattle.session_facts.proofs.SettlerLemmas.{settler_row}
+use Rattle.session_facts.proofs.SettlerLemmas.{errand_row}
+use Rattle.session_facts.specs.Errands.{Errand, settles, sweeps, event_for, AreRowsOf}
 use Rattle.reply_text.specs.declared.reply.Reply.{Reply}
 use Rattle.reply_text.specs.declared.reply.Reply.TheVariants as reply
 use Rattle.session_facts.specs.Sessions.Sessions.{Sessions}
@@ -22,7 +23,7 @@ use Rattle.recover_run.specs.declared.home.Home.{Home}
 use Rattle.db_base.specs.declared.names.QueueName.{QueueName}
 use Rattle.world_core.proofs.Workers.{IsInside, HoldsWithin, IsBetween, holds_begun, holds_went, holds_works, open_rests, within_begun, within_works, worker, worker_begins, worker_rows}
 use Rattle.world_core.specs.declared.asked.Asked.{Asked}
-use Rattle.world_core.specs.declared.asked.Asked.TheVariants.{Session, Wait, Report, Settle}
+use Rattle.world_core.specs.declared.asked.Asked.TheVariants.{Session, Wait, Report, Settle, Sweep}
 use Rattle.world_core.specs.declared.asked.Request.{Request}
 use Rattle.world_core.specs.declared.asked.Request.TheVariants.{Begin, Note, Abort, Policy, Work as WorksDue, Step, Run, Crash}
 use Rattle.world_core.specs.World.{World}
@@ -30,6 +31,7 @@ use Rattle.world_core.specs.declared.world.WorldFault.{WorldFault}
 use Rattle.world_core.specs.EachStep.{StepFact, EachWent, EachCome, EachTold, EachMade, EachRunTold, EachRun, EachCrashed, EachSettlingOn, EachSettling, EachDone, EachServed, EachAsked, EachThrough, EachWork}
 use Rattle.world_core.specs.Handled.{StepsLooked, StepsTo, MakesStep, Went, start, further, ComesTo, RunsTo, Runs, SettlesOn, Settles, Crashes, Does, Serves, Answers, Checkpoints, Works, WorksThrough, checkpoint_more, no_checkpoint}
 use Rattle.world_core.proofs.Behind.{LinesStand}
+use Rattle.world_core.proofs.Errands.{IsRightErrand}
 use Rattle.world_core.proofs.StandsLemmas.{IsUnderWay, way_begins, told_under, went_on, SettlerGoes, settler, settler_went, settler_begins}
 
 module _ (Holds : StepFact)
@@ -150,28 +152,28 @@ module _ (Holds : StepFact)
       serves_each k (Ok request) h = does_each k request h
       serves_each k (Err why) h = tt
 
-  -- ---- a settling
+  -- ---- the settler
 
   -- each step of the settler, within its own line
-  module _ (n : ℕ) (lines : List Line) (first : Sessions) (row : IsSettlersRow lines (settler n)) where
-    settler_each : (before after : Seen) (old new : World) (turn : Turn Answer) → SettlerGoes n lines first old before → (p : StepsLooked (settler n) Plain before after old new turn)
+  module _ (errand : Errand) (n : ℕ) (lines : List Line) (first : Sessions) (row : AreRowsOf errand lines (settler n)) where
+    settler_each : (before after : Seen) (old new : World) (turn : Turn Answer) → SettlerGoes errand n lines first old before → (p : StepsLooked (settler n) Plain before after old new turn)
         → Holds (settler n) Plain before after old new turn p
     settler_each before after old new turn goes p =
         holds_step n lines (settler n) Plain before after old new turn goes.state goes.holds p (p.wishes.set goes.state (p.look_before.stays goes.state goes.told))
 
-    settled_each : (before : Seen) (old : World) (after : Seen) (new : World) → SettlerGoes n lines first old before → (went : Went (settler n) before old after new)
+    settled_each : (before : Seen) (old : World) (after : Seen) (new : World) → SettlerGoes errand n lines first old before → (went : Went (settler n) before old after new)
         → EachWent Holds (settler n) before old after new went
     settled_each before old after new goes start = tt
     settled_each before old after new goes (further mid _ world _ went step) = (
       settled_each before old mid world goes went,
-      settler_each mid after world new More (settler_went n lines first row before old mid world goes went) step,
+      settler_each mid after world new More (settler_went errand n lines first row before old mid world goes went) step,
     )
 
-    comes_each : (before after : Seen) (old new : World) (answer : Answer) → SettlerGoes n lines first old before → (comes : ComesTo (settler n) before after old new answer)
+    comes_each : (before after : Seen) (old new : World) (answer : Answer) → SettlerGoes errand n lines first old before → (comes : ComesTo (settler n) before after old new answer)
         → EachCome Holds (settler n) before after old new answer comes
     comes_each before after old new answer goes comes = (
       settled_each before old comes.mid comes.world goes comes.went,
-      settler_each comes.mid after comes.world new (Ended answer) (settler_went n lines first row before old comes.mid comes.world goes comes.went) comes.steps,
+      settler_each comes.mid after comes.world new (Ended answer) (settler_went errand n lines first row before old comes.mid comes.world goes comes.went) comes.steps,
     )
 
   module _ (lines : List Line) (n : ℕ) (before after : Seen) (old new : World) (result : Result Reply WorldFault) (t : CloudState) (number : length lines + 1 ≡ n) (told : before.state ≡ Some t)
@@ -180,15 +182,15 @@ module _ (Holds : StepFact)
     abbrev r : Reply
     r = reply.Settled 0
 
-    settles_each : (h : Settles n before after old new result) → EachSettling Holds n before after old new result h
-    settles_each (inr memory) = tt
-    settles_each (inl h) = on h.settles
+    errand_each : (errand : Errand) → IsRightErrand errand → (h : Settles errand n before after old new result) → EachSettling Holds errand n before after old new result h
+    errand_each errand right (inr memory) = tt
+    errand_each errand right (inl h) = on h.settles
       where
-        on : (s : SettlesOn (settler n) before after h.begun new result) → EachSettlingOn Holds (settler n) before after h.begun new result s
+        on : (s : SettlesOn errand (settler n) before after h.begun new result) → EachSettlingOn Holds errand (settler n) before after h.begun new result s
         on (inr memory) = tt
         on (inl s) =
-            comes_each n (lines ++ line_of event.Settle r ∷ []) (session_at old.sessions) (settler_row lines r (settler n) refl (sym number)) before after h.begun s.left s.answer
-            (settler_begins lines n before old h.begun t (sym number) told stands h.begins r tt) s.comes
+            comes_each errand n (lines ++ line_of (event_for errand) r ∷ []) (session_at old.sessions) (errand_row errand lines r (settler n) refl (sym number)) before after h.begun s.left s.answer
+            (settler_begins errand right lines n before old h.begun t (sym number) told stands h.begins r tt) s.comes
 
   -- ---- every line
 
@@ -199,4 +201,6 @@ module _ (Holds : StepFact)
   each_held lines n (Session k request) before after old new result t number told stands (inr none) = tt
   each_held lines n (Wait ticks) before after old new result t number told stands waits = tt
   each_held lines n (Report tree) before after old new result t number told stands reports = tt
-  each_held lines n Settle before after old new result t number told stands settles = settles_each lines n before after old new result t number told stands settles
+  each_held lines n Settle before after old new result t number told stands h = errand_each lines n before after old new result t number told stands settles tt h
+  each_held lines n (Sweep (Ok tree)) before after old new result t number told stands h = errand_each lines n before after old new result t number told stands (sweeps tree) h.0 h.1
+  each_held lines n (Sweep (Err why)) before after old new result t number told stands h = tt

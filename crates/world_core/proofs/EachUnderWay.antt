@@ -11,8 +11,9 @@ use Rattle.db_base.specs.declared.wish.Wish.{Wish}
 use Rattle.db_base.specs.declared.wish.Wish.TheVariants.{Plain}
 use Rattle.replay_meaning.specs.Standing.{Line}
 use Rattle.reply_text.specs.declared.reply.Reply.{Reply}
+use Rattle.session_facts.specs.Errands.{Errand, settles, sweeps}
 use Rattle.world_core.specs.declared.asked.Asked.{Asked}
-use Rattle.world_core.specs.declared.asked.Asked.TheVariants.{Session, Wait, Report, Settle}
+use Rattle.world_core.specs.declared.asked.Asked.TheVariants.{Session, Wait, Report, Settle, Sweep}
 use Rattle.world_core.specs.declared.asked.Request.{Request}
 use Rattle.world_core.specs.declared.asked.Request.TheVariants.{Begin, Note, Abort, Policy, Work as WorksDue, Step, Run, Crash}
 use Rattle.world_core.specs.World.{World}
@@ -25,8 +26,8 @@ use Rattle.world_core.proofs.StandsLemmas.{IsUnderWay, way_begins, went_on}
 module _ (Holds : StepFact) (lines : List Line)
     (own : (who : Caller) (wish : Wish) (before after : Seen) (old new : World) (turn : Turn Answer) → who.event ≡ length lines + 1 → IsUnderWay lines old before
     → (p : StepsLooked who wish before after old new turn) → Holds who wish before after old new turn p)
-    (settles : (n : ℕ) (before after : Seen) (old new : World) (result : Result Reply WorldFault) (h : Settles n before after old new result)
-    → EachSettling Holds n before after old new result h)
+    (errands : (errand : Errand) (n : ℕ) (before after : Seen) (old new : World) (result : Result Reply WorldFault) (h : Settles errand n before after old new result)
+    → EachSettling Holds errand n before after old new result h)
     (works : (n k : ℕ) (before after : Seen) (old new : World) (result : Result Reply WorldFault) (h : WorksThrough n k before after old new result)
     → EachThrough Holds n k before after old new result h) where
   went_each : (who : Caller) (before : Seen) (old : World) (after : Seen) (new : World) → who.event ≡ length lines + 1 → IsUnderWay lines old before
@@ -97,4 +98,6 @@ module _ (Holds : StepFact) (lines : List Line)
     each_step (Session k request) (inr none) = tt
     each_step (Wait ticks) waits = tt
     each_step (Report tree) reports = tt
-    each_step Settle h = settles n before after old new result h
+    each_step Settle h = errands settles n before after old new result h
+    each_step (Sweep (Ok tree)) h = errands (sweeps tree) n before after old new result h.1
+    each_step (Sweep (Err why)) h = tt

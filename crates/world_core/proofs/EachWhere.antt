@@ -8,8 +8,9 @@ use Rattle.db_base.specs.declared.refusal.Refused.{Refused}
 use Rattle.db_base.specs.declared.wish.Wish.{Wish}
 use Rattle.reply_text.specs.declared.reply.Reply.{Reply}
 use Rattle.db_base.specs.declared.names.QueueName.{QueueName}
+use Rattle.session_facts.specs.Errands.{Errand, settles, sweeps}
 use Rattle.world_core.specs.declared.asked.Asked.{Asked}
-use Rattle.world_core.specs.declared.asked.Asked.TheVariants.{Session, Wait, Report, Settle}
+use Rattle.world_core.specs.declared.asked.Asked.TheVariants.{Session, Wait, Report, Settle, Sweep}
 use Rattle.world_core.specs.declared.asked.Request.{Request}
 use Rattle.world_core.specs.declared.asked.Request.TheVariants.{Begin, Note, Abort, Policy, Work as WorksDue, Step, Run, Crash}
 use Rattle.world_core.specs.World.{World}
@@ -86,12 +87,13 @@ module _ (First Then : StepFact)
     serves_where k (Ok request) h each = does_where k request h each
     serves_where k (Err why) h each = tt
 
-    settles_where : (h : Settles n before after old new result) → EachSettling First n before after old new result h → EachSettling Then n before after old new result h
-    settles_where (inr memory) each = tt
-    settles_where (inl h) each = on h.settles each
+    settles_where : (errand : Errand) (h : Settles errand n before after old new result) → EachSettling First errand n before after old new result h
+        → EachSettling Then errand n before after old new result h
+    settles_where errand (inr memory) each = tt
+    settles_where errand (inl h) each = on h.settles each
       where
-        on : (s : SettlesOn (record { session = 0; event = n }) before after h.begun new result) → EachSettlingOn First (record { session = 0; event = n }) before after h.begun new result s
-            → EachSettlingOn Then (record { session = 0; event = n }) before after h.begun new result s
+        on : (s : SettlesOn errand (record { session = 0; event = n }) before after h.begun new result) → EachSettlingOn First errand (record { session = 0; event = n }) before after h.begun new result s
+            → EachSettlingOn Then errand (record { session = 0; event = n }) before after h.begun new result s
         on (inr memory) each = tt
         on (inl s) each = comes_where _ before after h.begun s.left s.answer s.comes each
 
@@ -101,4 +103,6 @@ module _ (First Then : StepFact)
     asked_where (Session k request) (inr none) each = tt
     asked_where (Wait ticks) waits each = tt
     asked_where (Report tree) reports each = tt
-    asked_where Settle settles each = settles_where settles each
+    asked_where Settle h each = settles_where settles h each
+    asked_where (Sweep (Ok tree)) h each = settles_where (sweeps tree) h.1 each
+    asked_where (Sweep (Err why)) h each = tt

@@ -15,12 +15,13 @@ use Rattle.world_core.specs.declared.asked.Noting.{Noting}
 use Rattle.world_core.specs.declared.asked.Request.{Request}
 use Rattle.world_core.specs.declared.asked.Request.TheVariants.{Begin, Note, Abort, Policy, Work as WorksDue, Step, Run, Crash}
 use Rattle.world_core.specs.declared.asked.Asked.{Asked}
-use Rattle.world_core.specs.declared.asked.Asked.TheVariants.{Session, Wait, Report, Settle}
+use Rattle.world_core.specs.declared.asked.Asked.TheVariants.{Session, Wait, Report, Settle, Sweep}
 use Rattle.world_core.specs.Asked.{noting_of, bound_of, IsOpening, IsReading, IsScanning, IsLookingUp, IsPaging, IsFolding, IsNoted, IsStep, OfSession, Asks}
 use Rattle.world_core.specs.Sessions.{joined}
 use Rattle.world_core.specs.Handled.{MakesNoCall, Does, Answers, Handled}
 use Rattle.world_core.proofs.Behind.{LinesStand, LineLeaves}
-use Rattle.world_core.proofs.StandsLemmas.{Ready, declines, runs, makes_step, crashes, policies, settles, waits, reports}
+use Rattle.session_facts.specs.Errands.{settles, sweeps}
+use Rattle.world_core.proofs.StandsLemmas.{Ready, declines, runs, makes_step, crashes, policies, goes_errand, waits, reports}
 use Rattle.world_core.proofs.Workers.{works_through}
 use Rattle.world_core.proofs.BeginLemmas.{opening_begun, read_begun, scan_begun, look_begun, paging_begun, close_begun, renewal_begun, folding_begun, commit_begun, notes, aborts}
 
@@ -51,6 +52,7 @@ request_stands n k event Is (Session number request) before after old new r line
 request_stands n k event Is (Wait ticks) before after old new r lines t belongs answers at told stands served = absurd belongs
 request_stands n k event Is (Report tree) before after old new r lines t belongs answers at told stands served = absurd belongs
 request_stands n k event Is Settle before after old new r lines t belongs answers at told stands served = absurd belongs
+request_stands n k event Is (Sweep tree) before after old new r lines t belongs answers at told stands served = absurd belongs
 
 -- ---- a change is noted
 
@@ -152,7 +154,12 @@ asked_stands n (event.Wait ticks) asked before after old new r lines t asks answ
 asked_stands n (event.Report tree) asked before after old new r lines t asks answers at told stands =
     reports lines tree r before after old new t told stands (subst (λ z. Answers n z before after old new (Ok r)) asks answers)
 asked_stands n event.Settle asked before after old new r lines t asks answers at told stands =
-    settles lines n r before after old new t at told stands (subst (λ z. Answers n z before after old new (Ok r)) asks answers)
+    goes_errand settles tt lines n r before after old new t at told stands (subst (λ z. Answers n z before after old new (Ok r)) asks answers)
+asked_stands n (event.Sweep number) (Sweep (Ok tree)) before after old new r lines t asks answers at told stands =
+    subst (λ k. LineLeaves (lines ++ line_of (event.Sweep k) r ∷ []) new after r) asks.0 (goes_errand (sweeps tree) answers.0 lines n r before after old new t at told stands answers.1)
+asked_stands n (event.Sweep number) (Sweep (Err why)) before after old new r lines t asks answers at told stands =
+    declines lines (event.Sweep number) r why before after old new t answers told stands
+asked_stands n (event.Sweep number) asked before after old new r lines t asks answers at told stands = absurd asks
 asked_stands n e asked before after old new r lines t asks answers at told stands =
     request_stands n (session_of e) e (IsNoted (noting_of e)) asked before after old new r lines t asks answers at told stands
     (λ request s is done. noted_line lines e n (session_of e) (noting_of e) request before after old new r t refl (λ q z. refl) s is done)

@@ -12,7 +12,7 @@ use Rattle.recover_run.specs.declared.home.Home.{Home}
 use Rattle.txn_buffer.specs.Noted.{Noted}
 use Rattle.db_base.specs.declared.wish.Wish.{Wish}
 use Rattle.client_work.specs.declared.work.Work.{Work}
-use Rattle.client_work.specs.declared.work.Work.TheVariants.{Closed, Idle, Opening, Committing, Reading, Scanning, Looking, Paging, Folding, Closing, Renewing, Settling, Broken}
+use Rattle.client_work.specs.declared.work.Work.TheVariants.{Closed, Idle, Opening, Committing, Reading, Scanning, Looking, Paging, Folding, Closing, Renewing, Settling, Sweeping, Broken}
 use Rattle.client_work.specs.declared.listing.Listing.{Listing}
 use Rattle.client_work.specs.declared.shown.Shown.{Shown}
 use Rattle.client_work.specs.Session.{Acting, closed_session, Follows, StepsAt, ask_of_work, calls_left}
@@ -76,6 +76,7 @@ more_asks who before after (Folding home f) new p = (_, ap ask_of_work p.2)
 more_asks who before after (Closing lease) new p = absurd p
 more_asks who before after (Renewing home) new p = absurd p
 more_asks who before after (Settling m) new p = (_, ap ask_of_work p.1.2)
+more_asks who before after (Sweeping m) new p = (_, ap ask_of_work p.2)
 more_asks who before after Closed new p = absurd p
 more_asks who before after (Idle home) new p = absurd p
 more_asks who before after (Broken lease) new p = absurd p

@@ -1,6 +1,6 @@
 -- Behind each line some book stands, whatever lines led to the cloud before it.
 use Rattle.std.proofs.Common.{◌≡◌, ◌≤◌, ◌⊎◌, ℕ, List, [], Some, Result, Ok, Err, length, refl, sym, ap, subst, ◌∙◌, inl, inr, Bool, true, false, arith}
-use Rattle.client_work.specs.Session.{Acting, StepsSession, Begins, closed_session, settling_session}
+use Rattle.client_work.specs.Session.{Acting, StepsSession, Begins, closed_session}
 use Rattle.client_work.specs.declared.answer.Answer.{Answer}
 use Rattle.client_work.specs.declared.answer.Begun.TheVariants.{Working}
 use Rattle.client_work.specs.declared.op.Op.{Op}
@@ -23,7 +23,8 @@ use Rattle.event_text.specs.declared.event.Event.TheVariants as event
 use Rattle.reply_text.specs.declared.reply.Reply.{Reply}
 use Rattle.report_types.specs.declared.entry.Entry.{Entry}
 use Rattle.session_facts.proofs.Commits.Noted.{may_none}
-use Rattle.session_facts.proofs.Sessions.Begins.{begins_keeps, settling_begins_session}
+use Rattle.session_facts.proofs.Sessions.Begins.{begins_keeps}
+use Rattle.session_facts.specs.Errands.{Errand, settles, sweeps, session_for}
 use Rattle.session_facts.proofs.Sessions.Calling.{session_keeps}
 use Rattle.session_facts.proofs.Sessions.Laws.{buffer_keeps, crash_keeps, rest_keeps, same_sessions}
 use Rattle.session_facts.proofs.Steps.{MadeCall, made_call}
@@ -34,6 +35,7 @@ use Rattle.txn_buffer.specs.Noted.{Noted}
 use Rattle.replay_meaning.specs.Standing.{session_of}
 use Rattle.db_base.specs.declared.names.QueueName.{QueueName}
 use Rattle.ckpt_policy.specs.declared.role.Role.{Role}
+use Rattle.world_core.proofs.Errands.{IsRightErrand, begins_errand}
 use Rattle.world_core.proofs.Joining.{may_join}
 use Rattle.world_core.proofs.StandsLemmas.{changed_at, changed_was, changed_rests, went_rests, has_at, no_memory}
 use Rattle.world_core.specs.Asked.{bound_of, IsOpening, IsReading, IsScanning, IsLookingUp, IsPaging, IsFolding, IsNoted, IsStep, OfSession, Asks, noting_of, IsPlace, change_in}
@@ -42,7 +44,7 @@ use Rattle.world_core.specs.Sessions.{Changes, NotesIn, AbortsIn, joined}
 use Rattle.world_core.specs.Stands.{KeepsABook}
 use Rattle.world_core.specs.World.{World}
 use Rattle.world_core.specs.declared.asked.Asked.{Asked}
-use Rattle.world_core.specs.declared.asked.Asked.TheVariants.{Session, Wait, Report, Settle}
+use Rattle.world_core.specs.declared.asked.Asked.TheVariants.{Session, Wait, Report, Settle, Sweep}
 use Rattle.world_core.specs.declared.asked.Noting.{Noting}
 use Rattle.world_core.specs.declared.asked.Request.{Request}
 use Rattle.world_core.specs.declared.asked.Request.TheVariants.{Begin, Note, Abort, Policy, Work as WorksDue, Step, Run, Crash}
@@ -69,6 +71,7 @@ of_session k Is right (Session j request) is = right request is.1
 of_session k Is right (Wait ticks) never = absurd never
 of_session k Is right (Report tree) never = absurd never
 of_session k Is right Settle never = absurd never
+of_session k Is right (Sweep tree) never = absurd never
 
 same_right : (own : Request) → IsRight own → (request : Result Request Refused) → (let a : Result Request Refused = Ok own in request ≡ a) → IsRightIfAny request
 same_right own right request e = subst IsRightIfAny (sym e) right
@@ -134,6 +137,8 @@ asks_right (event.Crash k done) asked asks = of_session k (λ request. request �
 asks_right (event.Wait ticks) asked asks = subst AsksRight (sym asks) tt
 asks_right (event.Report tree) asked asks = subst AsksRight (sym asks) tt
 asks_right event.Settle asked asks = subst AsksRight (sym asks) tt
+asks_right (event.Sweep number) (Sweep tree) asks = tt
+asks_right (event.Sweep number) asked asks = absurd asks
 asks_right e asked asks =
     of_session (session_of e) (IsNoted (noting_of e)) (noted_right (noting_of e)) asked asks
 
@@ -339,19 +344,20 @@ module _ (n k : ℕ) (before after : Seen) (old new : World) (r : Reply) (some :
 
 -- ---- the settler
 
-settle_still : (n : ℕ) (before after : Seen) (old new : World) (r : Reply) → IsStill old before → Settles n before after old new (Ok r) → IsStill new after
-settle_still n before after old new r still (inr memory) = absurd (no_memory r memory.0)
-settle_still n before after old new r still (inl h) = by h.settles
+errand_still : (errand : Errand) → IsRightErrand errand → (n : ℕ) (before after : Seen) (old new : World) (r : Reply) → IsStill old before → Settles errand n before after old new (Ok r)
+    → IsStill new after
+errand_still errand right n before after old new r still (inr memory) = absurd (no_memory r memory.0)
+errand_still errand right n before after old new r still (inl h) = by h.settles
   where
     who : Caller
     who = record { session = 0; event = n }
 
     begun : OnBook h.begun before
     begun =
-        on_same h.begun before still.0.state still.0.book still.0.order (at 0 settling_session (session_at old.sessions)) still.0.told (has_at 0 settling_session old h.begun h.begins)
-        (settling_begins_session still.0.book still.0.order still.0.state (session_at old.sessions) 0 still.1 still.0.stand)
+        on_same h.begun before still.0.state still.0.book still.0.order (at 0 (session_for errand) (session_at old.sessions)) still.0.told (has_at 0 (session_for errand) old h.begun h.begins)
+        (begins_errand errand right still.0.book still.0.order still.0.state (session_at old.sessions) 0 still.1 still.0.stand)
 
-    by : SettlesOn who before after h.begun new (Ok r) → IsStill new after
+    by : SettlesOn errand who before after h.begun new (Ok r) → IsStill new after
     by (inr memory) = absurd (no_memory r memory.0)
     by (inl s) =
         let c = s.comes in (
@@ -403,7 +409,9 @@ asked_still n (Session k (Err why)) before after old new r right still (inl serv
 asked_still n (Session k request) before after old new r right still (inr none) = declined_still _ before after old new (Ok r) still none.declines
 asked_still n (Wait ticks) before after old new r right still waits = wait_still ticks before after old new r still waits
 asked_still n (Report tree) before after old new r right still reports = report_still tree before after old new r still reports
-asked_still n Settle before after old new r right still settles = settle_still n before after old new r still settles
+asked_still n Settle before after old new r right still h = errand_still settles tt n before after old new r still h
+asked_still n (Sweep (Ok tree)) before after old new r right still h = errand_still (sweeps tree) h.0 n before after old new r still h.1
+asked_still n (Sweep (Err why)) before after old new r right still h = declined_still why before after old new (Ok r) still h
 
 pub keeps_book : (n : ℕ) (e : Event) (before after : Seen) (old new : World) (result : Result Reply WorldFault) → Handled n e before after old new result → KeepsABook before after old new result
 keeps_book n e before after old new (Ok r) handled = λ t told stands.

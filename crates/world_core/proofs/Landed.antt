@@ -13,12 +13,12 @@ use Rattle.client_work.specs.Session.{ask_of_work}
 use Rattle.cloud_trait.proofs.NameLemmas.{queue_cmp-total}
 use Rattle.cloud_trait.proofs.RowLemmas.{leaves_grown}
 use Rattle.cloud_trait.proofs.StateLemmas.{put_at_same}
-use Rattle.cloud_trait.specs.Ask.{Ask, Get, GetHeld, PutHeld, Send, Receive, Delete, Take, Renew, Release}
+use Rattle.cloud_trait.specs.Ask.{Ask, Get, GetHeld, PutHeld, ListHeld, RemoveHeld, Send, Receive, Delete, Take, Renew, Release}
 use Rattle.cloud_trait.specs.Caller.{Caller}
 use Rattle.cloud_trait.specs.Growth.{BeginsWith, HasGrown}
 use Rattle.cloud_trait.specs.Names.{queue_cmp}
 use Rattle.cloud_trait.specs.Seen.{Seen}
-use Rattle.cloud_trait.specs.State.{CloudState, Counts, called, sent}
+use Rattle.cloud_trait.specs.State.{CloudState, Counts, called}
 use Rattle.cloud_trait.specs.Upto.{posts_of}
 use Rattle.cloud_trait.specs.Weather.{Leaves, Weather}
 use Rattle.cloud_trait.specs.declared.answer.Answer.{Answer as Reply}
@@ -65,6 +65,7 @@ send_lands who queue bytes call.Failed c d b t row failed memory = absurd (faile
 send_lands who queue bytes call.Memory c d b t row failed memory = absurd (memory refl)
 send_lands who queue bytes (call.Got v) c d b t row failed memory = absurd row
 send_lands who queue bytes (call.Received ms) c d b t row failed memory = absurd row
+send_lands who queue bytes (call.Listed ps) c d b t row failed memory = absurd row
 send_lands who queue bytes call.Done c d b t row failed memory = absurd row
 send_lands who queue bytes (call.Given l) c d b t row failed memory = absurd row
 send_lands who queue bytes (call.Held until) c d b t row failed memory = absurd row
@@ -114,6 +115,8 @@ adds_so (Send (PagePu tree page) bytes) notes place some = page_adds tree page b
 adds_so (Get name) notes place some = inl (adds_none (Get name) notes (λ q b e. absurd (cc (e))) place)
 adds_so (GetHeld name l) notes place some = inl (omega arith)
 adds_so (PutHeld name bytes one two) notes place some = inl (omega arith)
+adds_so (ListHeld tree l) notes place some = inl (omega arith)
+adds_so (RemoveHeld name l) notes place some = inl (omega arith)
 adds_so (Receive queue most) notes place some = inl (omega arith)
 adds_so (Delete queue id) notes place some = inl (omega arith)
 adds_so (Take lock ticks) notes place some = inl (omega arith)

@@ -39,7 +39,7 @@ use Rattle.client_work.specs.declared.op.Op.{Op}
 use Rattle.client_work.specs.declared.op.Op.TheVariants as op
 use Rattle.client_work.specs.declared.shown.Shown.{Shown}
 use Rattle.client_work.specs.declared.work.Work.{Work}
-use Rattle.client_work.specs.declared.work.Work.TheVariants.{Closed, Idle, Opening, Committing, Reading, Scanning, Looking, Paging, Folding, Closing, Renewing, Settling, Broken}
+use Rattle.client_work.specs.declared.work.Work.TheVariants.{Closed, Idle, Opening, Committing, Reading, Scanning, Looking, Paging, Folding, Closing, Renewing, Settling, Sweeping, Broken}
 use Rattle.client_work.specs.BrokenOff.{broken_off, broken_work}
 use Rattle.client_work.specs.Session.{Acting, closed_session, Begins, BeginsWith, CommitsIn, CommitsNoted, CommitsOf, Follows, HasInHand, LooksIn, LooksOf, ReadsIn, ReadsOf, ScansIn, folding_begun_by, paging_begun_by, StepsAt, StepsSession, ask_of_work, committed_work, stopped_work}
 use Rattle.session_facts.proofs.CallKinds.{HasCheckpoint}
@@ -51,14 +51,15 @@ use Rattle.session_facts.proofs.Lists.{session_there}
 use Rattle.client_work.specs.declared.shown.Shown.TheVariants.{Nothing}
 use Rattle.world_core.proofs.Workers.{IsBetween, IsInside, open_rests, within_begun, within_works}
 use Rattle.world_core.specs.declared.asked.Asked.{Asked}
-use Rattle.world_core.specs.declared.asked.Asked.TheVariants.{Session, Wait, Report, Settle}
+use Rattle.world_core.specs.declared.asked.Asked.TheVariants.{Session, Wait, Report, Settle, Sweep}
 use Rattle.world_core.specs.declared.asked.Noting.{Noting}
 use Rattle.world_core.specs.declared.asked.Request.{Request}
 use Rattle.world_core.specs.declared.asked.Request.TheVariants.{Begin, Note, Abort, Policy, Work as WorksDue, Step, Run, Crash}
 use Rattle.world_core.specs.declared.put.Put.{Put}
 use Rattle.world_core.specs.declared.world.WorldFault.{WorldFault}
+use Rattle.session_facts.specs.Errands as errands
 use Rattle.world_core.specs.Handled.{Answers, BeginsOp, BreaksOff, ComesTo, Crashes, Does, DropsChanges, FallsShort, Handled, MakesStep, NotesChange, Runs, RunsShort, Settles, SettlesOn, StepsLooked, StopsShort, Went, further, start, CheckpointFails, Checkpoints, FailsAt, IsUndone, KnowsNoDue, Policies, Works, WorksThrough, checkpoint_more, is_done, no_checkpoint}
-use Rattle.world_core.specs.LeftShort.{AskedShort, IsBroken, IsLeftShort, LeavesShort, ServesShort}
+use Rattle.world_core.specs.LeftShort.{AskedShort, IsBroken, IsLeftShort, LeavesShort, ServesShort, SettlerShort}
 use Rattle.world_core.specs.Put.{put_of, put_of_ask}
 use Rattle.world_core.specs.Replying.{RepliesBegun, RepliesTurn, done_reply}
 use Rattle.world_core.specs.Sessions.{Changes, NotesIn, AbortsIn}
@@ -107,6 +108,7 @@ broken_now (Folding home m) ask e = (home.lease, refl)
 broken_now (Closing lease) ask e = refl
 broken_now (Renewing home) ask e = (home.lease, refl)
 broken_now (Settling m) ask e = refl
+broken_now (Sweeping m) ask e = refl
 broken_now (Broken lease) ask e = absurd (cc (e))
 
 -- a step that goes on keeps what is at work
@@ -130,6 +132,7 @@ broken_more who before after (Folding home m) v u p h = to_lease (Folding home _
 broken_more who before after (Closing lease) v u p h = absurd p
 broken_more who before after (Renewing home) v u p h = absurd p
 broken_more who before after (Settling m) v u p h = to_lease (Settling _) v u p.1.2 h
+broken_more who before after (Sweeping m) v u p h = to_lease (Sweeping _) v u p.2 h
 broken_more who before after Closed v u p h = absurd p
 broken_more who before after (Idle home) v u p h = absurd p
 broken_more who before after (Broken lease) v u p h = absurd p
@@ -177,6 +180,10 @@ broken_last who before after (Settling m) v More not p = ap broken_work p.1.2
 broken_last who before after (Settling m) v (Ended (answer.Settled n)) not p = ap broken_work p.1.2
 broken_last who before after (Settling m) v (Ended (answer.Trouble k)) not p = ap broken_work p.1.2
 broken_last who before after (Settling m) v turn not p = absurd p.1
+broken_last who before after (Sweeping m) v More not p = ap broken_work p.2
+broken_last who before after (Sweeping m) v (Ended (answer.Swept x)) not p = ap broken_work p.2
+broken_last who before after (Sweeping m) v (Ended (answer.Trouble k)) not p = ap broken_work p.2
+broken_last who before after (Sweeping m) v turn not p = absurd p
 broken_last who before after Closed v turn not p = absurd p
 broken_last who before after (Idle home) v turn not p = absurd p
 broken_last who before after (Broken lease) v turn not p = absurd p
@@ -226,6 +233,7 @@ opened_no_put who before after (Folding home m) v epoch p = absurd p
 opened_no_put who before after (Closing lease) v epoch p = absurd p
 opened_no_put who before after (Renewing home) v epoch p = absurd p
 opened_no_put who before after (Settling m) v epoch p = absurd p.1
+opened_no_put who before after (Sweeping m) v epoch p = absurd p
 opened_no_put who before after Closed v epoch p = absurd p
 opened_no_put who before after (Idle home) v epoch p = absurd p
 opened_no_put who before after (Broken lease) v epoch p = absurd p
@@ -584,17 +592,17 @@ module _ (n : ℕ) (before after : Seen) (old new : World) (why : WorldFault) wh
   same_sessions : new ≡ old → new.sessions ≡ old.sessions
   same_sessions same = ap (λ (w : World). w.sessions) same
 
-  shut_on : (begun : World) → SettlesOn (who 0) before after begun new No → Changes 0 IsClosed begun.sessions new.sessions
-  shut_on begun (inl s) =
+  shut_on : (errand : errands.Errand) (begun : World) → SettlesOn errand (who 0) before after begun new No → Changes 0 IsClosed begun.sessions new.sessions
+  shut_on errand begun (inl s) =
       let c = s.comes in
       shut_went (who 0) new before begun c.mid c.world c.went (shut_before (who 0) new _ c.world s.left c.steps.session s.closes.session_is)
-  shut_on begun (inr memory) =
+  shut_on errand begun (inr memory) =
       let s = memory.1.stops in
       shut_went (who 0) new before begun s.mid s.world s.went (shut_short (who 0) new s.mid after s.world memory.1.left s.short memory.1.closes.session_is)
 
-  settles_short : Settles n before after old new No → AskedShort Settle old.sessions new.sessions
-  settles_short (inl s) = inr (shut_before (who 0) new _ old s.begun s.begins.session_is (shut_on s.begun s.settles))
-  settles_short (inr memory) = inl (same_sessions memory.1.world)
+  errand_short : (errand : errands.Errand) → Settles errand n before after old new No → SettlerShort old.sessions new.sessions
+  errand_short errand (inl s) = inr (shut_before (who 0) new _ old s.begun s.begins.session_is (shut_on errand s.begun s.settles))
+  errand_short errand (inr memory) = inl (same_sessions memory.1.world)
 
   asked_short : (asked : Asked) → Answers n asked before after old new No → AskedShort asked old.sessions new.sessions
   asked_short (Session k (Ok request)) (inl h) = does_short k request h.1
@@ -603,7 +611,9 @@ module _ (n : ℕ) (before after : Seen) (old new : World) (why : WorldFault) wh
   asked_short (Wait ticks) (inl h) = absurd (cc (h.0.replies))
   asked_short (Wait ticks) (inr long) = absurd (cc (long.declines.reply))
   asked_short (Report tree) h = same_sessions h.world
-  asked_short Settle h = settles_short h
+  asked_short Settle h = errand_short errands.settles h
+  asked_short (Sweep (Ok tree)) h = errand_short (errands.sweeps tree) h.1
+  asked_short (Sweep (Err e)) h = same_sessions h.world
 
 pub left_short : (n : ℕ) (event : Event) (before after : Seen) (old new : World) (result : Result Reply WorldFault) → Handled n event before after old new result
     → LeavesShort event old new result

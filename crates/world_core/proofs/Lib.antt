@@ -3,6 +3,7 @@ pub mod StartLemmas
 pub mod Placing
 pub mod Going
 pub mod Settling
+pub mod Errands
 pub mod ReplyLemmas
 pub mod Texts
 pub mod Stopping
@@ -30,6 +31,7 @@ pub mod Named
 pub mod UnsentPages
 pub mod UnsentSteps
 pub mod SpentTroubles
+pub mod CalmAnswers
 pub mod Calm
 pub mod Alone
 pub mod Settled
@@ -60,3 +62,4 @@ pub mod EachUnderWay
 pub mod ShownByLines
 pub mod LookedUp
 pub mod Tagged
+pub mod Swept

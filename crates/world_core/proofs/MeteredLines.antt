@@ -55,7 +55,7 @@ use Rattle.world_core.specs.Stands.{WorldStands}
 use Rattle.world_core.specs.World.{World}
 use Rattle.world_core.specs.Writers.{Stage, Unbound, Even, Owing, Astray, by_line, given, own_line, stage_of, unbound_line, works}
 use Rattle.world_core.specs.declared.asked.Asked.{Asked}
-use Rattle.world_core.specs.declared.asked.Asked.TheVariants.{Session, Wait, Report, Settle}
+use Rattle.world_core.specs.declared.asked.Asked.TheVariants.{Session, Wait, Report, Settle, Sweep}
 use Rattle.world_core.specs.declared.asked.Noting.{Noting}
 use Rattle.world_core.specs.declared.asked.Request.{Request}
 use Rattle.world_core.specs.declared.asked.Request.TheVariants.{Begin, Note as NoteChange, Abort, Policy, Work as WorksDue, Step, Run, Crash}
@@ -98,6 +98,7 @@ more_sends a b (work.Opening m) more sends = absurd sends
 more_sends a b (work.Paging home m) more sends = absurd sends
 more_sends a b (work.Folding home m) more sends = absurd sends
 more_sends a b (work.Settling m) more sends = absurd sends
+more_sends a b (work.Sweeping m) more sends = absurd sends
 
 same_book : (a b : Notebook) → Some a ≡ Some b → a ≡ b
 same_book a b e = cc (e)
@@ -335,6 +336,7 @@ module _ (lines : List Line) (n session k : ℕ) (before after : Seen) (old new 
   requests Out Is (Wait ticks) belongs h each declines serves = absurd belongs
   requests Out Is (Report tree) belongs h each declines serves = absurd belongs
   requests Out Is Settle belongs h each declines serves = absurd belongs
+  requests Out Is (Sweep tree) belongs h each declines serves = absurd belongs
 
   -- the one that was asked
   as_asked : (request own : Request) → (let a : Result Request Refused = Ok request in let b : Result Request Refused = Ok own in a ≡ b) → DoesThrough session request → DoesThrough session own
@@ -639,6 +641,7 @@ module _ (lines : List Line) (n session k : ℕ) (before after : Seen) (old new 
   line_keeps (event.Wait ticks) asked asks h each stage is m = stage_kept (wait_line ticks (subst (λ z. Answers n z before after old new (Ok r)) asks h)) stage m
   line_keeps (event.Report tree) asked asks h each stage is m = stage_kept (report_line tree (subst (λ z. Answers n z before after old new (Ok r)) asks h)) stage m
   line_keeps event.Settle asked asks h each stage is m = tt
+  line_keeps (event.Sweep tree) asked asks h each stage is m = tt
 
 few_at : (session k : ℕ) (world : World) (t : CloudState) (stage : Stage) → MetersAt stage session k world t → LeavesFewAt stage k t
 few_at session k world t Unbound m = tt

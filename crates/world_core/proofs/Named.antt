@@ -26,7 +26,7 @@ use Rattle.world_core.proofs.StandsLemmas.{IsUnderWay, way_begins, went_on}
 use Rattle.event_text.specs.declared.event.Event.TheVariants as event
 use Rattle.reply_text.specs.declared.reply.Reply.TheVariants as reply
 use Rattle.world_core.specs.declared.asked.Asked.{Asked}
-use Rattle.world_core.specs.declared.asked.Asked.TheVariants.{Session, Wait, Report, Settle}
+use Rattle.world_core.specs.declared.asked.Asked.TheVariants.{Session, Wait, Report, Settle, Sweep}
 use Rattle.world_core.specs.declared.asked.Request.{Request}
 use Rattle.world_core.specs.declared.asked.Request.TheVariants.{Begin, Note, Abort, Policy, Work as WorksDue, Step, Run, Crash}
 use Rattle.world_core.specs.World.{World}
@@ -162,6 +162,7 @@ module _ (lines : List Line) (n : ℕ) (before after : Seen) (old new : World) (
   asked_names (Wait ticks) h = tt
   asked_names (Report tree) h = tt
   asked_names Settle h = tt
+  asked_names (Sweep tree) h = tt
 
 pub names_pieces : (n : ℕ) (event : Event) (before after : Seen) (old new : World) (result : Result Reply WorldFault) → NamesSteps n event before after old new result
 names_pieces n event before after old new result lines t number told stands handled =

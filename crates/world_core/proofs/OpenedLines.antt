@@ -28,6 +28,7 @@ use Rattle.client_work.specs.declared.op.Op.{Op}
 use Rattle.client_work.specs.declared.op.Op.TheVariants as op
 use Rattle.client_work.specs.declared.shown.Shown.{Shown}
 use Rattle.client_work.specs.declared.work.Work.{Work}
+use Rattle.head_codec.specs.declared.head.Head.{Head}
 use Rattle.client_work.specs.declared.work.Work.TheVariants as work
 use Rattle.client_work.specs.BrokenOff.{broken_off}
 use Rattle.client_work.specs.Session.{Acting, closed_session, StepsSession, Begins, BeginsWith, BeginsOpening, HasInHand, CommitsIn, CommitsOf, CommitsNoted, LooksIn, LooksOf, ReadsOf, ReadsIn, ScansIn, old_lease, stopped_work, paging_begun_by, folding_begun_by}
@@ -35,13 +36,13 @@ use Rattle.replay_meaning.specs.Standing.{Line, Closed, standing}
 use Rattle.session_facts.specs.Facts.{session_at, ActsAs}
 use Rattle.session_facts.specs.Sessions.Sessions.{Sessions}
 use Rattle.session_facts.specs.Opened.{MayHaveOpened, TakesNumber, WorksFor, AddsApart, AddsNoneTwice}
-use Rattle.session_facts.proofs.CallKinds.{IsSettlersRow}
 use Rattle.session_facts.proofs.LineLemmas.{line_of}
-use Rattle.session_facts.proofs.OpenedCalls.{Leads, LeadsHome, scan_leads, stopped_leads, away_leads, closed_leads, apart_changes, apart_more, apart_same, apart_rows, apart_none_twice, opening_apart, session_apart, settler_apart, worker_apart}
+use Rattle.session_facts.proofs.OpenedCalls.{Leads, LeadsHome, scan_leads, stopped_leads, away_leads, closed_leads, apart_changes, apart_more, apart_same, apart_rows, apart_none_twice, opening_apart, session_apart, errand_apart, worker_apart}
 use Rattle.session_facts.proofs.OpenedRuns.{RunsFrom, run_begins_from}
 use Rattle.session_facts.proofs.RunSteps.{RunsFor, IsRefusal, run_begins}
 use Rattle.session_facts.proofs.Sessions.Indexed.{indexed_or}
-use Rattle.session_facts.proofs.SettlerLemmas.{settler_row}
+use Rattle.session_facts.proofs.SettlerLemmas.{errand_row}
+use Rattle.session_facts.specs.Errands.{Errand, settles, sweeps, event_for, session_for, AreRowsOf}
 use Rattle.world_audit.specs.Look.{Looked}
 use Rattle.db_base.specs.declared.names.QueueName.TheVariants.{Atomic, PagePu, TreePu}
 use Rattle.ckpt_policy.specs.Notes.{IsPending}
@@ -54,7 +55,7 @@ use Rattle.world_core.specs.declared.asked.Noting.{Noting}
 use Rattle.world_core.specs.declared.asked.Request.{Request}
 use Rattle.world_core.specs.declared.asked.Request.TheVariants.{Begin, Note, Abort, Policy, Work as WorksDue, Step, Run, Crash}
 use Rattle.world_core.specs.declared.asked.Asked.{Asked}
-use Rattle.world_core.specs.declared.asked.Asked.TheVariants.{Session, Wait, Report, Settle}
+use Rattle.world_core.specs.declared.asked.Asked.TheVariants.{Session, Wait, Report, Settle, Sweep}
 use Rattle.world_core.specs.declared.world.WorldFault.{WorldFault}
 use Rattle.world_core.specs.Asked.{Asks}
 use Rattle.world_core.specs.Replying.{RepliesBegun}
@@ -112,6 +113,7 @@ begins_opening (event.Crash session done) k client asks = absurd (cc (asks.1))
 begins_opening (event.Wait ticks) k client asks = absurd (cc)
 begins_opening (event.Report tree) k client asks = absurd (cc)
 begins_opening event.Settle k client asks = absurd (cc)
+begins_opening (event.Sweep tree) k client asks = absurd asks
 begins_opening e k client asks = absurd asks.1
 
 -- ---- an operation begins
@@ -425,19 +427,19 @@ module _ (events : List Event) (first : CloudState) where
     works_fall before after old new w (inr fails) h =
         works_fail before after fails.begun new (within_begun k home others fails.queue old fails.begun w fails.begins) fails.fails (worker_begun fails.queue before old fails.begun fails.begins h)
 
-  -- ---- a settling
+  -- ---- the settler
 
-  module _ (lines : List Line) (n : ℕ) (at : length lines + 1 ≡ n) (others : Sessions) (closed : (standing lines 0).posture ≡ Closed) where
+  module _ (errand : Errand) (lines : List Line) (n : ℕ) (at : length lines + 1 ≡ n) (others : Sessions) (closed : (standing lines 0).posture ≡ Closed) where
     abbrev line : Line
-    line = line_of event.Settle reply.Called
+    line = line_of (event_for errand) reply.Called
 
     abbrev all : List Line
     all = lines ++ line ∷ []
 
-    row : IsSettlersRow all (settler n)
-    row = settler_row lines reply.Called (settler n) refl (sym at)
+    row : AreRowsOf errand all (settler n)
+    row = errand_row errand lines reply.Called (settler n) refl (sym at)
 
-    settler_called : (before from under to after : Seen) (old new : World) (turn : Turn Answer) → SettlerAdds n all first others old before → Looked before from
+    settler_called : (before from under to after : Seen) (old new : World) (turn : Turn Answer) → SettlerAdds errand n all first others old before → Looked before from
         → SetsWish Plain from under → Changes 0 (λ a b. StepsSession (settler n) under to a b (Ok turn)) old.sessions new.sessions → Looked to after
         → WorldApart events first old before → WorldApart events first new after
     settler_called before from under to after old new turn way look_before wishes session look_after h =
@@ -446,17 +448,17 @@ module _ (events : List Event) (first : CloudState) where
         subst (λ a. StepsSession (settler n) under to a session.after (Ok turn)) (sym (changed_was 0 _ old.sessions new.sessions session)) session.does in
         apart_same Was first _ (session_at new.sessions) after (changed_at 0 _ old.sessions new.sessions session)
         (seen_stays _ to after look_after.stays
-        (settler_apart Was lines line (settler n) under to first f session.after turn (sym at) way.works row closed own.work
+        (errand_apart errand Was lines line (settler n) under to first f session.after turn (sym at) way.works row closed own.work
         (wished f Plain from under wishes (seen_stays f before from look_before.stays h))))
 
-    settler_on : (before : Seen) (old : World) (after : Seen) (new : World) → SettlerAdds n all first others old before → Went (settler n) before old after new
+    settler_on : (before : Seen) (old : World) (after : Seen) (new : World) → SettlerAdds errand n all first others old before → Went (settler n) before old after new
         → WorldApart events first old before → WorldApart events first new after
     settler_on before old after new way start h = h
     settler_on before old after new way (further mid _ world _ went p) h =
-        settler_called mid p.from p.under p.to after world new More (settler_went n all first others row before old mid world way went) p.look_before p.wishes p.session p.look_after
+        settler_called mid p.from p.under p.to after world new More (settler_went errand n all first others row before old mid world way went) p.look_before p.wishes p.session p.look_after
         (settler_on before old mid world way went h)
 
-    settler_short : (before after : Seen) (old new : World) → SettlerAdds n all first others old before → RunsShort (settler n) Plain before after old new
+    settler_short : (before after : Seen) (old new : World) → SettlerAdds errand n all first others old before → RunsShort (settler n) Plain before after old new
         → WorldApart events first old before → WorldApart events first new after
     settler_short before after old new way s h = breaks 0 after s.left new s.breaks (falls s.falls)
       where
@@ -465,18 +467,18 @@ module _ (events : List Event) (first : CloudState) where
             apart_same Was first _ (session_at s.left.sessions) after (λ j. ap (λ (l : List Acting). session_at l j) un.sessions) (seen_stays _ before after un.looked.stays h)
         falls (inr p) = settler_called before p.from p.under p.to after old s.left p.turn way p.look_before p.wishes p.session p.look_after h
 
-    settles_on : (before after : Seen) (old new : World) (result : Result Reply WorldFault) → SettlerAdds n all first others old before → SettlesOn (settler n) before after old new result
+    settles_on : (before after : Seen) (old new : World) (result : Result Reply WorldFault) → SettlerAdds errand n all first others old before → SettlesOn errand (settler n) before after old new result
         → WorldApart events first old before → WorldApart events first new after
     settles_on before after old new result way (inl s) h =
         let c = s.comes in
         let p = c.steps in
         closes 0 after s.left new s.closes
-        (settler_called c.mid p.from p.under p.to after c.world s.left _ (settler_went n all first others row before old c.mid c.world way c.went) p.look_before p.wishes p.session p.look_after
+        (settler_called c.mid p.from p.under p.to after c.world s.left _ (settler_went errand n all first others row before old c.mid c.world way c.went) p.look_before p.wishes p.session p.look_after
         (settler_on before old c.mid c.world way c.went h))
     settles_on before after old new result way (inr memory) h =
         let s = memory.1.stops in
         closes 0 after memory.1.left new memory.1.closes
-        (settler_short s.mid after s.world memory.1.left (settler_went n all first others row before old s.mid s.world way s.went) s.short (settler_on before old s.mid s.world way s.went h))
+        (settler_short s.mid after s.world memory.1.left (settler_went errand n all first others row before old s.mid s.world way s.went) s.short (settler_on before old s.mid s.world way s.went h))
 
 -- ---- every line
 
@@ -488,14 +490,18 @@ module _ (events : List Event) (first : CloudState) (n : ℕ) (before after : Se
   way : IsAdding lines first old before
   way = adding_begins lines first old before w
 
-  settles_so : Settles n before after old new result → Apart
-  settles_so (inl s) =
-      settles_on events first lines n at (session_at old.sessions) closed before after s.begun new result (begun_way lines first n reply.Called before old s.begun at w s.begins) s.settles
-      (changes events first 0 before old s.begun _ s.begins.session_is (λ takes. away_leads _ _ _ _ (ap (λ (a : Acting). a.work) s.begins.session_is.does) (λ head. tt) tt (λ client k. k)) h)
+  settles_so : (errand : Errand) → Settles errand n before after old new result → Apart
+  settles_so errand (inl s) =
+      settles_on events first errand lines n at (session_at old.sessions) closed before after s.begun new result (begun_way errand lines first n reply.Called before old s.begun at w s.begins) s.settles
+      (changes events first 0 before old s.begun _ s.begins.session_is (λ takes. away errand _ _ _ (ap (λ (a : Acting). a.work) s.begins.session_is.does)) h)
     where
+      away : (errand : Errand) (For : ℕ → Type 0) (Was : Head → Type 0) (w : Work) → w ≡ (session_for errand).work → Leads For Was w
+      away settles For Was w is = away_leads _ _ _ w is (λ head. tt) tt (λ client k. k)
+      away (sweeps tree) For Was w is = away_leads _ _ _ w is (λ head. tt) tt (λ client k. k)
+
       closed : (standing lines 0).posture ≡ Closed
       closed = (subst (λ (a : Acting). ActsAs a (standing lines 0)) w.rests (w.acts 0)).work
-  settles_so (inr memory) = nothing_done events first before after old new memory.1.world memory.1.seen h
+  settles_so errand (inr memory) = nothing_done events first before after old new memory.1.world memory.1.seen h
 
   begun_within : (o : Op) (r : Result Reply WorldFault) (a b : Acting) → IsWithin o → BeginsOp o r a b → TakesNumber a.work → LeadsOn a b
   begun_within o (Ok reply) a b within begins takes = begins_so o a b begins.begun within begins.begins takes
@@ -593,7 +599,9 @@ module _ (events : List Event) (first : CloudState) (n : ℕ) (before after : Se
     asked_so (Wait ticks) asks p = with_more (waits_so ticks p)
     asked_so (Report tree) asks p =
         with_more (subst (λ z. WorldApart events first z after) (sym p.world) (seen_stays events first _ before after p.looked.stays h))
-    asked_so Settle asks p = with_more (settles_so p)
+    asked_so Settle asks p = with_more (settles_so settles p)
+    asked_so (Sweep (Ok tree)) asks p = with_more (settles_so (sweeps tree) p.1)
+    asked_so (Sweep (Err why)) asks p = with_more (nothing_done events first before after old new p.world p.seen h)
 
 -- a line that was handled
 pub handled_apart : (n : ℕ) (e : Event) (before after : Seen) (old new : World) (result : Result Reply WorldFault) (events : List Event) (lines : List Line) (first : CloudState)

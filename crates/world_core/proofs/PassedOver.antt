@@ -36,7 +36,8 @@ use Rattle.session_facts.specs.Sessions.Explaining.{spent_for}
 use Rattle.session_facts.specs.Sessions.Sessions.{Sessions}
 use Rattle.session_facts.specs.Sessions.Spent.{IsSpentInTree}
 use Rattle.session_facts.specs.Sessions.Untroubled.{IsOfNoCall, IsSpent, IsSpentOrOf}
-use Rattle.world_core.proofs.Calm.{GoesWellAt, IsOfNone, answers_calmly, went_calmly}
+use Rattle.world_core.proofs.Calm.{GoesWellAt, answers_calmly, went_calmly}
+use Rattle.world_core.proofs.CalmAnswers.{IsOfNone}
 use Rattle.world_core.proofs.Explained.{explained}
 use Rattle.world_core.proofs.SpentTroubles.{page_spent, tree_spent}
 use Rattle.world_core.proofs.StandsLemmas.{changed_at, changed_was}
@@ -51,7 +52,7 @@ use Rattle.world_core.specs.Stands.{WorldStands}
 use Rattle.world_core.specs.UnsentPages.{IsOfUnsent}
 use Rattle.world_core.specs.World.{World}
 use Rattle.world_core.specs.declared.asked.Asked.{Asked}
-use Rattle.world_core.specs.declared.asked.Asked.TheVariants.{Session, Wait, Report, Settle}
+use Rattle.world_core.specs.declared.asked.Asked.TheVariants.{Session, Wait, Report, Settle, Sweep}
 use Rattle.world_core.specs.declared.asked.Request.{Request}
 use Rattle.world_core.specs.declared.asked.Request.TheVariants.{Begin, Note, Abort, Policy, Work as WorksDue, Step, Run, Crash}
 use Rattle.world_core.specs.declared.world.WorldFault.{WorldFault}
@@ -226,6 +227,7 @@ module _ (lines : List Line) (n : ℕ) (before after : Seen) (old new : World) (
   asked_passed (Wait ticks) h calm explains = tt
   asked_passed (Report tree) h calm explains = tt
   asked_passed Settle h calm explains = tt
+  asked_passed (Sweep tree) h calm explains = tt
 
 pub passes_well : (n : ℕ) (event : Event) (before after : Seen) (old new : World) (result : Result Reply WorldFault) → PassesWell n event before after old new result
 passes_well n event before after old new result lines t number told stands handled calm =

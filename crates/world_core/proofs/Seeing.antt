@@ -20,10 +20,11 @@ use Rattle.db_base.specs.declared.names.QueueName.{QueueName}
 use Rattle.ckpt_policy.specs.declared.role.Role.{Role}
 use Rattle.world_core.specs.World.{World}
 use Rattle.world_core.specs.declared.asked.Asked.{Asked}
-use Rattle.world_core.specs.declared.asked.Asked.TheVariants.{Session, Wait, Report, Settle}
+use Rattle.world_core.specs.declared.asked.Asked.TheVariants.{Session, Wait, Report, Settle, Sweep}
 use Rattle.world_core.specs.declared.asked.Request.{Request}
 use Rattle.world_core.specs.declared.asked.Request.TheVariants.{Begin, Note, Abort, Policy, Work as WorksDue, Step, Run, Crash}
 use Rattle.world_core.specs.declared.world.WorldFault.{WorldFault}
+use Rattle.session_facts.specs.Errands.{Errand, settles, sweeps}
 use Rattle.world_core.specs.Handled.{Declines, MakesNoCall, Has, StepsLooked, MakesStep, Went, start, further, ComesTo, Runs, SettlesOn, Crashes, Does, Reports, Answers, Handled, BeginsCheckpoint, Policies, Works, WorksThrough, checkpoint_more, no_checkpoint}
 use Rattle.world_core.specs.Sound.{IsSoundReport}
 use Rattle.world_core.proofs.StandsLemmas.{no_memory}
@@ -147,11 +148,11 @@ module _ (n : ℕ) (before after : Seen) (old new : World) (r : Reply) where
   does_sees k Run h = run_sees k h
   does_sees k (Crash done) h = crash_sees k done h
 
-  settling_sees : (who : Caller) (begun : World) → SeesOn before before old begun → SettlesOn who before after begun new (Ok r) → SeesOn before after old new
-  settling_sees who begun begins (inl s) =
+  errand_sees : (errand : Errand) (who : Caller) (begun : World) → SeesOn before before old begun → SettlesOn errand who before after begun new (Ok r) → SeesOn before after old new
+  errand_sees errand who begun begins (inl s) =
       sees_further before before after old begun new begins
       (sees_further before after after begun s.left new (comes_sees who before after begun s.left s.answer s.comes) (has_sees after who.session _ s.left new s.closes))
-  settling_sees who begun begins (inr memory) = absurd (no_memory r memory.0)
+  errand_sees errand who begun begins (inr memory) = absurd (no_memory r memory.0)
 
   asked_sees : (asked : Asked) → Answers n asked before after old new (Ok r) → SeesOn before after old new
   asked_sees (Session k (Ok request)) (inl h) = does_sees k request h.1
@@ -160,8 +161,11 @@ module _ (n : ℕ) (before after : Seen) (old new : World) (r : Reply) where
   asked_sees (Wait ticks) (inl h) = sees_counts before after old new h.0.no_call.counts (ap (λ (w : World). w.blind) h.1)
   asked_sees (Wait ticks) (inr long) = declines_sees _ before after old new (Ok r) long.declines
   asked_sees (Report tree) h = record { dark = h.looked.dark; blinded = λ b. inl (sym (ap (λ (w : World). w.blind) h.world) ∙ b) }
-  asked_sees Settle (inl h) = settling_sees _ h.begun (has_sees before 0 _ old h.begun h.begins) h.settles
+  asked_sees Settle (inl h) = errand_sees settles _ h.begun (has_sees before 0 _ old h.begun h.begins) h.settles
   asked_sees Settle (inr memory) = absurd (no_memory r memory.0)
+  asked_sees (Sweep (Ok tree)) (right, inl h) = errand_sees (sweeps tree) _ h.begun (has_sees before 0 _ old h.begun h.begins) h.settles
+  asked_sees (Sweep (Ok tree)) (right, inr memory) = absurd (no_memory r memory.0)
+  asked_sees (Sweep (Err why)) h = declines_sees why before after old new (Ok r) h
 
 -- a line that was handled sees on
 pub handled_sees : (n : ℕ) (e : Event) (before after : Seen) (old new : World) (r : Reply) → Handled n e before after old new (Ok r) → SeesOn before after old new

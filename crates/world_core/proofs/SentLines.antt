@@ -35,7 +35,7 @@ use Rattle.world_core.specs.Replying.{declined}
 use Rattle.world_core.specs.World.{World}
 use Rattle.world_core.specs.Writers.{Stage, Unbound, Even, Owing, Astray, by_line, given, own_line, unbound_line, works}
 use Rattle.world_core.specs.declared.asked.Asked.{Asked}
-use Rattle.world_core.specs.declared.asked.Asked.TheVariants.{Session, Wait, Report, Settle}
+use Rattle.world_core.specs.declared.asked.Asked.TheVariants.{Session, Wait, Report, Settle, Sweep}
 use Rattle.world_core.specs.declared.asked.Noting.{Noting}
 use Rattle.world_core.specs.declared.asked.Request.{Request}
 use Rattle.world_core.specs.declared.asked.Request.TheVariants.{Begin, Note as NoteChange, Abort, Policy, Work as WorksDue, Step, Run, Crash}
@@ -143,6 +143,7 @@ module _ (n session k : ℕ) (before after : Seen) (old new : World) (r : Reply)
   requests Out Is (Wait ticks) belongs h each declines serves = absurd belongs
   requests Out Is (Report tree) belongs h each declines serves = absurd belongs
   requests Out Is Settle belongs h each declines serves = absurd belongs
+  requests Out Is (Sweep tree) belongs h each declines serves = absurd belongs
 
   -- one that leaves it the ledger
   keeps_by : (Is : Result Request Refused → Type 0) → ((request : Request) → Is (Ok request) → KeepsLedger request) → (asked : Asked) → OfSession session Is asked
@@ -374,3 +375,4 @@ module _ (n session k : ℕ) (before after : Seen) (old new : World) (r : Reply)
     line_sent (event.Wait ticks) asked asks h each stage m = kept_at (wait_line ticks (subst (λ z. Answers n z before after old new result) asks h)) stage m
     line_sent (event.Report tree) asked asks h each stage m = kept_at (report_line tree (subst (λ z. Answers n z before after old new result) asks h)) stage m
     line_sent event.Settle asked asks h each stage m = tt
+    line_sent (event.Sweep tree) asked asks h each stage m = tt

@@ -22,6 +22,7 @@ use Rattle.event_text.specs.declared.event.Event.TheVariants as event
 use Rattle.replay_meaning.specs.Standing.{Posture, standing}
 use Rattle.session_facts.proofs.SettledLemmas.{none_open, none_wait}
 use Rattle.session_facts.specs.Answers.{IsSoundReply}
+use Rattle.session_facts.specs.Errands.{settles}
 use Rattle.session_facts.specs.Facts.{session_at, SomeBookStands}
 use Rattle.reply_text.specs.declared.reply.Reply.{Reply}
 use Rattle.reply_text.specs.declared.reply.Reply.TheVariants as reply
@@ -47,7 +48,7 @@ use Rattle.session_facts.specs.Settled.Runs.{TreesRun, PagesRun, RecoveriesRun}
 use Rattle.session_facts.specs.Settled.Story.{Moment}
 use Rattle.settle_run.specs.Settling.{Settling, Step, passed, new_settling, settle_ask}
 use Rattle.settle_run.specs.declared.settled.Settled.{Settled as Answered}
-use Rattle.world_core.proofs.Calm.{settles_well}
+use Rattle.world_core.proofs.Calm.{errand_well}
 use Rattle.world_core.proofs.Keeping.{keeps_book}
 use Rattle.world_core.specs.Calm.{StepIsCalm, SettlesWell, work_at}
 use Rattle.world_core.specs.EachStep.{StepFact, EachWent, EachCome, EachSettlingOn, EachSettling, EachAsked, EachStep}
@@ -56,7 +57,7 @@ use Rattle.world_core.specs.Replying.{RepliesSettled, unsettled_reply}
 use Rattle.world_core.specs.Explained.{StepExplains}
 use Rattle.world_core.specs.Settled.{StepDelivers, StepGoesWell, NoLockHeld, LeavesNothing, LeftNothing, SettledWithin, AnswersSettled, SettlingLeaves, SettlingEnds, SettlingIsRight}
 use Rattle.world_core.specs.declared.asked.Asked.{Asked}
-use Rattle.world_core.specs.declared.asked.Asked.TheVariants.{Session, Wait, Report, Settle}
+use Rattle.world_core.specs.declared.asked.Asked.TheVariants.{Session, Wait, Report, Settle, Sweep}
 use Rattle.world_core.specs.World.{World}
 use Rattle.world_core.specs.declared.world.WorldFault.{WorldFault}
 use Rattle.world_core.proofs.StandsLemmas.{changed_at, changed_was, no_memory}
@@ -142,7 +143,7 @@ module _ (Holds : StepFact) (B : Settling → Moment → Type 0) (E : Settling �
     no_trouble calls trouble.Memory e = absurd (cc (e))
     no_trouble calls t e = absurd (cc (e))
 
-    world_settles : (after : Seen) (new : World) (calls : ℕ) (h : SettlesTo (settler n) before after begun new (Ok (reply.Settled calls)))
+    world_settles : (after : Seen) (new : World) (calls : ℕ) (h : SettlesTo settles (settler n) before after begun new (Ok (reply.Settled calls)))
         → EachCome Holds (settler n) before after begun h.left h.answer h.comes → (x : Answered) × ((x.calls ≡ calls) × WorldAtEnd E x after)
     world_settles after new calls h each = on h.answer h.comes.steps h.replies each.1
       where
@@ -263,12 +264,12 @@ module _ (n : ℕ) where
       alone = begins_alone t free;
     }
 
-    settling_calm : (h : SettlesLine n before after old new (Ok r)) → EachSettling StepGoesWell n before after old new (Ok r) h → EachSettling StepIsCalm n before after old new (Ok r) h
+    settling_calm : (h : SettlesLine settles n before after old new (Ok r)) → EachSettling StepGoesWell settles n before after old new (Ok r) h → EachSettling StepIsCalm settles n before after old new (Ok r) h
     settling_calm (inr memory) each = tt
     settling_calm (inl h) each = on h.settles each
       where
-        on : (s : SettlesOn (settler n) before after h.begun new (Ok r)) → EachSettlingOn StepGoesWell (settler n) before after h.begun new (Ok r) s
-            → EachSettlingOn StepIsCalm (settler n) before after h.begun new (Ok r) s
+        on : (s : SettlesOn settles (settler n) before after h.begun new (Ok r)) → EachSettlingOn StepGoesWell settles (settler n) before after h.begun new (Ok r) s
+            → EachSettlingOn StepIsCalm settles (settler n) before after h.begun new (Ok r) s
         on (inr memory) steps = tt
         on (inl s) steps =
             let went = went_calm before h.begun s.comes.mid s.comes.world (begins_free h.begun h.begins) s.comes.went steps.0 in
@@ -349,11 +350,11 @@ module _ (n : ℕ) where
     begins_way : (begun : World) → Has 0 settling_session old begun → SettlerOnWay begun before
     begins_way begun begins = world_begins AnyStep Anything AnyEnd AnyCall any_hands n (any_gives AnyStep n) before old begun t told stands begins tt
 
-    settling_explains : (h : SettlesLine n before after old new (Ok r)) → EachSettling StepExplains n before after old new (Ok r) h
+    settling_explains : (h : SettlesLine settles n before after old new (Ok r)) → EachSettling StepExplains settles n before after old new (Ok r) h
     settling_explains (inr memory) = tt
     settling_explains (inl h) = on h.settles
       where
-        on : (s : SettlesOn (settler n) before after h.begun new (Ok r)) → EachSettlingOn StepExplains (settler n) before after h.begun new (Ok r) s
+        on : (s : SettlesOn settles (settler n) before after h.begun new (Ok r)) → EachSettlingOn StepExplains settles (settler n) before after h.begun new (Ok r) s
         on (inr memory) = tt
         on (inl s) =
             let went = went_explains before h.begun s.comes.mid s.comes.world (begins_way h.begun h.begins) s.comes.went in
@@ -363,11 +364,11 @@ module _ (n : ℕ) where
     unsettled_sound posture trouble.Memory e may = absurd (cc (e))
     unsettled_sound posture q e may = let is : r ≡ reply.NotSettled q = cc (e) in subst (IsSoundReply posture) (sym is) may
 
-    settling_sound : SettlesLine n before after old new (Ok r) → (posture : Posture) → IsSoundReply posture r
+    settling_sound : SettlesLine settles n before after old new (Ok r) → (posture : Posture) → IsSoundReply posture r
     settling_sound (inr memory) posture = absurd (no_memory r memory.0)
     settling_sound (inl h) posture = by_end h.settles
       where
-        by_end : SettlesOn (settler n) before after h.begun new (Ok r) → IsSoundReply posture r
+        by_end : SettlesOn settles (settler n) before after h.begun new (Ok r) → IsSoundReply posture r
         by_end (inr memory) = absurd (no_memory r memory.0)
         by_end (inl s) = on s.answer s.comes.steps s.replies
           where
@@ -394,22 +395,22 @@ module _ (trees : TreesRun) (pages : PagesRun) (clients : RecoveriesRun) (n : �
   abbrev answered : Result Reply WorldFault
   answered = Ok (reply.Settled calls)
 
-  line_leaves : (h : SettlesLine n before after old new answered) → EachSettling StepDelivers n before after old new answered h → LeftNothing after
+  line_leaves : (h : SettlesLine settles n before after old new answered) → EachSettling StepDelivers settles n before after old new answered h → LeftNothing after
   line_leaves (inr memory) each = absurd (no_memory (reply.Settled calls) memory.0)
   line_leaves (inl h) each = on h.settles each
     where
-      on : (s : SettlesOn (settler n) before after h.begun new answered) → EachSettlingOn StepDelivers (settler n) before after h.begun new answered s → LeftNothing after
+      on : (s : SettlesOn settles (settler n) before after h.begun new answered) → EachSettlingOn StepDelivers settles (settler n) before after h.begun new answered s → LeftNothing after
       on (inr memory) steps = absurd (no_memory (reply.Settled calls) memory.0)
       on (inl s) steps =
           let end = (world_settles StepDelivers Left NothingWaits IsDelivered (left_hands trees pages clients) n (delivers_gives n) before old h.begun t told stands h.begins
           (left_begins stands.book stands.order t (session_at old.sessions) stands.rests stands.stand) after new calls s steps) in
           record { state = end.1.1.now.state; told = end.1.1.told; nothing = leaves_nothing end.1.1.now end.1.1.settling end.0 end.1.1.holds }
 
-  line_within : (h : SettlesLine n before after old new answered) → EachSettling StepIsCalm n before after old new answered h → SettledWithin t after calls
+  line_within : (h : SettlesLine settles n before after old new answered) → EachSettling StepIsCalm settles n before after old new answered h → SettledWithin t after calls
   line_within (inr memory) each = absurd (no_memory (reply.Settled calls) memory.0)
   line_within (inl h) each = on h.settles each
     where
-      on : (s : SettlesOn (settler n) before after h.begun new answered) → EachSettlingOn StepIsCalm (settler n) before after h.begun new answered s → SettledWithin t after calls
+      on : (s : SettlesOn settles (settler n) before after h.begun new answered) → EachSettlingOn StepIsCalm settles (settler n) before after h.begun new answered s → SettledWithin t after calls
       on (inr memory) steps = absurd (no_memory (reply.Settled calls) memory.0)
       on (inl s) steps =
           let end = (world_settles StepIsCalm (LeftAndCost t) (SettledWell t) GoesCalmly (cost_hands t trees pages clients) n (calm_gives n) before old h.begun t told stands h.begins
@@ -432,6 +433,7 @@ module _ (trees : TreesRun) (pages : PagesRun) (clients : RecoveriesRun) where
   asked_leaves n before after old new t calls told stands (Session j request) is answers each = absurd (cc (is))
   asked_leaves n before after old new t calls told stands (Wait ticks) is answers each = absurd (cc (is))
   asked_leaves n before after old new t calls told stands (Report tree) is answers each = absurd (cc (is))
+  asked_leaves n before after old new t calls told stands (Sweep tree) is answers each = absurd (cc (is))
 
   asked_within : (n : ℕ) (before after : Seen) (old new : World) (t : CloudState) (calls : ℕ) → before.state ≡ Some t → SomeBookStands (session_at old.sessions) t
       → (asked : Asked) → asked ≡ Settle → (answers : Answers n asked before after old new (Ok (reply.Settled calls)))
@@ -440,6 +442,7 @@ module _ (trees : TreesRun) (pages : PagesRun) (clients : RecoveriesRun) where
   asked_within n before after old new t calls told stands (Session j request) is answers each = absurd (cc (is))
   asked_within n before after old new t calls told stands (Wait ticks) is answers each = absurd (cc (is))
   asked_within n before after old new t calls told stands (Report tree) is answers each = absurd (cc (is))
+  asked_within n before after old new t calls told stands (Sweep tree) is answers each = absurd (cc (is))
 
   leaves_for : (n : ℕ) (e : Event) (before after : Seen) (old new : World) (result : Result Reply WorldFault) → SettlingLeaves n e before after old new result
   leaves_for n event.Settle before after old new (Ok (reply.Settled calls)) = λ t told stands handled each.
@@ -453,6 +456,7 @@ asked_calm n before after old new t r told stands free Settle is answers each = 
 asked_calm n before after old new t r told stands free (Session j request) is answers each = absurd (cc (is))
 asked_calm n before after old new t r told stands free (Wait ticks) is answers each = absurd (cc (is))
 asked_calm n before after old new t r told stands free (Report tree) is answers each = absurd (cc (is))
+asked_calm n before after old new t r told stands free (Sweep tree) is answers each = absurd (cc (is))
 
 -- what is asked of a settling is right
 record AsksRightly (n : ℕ) (asked : Asked) (before after : Seen) (old new : World) (r : Reply) (answers : Answers n asked before after old new (Ok r)) : Type 0 where
@@ -465,10 +469,11 @@ asked_right : (n : ℕ) (before after : Seen) (old new : World) (t : CloudState)
 asked_right n before after old new t r told stands Settle is answers =
     let sound = settling_sound n before after old new r t told stands answers in
     let explains = settling_explains n before after old new r t told stands answers in
-    record { sound = sound; explains = explains; calm = λ each u told_after. let is = settles_well [] n before after old new r t u told told_after (sound (standing [] 0).posture) answers each explains in (is.0 u told_after, is.1) }
+    record { sound = sound; explains = explains; calm = λ each u told_after. let is = errand_well [] n before after old new r t u told told_after settles answers each explains (sound (standing [] 0).posture) in (is.0 u told_after, is.1) }
 asked_right n before after old new t r told stands (Session j request) is answers = absurd (cc (is))
 asked_right n before after old new t r told stands (Wait ticks) is answers = absurd (cc (is))
 asked_right n before after old new t r told stands (Report tree) is answers = absurd (cc (is))
+asked_right n before after old new t r told stands (Sweep tree) is answers = absurd (cc (is))
 
 pub settling_right : (n : ℕ) (e : Event) (before after : Seen) (old new : World) (result : Result Reply WorldFault) → SettlingIsRight n e before after old new result
 settling_right n event.Settle before after old new (Ok r) = λ t told stands handled.

@@ -1,6 +1,6 @@
 -- What each step of a line shows where it ends a read, a scan or a look-up is what the lines before it say.
 use Rattle.std.proofs.Common.{inl, inr, ◌≡◌, ◌+◌, ℕ, List, length, Some, Result, refl, sym, subst, ◌∙◌}
-use Rattle.client_work.specs.Session.{Acting, settling_session}
+use Rattle.client_work.specs.Session.{Acting}
 use Rattle.client_work.specs.declared.answer.Answer.{Answer}
 use Rattle.cloud_trait.specs.Caller.{Caller}
 use Rattle.cloud_trait.specs.Seen.{Seen}
@@ -13,6 +13,8 @@ use Rattle.db_base.specs.declared.wish.Wish.TheVariants.{Plain}
 use Rattle.event_text.specs.declared.event.Event.{Event}
 use Rattle.replay_meaning.specs.Standing.{Line}
 use Rattle.reply_text.specs.declared.reply.Reply.{Reply}
+use Rattle.session_facts.specs.Errands.{Errand, session_for}
+use Rattle.session_facts.specs.Errands as errands
 use Rattle.session_facts.specs.Facts.{session_at, CloudHolds}
 use Rattle.session_facts.specs.ShownByLines.{ShowsByLines}
 use Rattle.session_facts.proofs.ShownByLines.{IsSettler, shown_by_lines, settler_goes, settler_by_lines, checkpoint_by_lines}
@@ -25,7 +27,7 @@ use Rattle.world_core.proofs.Workers.{IsInside, IsBetween, open_rests, within_be
 use Rattle.world_core.specs.World.{World}
 use Rattle.world_core.specs.declared.world.WorldFault.{WorldFault}
 use Rattle.world_core.specs.declared.asked.Asked.{Asked}
-use Rattle.world_core.specs.declared.asked.Asked.TheVariants.{Session, Wait, Report, Settle}
+use Rattle.world_core.specs.declared.asked.Asked.TheVariants.{Session, Wait, Report, Settle, Sweep}
 use Rattle.world_core.specs.EachStep.{EachWent, EachSettlingOn, EachSettling, EachAsked, EachThrough, EachWork}
 use Rattle.world_core.specs.Handled.{StepsLooked, Went, start, further, SettlesOn, Settles, Answers, Works, WorksThrough, checkpoint_more, no_checkpoint}
 use Rattle.world_core.specs.ShownByLines.{StepShowsBy, ShowsStepsBy}
@@ -50,9 +52,9 @@ module _ (lines : List Line) where
       held = subst (λ (x : CloudState). CloudHolds (length lines + 1) lines (session_at old.sessions) old.audit old.blind x) same
           (wish_holds (length lines + 1) lines (session_at old.sessions) old.audit old.blind way.after wish way.goes.holds)
 
--- ---- a settling, whatever the cloud tells
+-- ---- the settler, whatever the cloud tells
 
--- its session settles at each of its steps, and such a step shows nothing
+-- its session settles or sweeps at each of its steps, and such a step shows nothing
 module _ (lines : List Line) (n : ℕ) where
   step_shows : (wish : Wish) (before after : Seen) (old new : World) (turn : Turn Answer) → IsSettler (session_at old.sessions 0).work
       → (p : StepsLooked (settler n) wish before after old new turn) → StepShowsBy lines (settler n) wish before after old new turn p
@@ -80,15 +82,19 @@ module _ (lines : List Line) (n : ℕ) where
     step_shows Plain mid after world new More (went_goes before old mid world settles went) step,
   )
 
-  pub settling_shows : (before after : Seen) (old new : World) (result : Result Reply WorldFault) (h : Settles n before after old new result)
-      → EachSettling (StepShowsBy lines) n before after old new result h
-  settling_shows before after old new result (inr memory) = tt
-  settling_shows before after old new result (inl h) = on h.settles
+  first_works : (errand : Errand) → IsSettler (session_for errand).work
+  first_works errands.settles = tt
+  first_works (errands.sweeps tree) = tt
+
+  pub errand_shows : (errand : Errand) (before after : Seen) (old new : World) (result : Result Reply WorldFault) (h : Settles errand n before after old new result)
+      → EachSettling (StepShowsBy lines) errand n before after old new result h
+  errand_shows errand before after old new result (inr memory) = tt
+  errand_shows errand before after old new result (inl h) = on h.settles
     where
       begins : IsSettler (session_at h.begun.sessions 0).work
-      begins = subst (λ (a : Acting). IsSettler a.work) (sym (has_at 0 settling_session old h.begun h.begins 0 ∙ at_same 0 settling_session (session_at old.sessions) 0 refl)) tt
+      begins = subst (λ (a : Acting). IsSettler a.work) (sym (has_at 0 (session_for errand) old h.begun h.begins 0 ∙ at_same 0 (session_for errand) (session_at old.sessions) 0 refl)) (first_works errand)
 
-      on : (s : SettlesOn (settler n) before after h.begun new result) → EachSettlingOn (StepShowsBy lines) (settler n) before after h.begun new result s
+      on : (s : SettlesOn errand (settler n) before after h.begun new result) → EachSettlingOn (StepShowsBy lines) errand (settler n) before after h.begun new result s
       on (inr memory) = tt
       on (inl s) = (
         went_shows before h.begun s.comes.mid s.comes.world begins s.comes.went,
@@ -137,12 +143,13 @@ working_shows lines n k before after old new result (inr (inr memory)) = tt
 
 pub shown_by : (n : ℕ) (event : Event) (before after : Seen) (old new : World) (result : Result Reply WorldFault) → ShowsStepsBy n event before after old new result
 shown_by n event before after old new result lines t number told stands handled =
-    each_step (StepShowsBy lines) lines (own_shows lines) (settling_shows lines) (working_shows lines) n before after old new result t number told stands handled.asked handled.answers
+    each_step (StepShowsBy lines) lines (own_shows lines) (λ errand m. errand_shows lines m errand) (working_shows lines) n before after old new result t number told stands handled.asked handled.answers
 
 -- and one that settles, whatever lines led there
 pub settled_by : (lines : List Line) (n : ℕ) (asked : Asked) (before after : Seen) (old new : World) (result : Result Reply WorldFault) → asked ≡ Settle
     → (h : Answers n asked before after old new result) → EachAsked (StepShowsBy lines) n asked before after old new result h
-settled_by lines n Settle before after old new result is h = settling_shows lines n before after old new result h
+settled_by lines n Settle before after old new result is h = errand_shows lines n errands.settles before after old new result h
 settled_by lines n (Session k request) before after old new result is h = absurd (cc (is))
 settled_by lines n (Wait ticks) before after old new result is h = tt
 settled_by lines n (Report tree) before after old new result is h = tt
+settled_by lines n (Sweep tree) before after old new result is h = absurd (cc (is))

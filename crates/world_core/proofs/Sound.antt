@@ -32,9 +32,10 @@ use Rattle.replay_meaning.specs.Standing.{Line, Posture, session_of, standing}
 use Rattle.session_facts.specs.Answers.{MayTrouble, IsSoundReply}
 use Rattle.session_facts.specs.Facts.{session_at, CloudHolds}
 use Rattle.session_facts.proofs.Answering.{may_by_lines}
-use Rattle.session_facts.proofs.CallKinds.{IsSettling, IsSettlersRow}
 use Rattle.session_facts.proofs.LineLemmas.{line_of}
-use Rattle.session_facts.proofs.SettlerLemmas.{settler_row}
+use Rattle.session_facts.proofs.SettlerLemmas.{errand_row}
+use Rattle.session_facts.specs.Errands.{Errand, settles, sweeps, event_for, WorksOn, AreRowsOf}
+use Rattle.session_facts.specs.Sweeps.Sweep.{MayStop as MayStopSweep}
 use Rattle.session_facts.proofs.Steps.{CallLeaves, CallLeavesUpto, wish_holds}
 use Rattle.reply_text.specs.Reply.{HasText}
 use Rattle.reply_text.specs.declared.reply.Reply.{Reply}
@@ -48,7 +49,7 @@ use Rattle.cloud_facts.specs.Tellings.Told.{store_of}
 use Rattle.cloud_facts.proofs.Audits.Whole.{only_slips}
 use Rattle.ckpt_policy.specs.declared.role.Role.{Role}
 use Rattle.world_core.specs.declared.asked.Asked.{Asked}
-use Rattle.world_core.specs.declared.asked.Asked.TheVariants.{Session, Wait, Report, Settle}
+use Rattle.world_core.specs.declared.asked.Asked.TheVariants.{Session, Wait, Report, Settle, Sweep}
 use Rattle.world_core.specs.declared.asked.Noting.{Noting}
 use Rattle.world_core.specs.declared.asked.Request.{Request}
 use Rattle.world_core.specs.declared.asked.Request.TheVariants.{Begin, Note, Abort, Policy, Work as WorksDue, Step, Run, Crash}
@@ -56,12 +57,13 @@ use Rattle.world_core.specs.World.{World}
 use Rattle.world_core.specs.declared.world.WorldFault.{WorldFault}
 use Rattle.world_core.specs.Asked.{Asks, OfSession, IsOpening, IsReading, IsScanning, IsLookingUp, IsPaging, IsFolding, IsNoted, IsStep, bound_of, noting_of}
 use Rattle.world_core.specs.Handled.{Declines, BeginsOp, MakesNoCall, StepsLooked, MakesStep, Runs, SettlesOn, Settles, Crashes, Reports, Does, Answers, Handled, Policies, WorksThrough}
-use Rattle.world_core.specs.Replying.{declined, done_reply, unsettled_reply, value_reply, RepliesTo, RepliesSettled, RepliesBegun, RepliesTurn}
+use Rattle.world_core.specs.Replying.{declined, done_reply, trouble_reply, unsettled_reply, value_reply, RepliesTo, RepliesFor, RepliesBegun, RepliesTurn}
 use Rattle.world_core.specs.Sessions.{Changes}
-use Rattle.world_core.specs.Sound.{IsSoundReport, IsSoundFor, AnswersSoundly}
+use Rattle.world_core.specs.Sound.{IsSoundReport, IsSoundSweep, IsSoundFor, AnswersSoundly}
 use Rattle.world_core.proofs.Behind.{LinesStand}
 use Rattle.world_core.proofs.Texts.{commit_is}
-use Rattle.world_core.proofs.StandsLemmas.{IsUnderWay, changed_was, way_begins, told_under, call, steps_own, went_on, no_stop, no_memory, replies_to, SettlerGoes, settler, settler_own, settler_call, settler_went, settler_begins, settled_plain}
+use Rattle.world_core.proofs.StandsLemmas.{IsUnderWay, changed_was, way_begins, told_under, call, steps_own, went_on, no_stop, no_memory, replies_to, SettlerGoes, settler, settler_own, settler_call, settler_went, settler_begins, errand_plain}
+use Rattle.world_core.proofs.Errands.{IsRightErrand}
 
 -- ---- replies
 
@@ -95,6 +97,7 @@ module _ (posture : Posture) where
   answer_sound answer.Value left r e stops ends = value_sound (value_of left) r e
   answer_sound answer.Scan left r e stops ends = subst Sound (sym e) tt
   answer_sound (answer.Settled s) left r e stops ends = let is : r ≡ reply.Settled s.calls = cc in subst Sound (sym is) tt
+  answer_sound (answer.Swept x) left r e stops ends = let is : r ≡ reply.Swept x.kept x.removed = cc in subst Sound (sym is) tt
   answer_sound (answer.Trouble t) left r e stops ends = let is = replies_to (answer.Trouble t) left r e in subst Sound (sym is.0.0) (stops t refl is.0.1)
 
 -- ---- one session
@@ -249,6 +252,7 @@ module _ (lines : List Line) (n k : ℕ) (before after : Seen) (old new : World)
   request_sound Is (Wait ticks) belongs answers right = absurd belongs
   request_sound Is (Report tree) belongs answers right = absurd belongs
   request_sound Is Settle belongs answers right = absurd belongs
+  request_sound Is (Sweep tree) belongs answers right = absurd belongs
 
   same_right : (request own : Request) → (let a : Result Request Refused = Ok request in let b : Result Request Refused = Ok own in a ≡ b) → IsRight own → IsRight request
   same_right request own e right = let is : request ≡ own = cc in subst IsRight (sym is) right
@@ -263,63 +267,82 @@ module _ (lines : List Line) (n k : ℕ) (before after : Seen) (old new : World)
   noted_right noting Run is = absurd is
   noted_right noting (Crash done) is = absurd is
 
--- ---- a settling
+-- ---- the settler
 
-settling_may : (w : Work) (t : Trouble) → IsSettling w → MayAnswer w t → MaySettle t
-settling_may (work.Settling m) t settles may = may
-settling_may w t settles may = absurd settles
+-- why it may stop
+abbrev MayStopOn : Errand → Trouble → Type 0
+MayStopOn settles t = MaySettle t
+MayStopOn (sweeps tree) t = MayStopSweep t
+
+errand_may : (errand : Errand) (w : Work) (t : Trouble) → WorksOn errand w → MayAnswer w t → MayStopOn errand t
+errand_may settles (work.Settling m) t works may = may
+errand_may (sweeps tree) (work.Sweeping m) t works may = may
+errand_may errand w t works may = absurd works
 
 -- the trouble of a step of the settler
-settler_stops : (n : ℕ) (lines : List Line) (first : Sessions) → IsSettlersRow lines (settler n) → (before after : Seen) (old new : World) (t : Trouble)
-    → SettlerGoes n lines first old before → StepsLooked (settler n) Plain before after old new (Ended (answer.Trouble t)) → MaySettle t
-settler_stops n lines first row before after old new t way p =
-    settling_may (session_at old.sessions 0).work t way.works
+settler_stops : (errand : Errand) (n : ℕ) (lines : List Line) (first : Sessions) → AreRowsOf errand lines (settler n) → (before after : Seen) (old new : World) (t : Trouble)
+    → SettlerGoes errand n lines first old before → StepsLooked (settler n) Plain before after old new (Ended (answer.Trouble t)) → MayStopOn errand t
+settler_stops errand n lines first row before after old new t way p =
+    errand_may errand (session_at old.sessions 0).work t way.works
     (session_stops (settler n) p.under p.to (record way.state { wish = Plain }) left.state held.book held.order (session_at old.sessions) under left.told held.stand p.session.after t own)
   where
     held : CloudHolds n lines (session_at old.sessions) old.audit old.blind (record way.state { wish = Plain })
     held = wish_holds n lines (session_at old.sessions) old.audit old.blind way.state Plain way.holds
 
     left : CallLeavesUpto n lines p.to (session_at old.sessions) 0 p.session.after new.audit new.blind
-    left = settler_call n lines first row before after old new (Ended (answer.Trouble t)) way p
+    left = settler_call errand n lines first row before after old new (Ended (answer.Trouble t)) way p
 
     under : p.under.state ≡ Some (record way.state { wish = Plain })
     under = p.wishes.set way.state (p.look_before.stays way.state way.told)
 
     own : StepsSession (settler n) p.under p.to (session_at old.sessions 0) p.session.after (Ok (Ended (answer.Trouble t)))
-    own = settler_own n lines first row before after old new (Ended (answer.Trouble t)) way p
+    own = settler_own errand n lines first row before after old new (Ended (answer.Trouble t)) way p
 
 module _ (lines : List Line) (n : ℕ) (before after : Seen) (old new : World) (r : Reply) (t : CloudState) (number : length lines + 1 ≡ n) (told : before.state ≡ Some t)
     (stands : LinesStand lines old t) where
-  abbrev Settled : Reply → Type 0
-  Settled q = IsSoundReply (standing lines 0).posture q
+  abbrev SoundFor : Errand → Reply → Type 0
+  SoundFor errand q = IsSoundFor (event_for errand) (standing lines 0).posture q
 
-  unsettled : (q : Trouble) → IsOk r (unsettled_reply q) → MaySettle q → Settled r
+  unsettled : (q : Trouble) → IsOk r (unsettled_reply q) → MaySettle q → SoundFor settles r
   unsettled trouble.Memory e may = absurd (cc)
-  unsettled q e may = let is : r ≡ reply.NotSettled q = cc in subst Settled (sym is) may
+  unsettled q e may = let is : r ≡ reply.NotSettled q = cc in subst (SoundFor settles) (sym is) may
 
-  settle_sound : Settles n before after old new (Ok r) → Settled r
-  settle_sound (inr memory) = absurd (no_memory r memory.0)
-  settle_sound (inl h) = by_end h.settles
+  unswept : (tree : ℕ) (q : Trouble) → IsOk r (trouble_reply q) → MayStopSweep q → SoundFor (sweeps tree) r
+  unswept tree trouble.Memory e may = absurd (cc)
+  unswept tree q e may = let is : r ≡ reply.Trouble q = cc in subst (SoundFor (sweeps tree)) (sym is) may
+
+  replied_sound : (errand : Errand) (a : Answer) → RepliesFor errand a (Ok r) → ((q : Trouble) → a ≡ answer.Trouble q → MayStopOn errand q) → SoundFor errand r
+  replied_sound settles (answer.Settled x) e stops = let is : r ≡ reply.Settled x.calls = cc in subst (SoundFor settles) (sym is) tt
+  replied_sound settles (answer.Trouble q) e stops = unsettled q e (stops q refl)
+  replied_sound settles a e stops = absurd e
+  replied_sound (sweeps tree) (answer.Swept x) e stops = let is : r ≡ reply.Swept x.kept x.removed = cc in subst (SoundFor (sweeps tree)) (sym is) tt
+  replied_sound (sweeps tree) (answer.Trouble q) e stops = unswept tree q e (stops q refl)
+  replied_sound (sweeps tree) a e stops = absurd e
+
+  errand_sound : (errand : Errand) → IsRightErrand errand → Settles errand n before after old new (Ok r) → SoundFor errand r
+  errand_sound errand right (inr memory) = absurd (no_memory r memory.0)
+  errand_sound errand right (inl h) = by_end h.settles
     where
-      by_end : SettlesOn (settler n) before after h.begun new (Ok r) → Settled r
+      by_end : SettlesOn errand (settler n) before after h.begun new (Ok r) → SoundFor errand r
       by_end (inr memory) = absurd (no_memory r memory.0)
-      by_end (inl s) = on s.answer s.comes.steps s.replies
+      by_end (inl s) = replied_sound errand s.answer s.replies (λ q is. stops s.answer s.comes.steps q is)
         where
           all : List Line
-          all = lines ++ line_of event.Settle r ∷ []
+          all = lines ++ line_of (event_for errand) r ∷ []
 
-          row : IsSettlersRow all (settler n)
-          row = settler_row lines r (settler n) refl (sym number)
+          row : AreRowsOf errand all (settler n)
+          row = errand_row errand lines r (settler n) refl (sym number)
 
-          way : SettlerGoes n all (session_at old.sessions) s.comes.world s.comes.mid
+          way : SettlerGoes errand n all (session_at old.sessions) s.comes.world s.comes.mid
           way =
-              settler_went n all (session_at old.sessions) row before h.begun s.comes.mid s.comes.world
-              (settler_begins lines n before old h.begun t (sym number) told stands h.begins r (settled_plain s.answer r s.replies)) s.comes.went
+              settler_went errand n all (session_at old.sessions) row before h.begun s.comes.mid s.comes.world
+              (settler_begins errand right lines n before old h.begun t (sym number) told stands h.begins r (errand_plain errand s.answer r s.replies)) s.comes.went
 
-          on : (a : Answer) → StepsLooked (settler n) Plain s.comes.mid after s.comes.world s.left (Ended a) → RepliesSettled a (Ok r) → Settled r
-          on (answer.Settled x) p e = let is : r ≡ reply.Settled x.calls = cc in subst Settled (sym is) tt
-          on (answer.Trouble q) p e = unsettled q e (settler_stops n all (session_at old.sessions) row s.comes.mid after s.comes.world s.left q way p)
-          on a p e = absurd e
+          stops : (a : Answer) → StepsLooked (settler n) Plain s.comes.mid after s.comes.world s.left (Ended a) → (q : Trouble) → a ≡ answer.Trouble q → MayStopOn errand q
+          stops (answer.Trouble k) p q is =
+              let same : k ≡ q = cc (is) in
+              subst (MayStopOn errand) same (settler_stops errand n all (session_at old.sessions) row s.comes.mid after s.comes.world s.left k way p)
+          stops a p q is = absurd (cc (is))
 
 -- ---- a report
 
@@ -338,11 +361,15 @@ report_sound lines tree (reply.Trouble q) before after old new t told stands h =
     on true blind = h.reply.2.blinded blind
     on false sees =
         let found = h.reply.2.found sees in
-        failed q h.reply.1 (only_slips t (store_of stands.holds.book stands.holds.order t) tree refl cloud.holds.chains h.reply.0 cloud.decodes q
+        failed q h.reply.1 (only_slips t (store_of stands.holds.book stands.holds.order t) tree refl cloud.holds.chains cloud.holds.gones h.reply.0 cloud.decodes q
         (subst (λ (s : CloudState). StopsReport s tree q) (found.told t told) found.reported))
 report_sound lines tree r before after old new t told stands h = tt
 
 -- ---- every line
+
+refused_sweep : (why : Refused) (r : Reply) → IsOk r (declined why) → IsSoundSweep r
+refused_sweep (refused.Rule rule) r e = let is : r ≡ reply.Refused rule = cc in subst IsSoundSweep (sym is) tt
+refused_sweep refused.Memory r e = absurd (cc)
 
 asked_sound : (n : ℕ) (event : Event) (asked : Asked) (before after : Seen) (old new : World) (r : Reply) (lines : List Line) (t : CloudState)
     → Asks event asked → Answers n asked before after old new (Ok r) → length lines + 1 ≡ n → before.state ≡ Some t → LinesStand lines old t
@@ -400,7 +427,11 @@ asked_sound n (event.Wait ticks) asked before after old new r lines t asks answe
 asked_sound n (event.Report tree) asked before after old new r lines t asks answers at told stands =
     report_sound lines tree r before after old new t told stands (subst (λ z. Answers n z before after old new (Ok r)) asks answers)
 asked_sound n event.Settle asked before after old new r lines t asks answers at told stands =
-    settle_sound lines n before after old new r t at told stands (subst (λ z. Answers n z before after old new (Ok r)) asks answers)
+    errand_sound lines n before after old new r t at told stands settles tt (subst (λ z. Answers n z before after old new (Ok r)) asks answers)
+asked_sound n (event.Sweep number) (Sweep (Ok tree)) before after old new r lines t asks answers at told stands =
+    subst (λ k. IsSoundFor (event.Sweep k) (standing lines 0).posture r) asks.0 (errand_sound lines n before after old new r t at told stands (sweeps tree) answers.0 answers.1)
+asked_sound n (event.Sweep number) (Sweep (Err why)) before after old new r lines t asks answers at told stands = refused_sweep why r answers.reply
+asked_sound n (event.Sweep number) asked before after old new r lines t asks answers at told stands = absurd asks
 asked_sound n e asked before after old new r lines t asks answers at told stands =
     request_sound lines n (session_of e) before after old new r t at told stands (IsNoted (noting_of e)) asked asks answers
     (noted_right lines n (session_of e) before after old new r t at told stands (noting_of e))

@@ -1,5 +1,5 @@
 -- A writer that is alone passes no checkpoint over.
-use Rattle.std.proofs.Common.{◌≡◌, ◌≢◌, ◌≤◌, ◌+◌, inl, inr, ℕ, zero, suc, Bool, true, false, List, [], ◌∷◌, ◌++◌, if◌then◌else◌, map, Some, Result, Ok, Err, refl, sym, ap, subst, ◌∙◌, arith}
+use Rattle.std.proofs.Common.{◌≡◌, ◌≢◌, ◌≤◌, inl, inr, ℕ, zero, suc, Bool, true, false, List, [], ◌∷◌, ◌++◌, if◌then◌else◌, map, Some, Result, Ok, Err, refl, sym, ap, subst, ◌∙◌, arith}
 use Rattle.std.proofs.lemmas.Bool.{eqb-false}
 use Rattle.std.proofs.lemmas.Bool.Decides.{nat_tests}
 use Rattle.std.specs.List.{filter}
@@ -58,7 +58,7 @@ use Rattle.world_core.specs.Spared.{HasSent, HasSentAt, PassesNone, PassesNoneAt
 use Rattle.world_core.specs.World.{World}
 use Rattle.world_core.specs.Writers.{Stage, Unbound, Even, Owing, Astray, by_line, stage_of}
 use Rattle.world_core.specs.declared.asked.Asked.{Asked}
-use Rattle.world_core.specs.declared.asked.Asked.TheVariants.{Session, Wait, Report, Settle}
+use Rattle.world_core.specs.declared.asked.Asked.TheVariants.{Session, Wait, Report, Settle, Sweep}
 use Rattle.world_core.specs.declared.asked.Request.{Request}
 use Rattle.world_core.specs.declared.asked.Request.TheVariants.{Work as WorksDue}
 use Rattle.world_core.specs.declared.world.WorldFault.{WorldFault}
@@ -247,6 +247,7 @@ module _ (n session k : ℕ) (before after : Seen) (old new : World) (r : Reply)
   work_spared s (Wait ticks) belongs a each so = absurd belongs
   work_spared s (Report tree) belongs a each so = absurd belongs
   work_spared s Settle belongs a each so = absurd belongs
+  work_spared s (Sweep tree) belongs a each so = absurd belongs
 
 -- ---- the line
 

@@ -51,6 +51,7 @@ settles_by u (work.Committing r) what may is = absurd is
 settles_by u (work.Folding home m) what may is = inr (m.tree, is)
 settles_by u (work.Paging home p) what may is = inr (p.tree, pages_in_tree p.tree u what is)
 settles_by u (work.Settling m) what may is = is
+settles_by u (work.Sweeping m) what may is = absurd is
 settles_by u (work.Reading home m) what may is = absurd is
 settles_by u (work.Scanning home m) what may is = absurd is
 settles_by u (work.Looking home m) what may is = absurd is

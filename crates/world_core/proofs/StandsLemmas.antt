@@ -25,7 +25,7 @@ use Rattle.cloud_trait.proofs.EffectLemmas.{begins_same}
 use Rattle.ckpt_policy.specs.declared.role.Role.{Role}
 use Rattle.client_work.specs.declared.answer.Answer.{Answer}
 use Rattle.client_work.specs.declared.answer.Answer.TheVariants as answer
-use Rattle.client_work.specs.Session.{Acting, closed_session, settling_session, StepsSession, items_of, noted_behind, value_of}
+use Rattle.client_work.specs.Session.{Acting, closed_session, StepsSession, items_of, noted_behind, value_of}
 use Rattle.history.specs.Audited.{Audited}
 use Rattle.history.specs.Fold.{of_tree}
 use Rattle.world_audit.specs.Counts.{heads_upto, AreWaiting}
@@ -33,27 +33,28 @@ use Rattle.cloud_facts.specs.Book.Tally.{at}
 use Rattle.cloud_facts.proofs.Book.Names.{at_same, at_other}
 use Rattle.session_facts.specs.Sessions.Noting.{audited}
 use Rattle.session_facts.specs.Sessions.Sessions.{Sessions, SessionsStand}
-use Rattle.session_facts.proofs.Sessions.Begins.{settling_begins_session}
+use Rattle.session_facts.specs.Errands.{Errand, event_for, session_for, WorksOn, AreRowsOf}
 use Rattle.session_facts.proofs.Sessions.Laws.{crash_keeps}
 use Rattle.replay_meaning.specs.Standing.{Line, Standing, standing, after_line, after_own, session_of, steps}
 use Rattle.replay_meaning.specs.Right.{ReportIsRight}
 use Rattle.session_facts.specs.Facts.{session_at, ActsAs, AllAct, CloudHolds, IsFrontOf, SettlerRests, Stands, GoesOn}
-use Rattle.session_facts.proofs.CallKinds.{IsSettling, IsSettlersRow, settling_goes}
+use Rattle.session_facts.proofs.CallKinds.{errand_goes}
 use Rattle.session_facts.proofs.Acting.{IsReplyTo, goes_as, goes_noted, ends_as}
 use Rattle.session_facts.proofs.LineLemmas.{line_of, AllActWith, begins_line, begins_with, line_through, holds_same, own_line, still_line, refused_own, acts_set}
 use Rattle.session_facts.proofs.Lists.{session_there, session_set}
-use Rattle.session_facts.proofs.SettlerLemmas.{settle_begins, settle_ends, settler_row}
-use Rattle.session_facts.proofs.Steps.{CallLeaves, CallLeavesUpto, call_holds, settle_holds, never_stops, wish_holds, wait_holds}
+use Rattle.session_facts.proofs.SettlerLemmas.{errand_begins, errand_ends, errand_row}
+use Rattle.session_facts.proofs.Steps.{CallLeaves, CallLeavesUpto, call_holds, errand_holds, never_stops, wish_holds, wait_holds}
 use Rattle.session_facts.proofs.ReportLemmas.{IsShown, report_right}
 use Rattle.world_core.specs.World.{World}
 use Rattle.world_core.specs.declared.world.WorldFault.{WorldFault}
 use Rattle.world_core.specs.declared.world.WorldFault.TheVariants.{Memory}
-use Rattle.world_core.specs.Replying.{declined, trouble_reply, unsettled_reply, value_reply, RepliesTo, RepliesSettled, RepliesTurn}
+use Rattle.world_core.specs.Replying.{declined, trouble_reply, value_reply, RepliesTo, RepliesFor, RepliesTurn}
 use Rattle.world_core.specs.Sessions.{Changes}
 use Rattle.world_core.specs.Handled.{Declines, Has, MakesNoCall, StepsLooked, RefusesStep, MakesStep, Went, start, further, RunsTo, Runs, SettlesTo, SettlesOn, Settles, GivesLedger, Policies, Dies, DiesDone, Crashes, WaitsFor, WaitsTooLong, Shows, Reports}
 use Rattle.world_core.specs.Stands.{IsLeft, LeftIsRight}
 use Rattle.world_core.proofs.Behind.{LinesStand, LineLeaves}
-use Rattle.world_core.proofs.Texts.{commit_is}
+use Rattle.world_core.proofs.Errands.{IsRightErrand, begins_errand, works_first}
+use Rattle.world_core.proofs.Texts.{commit_is, errand_is}
 
 -- ---- replies that are no report
 
@@ -293,6 +294,7 @@ replies_to (answer.Commit a) left r e = let is = (commit_is a r e).0 in (is, sub
 replies_to answer.Value left r e = value_shown (value_of left) r e
 replies_to answer.Scan left r e = ((items_of left, e), subst IsNoReport (sym e) tt)
 replies_to (answer.Settled n) left r e = let is : r ≡ reply.Settled n.calls = cc in (is, subst IsNoReport (sym is) tt)
+replies_to (answer.Swept x) left r e = let is : r ≡ reply.Swept x.kept x.removed = cc in (is, subst IsNoReport (sym is) tt)
 replies_to (answer.Trouble t) left r e = on t e
   where
     on : (t : Trouble) → (let result : Result Reply WorldFault = Ok r in result ≡ trouble_reply t) → ((r ≡ reply.Trouble t) × (t ≡ trouble.Memory → ⊥)) × IsNoReport r
@@ -474,24 +476,18 @@ crashes lines k n true r before after old new t at some told stands (inl idle) =
 crashes lines k n true r before after old new t at some told stands (inr (inl done)) = dies_done lines k n r before after old new t at some told stands done
 crashes lines k n true r before after old new t at some told stands (inr (inr memory)) = absurd (no_memory r memory.0)
 
--- ---- a settling
+-- ---- the settler
 
--- the reply to a settling is no report
-pub settled_plain : (a : Answer) (r : Reply) → RepliesSettled a (Ok r) → IsNoReport r
-settled_plain (answer.Settled n) r e = let is : r ≡ reply.Settled n.calls = cc in subst IsNoReport (sym is) tt
-settled_plain (answer.Trouble t) r e = on t e
-  where
-    on : (t : Trouble) → (let result : Result Reply WorldFault = Ok r in result ≡ unsettled_reply t) → IsNoReport r
-    on trouble.Memory e = absurd (cc)
-    on t e = let is : r ≡ reply.NotSettled t = cc in subst IsNoReport (sym is) tt
-settled_plain a r e = absurd e
+-- the reply to its answer is no report
+pub errand_plain : (errand : Errand) (a : Answer) (r : Reply) → RepliesFor errand a (Ok r) → IsNoReport r
+errand_plain errand a r e = errand_is IsNoReport (λ calls. tt) (λ k some. tt) (λ kept removed. tt) (λ k some. tt) errand a r e
 
 -- the settler is under way within its line, which is one of these lines from its begin on, and the other sessions rest
-pub record SettlerGoes (n : ℕ) (lines : List Line) (first : Sessions) (world : World) (seen : Seen) : Type 0 where
+pub record SettlerGoes (errand : Errand) (n : ℕ) (lines : List Line) (first : Sessions) (world : World) (seen : Seen) : Type 0 where
   pub state : CloudState
   pub told : seen.state ≡ Some state
   pub holds : CloudHolds n lines (session_at world.sessions) world.audit world.blind state
-  pub works : IsSettling (session_at world.sessions 0).work
+  pub works : WorksOn errand (session_at world.sessions 0).work
   pub others : (m : ℕ) → m ≢ 0 → session_at world.sessions m ≡ first m
 
 -- what a step of it leaves
@@ -504,8 +500,8 @@ record SettlerLeft (n : ℕ) (lines : List Line) (first : Sessions) (world : Wor
 abbrev pub settler : ℕ → Caller
 settler n = record { session = 0; event = n }
 
-module _ (n : ℕ) (lines : List Line) (first : Sessions) (row : IsSettlersRow lines (settler n)) (before after : Seen) (old new : World) (turn : Turn Answer)
-    (way : SettlerGoes n lines first old before) (p : StepsLooked (settler n) Plain before after old new turn) where
+module _ (errand : Errand) (n : ℕ) (lines : List Line) (first : Sessions) (row : AreRowsOf errand lines (settler n)) (before after : Seen) (old new : World) (turn : Turn Answer)
+    (way : SettlerGoes errand n lines first old before) (p : StepsLooked (settler n) Plain before after old new turn) where
   abbrev held : Sessions
   held = session_at old.sessions
 
@@ -520,7 +516,7 @@ module _ (n : ℕ) (lines : List Line) (first : Sessions) (row : IsSettlersRow l
 
   pub settler_call : CallLeavesUpto n lines p.to held 0 p.session.after new.audit new.blind
   settler_call =
-      settle_holds n lines (settler n) p.under p.to with_wish held p.session.after turn old.audit new.audit old.blind new.blind (omega arith)
+      errand_holds errand n lines (settler n) p.under p.to with_wish held p.session.after turn old.audit new.audit old.blind new.blind (omega arith)
       (p.wishes.set way.state (p.look_before.stays way.state way.told)) (wish_holds n lines held old.audit old.blind way.state Plain way.holds) way.works row settler_own
       (record {
         saw = p.saw;
@@ -536,28 +532,28 @@ module _ (n : ℕ) (lines : List Line) (first : Sessions) (row : IsSettlersRow l
     others = λ m ne. changed_at 0 _ old.sessions new.sessions p.session m ∙ at_other 0 p.session.after held m ne ∙ way.others m ne;
   }
 
-settler_more : (n : ℕ) (lines : List Line) (first : Sessions) → IsSettlersRow lines (settler n) → (before after : Seen) (old new : World)
-    → SettlerGoes n lines first old before → StepsLooked (settler n) Plain before after old new More → SettlerGoes n lines first new after
-settler_more n lines first row before after old new way p =
-    let left = settler_left n lines first row before after old new More way p in
-    let own = settler_own n lines first row before after old new More way p in
+settler_more : (errand : Errand) (n : ℕ) (lines : List Line) (first : Sessions) → AreRowsOf errand lines (settler n) → (before after : Seen) (old new : World)
+    → SettlerGoes errand n lines first old before → StepsLooked (settler n) Plain before after old new More → SettlerGoes errand n lines first new after
+settler_more errand n lines first row before after old new way p =
+    let left = settler_left errand n lines first row before after old new More way p in
+    let own = settler_own errand n lines first row before after old new More way p in
     record {
       state = left.state;
       told = left.told;
       holds = left.holds;
-      works = subst (λ (a : Acting). IsSettling a.work) (sym (changed_at 0 _ old.sessions new.sessions p.session 0 ∙ at_same 0 p.session.after (session_at old.sessions) 0 refl))
-          (settling_goes (settler n) p.under p.to (session_at old.sessions 0).work p.session.after.work own.work way.works);
+      works = subst (λ (a : Acting). WorksOn errand a.work) (sym (changed_at 0 _ old.sessions new.sessions p.session 0 ∙ at_same 0 p.session.after (session_at old.sessions) 0 refl))
+          (errand_goes errand (settler n) p.under p.to (session_at old.sessions 0).work p.session.after.work own.work way.works);
       others = left.others;
     }
 
-pub settler_went : (n : ℕ) (lines : List Line) (first : Sessions) → IsSettlersRow lines (settler n) → (before : Seen) (old : World) (after : Seen) (new : World)
-    → SettlerGoes n lines first old before → Went (settler n) before old after new → SettlerGoes n lines first new after
-settler_went n lines first row before old after new way start = way
-settler_went n lines first row before old after new way (further mid _ world _ went step) =
-    settler_more n lines first row mid after world new (settler_went n lines first row before old mid world way went) step
+pub settler_went : (errand : Errand) (n : ℕ) (lines : List Line) (first : Sessions) → AreRowsOf errand lines (settler n) → (before : Seen) (old : World) (after : Seen) (new : World)
+    → SettlerGoes errand n lines first old before → Went (settler n) before old after new → SettlerGoes errand n lines first new after
+settler_went errand n lines first row before old after new way start = way
+settler_went errand n lines first row before old after new way (further mid _ world _ went step) =
+    settler_more errand n lines first row mid after world new (settler_went errand n lines first row before old mid world way went) step
 
-module _ (lines : List Line) (n : ℕ) (before : Seen) (old begun : World) (t : CloudState)
-    (number : n ≡ length lines + 1) (told : before.state ≡ Some t) (stands : LinesStand lines old t) (begins : Has 0 settling_session old begun) where
+module _ (errand : Errand) (right : IsRightErrand errand) (lines : List Line) (n : ℕ) (before : Seen) (old begun : World) (t : CloudState)
+    (number : n ≡ length lines + 1) (told : before.state ≡ Some t) (stands : LinesStand lines old t) (begins : Has 0 (session_for errand) old begun) where
   abbrev before_it : Sessions
   before_it = session_at old.sessions
 
@@ -566,51 +562,51 @@ module _ (lines : List Line) (n : ℕ) (before : Seen) (old begun : World) (t : 
   rests_as = subst (λ a. ActsAs a (standing lines 0)) stands.rests (stands.acts 0)
 
   begun_holds : CloudHolds (length lines + 1) lines (session_at begun.sessions) begun.audit begun.blind t
-  begun_holds = subst (λ a. At a begun.blind) (sym begins.audit) (subst (At old.audit) (sym begins.blind) (holds_same (length lines + 1) lines (at 0 settling_session before_it) (session_at begun.sessions) old.audit old.blind t (has_at 0 settling_session old begun begins) own))
+  begun_holds = subst (λ a. At a begun.blind) (sym begins.audit) (subst (At old.audit) (sym begins.blind) (holds_same (length lines + 1) lines (at 0 (session_for errand) before_it) (session_at begun.sessions) old.audit old.blind t (has_at 0 (session_for errand) old begun begins) own))
     where
       At : Audited → Bool → Type 0
       At a b = CloudHolds (length lines + 1) lines (session_at begun.sessions) a b t
 
-      own : CloudHolds (length lines + 1) lines (at 0 settling_session before_it) old.audit old.blind t
+      own : CloudHolds (length lines + 1) lines (at 0 (session_for errand) before_it) old.audit old.blind t
       own =
-          begins_with lines before_it (at 0 settling_session before_it) old.audit old.blind t stands.holds
-          (settling_begins_session stands.holds.book stands.holds.order t before_it 0 stands.rests stands.holds.stand)
+          begins_with lines before_it (at 0 (session_for errand) before_it) old.audit old.blind t stands.holds
+          (begins_errand errand right stands.holds.book stands.holds.order t before_it 0 stands.rests stands.holds.stand)
 
-  pub settler_begins : (r : Reply) → IsNoReport r → SettlerGoes n (lines ++ line_of event.Settle r ∷ []) before_it begun before
+  pub settler_begins : (r : Reply) → IsNoReport r → SettlerGoes errand n (lines ++ line_of (event_for errand) r ∷ []) before_it begun before
   settler_begins r plain = record {
     state = t;
     told = told;
-    holds = subst (λ k. CloudHolds k (lines ++ line_of event.Settle r ∷ []) (session_at begun.sessions) begun.audit begun.blind t) (sym number)
-        (settle_begins lines r (session_at begun.sessions) begun.audit begun.blind t (λ order. no_report_front order r plain) begun_holds);
-    works = subst (λ (a : Acting). IsSettling a.work) (sym (has_at 0 settling_session old begun begins 0 ∙ at_same 0 settling_session before_it 0 refl)) refl;
-    others = λ m ne. has_at 0 settling_session old begun begins m ∙ at_other 0 settling_session before_it m ne;
+    holds = subst (λ k. CloudHolds k (lines ++ line_of (event_for errand) r ∷ []) (session_at begun.sessions) begun.audit begun.blind t) (sym number)
+        (errand_begins errand lines r (session_at begun.sessions) begun.audit begun.blind t (λ order. no_report_front order r plain) begun_holds);
+    works = subst (λ (a : Acting). WorksOn errand a.work) (sym (has_at 0 (session_for errand) old begun begins 0 ∙ at_same 0 (session_for errand) before_it 0 refl)) (works_first errand);
+    others = λ m ne. has_at 0 (session_for errand) old begun begins m ∙ at_other 0 (session_for errand) before_it m ne;
   }
 
-  settler_ends : (after : Seen) (new : World) (r : Reply) → SettlesTo (settler n) before after begun new (Ok r)
-      → LineLeaves (lines ++ line_of event.Settle r ∷ []) new after r
+  settler_ends : (after : Seen) (new : World) (r : Reply) → SettlesTo errand (settler n) before after begun new (Ok r)
+      → LineLeaves (lines ++ line_of (event_for errand) r ∷ []) new after r
   settler_ends after new r h = record {
     after = s.state;
     told = s.told;
-    stands = settle_ends lines r (session_at new.sessions) new.audit new.blind s.state
+    stands = errand_ends errand lines r (session_at new.sessions) new.audit new.blind s.state
         (subst (λ k. CloudHolds k all (session_at new.sessions) new.audit new.blind s.state) number (closed_holds n all 0 h.left new s.state s.holds h.closes)) acts rests;
     right = no_report_right all s.state r plain;
     left = no_report_left s.state r plain;
   }
     where
       all : List Line
-      all = lines ++ line_of event.Settle r ∷ []
+      all = lines ++ line_of (event_for errand) r ∷ []
 
       plain : IsNoReport r
-      plain = settled_plain h.answer r h.replies
+      plain = errand_plain errand h.answer r h.replies
 
-      row : IsSettlersRow all (settler n)
-      row = settler_row lines r (settler n) refl number
+      row : AreRowsOf errand all (settler n)
+      row = errand_row errand lines r (settler n) refl number
 
-      way : SettlerGoes n all before_it h.comes.world h.comes.mid
-      way = settler_went n all before_it row before begun h.comes.mid h.comes.world (settler_begins r plain) h.comes.went
+      way : SettlerGoes errand n all before_it h.comes.world h.comes.mid
+      way = settler_went errand n all before_it row before begun h.comes.mid h.comes.world (settler_begins r plain) h.comes.went
 
       s : SettlerLeft n all before_it h.left after
-      s = settler_left n all before_it row h.comes.mid after h.comes.world h.left (Ended h.answer) way h.comes.steps
+      s = settler_left errand n all before_it row h.comes.mid after h.comes.world h.left (Ended h.answer) way h.comes.steps
 
       rests : SettlerRests (session_at new.sessions)
       rests = has_at 0 closed_session h.left new h.closes 0 ∙ at_same 0 closed_session (session_at h.left.sessions) 0 refl
@@ -624,15 +620,15 @@ module _ (lines : List Line) (n : ℕ) (before : Seen) (old begun : World) (t : 
               subst (λ a. ActsAs a (standing lines m))
               (sym (has_at 0 closed_session h.left new h.closes m ∙ at_other 0 closed_session (session_at h.left.sessions) m ne ∙ s.others m ne)) (stands.acts m)
 
-  settler_on : (after : Seen) (new : World) (r : Reply) → SettlesOn (settler n) before after begun new (Ok r)
-      → LineLeaves (lines ++ line_of event.Settle r ∷ []) new after r
+  settler_on : (after : Seen) (new : World) (r : Reply) → SettlesOn errand (settler n) before after begun new (Ok r)
+      → LineLeaves (lines ++ line_of (event_for errand) r ∷ []) new after r
   settler_on after new r (inl h) = settler_ends after new r h
   settler_on after new r (inr memory) = absurd (no_memory r memory.0)
 
-pub settles : (lines : List Line) (n : ℕ) (r : Reply) (before after : Seen) (old new : World) (t : CloudState) → length lines + 1 ≡ n → before.state ≡ Some t → LinesStand lines old t
-    → Settles n before after old new (Ok r) → LineLeaves (lines ++ line_of event.Settle r ∷ []) new after r
-settles lines n r before after old new t at told stands (inl h) = settler_on lines n before old h.begun t (sym at) told stands h.begins after new r h.settles
-settles lines n r before after old new t at told stands (inr memory) = absurd (no_memory r memory.0)
+pub goes_errand : (errand : Errand) → IsRightErrand errand → (lines : List Line) (n : ℕ) (r : Reply) (before after : Seen) (old new : World) (t : CloudState) → length lines + 1 ≡ n → before.state ≡ Some t → LinesStand lines old t
+    → Settles errand n before after old new (Ok r) → LineLeaves (lines ++ line_of (event_for errand) r ∷ []) new after r
+goes_errand errand right lines n r before after old new t at told stands (inl h) = settler_on errand right lines n before old h.begun t (sym at) told stands h.begins after new r h.settles
+goes_errand errand right lines n r before after old new t at told stands (inr memory) = absurd (no_memory r memory.0)
 
 -- ---- a session's ledger
 

@@ -38,7 +38,7 @@ use Rattle.world_core.specs.Stands.{WorldStands}
 use Rattle.world_core.specs.Tagged.{HasBegun, ShowsTagged}
 use Rattle.world_core.specs.World.{World}
 use Rattle.world_core.specs.declared.asked.Asked.{Asked}
-use Rattle.world_core.specs.declared.asked.Asked.TheVariants.{Session, Wait, Report, Settle}
+use Rattle.world_core.specs.declared.asked.Asked.TheVariants.{Session, Wait, Report, Settle, Sweep}
 use Rattle.world_core.specs.declared.asked.Request.TheVariants.{Run}
 use Rattle.world_core.specs.declared.world.WorldFault.{WorldFault}
 use Rattle.world_core.proofs.EveryLine.{asked_is, does_own}
@@ -73,6 +73,7 @@ of_scan (answer.Done n) pairs is = absurd (cc (is))
 of_scan answer.Value pairs (inl is) = absurd (cc (is))
 of_scan answer.Value pairs (inr (payload, is)) = absurd (cc (is))
 of_scan (answer.Settled n) pairs is = absurd (cc (is))
+of_scan (answer.Swept x) pairs is = absurd (cc (is))
 of_scan (answer.Commit a) pairs is = absurd (cc (is))
 of_scan (answer.Trouble t) pairs is = absurd (cc (is.0))
 
@@ -106,6 +107,7 @@ module _ (n k : ℕ) (before after : Seen) (old new : World) (pairs : List Pair)
   of_line (Wait ticks) belongs answers = absurd belongs
   of_line (Report tree) belongs answers = absurd belongs
   of_line Settle belongs answers = absurd belongs
+  of_line (Sweep tree) belongs answers = absurd belongs
 
   -- ---- what it found
 

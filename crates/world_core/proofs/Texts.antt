@@ -9,7 +9,6 @@ use Rattle.db_base.specs.declared.trouble.Trouble.{Trouble}
 use Rattle.db_base.specs.declared.trouble.Trouble.TheVariants as trouble
 use Rattle.db_base.specs.declared.wish.Wish.{Wish}
 use Rattle.db_base.specs.Value.{Value}
-use Rattle.cloud_trait.specs.Caller.{Caller}
 use Rattle.cloud_trait.specs.Seen.{Seen}
 use Rattle.cloud_trait.specs.declared.turn.Turn.{Turn}
 use Rattle.cloud_trait.specs.declared.turn.Turn.TheVariants.{More, Ended, Stopped}
@@ -23,13 +22,14 @@ use Rattle.reply_text.specs.declared.reply.Reply.{Reply}
 use Rattle.reply_text.specs.declared.reply.Reply.TheVariants as reply
 use Rattle.ckpt_policy.specs.declared.role.Role.{Role}
 use Rattle.world_core.specs.declared.asked.Asked.{Asked}
-use Rattle.world_core.specs.declared.asked.Asked.TheVariants.{Session, Wait, Report, Settle}
+use Rattle.world_core.specs.declared.asked.Asked.TheVariants.{Session, Wait, Report, Settle, Sweep}
 use Rattle.world_core.specs.declared.asked.Request.{Request}
 use Rattle.world_core.specs.declared.asked.Request.TheVariants.{Begin, Note, Abort, Policy, Work as WorksDue, Step, Run, Crash}
 use Rattle.world_core.specs.declared.world.WorldFault.{WorldFault}
 use Rattle.world_core.specs.World.{World}
-use Rattle.world_core.specs.Handled.{Declines, FindsNoMemory, MakesStep, Runs, SettlesOn, Crashes, Does, ReportReply, Answers, Policies, WorksThrough}
-use Rattle.world_core.specs.Replying.{declined, done_reply, told, told_by, commit_reply, trouble_reply, value_reply, RepliesTo, RepliesBegun, RepliesSettled, RepliesTurn}
+use Rattle.world_core.specs.Handled.{Declines, FindsNoMemory, MakesStep, Runs, SettlesOn, Settles, Crashes, Does, ReportReply, Answers, Policies, WorksThrough}
+use Rattle.session_facts.specs.Errands.{Errand, settles, sweeps}
+use Rattle.world_core.specs.Replying.{declined, done_reply, told, told_by, commit_reply, trouble_reply, value_reply, RepliesTo, RepliesBegun, RepliesFor, RepliesTurn}
 
 -- the reply of a line
 abbrev IsOk : Reply → Result Reply WorldFault → Type 0
@@ -41,7 +41,7 @@ no_memory r e = absurd (cc)
 -- ---- what tells a trouble
 
 -- a reply that tells a trouble is the one that tells it, and that trouble has a text
-told_is : (tell : Trouble → Reply) (t : Trouble) (r : Reply) → IsOk r (told_by tell (told t)) → (r ≡ tell t) × HasText t
+pub told_is : (tell : Trouble → Reply) (t : Trouble) (r : Reply) → IsOk r (told_by tell (told t)) → (r ≡ tell t) × HasText t
 told_is tell trouble.Memory r e = absurd (cc)
 told_is tell trouble.Failed r e = (cc, tt)
 told_is tell (trouble.Late end now) r e = (cc, tt)
@@ -97,12 +97,22 @@ answer_text (answer.Commit a) left r e = let is = commit_is a r e in is_text r (
 answer_text answer.Value left r e = value_text (value_of left) r e
 answer_text answer.Scan left r e = is_text r (reply.Scan (items_of left)) e tt
 answer_text (answer.Settled s) left r e = plain_text r (reply.Settled s.calls) e tt
+answer_text (answer.Swept x) left r e = plain_text r (reply.Swept x.kept x.removed) e tt
 answer_text (answer.Trouble t) left r e = trouble_text r t e
 
-settled_text : (a : Answer) (r : Reply) → RepliesSettled a (Ok r) → ReplyHasText r
-settled_text (answer.Settled s) r e = plain_text r (reply.Settled s.calls) e tt
-settled_text (answer.Trouble t) r e = let is = told_is (λ k. reply.NotSettled k) t r e in is_text r (reply.NotSettled t) is.0 is.1
-settled_text a r e = absurd e
+-- the reply to the answer of session 0 on an errand is one of these
+module _ (P : Reply → Type 0) (settled : (calls : ℕ) → P (reply.Settled calls)) (unsettled : (k : Trouble) → HasText k → P (reply.NotSettled k))
+    (swept : (kept removed : ℕ) → P (reply.Swept kept removed)) (unswept : (k : Trouble) → HasText k → P (reply.Trouble k)) where
+  plain_is : (r q : Reply) → IsOk r (Ok q) → P q → P r
+  plain_is r q e holds = let is : r ≡ q = cc in subst P (sym is) holds
+
+  pub errand_is : (errand : Errand) (a : Answer) (r : Reply) → RepliesFor errand a (Ok r) → P r
+  errand_is settles (answer.Settled s) r e = plain_is r (reply.Settled s.calls) e (settled s.calls)
+  errand_is settles (answer.Trouble t) r e = let is = told_is (λ k. reply.NotSettled k) t r e in subst P (sym is.0) (unsettled t is.1)
+  errand_is settles a r e = absurd e
+  errand_is (sweeps tree) (answer.Swept x) r e = plain_is r (reply.Swept x.kept x.removed) e (swept x.kept x.removed)
+  errand_is (sweeps tree) (answer.Trouble t) r e = let is = told_is (λ k. reply.Trouble k) t r e in subst P (sym is.0) (unswept t is.1)
+  errand_is (sweeps tree) a r e = absurd e
 
 begun_text : (begun : Result Begun Refused) (left : Acting) (r : Reply) → RepliesBegun begun left (Ok r) → ReplyHasText r
 begun_text (Ok Working) left r e = plain_text r reply.Begun e tt
@@ -153,9 +163,13 @@ module _ (n : ℕ) (before after : Seen) (old new : World) (r : Reply) where
   does_text k Run h = run_text k h
   does_text k (Crash done) h = crash_text k done h
 
-  settling_text : (who : Caller) (begun : World) → SettlesOn who before after begun new (Ok r) → ReplyHasText r
-  settling_text who begun (inl settles) = settled_text settles.answer r settles.replies
-  settling_text who begun (inr memory) = absurd (no_memory r memory.0)
+  errand_text : (errand : Errand) → Settles errand n before after old new (Ok r) → ReplyHasText r
+  errand_text errand (inr memory) = absurd (no_memory r memory.0)
+  errand_text errand (inl h) = on h.settles
+    where
+      on : SettlesOn errand (record { session = 0; event = n }) before after h.begun new (Ok r) → ReplyHasText r
+      on (inl s) = errand_is ReplyHasText (λ calls. tt) (λ k text. text) (λ kept removed. tt) (λ k text. text) errand s.answer r s.replies
+      on (inr memory) = absurd (no_memory r memory.0)
 
 report_text : (tree : ℕ) (before after : Seen) (world : World) (r : Reply) → ReportReply tree before after world (Ok r) → ReplyHasText r
 report_text tree before after world (reply.Report shown) h = tt
@@ -171,6 +185,7 @@ has_text n (Session k request) before after old new (Ok r) (inr none) = declines
 has_text n (Wait ticks) before after old new (Ok r) (inl h) = plain_text r reply.Waited h.0.replies tt
 has_text n (Wait ticks) before after old new (Ok r) (inr long) = declines_text r _ before after old new long.declines
 has_text n (Report tree) before after old new (Ok r) h = report_text tree before after old r h.reply
-has_text n Settle before after old new (Ok r) (inl h) = settling_text n before after old new r _ h.begun h.settles
-has_text n Settle before after old new (Ok r) (inr memory) = absurd (no_memory r memory.0)
+has_text n Settle before after old new (Ok r) h = errand_text n before after old new r settles h
+has_text n (Sweep (Ok tree)) before after old new (Ok r) h = errand_text n before after old new r (sweeps tree) h.1
+has_text n (Sweep (Err why)) before after old new (Ok r) h = declines_text r why before after old new h
 has_text n asked before after old new (Err fault) h = tt

@@ -84,6 +84,7 @@ by_unbound : (session k : ℕ) (e : Event) (r : Reply) (stage : Stage) → by_li
 by_unbound session k (event.Wait ticks) r stage is = (is, tt)
 by_unbound session k (event.Report tree) r stage is = (is, tt)
 by_unbound session k event.Settle r stage is = absurd (cc (is))
+by_unbound session k (event.Sweep tree) r stage is = absurd (cc (is))
 by_unbound session k e r stage is = on (session_of e == session) is
   where
     on : (b : Bool) → cond b (own_line k e r stage) Astray ≡ Unbound → (stage ≡ Unbound) × IsNoCommit e
@@ -189,6 +190,7 @@ own_quiet (event.Crash session done) r s none quiet = crashes_quiet r s quiet
 own_quiet (event.Wait ticks) r s none quiet = quiet
 own_quiet (event.Report tree) r s none quiet = quiet
 own_quiet event.Settle r s none quiet = quiet
+own_quiet (event.Sweep tree) r s none quiet = quiet
 
 from_quiet : (session : ℕ) (lines : List Line) (s : Standing) → NoCommits lines → IsQuiet s → IsQuiet (standing_from session s lines)
 from_quiet session [] s none quiet = quiet

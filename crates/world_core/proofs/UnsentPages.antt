@@ -99,6 +99,7 @@ answer_none : (a : Answer) → IsOfNoPage (trouble_of a)
 answer_none (call.Got v) = tt
 answer_none (call.Sent id) = tt
 answer_none (call.Received ms) = tt
+answer_none (call.Listed ps) = tt
 answer_none call.Done = tt
 answer_none (call.Given l) = tt
 answer_none (call.Held until) = tt

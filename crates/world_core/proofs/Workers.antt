@@ -10,7 +10,7 @@ use Rattle.client_work.specs.declared.answer.Answer.{Answer}
 use Rattle.client_work.specs.declared.answer.Answer.TheVariants as answer
 use Rattle.client_work.specs.declared.answer.Begun.TheVariants.{Working}
 use Rattle.client_work.specs.declared.work.Work.{Work}
-use Rattle.client_work.specs.declared.work.Work.TheVariants.{Closed, Idle, Opening, Committing, Reading, Scanning, Looking, Paging, Folding, Closing, Renewing, Settling, Broken}
+use Rattle.client_work.specs.declared.work.Work.TheVariants.{Closed, Idle, Opening, Committing, Reading, Scanning, Looking, Paging, Folding, Closing, Renewing, Settling, Sweeping, Broken}
 use Rattle.client_work.specs.Session.{Acting, Begins, StepsSession, noted_behind, open_client}
 use Rattle.cloud_facts.specs.Book.Tally.{at}
 use Rattle.cloud_facts.proofs.Book.Names.{at_same, at_other}
@@ -62,6 +62,7 @@ open_home (Folding h m) client e = absurd (cc)
 open_home (Closing lease) client e = absurd (cc)
 open_home (Renewing h) client e = absurd (cc)
 open_home (Settling m) client e = absurd (cc)
+open_home (Sweeping m) client e = absurd (cc)
 open_home (Broken lease) client e = absurd (cc)
 
 same_home : (a b : Home) → Idle a ≡ Idle b → a ≡ b

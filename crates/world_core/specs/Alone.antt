@@ -22,11 +22,12 @@ StepIsUndisturbed who wish before after old new turn p = StepsUndisturbed who p.
 abbrev pub IsAloneIn : ℕ → World → CloudState → Type 0
 IsAloneIn session world t = IsAlone (work_at world session) t
 
--- no other session acts in the line, this one does not die in it, and nobody settles; waits and reports change nothing
+-- no other session acts in the line, this one does not die in it, and nobody settles or sweeps; waits and reports change nothing
 abbrev pub LeavesAlone : ℕ → Event → Type 0
 LeavesAlone session (event.Wait ticks) = Unit {0}
 LeavesAlone session (event.Report tree) = Unit {0}
 LeavesAlone session event.Settle = ⊥
+LeavesAlone session (event.Sweep tree) = ⊥
 LeavesAlone session (event.Crash other done) = ⊥
 LeavesAlone session e = session_of e ≡ session
 

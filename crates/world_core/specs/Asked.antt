@@ -18,7 +18,7 @@ use Rattle.world_core.specs.declared.asked.Noting.TheVariants.{Single, Indexed}
 use Rattle.world_core.specs.declared.asked.Request.{Request}
 use Rattle.world_core.specs.declared.asked.Request.TheVariants.{Begin, Note, Abort, Policy, Work, Step, Run, Crash}
 use Rattle.world_core.specs.declared.asked.Asked.{Asked}
-use Rattle.world_core.specs.declared.asked.Asked.TheVariants.{Session, Wait, Report, Settle}
+use Rattle.world_core.specs.declared.asked.Asked.TheVariants.{Session, Wait, Report, Settle, Sweep}
 use Rattle.db_base.specs.declared.wish.Wish.{Wish}
 
 -- the opening of a client, or its number is no client's
@@ -163,6 +163,20 @@ OfSession number Is (Session n request) = (n ≡ number) × Is request
 OfSession number Is (Wait ticks) = ⊥
 OfSession number Is (Report tree) = ⊥
 OfSession number Is Settle = ⊥
+OfSession number Is (Sweep tree) = ⊥
+
+-- the tree of this number, or the number is no tree's
+abbrev pub IsTreeOf : ℕ → Result ℕ Refused → Type 0
+IsTreeOf number (Ok tree) = (tree ≡ number) × IsTree number
+IsTreeOf number (Err why) = (IsTree number → ⊥) × (why ≡ refused.Rule rule.BadNumber)
+
+-- a sweep of the tree of this number
+abbrev pub OfSweep : ℕ → Asked → Type 0
+OfSweep number (Sweep tree) = IsTreeOf number tree
+OfSweep number (Session n request) = ⊥
+OfSweep number (Wait ticks) = ⊥
+OfSweep number (Report tree) = ⊥
+OfSweep number Settle = ⊥
 
 -- what a line asks; the last of these are the lines that note something
 abbrev pub Asks : Event → Asked → Type 0
@@ -184,4 +198,5 @@ Asks (event.Crash session done) asked = OfSession session (λ request. request �
 Asks (event.Wait ticks) asked = asked ≡ Wait ticks
 Asks (event.Report tree) asked = asked ≡ Report tree
 Asks event.Settle asked = asked ≡ Settle
+Asks (event.Sweep tree) asked = OfSweep tree asked
 Asks e asked = OfSession (session_of e) (IsNoted (noting_of e)) asked

@@ -29,7 +29,7 @@ use Rattle.client_work.specs.declared.work.Work.TheVariants.{Idle}
 use Rattle.event_text.specs.declared.event.Event.{Event}
 use Rattle.reply_text.specs.declared.reply.Reply.{Reply}
 use Rattle.world_core.specs.declared.asked.Asked.{Asked}
-use Rattle.world_core.specs.declared.asked.Asked.TheVariants.{Session, Wait, Report, Settle}
+use Rattle.world_core.specs.declared.asked.Asked.TheVariants.{Session, Wait, Report, Settle, Sweep}
 use Rattle.world_core.specs.declared.asked.Request.{Request}
 use Rattle.world_core.specs.declared.asked.Request.TheVariants.{Begin, Note, Abort, Policy, Work, Step, Run as RunsOn, Crash}
 use Rattle.world_core.specs.World.{World}
@@ -90,6 +90,7 @@ AsksShow n (Session number request) before after old new result (inr none) = Uni
 AsksShow n (Wait ticks) before after old new result waits = Unit {0}
 AsksShow n (Report tree) before after old new result reports = Unit {0}
 AsksShow n Settle before after old new result settles = Unit {0}
+AsksShow n (Sweep tree) before after old new result sweeps = Unit {0}
 
 -- it is so of the begin of a line, as it was handled
 abbrev pub BeginIsShown : (n : ℕ) (event : Event) (before after : Seen) (old new : World) (result : Result Reply WorldFault) → Handled n event before after old new result → Type 0

@@ -3,6 +3,8 @@ use Rattle.std.specs.Prelude.{ℕ, ◌≡◌, ◌+◌, List, [], length, Some, R
 use Rattle.client_work.specs.declared.work.Work.{Work}
 use Rattle.cloud_trait.specs.Seen.{Seen}
 use Rattle.cloud_trait.specs.State.{CloudState}
+use Rattle.db_base.specs.Ids.{IsTree}
+use Rattle.db_base.specs.declared.refusal.Refusal.TheVariants as rule
 use Rattle.db_base.specs.declared.trouble.Counter.{Counter}
 use Rattle.event_text.specs.declared.event.Event.{Event}
 use Rattle.event_text.specs.declared.event.Event.TheVariants as event
@@ -79,6 +81,12 @@ SettlesWell u (reply.Settled calls) = Unit {0}
 SettlesWell u (reply.NotSettled k) = IsSpent IsSpentToSettle u k
 SettlesWell u reply = ⊥
 
+-- a sweep comes to its end, or the number is no tree's
+abbrev pub SweepsWell : ℕ → Reply → Type 0
+SweepsWell tree (reply.Swept kept removed) = Unit {0}
+SweepsWell tree (reply.Refused r) = (r ≡ rule.BadNumber) × (IsTree tree → ⊥)
+SweepsWell tree reply = ⊥
+
 -- the checkpoints that are due are made, or a rule refuses the line
 abbrev pub WorksWell : Reply → Type 0
 WorksWell (reply.Worked done passed) = Unit {0}
@@ -100,6 +108,7 @@ RepliesWell u (event.Step session wish) posture reply = StepsWell u posture repl
 RepliesWell u (event.Run session) posture reply = RunsWell u posture reply
 RepliesWell u (event.Work session) posture reply = WorksWell reply
 RepliesWell u event.Settle posture reply = SettlesWell u reply
+RepliesWell u (event.Sweep tree) posture reply = SweepsWell tree reply
 RepliesWell u event posture reply = Unit {0}
 
 -- ---- every line

@@ -12,8 +12,9 @@ use Rattle.db_base.specs.declared.wish.Wish.{Wish}
 use Rattle.db_base.specs.declared.wish.Wish.TheVariants.{Plain}
 use Rattle.event_text.specs.declared.event.Event.{Event}
 use Rattle.reply_text.specs.declared.reply.Reply.{Reply}
+use Rattle.session_facts.specs.Errands.{Errand, settles, sweeps}
 use Rattle.world_core.specs.declared.asked.Asked.{Asked}
-use Rattle.world_core.specs.declared.asked.Asked.TheVariants.{Session, Wait, Report, Settle}
+use Rattle.world_core.specs.declared.asked.Asked.TheVariants.{Session, Wait, Report, Settle, Sweep}
 use Rattle.world_core.specs.declared.asked.Request.{Request}
 use Rattle.world_core.specs.declared.asked.Request.TheVariants.{Begin, Note, Abort, Policy, Work, Step, Run, Crash}
 use Rattle.world_core.specs.World.{World}
@@ -63,14 +64,16 @@ EachCrashed Holds n number true before after old new result (inl idle) = Unit {0
 EachCrashed Holds n number true before after old new result (inr (inl dies)) = Holds (record { session = number; event = n }) Plain before after old dies.world dies.turn dies.steps
 EachCrashed Holds n number true before after old new result (inr (inr memory)) = Unit {0}
 
--- of each step of a settling
-abbrev pub EachSettlingOn : StepFact → (who : Caller) (before after : Seen) (old new : World) (result : Result Reply WorldFault) → SettlesOn who before after old new result → Type 0
-EachSettlingOn Holds who before after old new result (inl settles) = EachCome Holds who before after old settles.left settles.answer settles.comes
-EachSettlingOn Holds who before after old new result (inr memory) = Unit {0}
+-- of each step of the settler
+abbrev pub EachSettlingOn : StepFact → (errand : Errand) (who : Caller) (before after : Seen) (old new : World) (result : Result Reply WorldFault)
+    → SettlesOn errand who before after old new result → Type 0
+EachSettlingOn Holds errand who before after old new result (inl ended) = EachCome Holds who before after old ended.left ended.answer ended.comes
+EachSettlingOn Holds errand who before after old new result (inr memory) = Unit {0}
 
-abbrev pub EachSettling : StepFact → (n : ℕ) (before after : Seen) (old new : World) (result : Result Reply WorldFault) → Settles n before after old new result → Type 0
-EachSettling Holds n before after old new result (inl settles) = EachSettlingOn Holds (record { session = 0; event = n }) before after settles.begun new result settles.settles
-EachSettling Holds n before after old new result (inr memory) = Unit {0}
+abbrev pub EachSettling : StepFact → (errand : Errand) (n : ℕ) (before after : Seen) (old new : World) (result : Result Reply WorldFault)
+    → Settles errand n before after old new result → Type 0
+EachSettling Holds errand n before after old new result (inl goes) = EachSettlingOn Holds errand (record { session = 0; event = n }) before after goes.begun new result goes.settles
+EachSettling Holds errand n before after old new result (inr memory) = Unit {0}
 
 -- of each step of the checkpoints that a session made
 abbrev pub EachWork : StepFact → (who : Caller) (before : Seen) (old : World) (queues : List QueueName) (done passed : ℕ) (after : Seen) (new : World)
@@ -104,7 +107,9 @@ EachServed Holds n number (Err why) before after old new result declines = Unit 
 abbrev pub EachAsked : StepFact → (n : ℕ) (asked : Asked) (before after : Seen) (old new : World) (result : Result Reply WorldFault) → Answers n asked before after old new result → Type 0
 EachAsked Holds n (Session number request) before after old new result (inl served) = EachServed Holds n number request before after old new result served.1
 EachAsked Holds n (Session number request) before after old new result (inr none) = Unit {0}
-EachAsked Holds n Settle before after old new result settles = EachSettling Holds n before after old new result settles
+EachAsked Holds n Settle before after old new result settling = EachSettling Holds settles n before after old new result settling
+EachAsked Holds n (Sweep (Ok tree)) before after old new result sweeping = EachSettling Holds (sweeps tree) n before after old new result sweeping.1
+EachAsked Holds n (Sweep (Err why)) before after old new result declines = Unit {0}
 EachAsked Holds n (Wait ticks) before after old new result waits = Unit {0}
 EachAsked Holds n (Report tree) before after old new result reports = Unit {0}
 

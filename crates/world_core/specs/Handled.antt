@@ -38,25 +38,26 @@ use Rattle.client_work.specs.declared.op.Op.{Op}
 use Rattle.client_work.specs.declared.op.Op.TheVariants as op
 use Rattle.client_work.specs.declared.work.Work.{Work}
 use Rattle.client_work.specs.BrokenOff.{broken_off}
-use Rattle.client_work.specs.Session.{Acting, closed_session, settling_session, ask_of_work, open_client, Begins, StepsSession}
+use Rattle.client_work.specs.Session.{Acting, closed_session, ask_of_work, open_client, Begins, StepsSession}
 use Rattle.history.specs.Fold.{of_tree}
 use Rattle.history.specs.Audited.{Audited}
 use Rattle.world_audit.specs.Look.{Looked}
 use Rattle.world_audit.specs.Finding.{Finds}
 use Rattle.replay_meaning.specs.Chain.{Walked}
 use Rattle.world_audit.specs.Counts.{heads_upto, AreWaiting}
+use Rattle.session_facts.specs.Errands.{Errand, settles, sweeps, session_for}
 use Rattle.session_facts.specs.Sessions.Noting.{audited}
 use Rattle.session_facts.specs.Sessions.Sessions.{IsRightOp}
 use Rattle.world_core.specs.declared.asked.Noting.{Noting}
 use Rattle.world_core.specs.declared.asked.Request.{Request}
 use Rattle.world_core.specs.declared.asked.Request.TheVariants.{Begin, Note, Abort, Policy, Work as WorksDue, Step, Run, Crash}
 use Rattle.world_core.specs.declared.asked.Asked.{Asked}
-use Rattle.world_core.specs.declared.asked.Asked.TheVariants.{Session, Wait, Report, Settle}
+use Rattle.world_core.specs.declared.asked.Asked.TheVariants.{Session, Wait, Report, Settle, Sweep}
 use Rattle.world_core.specs.World.{World}
 use Rattle.world_core.specs.declared.world.WorldFault.{WorldFault}
 use Rattle.world_core.specs.declared.world.WorldFault.TheVariants as fault
 use Rattle.world_core.specs.Asked.{Asks}
-use Rattle.world_core.specs.Replying.{declined, done_reply, RepliesTo, RepliesBegun, RepliesSettled, RepliesTurn}
+use Rattle.world_core.specs.Replying.{declined, done_reply, RepliesTo, RepliesBegun, RepliesFor, RepliesTurn}
 use Rattle.world_core.specs.declared.put.Put.{Put}
 use Rattle.world_core.specs.Sessions.{Changes, HasPut, IsAtWork, IsNotWorking, NotesIn, AbortsIn}
 
@@ -319,16 +320,16 @@ Runs n number before after old new result =
     RefusesStep number before after old new result
     ⊎ (RunsTo n number before after old new result ⊎ (FindsNoMemory result × StopsShort (record { session = number; event = n }) before after old new))
 
--- ---- a settling
+-- ---- the settler: a settling or a sweep
 
--- a session that settles makes plain steps up to its answer, which is the reply, and is closed then
-pub record SettlesTo (who : Caller) (before after : Seen) (old new : World) (result : Result Reply WorldFault) : Type 0 where
+-- it makes plain steps up to its answer, which is the reply, and is closed then
+pub record SettlesTo (errand : Errand) (who : Caller) (before after : Seen) (old new : World) (result : Result Reply WorldFault) : Type 0 where
   pub left : World
   pub answer : Answer
   pub comes : ComesTo who before after old left answer
   pub closes : Has who.session closed_session left new
   pub notes : KeepsNotes left new
-  pub replies : RepliesSettled answer result
+  pub replies : RepliesFor errand answer result
 
 -- memory ran out on the way, and it is closed then
 pub record SettlesShort (who : Caller) (before after : Seen) (old new : World) : Type 0 where
@@ -337,15 +338,15 @@ pub record SettlesShort (who : Caller) (before after : Seen) (old new : World) :
   pub closes : Has who.session closed_session left new
   pub notes : KeepsNotes left new
 
-abbrev pub SettlesOn : Caller → Seen → Seen → World → World → Result Reply WorldFault → Type 0
-SettlesOn who before after old new result = SettlesTo who before after old new result ⊎ (FindsNoMemory result × SettlesShort who before after old new)
+abbrev pub SettlesOn : Errand → Caller → Seen → Seen → World → World → Result Reply WorldFault → Type 0
+SettlesOn errand who before after old new result = SettlesTo errand who before after old new result ⊎ (FindsNoMemory result × SettlesShort who before after old new)
 
--- session 0 is the settler, and settles
-pub record SettlerSettles (n : ℕ) (before after : Seen) (old new : World) (result : Result Reply WorldFault) : Type 0 where
+-- session 0 is the settler, and goes on its errand
+pub record SettlerSettles (errand : Errand) (n : ℕ) (before after : Seen) (old new : World) (result : Result Reply WorldFault) : Type 0 where
   pub begun : World
-  pub begins : Has 0 settling_session old begun
+  pub begins : Has 0 (session_for errand) old begun
   pub notes : KeepsNotes old begun
-  pub settles : SettlesOn (record { session = 0; event = n }) before after begun new result
+  pub settles : SettlesOn errand (record { session = 0; event = n }) before after begun new result
 
 -- nothing was done
 pub record DoesNothing (before after : Seen) (old new : World) : Type 0 where
@@ -353,8 +354,8 @@ pub record DoesNothing (before after : Seen) (old new : World) : Type 0 where
   pub world : new ≡ old
 
 -- or there was no memory for a settler
-abbrev pub Settles : ℕ → Seen → Seen → World → World → Result Reply WorldFault → Type 0
-Settles n before after old new result = SettlerSettles n before after old new result ⊎ (FindsNoMemory result × DoesNothing before after old new)
+abbrev pub Settles : Errand → ℕ → Seen → Seen → World → World → Result Reply WorldFault → Type 0
+Settles errand n before after old new result = SettlerSettles errand n before after old new result ⊎ (FindsNoMemory result × DoesNothing before after old new)
 
 -- ---- the work of a session
 
@@ -610,7 +611,9 @@ Answers n (Session number request) before after old new result =
     (IsSession number × Serves n number request before after old new result) ⊎ IsNoSession number before after old new result
 Answers n (Wait ticks) before after old new result = (WaitsFor ticks before after result × (new ≡ old)) ⊎ WaitsTooLong ticks before after old new result
 Answers n (Report tree) before after old new result = Reports tree before after old new result
-Answers n Settle before after old new result = Settles n before after old new result
+Answers n Settle before after old new result = Settles settles n before after old new result
+Answers n (Sweep (Ok tree)) before after old new result = IsTree tree × Settles (sweeps tree) n before after old new result
+Answers n (Sweep (Err why)) before after old new result = Declines why before after old new result
 
 -- what a line does; its reply has a text
 pub record Handled (n : ℕ) (event : Event) (before after : Seen) (old new : World) (result : Result Reply WorldFault) : Type 0 where

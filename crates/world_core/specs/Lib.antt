@@ -29,3 +29,4 @@ pub mod Caused
 pub mod Shown
 pub mod ShownByLines
 pub mod Tagged
+pub mod Swept

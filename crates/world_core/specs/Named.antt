@@ -25,7 +25,7 @@ abbrev pub StepNames : StepFact
 StepNames who wish before after old new turn p =
     (s : CloudState) → p.under.state ≡ Some s → (home : Home) (m : Making) (done : CkptAnswer) → p.session.before.work ≡ Folding home m → turn ≡ Ended (answer.Done done) → NamesPieces s m done
 
--- so does each step of a line of a session; a settling has no checkpoint of a session in hand
+-- so does each step of a line of a session; a settling has no checkpoint of a session in hand, nor has a sweep
 abbrev pub NamesAt : (n : ℕ) (asked : Asked) (before after : Seen) (old new : World) (result : Result Reply WorldFault) → Answers n asked before after old new result → Type 0
 NamesAt n (Session number request) before after old new result answers = EachAsked StepNames n (Session number request) before after old new result answers
 NamesAt n asked before after old new result answers = Unit {0}

@@ -22,7 +22,7 @@ use Rattle.world_core.specs.Stands.{WorldStands}
 use Rattle.world_core.specs.UnsentPages.{IsOfUnsent}
 use Rattle.world_core.specs.World.{World}
 use Rattle.world_core.specs.declared.asked.Asked.{Asked}
-use Rattle.world_core.specs.declared.asked.Asked.TheVariants.{Session, Wait, Report, Settle}
+use Rattle.world_core.specs.declared.asked.Asked.TheVariants.{Session, Wait, Report, Settle, Sweep}
 use Rattle.world_core.specs.declared.asked.Request.{Request}
 use Rattle.world_core.specs.declared.asked.Request.TheVariants.{Begin, Note, Abort, Policy, Work, Step, Run, Crash}
 use Rattle.world_core.specs.declared.world.WorldFault.{WorldFault}
@@ -73,6 +73,7 @@ AskedPassed n (Session number request) before after old new result (inr none) = 
 AskedPassed n (Wait ticks) before after old new result answers = Unit {0}
 AskedPassed n (Report tree) before after old new result answers = Unit {0}
 AskedPassed n Settle before after old new result answers = Unit {0}
+AskedPassed n (Sweep tree) before after old new result answers = Unit {0}
 
 -- Whatever lines a world and a cloud stood for before a line, where each step of it was calm, however it was handled: it passes over no checkpoint but for
 -- a spent counter, or a page that it names and that is absent or no leaf, and to whose queue no message was ever sent.

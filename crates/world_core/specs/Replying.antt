@@ -13,6 +13,7 @@ use Rattle.cloud_trait.specs.declared.turn.Turn.TheVariants.{More, Ended, Stoppe
 use Rattle.reply_text.specs.declared.reply.Reply.{Reply}
 use Rattle.reply_text.specs.declared.reply.Reply.TheVariants as reply
 use Rattle.client_work.specs.Session.{Acting, items_of, value_of}
+use Rattle.session_facts.specs.Errands.{Errand, settles, sweeps}
 use Rattle.client_work.specs.declared.answer.Answer.{Answer}
 use Rattle.client_work.specs.declared.answer.Answer.TheVariants as answer
 use Rattle.client_work.specs.declared.answer.Begun.{Begun}
@@ -79,6 +80,7 @@ RepliesTo (answer.Commit a) left result = result ≡ commit_reply a
 RepliesTo answer.Value left result = ShowsValue (value_of left) result
 RepliesTo answer.Scan left result = ShowsItems (items_of left) result
 RepliesTo (answer.Settled s) left result = result ≡ Ok (reply.Settled s.calls)
+RepliesTo (answer.Swept x) left result = result ≡ Ok (reply.Swept x.kept x.removed)
 RepliesTo (answer.Trouble t) left result = result ≡ trouble_reply t
 
 -- the reply to the answer of a settling: how many calls it made, or its trouble; no other answer is one
@@ -91,6 +93,26 @@ abbrev pub IsOfSettling : Answer → Type 0
 IsOfSettling (answer.Settled s) = Unit {0}
 IsOfSettling (answer.Trouble t) = Unit {0}
 IsOfSettling answer = ⊥
+
+-- the reply to the answer of a sweep: how many pages it kept and how many it removed, or its trouble; no other answer is one
+abbrev pub RepliesSwept : Answer → Result Reply WorldFault → Type 0
+RepliesSwept (answer.Swept x) result = result ≡ Ok (reply.Swept x.kept x.removed)
+RepliesSwept (answer.Trouble t) result = result ≡ trouble_reply t
+RepliesSwept answer result = ⊥
+
+abbrev pub IsOfSweeping : Answer → Type 0
+IsOfSweeping (answer.Swept x) = Unit {0}
+IsOfSweeping (answer.Trouble t) = Unit {0}
+IsOfSweeping answer = ⊥
+
+-- the reply to the answer of session 0 on an errand
+abbrev pub RepliesFor : Errand → Answer → Result Reply WorldFault → Type 0
+RepliesFor settles answer result = RepliesSettled answer result
+RepliesFor (sweeps tree) answer result = RepliesSwept answer result
+
+abbrev pub IsOfErrand : Errand → Answer → Type 0
+IsOfErrand settles answer = IsOfSettling answer
+IsOfErrand (sweeps tree) answer = IsOfSweeping answer
 
 -- the reply to the begin of an operation, which leaves this of its session
 abbrev pub RepliesBegun : Result Begun Refused → Acting → Result Reply WorldFault → Type 0

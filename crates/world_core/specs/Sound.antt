@@ -7,6 +7,7 @@ use Rattle.event_text.specs.declared.event.Event.{Event}
 use Rattle.event_text.specs.declared.event.Event.TheVariants as event
 use Rattle.replay_meaning.specs.Standing.{Line, Posture, session_of, standing}
 use Rattle.session_facts.specs.Answers.{IsSoundReply}
+use Rattle.session_facts.specs.Sweeps.Sweep.{MayStop as MayStopSweep}
 use Rattle.reply_text.specs.declared.reply.Reply.{Reply}
 use Rattle.reply_text.specs.declared.reply.Reply.TheVariants as reply
 use Rattle.world_core.specs.World.{World}
@@ -18,9 +19,15 @@ abbrev pub IsSoundReport : Reply → Type 0
 IsSoundReport (reply.Trouble t) = t ≡ Failed
 IsSoundReport reply = Unit {0}
 
--- the reply to a line whose session stood so; a report is no session's
+-- a sweep stops where a call failed or came too late, or another session holds the tree's lock
+abbrev pub IsSoundSweep : Reply → Type 0
+IsSoundSweep (reply.Trouble t) = MayStopSweep t
+IsSoundSweep reply = Unit {0}
+
+-- the reply to a line whose session stood so; a report is no session's, and a sweep is the settler's
 abbrev pub IsSoundFor : Event → Posture → Reply → Type 0
 IsSoundFor (event.Report tree) posture reply = IsSoundReport reply
+IsSoundFor (event.Sweep tree) posture reply = IsSoundSweep reply
 IsSoundFor event posture reply = IsSoundReply posture reply
 
 -- whatever lines a world and a cloud stood for before a line, its reply is sound by how they say that its session stood

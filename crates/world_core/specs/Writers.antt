@@ -58,11 +58,12 @@ own_line k e r Even = bound_line e r Even
 own_line k e r Owing = bound_line e r Owing
 own_line k e r Astray = Astray
 
--- no other session has a line, and nobody settles; waits and reports change nothing
+-- no other session has a line, and nobody settles or sweeps; waits and reports change nothing
 abbrev pub by_line : ℕ → ℕ → Event → Reply → Stage → Stage
 by_line session k (event.Wait ticks) r stage = stage
 by_line session k (event.Report tree) r stage = stage
 by_line session k event.Settle r stage = Astray
+by_line session k (event.Sweep tree) r stage = Astray
 by_line session k e r stage = if session_of e == session then own_line k e r stage else Astray
 
 abbrev pub stage_from : ℕ → ℕ → Stage → List Line → Stage

@@ -1,7 +1,7 @@
 //! What a line asks, and of which session.
 
 ghost use Rattle.std.specs.Prelude.{◌≡◌};
-ghost use Rattle.world_core.specs.Asked.{Asks, IsBound, IsMade, IsMaybeAttr, IsOpening, IsReading, IsScanning, IsTreeWithIndex, IsLookingUp, IsPaging, IsFolding, IsNoted, IsStep};
+ghost use Rattle.world_core.specs.Asked.{Asks, IsBound, IsMade, IsMaybeAttr, IsOpening, IsReading, IsScanning, IsTreeWithIndex, IsLookingUp, IsPaging, IsFolding, IsNoted, IsStep, IsTreeOf};
 ghost use Rattle.world_core.specs.declared.asked.Noting.TheVariants.{Single, Indexed};
 ghost use Rattle.db_base.specs.declared.change.Change.TheVariants.{Insert, Update, Delete, Add};
 
@@ -58,6 +58,8 @@ pub enum Asked {
     Report(u64),
     /// A settling.
     Settle,
+    /// The sweep of a tree, or why it is refused.
+    Sweep(Result<TreeId, Refused>),
 }
 
 impl Asked {
@@ -130,7 +132,18 @@ impl Asked {
             Event::Wait { ticks } => Asked::Wait(*ticks),
             Event::Report { tree } => Asked::Report(*tree),
             Event::Settle => Asked::Settle,
+            Event::Sweep { tree } => Asked::Sweep(tree_of(*tree)),
         }
+    }
+}
+
+/// The tree of this number.
+fn tree_of(number: u64) -> Result<TreeId, Refused>
+    ensures { IsTreeOf number result }
+{
+    match TreeId::new(number) {
+        Ok(tree) => Ok(tree),
+        Err(rule) => Err(Refused::Rule(rule)),
     }
 }
 

@@ -8,5 +8,6 @@ mod put;
 pub mod quota;
 mod replying;
 pub mod sessions;
+mod settler;
 mod stepping;
 pub mod world;

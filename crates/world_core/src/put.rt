@@ -42,6 +42,8 @@ fn put_of_call(alloc: Global, call: &Call<'_>) -> Result<Option<Put>, AllocError
         }
         Call::Get(_) => Ok(None),
         Call::GetHeld(_, _) => Ok(None),
+        Call::ListHeld(_, _) => Ok(None),
+        Call::RemoveHeld(_, _) => Ok(None),
         Call::Send(_, _) => Ok(None),
         Call::Receive(_, _) => Ok(None),
         Call::Delete(_, _) => Ok(None),

@@ -1,13 +1,10 @@
-//! How much may land.
+//! How many calls may be made.
 
 ghost use Rattle.std.specs.Prelude.{◌≡◌, ◌+◌, true, false};
-ghost use Rattle.cloud_trait.specs.Ask.{LandsNoRow};
-ghost use Rattle.cloud_trait.specs.Call.{ask_of};
 
-use cloud_trait::call::Call;
 use std::marker::Model;
 
-/// How many puts and sends may still be made.
+/// How many service calls of sessions may still be made.
 #[derive(Debug, Drop)]
 pub struct Quota {
     left: u64,
@@ -22,7 +19,7 @@ impl Model for Quota {
 }
 
 impl Quota {
-    /// So many puts and sends may be made.
+    /// So many calls may be made.
     pub fn new(left: u64) -> Quota
         ensures { result ≡ left }
     {
@@ -41,22 +38,5 @@ impl Quota {
             }
             None => false,
         }
-    }
-}
-
-/// Whether a call may leave a row in the trace: it is a put or a send.
-pub(crate) fn leaves_row(call: &Call<'_>) -> bool
-    ensures { result ≡ false → LandsNoRow (ask_of call.now) }
-{
-    match call {
-        Call::PutHeld(_, _, _, _) => true,
-        Call::Send(_, _) => true,
-        Call::Get(_) => false,
-        Call::GetHeld(_, _) => false,
-        Call::Receive(_, _) => false,
-        Call::Delete(_, _) => false,
-        Call::Take(_, _) => false,
-        Call::Renew(_, _) => false,
-        Call::Release(_) => false,
     }
 }

@@ -3,7 +3,7 @@
 ghost use Rattle.std.specs.Prelude.{◌≡◌, IfOk};
 ghost use Rattle.client_work.specs.Session.{items_of, value_of};
 ghost use Rattle.world_core.specs.Handled.{is_done};
-ghost use Rattle.world_core.specs.Replying.{commit_reply, declined, done_reply, told, trouble_reply, unsettled_reply, IsOfSettling, ShowsItems, ShowsValue, RepliesTo, RepliesBegun, RepliesSettled, RepliesTurn};
+ghost use Rattle.world_core.specs.Replying.{commit_reply, declined, done_reply, told, trouble_reply, unsettled_reply, IsOfSettling, IsOfSweeping, ShowsItems, ShowsValue, RepliesTo, RepliesBegun, RepliesSettled, RepliesSwept, RepliesTurn};
 
 use crate::world::WorldFault;
 use client_work::answer::{Answer, Begun};
@@ -40,6 +40,7 @@ pub(crate) fn is_done(turn: &Turn<Answer>) -> bool
         Turn::Ended(Answer::Value) => false,
         Turn::Ended(Answer::Scan) => false,
         Turn::Ended(Answer::Settled(_)) => false,
+        Turn::Ended(Answer::Swept(_)) => false,
         Turn::Ended(Answer::Trouble(_)) => false,
         Turn::More => false,
         Turn::Stopped(_) => false,
@@ -104,6 +105,10 @@ pub(crate) fn reply_of<S: SessionCalls>(
         Answer::Scan => scan_reply(alloc, session),
         Answer::Settled(settled) => Ok(Reply::Settled {
             calls: settled.calls,
+        }),
+        Answer::Swept(swept) => Ok(Reply::Swept {
+            kept: swept.kept,
+            removed: swept.removed,
         }),
         Answer::Trouble(trouble) => trouble_reply(trouble),
     }
@@ -175,6 +180,21 @@ pub(crate) fn settled_reply(answer: Answer) -> Result<Reply, WorldFault>
             calls: settled.calls,
         }),
         Answer::Trouble(trouble) => unsettled_reply(trouble),
+        _ => unreachable!(),
+    }
+}
+
+/// The reply to the answer of a sweep.
+pub(crate) fn swept_reply(answer: Answer) -> Result<Reply, WorldFault>
+    requires { IsOfSweeping answer }
+    ensures { RepliesSwept answer result }
+{
+    match answer {
+        Answer::Swept(swept) => Ok(Reply::Swept {
+            kept: swept.kept,
+            removed: swept.removed,
+        }),
+        Answer::Trouble(trouble) => trouble_reply(trouble),
         _ => unreachable!(),
     }
 }

@@ -8,7 +8,7 @@ use client_work::op::Op;
 use cloud_trait::cloud::Cloud;
 use cloud_trait::turn::Turn;
 use cloud_trait::who::Who;
-use db_base::ids::SessionNo;
+use db_base::ids::{SessionNo, TreeId};
 use db_base::refusal::Refused;
 use std::alloc::Global;
 use std::marker::Model;
@@ -39,7 +39,7 @@ impl<S: SessionCalls> Model for Sessions<S> {
 impl<S: SessionCalls> Sessions<S> {
     ghost use Rattle.std.specs.Prelude.{replicate, slice_get, IfOk, IfErr, OnOk, OnErr, Some, Ok};
     ghost use Rattle.client_work.specs.BrokenOff.{broken_off};
-    ghost use Rattle.client_work.specs.Session.{closed_session, settling_session, Begins, StepsSession};
+    ghost use Rattle.client_work.specs.Session.{closed_session, settling_session, sweeping_session, Begins, StepsSession};
     ghost use Rattle.world_core.specs.Sessions.{Changes, IsAtWork, NotesIn, AbortsIn};
 
     /// Closed sessions. Refused for memory alone.
@@ -100,6 +100,22 @@ impl<S: SessionCalls> Sessions<S> {
         ensures memory { IfErr result (λ e. e ≡ Refused.Memory) }
     {
         let session = S::settling(alloc)?;
+        put(&mut self.list[place_of(number)], session);
+        Ok(())
+    }
+
+    /// Has the session of a number sweep a tree from now on. Refused for memory alone, and nothing changes then.
+    pub(crate) fn sweep(
+        &mut self,
+        alloc: Global,
+        number: SessionNo,
+        tree: TreeId,
+    ) -> Result<(), Refused>
+        ensures ok { OnOk result (Changes number (λ a b. b ≡ sweeping_session tree) self.old self.new) }
+        ensures err { OnErr result (self.new ≡ self.old) }
+        ensures memory { IfErr result (λ e. e ≡ Refused.Memory) }
+    {
+        let session = S::sweeping(alloc, tree)?;
         put(&mut self.list[place_of(number)], session);
         Ok(())
     }

@@ -1,4 +1,4 @@
-//! The steps of sessions: what a quota covers of them, and what is seen and noted of those that are made.
+//! The steps of sessions: that a quota covers them, and what is seen and noted of those that are made.
 
 ghost use Rattle.std.specs.Prelude.{◌≡◌, ◌⊎◌, false, true, None, Some, IfOk, OnErr, OnOk};
 ghost use Rattle.world_core.specs.Put.{is_blind};
@@ -6,7 +6,7 @@ ghost use Rattle.world_core.specs.Stands.{Grows};
 
 use crate::noting::{keep_landed, note_put};
 use crate::put::{Put, is_newest, put_in_hand};
-use crate::quota::{Quota, leaves_row};
+use crate::quota::Quota;
 use crate::replying::is_done;
 use crate::world::{World, WorldFault};
 use client_work::answer::Answer;
@@ -23,7 +23,7 @@ use std::alloc::Global;
 impl<S: SessionCalls> World<S> {
     ghost use Rattle.client_work.specs.Session.{StepsSession};
     ghost use Rattle.world_core.specs.Handled.{FallsShort, KeepsNotes, NotesCall, NotesEnd, RunsShort, StepsLooked};
-    ghost use Rattle.world_core.specs.Quota.{HasNoRowInHand, IsCovered, SpendsQuota};
+    ghost use Rattle.world_core.specs.Quota.{SpendsQuota};
     ghost use Rattle.world_core.specs.Sessions.{Changes, HasPut, IsAtWork};
 
     /// Makes a step of a session that is at work under a wish, and breaks the session off where memory runs out beside it.
@@ -50,7 +50,7 @@ impl<S: SessionCalls> World<S> {
         }
     }
 
-    /// Makes a step of a session that is at work under a wish, where the quota covers its call.
+    /// Makes a step of a session that is at work under a wish, where the quota has a call left.
     #[tactic(auto, using(crate::proofs::QuotaLemmas::spends_not, crate::proofs::QuotaLemmas::spends_none))]
     fn step_within<C: Bench>(
         &mut self,
@@ -66,33 +66,10 @@ impl<S: SessionCalls> World<S> {
         ensures grows { Grows who.event (C.seen cloud.old) (C.seen cloud.new) }
         ensures spends { SpendsQuota (C.seen cloud.old) (C.seen cloud.new) quota.old quota.new }
     {
-        if !self.is_covered(quota, who.session) {
+        if !quota.take() {
             return Err(WorldFault::Memory);
         }
         self.step_looked(alloc, cloud, who, wish)
-    }
-
-    /// Whether the call in hand of the session is neither a put nor a send, or one of the quota was taken for it.
-    fn is_covered(&self, quota: &mut Quota, number: SessionNo) -> bool
-        ensures covered { result ≡ true → IsCovered number self.now.sessions quota.old quota.new }
-        ensures spent { result ≡ false → quota.new ≡ quota.old }
-    {
-        if self.lands(number) {
-            quota.take()
-        } else {
-            true
-        }
-    }
-
-    /// Whether the session has a put or a send in hand.
-    #[tactic(auto, using(crate::proofs::QuotaLemmas::no_row_in_hand))]
-    fn lands(&self, number: SessionNo) -> bool
-        ensures { result ≡ false → HasNoRowInHand number self.now.sessions }
-    {
-        match self.session(number).in_hand() {
-            Some(call) => leaves_row(&call),
-            None => false,
-        }
     }
 
     /// Makes a step of a session that is at work under a wish, between two looks where it is a put and the world is not blind.

@@ -10,9 +10,7 @@ ghost use Rattle.session_notes.specs.Notebook.{blank, ChangesBook};
 use crate::asked::{Asked, Noting, Request};
 use crate::checkpoint::{begin_notes, checkpoint_of, count_if, forget};
 use crate::quota::Quota;
-use crate::replying::{
-    begun_reply, declined, done, reply_of, settled_reply, told, trouble_reply, turn_reply,
-};
+use crate::replying::{begun_reply, declined, done, reply_of, told, trouble_reply, turn_reply};
 use crate::sessions::Sessions;
 use ckpt_policy::{Ledger, Role, is_number};
 use client_work::answer::Answer;
@@ -78,7 +76,7 @@ impl<S: SessionCalls> Model for World<S> {
 impl<S: SessionCalls> World<S> {
     ghost use Rattle.cloud_trait.specs.State.{CloudState, IsEmptyCloud};
     ghost use Rattle.cloud_trait.specs.Seen.{Seen};
-    ghost use Rattle.client_work.specs.Session.{closed_session, settling_session};
+    ghost use Rattle.client_work.specs.Session.{closed_session};
     ghost use Rattle.reply_text.specs.Reply.{ReplyHasText};
     ghost use Rattle.world_core.specs.Sound.{AnswersSoundly};
     ghost use Rattle.world_core.specs.Acknowledged.{AnswersDurably};
@@ -98,9 +96,10 @@ impl<S: SessionCalls> World<S> {
     ghost use Rattle.world_core.specs.Quota.{SpendsQuota};
     ghost use Rattle.world_core.specs.Spared.{SparesWriter};
     ghost use Rattle.world_core.specs.Settled.{SettlingEnds, SettlingIsRight, SettlingLeaves};
+    ghost use Rattle.world_core.specs.Swept.{SweepLeaves};
     ghost use Rattle.world_core.specs.Stands.{KeepsABook, WorldStands, StandsOn};
     ghost use Rattle.world_core.specs.Sessions.{Changes, IsNotWorking, IsAtWork};
-    ghost use Rattle.world_core.specs.Handled.{BeginsBook, BeginsCheckpoint, ClearsNotes, FailsAt, IsOpen, KeepsNotes, MakesOne, Policies, WorksOff, WorksShort, WorksThrough, Handled, Answers, Does, BeginsOp, NotesChange, DropsChanges, MakesStep, ComesTo, Runs, Settles, SettlesOn, Has, Crashes, CrashesDone, StopsShort, Reports, BreaksOff, LeavesReplied};
+    ghost use Rattle.world_core.specs.Handled.{BeginsBook, BeginsCheckpoint, ClearsNotes, FailsAt, IsOpen, KeepsNotes, MakesOne, Policies, WorksOff, WorksShort, WorksThrough, Handled, Answers, Does, BeginsOp, NotesChange, DropsChanges, MakesStep, ComesTo, Runs, Has, Crashes, CrashesDone, StopsShort, Reports, BreaksOff, LeavesReplied};
 
     /// A world whose sessions are closed, and that saw nothing: over an empty cloud it stands for no lines. Refused for memory
     /// alone.
@@ -146,7 +145,7 @@ impl<S: SessionCalls> World<S> {
         })
     }
 
-    /// Handles the line of a number: what it does to the world, and the reply. A put or send beyond the quota is not made, which
+    /// Handles the line of a number: what it does to the world, and the reply. A call beyond the quota is not made, which
     /// is told as want of memory.
     pub fn event<C: Bench>(
         &mut self,
@@ -186,6 +185,8 @@ impl<S: SessionCalls> World<S> {
         ensures settled { SettlingLeaves n event.now (C.seen cloud.old) (C.seen cloud.new) self.old self.new result }
         ensures settles { SettlingEnds n event.now (C.seen cloud.old) (C.seen cloud.new) self.old self.new result }
         ensures settling { SettlingIsRight n event.now (C.seen cloud.old) (C.seen cloud.new) self.old self.new result }
+        // A sweep of a tree leaves all but pages that nothing reached, and where it swept just the reached pages have bytes.
+        ensures swept { SweepLeaves n event.now (C.seen cloud.old) (C.seen cloud.new) self.old self.new result }
         // Where memory ran out, the session that it worked on is broken off.
         ensures short { LeavesShort event.now self.old self.new result }
         ensures keeps { KeepsABook (C.seen cloud.old) (C.seen cloud.new) self.old self.new result }
@@ -214,6 +215,7 @@ impl<S: SessionCalls> World<S> {
             Asked::Wait(ticks) => wait(cloud, ticks),
             Asked::Report(tree) => self.report(alloc, cloud, tree),
             Asked::Settle => self.settle(alloc, cloud, quota, n),
+            Asked::Sweep(tree) => self.sweep_of(alloc, cloud, quota, n, tree),
         }
     }
 
@@ -319,17 +321,8 @@ impl<S: SessionCalls> World<S> {
         self.sessions.get(number)
     }
 
-    /// Has the session settle from now on. Refused for memory alone.
-    fn begin_settling(&mut self, alloc: Global, number: SessionNo) -> Result<(), Refused>
-        ensures ok { OnOk result (Has number settling_session self.old self.new) }
-        ensures notes { KeepsNotes self.old self.new }
-        ensures err { OnErr result (self.new ≡ self.old) }
-    {
-        self.sessions.settle(alloc, number)
-    }
-
     /// Closes the session at once.
-    fn close(&mut self, number: SessionNo)
+    pub(crate) fn close(&mut self, number: SessionNo)
         ensures closes { Has number closed_session self.old self.new }
         ensures notes { KeepsNotes self.old self.new }
     {
@@ -433,7 +426,7 @@ impl<S: SessionCalls> World<S> {
     }
 
     /// Makes plain steps of a session that is at work until the answer.
-    fn run_on<C: Bench>(
+    pub(crate) fn run_on<C: Bench>(
         &mut self,
         alloc: Global,
         cloud: &mut C,
@@ -635,47 +628,6 @@ impl<S: SessionCalls> World<S> {
         match self.session(number).client() {
             Ok(_) => begin_notes(&mut self.notes, number, op),
             Err(_) => {}
-        }
-    }
-
-    /// Has the settler settle.
-    #[tactic(auto, using(crate::proofs::GrowthLemmas::grows_not, crate::proofs::QuotaLemmas::spends_not))]
-    fn settle<C: Bench>(
-        &mut self,
-        alloc: Global,
-        cloud: &mut C,
-        quota: &mut Quota,
-        n: u64,
-    ) -> Result<Reply, WorldFault>
-        ensures settles { Settles n (C.seen cloud.old) (C.seen cloud.new) self.old self.new result }
-        ensures grows { Grows n (C.seen cloud.old) (C.seen cloud.new) }
-        ensures spends { SpendsQuota (C.seen cloud.old) (C.seen cloud.new) quota.old quota.new }
-    {
-        let session = SessionNo::settler();
-        match self.begin_settling(alloc, session) {
-            Ok(()) => self.settle_on(alloc, cloud, quota, Who { session, event: n }),
-            Err(_) => Err(WorldFault::Memory),
-        }
-    }
-
-    /// Makes plain steps of a session that settles until the answer, and closes it then.
-    fn settle_on<C: Bench>(
-        &mut self,
-        alloc: Global,
-        cloud: &mut C,
-        quota: &mut Quota,
-        who: Who,
-    ) -> Result<Reply, WorldFault>
-        requires { slice_get self.old.sessions who.session ≡ Some settling_session }
-        ensures settles { SettlesOn who (C.seen cloud.old) (C.seen cloud.new) self.old self.new result }
-        ensures grows { Grows who.event (C.seen cloud.old) (C.seen cloud.new) }
-        ensures spends { SpendsQuota (C.seen cloud.old) (C.seen cloud.new) quota.old quota.new }
-    {
-        let answer = self.run_on(alloc, cloud, quota, who);
-        self.close(who.session);
-        match answer {
-            Ok(answer) => settled_reply(answer),
-            Err(fault) => Err(fault),
         }
     }
 

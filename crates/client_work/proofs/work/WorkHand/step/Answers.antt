@@ -4,7 +4,7 @@ use Rattle.client_work.proofs.Stepped.{machine_by, shows_by, steps_by}
 use Rattle.client_work.proofs.work.WorkHand.step.Goals as goal
 
 pub step_apart-requires : goal.step_apart-requires
-step_apart-requires g c = other_work c.args.self.now c.requires c.in_default.not-Committing c.in_default.not-Folding c.in_default.not-Settling
+step_apart-requires g c = other_work c.args.self.now c.requires c.in_default.not-Committing c.in_default.not-Folding c.in_default.not-Settling c.in_default.not-Sweeping
 
 pub returns-in_default-advance : goal.returns-in_default-advance
 returns-in_default-advance g c = record {
@@ -25,4 +25,11 @@ returns-in_default-step g c = record {
   steps = steps_by _ _ _ _ _ _ _ _ c.in-Settling.is c.end-in_default-step.ensures (c.step.ensures.sound, c.step.ensures.steps);
   shows = shows_by _ _ _ _ _ _ _ _ _ _ _ _ c.in-Settling.is c.end-in_default-step.ensures (refl, refl);
   machine = machine_by _ _ _ _ _ _ _ _ _ _ c.in-Settling.is c.end-in_default-step.ensures tt;
+}
+
+pub returns-in_default-step-2 : goal.returns-in_default-step-2
+returns-in_default-step-2 g c = record {
+  steps = steps_by _ _ _ _ _ _ _ _ c.in-Sweeping.is c.end-in_default-step-2.ensures c.step-in-Sweeping.ensures;
+  shows = shows_by _ _ _ _ _ _ _ _ _ _ _ _ c.in-Sweeping.is c.end-in_default-step-2.ensures (refl, refl);
+  machine = machine_by _ _ _ _ _ _ _ _ _ _ c.in-Sweeping.is c.end-in_default-step-2.ensures tt;
 }

@@ -13,6 +13,7 @@ use Rattle.world_core.proofs.Shown.{shown}
 use Rattle.world_core.proofs.ShownByLines.{shown_by}
 use Rattle.world_core.proofs.Sound.{sound_after}
 use Rattle.world_core.proofs.Spared.{spares_writer}
+use Rattle.world_core.proofs.Swept.{sweep_leaves}
 use Rattle.world_core.proofs.Tagged.{shows_tagged}
 use Rattle.world_core.proofs.Acknowledged.{durable_after}
 use Rattle.world_core.proofs.LeftNone.{nothing_after}
@@ -72,6 +73,9 @@ returns-clause-settles g c = settling_ends _ _ _ _ _ _ _
 
 pub returns-clause-settling : goal.returns-clause-settling
 returns-clause-settling g c = settling_right _ _ _ _ _ _ _
+
+pub returns-clause-swept : goal.returns-clause-swept
+returns-clause-swept g c = sweep_leaves _ _ _ _ _ _ _
 
 pub returns-clause-keeps : goal.returns-clause-keeps
 returns-clause-keeps g c = keeps_book _ _ _ _ _ _ _ c.handle.ensures.handled

@@ -1,0 +1,11 @@
+use Rattle.session_facts.specs.Errands.{sweeps}
+use Rattle.world_core.proofs.Settling.{errand_works, answers_errand}
+use Rattle.world_core.proofs.world.World.sweep_on.Goals as goal
+
+pub run_on-answer-requires : goal.run_on-answer-requires
+run_on-answer-requires g c = errand_works (sweeps c.args.tree) c.args.who.session c.args.self.now.sessions c.requires
+
+pub swept_reply-requires : goal.swept_reply-requires
+swept_reply-requires g c =
+    answers_errand (sweeps c.args.tree) c.args.who (g.C.Cloud.seen c.args.cloud.now) (g.C.Cloud.seen c.run_on-answer.new.cloud) c.args.self.now c.run_on-answer.new.self c.in-Ok.answer c.requires
+    c.in-Ok.ensures.comes

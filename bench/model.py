@@ -105,6 +105,8 @@ class Model:
         self.tried, self.doubtful = [], set()
         self.orders = {}
         self.reports = []
+        # Of the trees that were swept, and nothing was done since: how many pages were kept.
+        self.swept = {}
 
     def entries(self, tree, transactions):
         return [f"{client} {epoch} {txn} {change}" for (client, epoch, txn), changes in transactions for of, change in changes if of == tree]
@@ -118,7 +120,13 @@ class Model:
             if report is not None:
                 self.report(words[0], report)
             return
-        if what in ("wait", "settle"):
+        if what == "wait":
+            return
+        if what == "sweep":
+            self.sweep(words[0], said)
+            return
+        self.swept.clear()
+        if what == "settle":
             return
         session = self.sessions.setdefault(words[0], Session())
         if what in NOTES:
@@ -153,6 +161,18 @@ class Model:
         elif what in ("run", "step") and said != "called":
             self.answer(session, said)
             session.at_work = None
+
+    def sweep(self, tree, said):
+        """Of a tree that nothing was done to since its last sweep nothing is removed."""
+        word, *counts = said.split(" ")
+        if word != "swept":
+            self.swept.pop(tree, None)
+            return
+        must(len(counts) == 2 and all(it.isdigit() for it in counts), f"sweep {tree}: {said}")
+        before = self.swept.get(tree)
+        must(before in (None, counts[0]), f"sweep {tree}: {said} behind one that kept {before}")
+        must(before is None or counts[1] == "0", f"sweep {tree}: {said} behind a sweep")
+        self.swept[tree] = counts[0]
 
     def note(self, session, what, tree, key, *words):
         self.noted.setdefault((tree, key), set()).update([what] if what == "add" else words[:1])

@@ -1,5 +1,5 @@
 -- Inner nodes are exact.
-use Rattle.std.proofs.Common.{◌≡◌, ℕ, ◌+◌, ◌-◌, ◌^◌, ◌<◌, ◌≤◌, Bool, true, false, List, [], ◌∷◌, ◌++◌, length, Option, Some, None, Ok, refl, sym, ap, subst, ◌∙◌, append_assoc, arith, take, drop}
+use Rattle.std.proofs.Common.{◌≡◌, ℕ, ◌-◌, ◌^◌, ◌<◌, ◌≤◌, Bool, true, false, List, [], ◌∷◌, ◌++◌, length, Option, Some, None, Ok, refl, sym, ap, subst, ◌∙◌, append_assoc, arith, take, drop}
 use Rattle.std.specs.Prelude.{unwrap_or, ◌==◌, not, IsSome}
 use Rattle.std.specs.Int.{w8, w64, to_be_bytes}
 use Rattle.std.proofs.lemmas.Bool.{and_parts, and_from, le-leb, eqb-true}
@@ -52,14 +52,10 @@ pub inner_exact : IsExact inner_format
 inner_exact = seen_as_exact inner_of_fields fields_of_inner inner_fields inner_fields_exact (λ x _. refl) (λ y _. refl)
 
 -- what was read whole are the parts of a node
-pub inner_parts_of_whole : (version level : ℕ) (low : List ℕ) (right : ℕ) (high : Option (List ℕ)) (entries rest bytes : List ℕ) → IsBytes bytes → whole inner_format bytes ≡ Ok (inner_in version level low right high entries)
-    → plain_list plain_entry entries ≡ Ok (items_of plain_entry entries, rest) → rest ≡ [] → AreInnerParts version level low right high entries
-inner_parts_of_whole version level low right high entries rest bytes fits h listed nothing =
-    let s = whole_found inner_format inner_exact bytes (inner_in version level low right high entries) fits h in
-    record {
-      entry_list = whole_list_read plain_entry entries (items_of plain_entry entries) (listed ∙ ap (λ (r : List ℕ). Ok (items_of plain_entry entries, r)) nothing);
-      fits = s.fits;
-    }
+pub inner_parts_of_whole : (version level : ℕ) (low : List ℕ) (right : ℕ) (high : Option (List ℕ)) (entries bytes : List ℕ) → IsBytes bytes → whole inner_format bytes ≡ Ok (inner_in version level low right high entries)
+    → IsWholeList plain_entry entries → AreInnerParts version level low right high entries
+inner_parts_of_whole version level low right high entries bytes fits h listed =
+    record { entry_list = listed; fits = (whole_found inner_format inner_exact bytes (inner_in version level low right high entries) fits h).fits }
 
 -- each field of a node that has a spelling is in its range
 pub record InnerFits (n : Inner) : Type 0 where

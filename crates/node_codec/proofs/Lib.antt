@@ -5,3 +5,4 @@ pub mod InnerLemmas
 pub mod EntryLemmas
 pub mod SpellingLaws
 pub mod ChildLemmas
+pub mod KnownLemmas

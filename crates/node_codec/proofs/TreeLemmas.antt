@@ -10,7 +10,7 @@ use Rattle.byte_format.proofs.Exact.{behind_exact, then_exact, seen_as_exact}
 use Rattle.byte_format.proofs.Lists.{list_exact}
 use Rattle.byte_format.proofs.Wholes.{whole_found}
 use Rattle.node_codec.specs.Node.{Entry, entry, plain_entry, client_number, plain_number, child_of, with_entry}
-use Rattle.node_codec.specs.Plain.{items_of, plain_list, IsWholeList}
+use Rattle.node_codec.specs.Plain.{items_of, IsWholeList}
 use Rattle.node_codec.specs.Tree.{Tree, tree_of_fields, fields_of_tree, tree_fields, tree_format, tree_in, HasTreeSpelling, AreTreeParts, AreWrittenParts, IsTree, with_child}
 use Rattle.node_codec.proofs.NodeLemmas.{entry_exact, plain_entry_exact, client_number_exact, plain_number_exact, whole_number_exact, spelling_loosened, in_range_from, in_range_parts, has_child, not_below_empty}
 use Rattle.node_codec.proofs.PlainLemmas.{whole_list_read, whole_list_is, items_of-read}
@@ -46,13 +46,13 @@ pub tree_exact : IsExact tree_format
 tree_exact = seen_as_exact tree_of_fields fields_of_tree tree_fields tree_fields_exact (λ x _. refl) (λ y _. refl)
 
 -- what was read whole are the parts of a tree
-pub parts_of_whole : (version next level : ℕ) (cursor entries rest bytes : List ℕ) → IsBytes bytes → whole tree_format bytes ≡ Ok (tree_in version next level cursor entries)
-    → IsWholeList plain_number cursor → plain_list plain_entry entries ≡ Ok (items_of plain_entry entries, rest) → rest ≡ [] → AreTreeParts next level cursor entries
-parts_of_whole version next level cursor entries rest bytes fits h numbers listed nothing =
+pub parts_of_whole : (version next level : ℕ) (cursor entries bytes : List ℕ) → IsBytes bytes → whole tree_format bytes ≡ Ok (tree_in version next level cursor entries)
+    → IsWholeList plain_number cursor → IsWholeList plain_entry entries → AreTreeParts next level cursor entries
+parts_of_whole version next level cursor entries bytes fits h numbers listed =
     let s = whole_found tree_format tree_exact bytes (tree_in version next level cursor entries) fits h in
     record {
       cursor_list = numbers;
-      entry_list = whole_list_read plain_entry entries (items_of plain_entry entries) (listed ∙ ap (λ (r : List ℕ). Ok (items_of plain_entry entries, r)) nothing);
+      entry_list = listed;
       fits = (and_parts _ _ s.fits).1;
     }
 

@@ -1,8 +1,8 @@
 -- Inner nodes.
-use Rattle.std.specs.Prelude.{ℕ, false, IsTrue, List, [], ◌∷◌, Option, Some, None, take, drop, unwrap_or}
+use Rattle.std.specs.Prelude.{ℕ, false, IsTrue, List, [], ◌∷◌, Option, Some, None, Result, Ok, take, drop, unwrap_or}
 use Rattle.std.specs.Result.{result_ok}
 use Rattle.std.specs.Int.{w8, w64}
-use Rattle.byte_format.specs.Format.{greatest, Format, number, text, behind, ◌then◌, list_of, seen_as}
+use Rattle.byte_format.specs.Format.{greatest, ◌>>=◌, Format, number, text, behind, ◌then◌, list_of, seen_as}
 use Rattle.byte_format.specs.Whole.{IsSpelling, whole}
 use Rattle.byte_format.specs.HighKey.{high_key}
 use Rattle.node_codec.specs.Node.{Entry, entry, plain_entry}
@@ -54,6 +54,10 @@ inner_of bytes = result_ok (whole inner_format bytes)
 -- the node whose entries stand in these bytes
 abbrev pub inner_in : ℕ → ℕ → List ℕ → ℕ → Option (List ℕ) → List ℕ → Inner
 inner_in version level low right high entries = record { version = version; level = level; low = low; right = right; high = high; entries = items_of plain_entry entries }
+
+-- the node that is read where its other fields were and the bytes of its entries are these
+abbrev pub inner_read : ℕ → ℕ → List ℕ → ℕ → Option (List ℕ) → List ℕ → Result Inner ℕ
+inner_read version level low right high entries = whole (list_of false (entry low high greatest) None) entries >>= λ es. Ok (record { version = version; level = level; low = low; right = right; high = high; entries = es })
 
 -- the parts are those of a node that has a spelling
 pub record AreInnerParts (version level : ℕ) (low : List ℕ) (right : ℕ) (high : Option (List ℕ)) (entries : List ℕ) : Type 0 where

@@ -1,8 +1,8 @@
 -- Roots.
-use Rattle.std.specs.Prelude.{ℕ, ◌-◌, ◌≤◌, true, false, IsTrue, List, [], ◌∷◌, Option, None, ◌+◌, nat_lt, if◌then◌else◌}
+use Rattle.std.specs.Prelude.{ℕ, ◌-◌, ◌≤◌, true, false, IsTrue, List, [], ◌∷◌, Option, None, Result, Ok, ◌+◌, nat_lt, if◌then◌else◌}
 use Rattle.std.specs.Result.{result_ok}
 use Rattle.std.specs.Int.{w8, w64}
-use Rattle.byte_format.specs.Format.{greatest, Format, number, behind, ◌then◌, list_of, seen_as}
+use Rattle.byte_format.specs.Format.{greatest, ◌>>=◌, Format, number, behind, ◌then◌, list_of, seen_as}
 use Rattle.byte_format.specs.Whole.{IsSpelling, whole}
 use Rattle.node_codec.specs.Node.{Entry, entry, plain_entry, client_number, plain_number, with_entry}
 use Rattle.node_codec.specs.Plain.{items_of, IsWholeList}
@@ -60,6 +60,10 @@ tree_of bytes = result_ok (whole tree_format bytes)
 -- the tree whose lists stand at the front of these bytes
 abbrev pub tree_in : ℕ → ℕ → ℕ → List ℕ → List ℕ → Tree
 tree_in version next level cursor entries = record { version = version; next = next; level = level; cursor = items_of plain_number cursor; entries = items_of plain_entry entries }
+
+-- the tree that is read where its other fields were and the bytes of its entries are these
+abbrev pub tree_read : ℕ → ℕ → ℕ → List ℕ → List ℕ → Result Tree ℕ
+tree_read version next level cursor entries = whole (list_of false (entry [] None (next - 1)) None) entries >>= λ es. Ok (record { version = version; next = next; level = level; cursor = items_of plain_number cursor; entries = es })
 
 -- the parts are those of a tree that has a spelling at every version above 0
 pub record AreTreeParts (next level : ℕ) (cursor entries : List ℕ) : Type 0 where

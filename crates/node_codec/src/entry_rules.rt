@@ -3,9 +3,10 @@
 ghost use Rattle.std.specs.Prelude.{◌≡◌, false, None, Ok, IfOk};
 ghost use Rattle.std.specs.Option.{option_copied};
 ghost use Rattle.byte_format.specs.Gives.{Gives};
-ghost use Rattle.byte_format.specs.Format.{list_at};
+ghost use Rattle.byte_format.specs.Format.{list_at, list_of};
+ghost use Rattle.byte_format.specs.Whole.{whole};
 ghost use Rattle.node_codec.specs.Node.{plain_entry, entry, may_stand, follows};
-ghost use Rattle.node_codec.specs.Plain.{items_of, plain_list};
+ghost use Rattle.node_codec.specs.Plain.{items_of, plain_list, IsWholeList};
 
 use crate::entry::Entry;
 use byte_format::{Rules, Stop, is_below, is_below_bound, is_same, skip_list, text8_at, u64_at};
@@ -60,7 +61,7 @@ impl<'a, 'r> Rules<'a> for EntryRules<'r> {
 }
 
 /// The bytes behind the list of entries of such a node.
-pub(crate) fn skip_entries<'a>(
+fn skip_entries<'a>(
     low: &[u8],
     high: Option<&[u8]>,
     last: u64,
@@ -70,4 +71,21 @@ pub(crate) fn skip_entries<'a>(
     ensures listed { IfOk result (λ rest. plain_list plain_entry bytes.now ≡ Ok (items_of plain_entry bytes.now, rest.now)) }
 {
     skip_list(&EntryRules { low, high, last }, false, bytes)
+}
+
+/// Looks at each entry of such a node: all of the bytes are their list.
+pub(crate) fn check_entries(
+    low: &[u8],
+    high: Option<&[u8]>,
+    last: u64,
+    bytes: &[u8],
+) -> Result<(), Stop>
+    ensures gives { Gives (λ _. items_of plain_entry bytes.now) result (whole (list_of false (entry low.now (option_copied high.entry) last) None) bytes.now) }
+    ensures listed { IfOk result (λ _. IsWholeList plain_entry bytes.now) }
+{
+    let rest = skip_entries(low, high, last, bytes)?;
+    if !rest.is_empty() {
+        return Err(Stop::at(rest));
+    }
+    Ok(())
 }

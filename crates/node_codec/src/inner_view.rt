@@ -1,16 +1,16 @@
 //! An inner node as it stands in its bytes.
 
-ghost use Rattle.std.specs.Prelude.{◌≡◌, false, Ok, Some, IfOk, IfErr, IsOkAnd};
+ghost use Rattle.std.specs.Prelude.{◌≡◌, false, Err, Some, IfOk, IfErr, IsOkAnd};
 ghost use Rattle.std.specs.Option.{option_copied};
 ghost use Rattle.byte_format.specs.Gives.{Gives};
 ghost use Rattle.byte_format.specs.Whole.{whole, offset};
 ghost use Rattle.byte_format.specs.Order.{bytes_below};
 ghost use Rattle.node_codec.specs.Node.{child_of, page_at};
-ghost use Rattle.node_codec.specs.Inner.{Inner, inner_format, inner_in, IsInner, HasInnerSpelling, AreInnerParts};
+ghost use Rattle.node_codec.specs.Inner.{Inner, inner_format, inner_in, inner_read, IsInner, HasInnerSpelling, AreInnerParts};
 
 use crate::entries::Entries;
 use crate::entry::child_in;
-use crate::entry_rules::skip_entries;
+use crate::entry_rules::check_entries;
 use byte_format::{Stop, high_key_at, mark_at, text8_at, u8_at, u64_at};
 use db_base::ids::PageId;
 use std::marker::Model;
@@ -45,9 +45,21 @@ impl<'a> Model for InnerView<'a> {
     ghost invariant = { λ v. AreInnerParts v.version v.level v.low.now v.right (option_copied v.high) v.entries.now };
 }
 
-/// The node that the bytes spell.
-fn inner_at(bytes: &[u8]) -> Result<InnerView<'_>, Stop>
-    ensures { Gives (λ v. v) result (whole inner_format bytes.now) }
+/// The fields of a node, each read but for its entries.
+#[derive(Clone, Copy)]
+struct InnerFront<'a> {
+    version: u64,
+    level: u8,
+    low: &'a [u8],
+    right: u64,
+    high: Option<&'a [u8]>,
+    entries: &'a [u8],
+}
+
+/// Splits the bytes of a node at its fields.
+fn front_at(bytes: &[u8]) -> Result<InnerFront<'_>, Stop>
+    ensures ok { IfOk result (λ f. whole inner_format bytes.now ≡ inner_read f.version f.level f.low.now f.right (option_copied f.high) f.entries.now) }
+    ensures err { IfErr result (λ stop. whole inner_format bytes.now ≡ Err stop.left) }
 {
     let rest = mark_at(bytes, 0x49)?;
     let rest = mark_at(rest, 1)?;
@@ -56,11 +68,7 @@ fn inner_at(bytes: &[u8]) -> Result<InnerView<'_>, Stop>
     let (low, rest) = text8_at(rest, 0, 64)?;
     let (right, rest) = u64_at(rest, 0, u64::MAX)?;
     let (high, entries) = high_key_at(rest, low, right)?;
-    let rest = skip_entries(low, high, u64::MAX, entries)?;
-    if !rest.is_empty() {
-        return Err(Stop::at(rest));
-    }
-    Ok(InnerView {
+    Ok(InnerFront {
         version,
         level,
         low,
@@ -68,6 +76,32 @@ fn inner_at(bytes: &[u8]) -> Result<InnerView<'_>, Stop>
         high,
         entries,
     })
+}
+
+impl<'a> InnerFront<'a> {
+    /// The node that has these fields.
+    fn view(self) -> InnerView<'a>
+        requires { AreInnerParts self.version self.level self.low.now self.right (option_copied self.high) self.entries.now }
+        ensures { result ≡ inner_in self.entry.version self.entry.level self.entry.low.now self.entry.right (option_copied self.entry.high) self.entry.entries.now }
+    {
+        InnerView {
+            version: self.version,
+            level: self.level,
+            low: self.low,
+            right: self.right,
+            high: self.high,
+            entries: self.entries,
+        }
+    }
+}
+
+/// The node that the bytes spell.
+fn inner_at(bytes: &[u8]) -> Result<InnerView<'_>, Stop>
+    ensures { Gives (λ v. v) result (whole inner_format bytes.now) }
+{
+    let front = front_at(bytes)?;
+    check_entries(front.low, front.high, u64::MAX, front.entries)?;
+    Ok(front.view())
 }
 
 impl<'a> InnerView<'a> {
@@ -85,6 +119,17 @@ impl<'a> InnerView<'a> {
                 offset: stop.offset(bytes),
             }),
         }
+    }
+
+    /// The node of bytes that spell one: its entries are not looked at again.
+    pub fn known(bytes: &'a [u8]) -> InnerView<'a>
+        requires { (n : Inner) × IsInner bytes.now n }
+        ensures { IsInner bytes.now result }
+    {
+        let Ok(front) = front_at(bytes) else {
+            unreachable!()
+        };
+        front.view()
     }
 
     /// How often the node was put, from 1.

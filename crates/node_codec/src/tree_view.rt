@@ -1,16 +1,17 @@
 //! A root as it stands in its bytes.
 
-ghost use Rattle.std.specs.Prelude.{◌≡◌, Ok, Some, IfOk, IfErr, IsOkAnd};
+ghost use Rattle.std.specs.Prelude.{◌≡◌, ◌≤◌, Err, Some, IfOk, IfErr, IsOkAnd};
 ghost use Rattle.byte_format.specs.Gives.{Gives};
 ghost use Rattle.byte_format.specs.Whole.{whole, offset};
 ghost use Rattle.db_base.specs.Cursor.{number_of};
-ghost use Rattle.node_codec.specs.Node.{child_of};
-ghost use Rattle.node_codec.specs.Tree.{Tree, empty_tree, tree_format, tree_in, IsTree, IsSoundTree, AreTreeParts};
+ghost use Rattle.node_codec.specs.Node.{child_of, plain_number};
+ghost use Rattle.node_codec.specs.Plain.{IsWholeList};
+ghost use Rattle.node_codec.specs.Tree.{Tree, empty_tree, tree_format, tree_in, tree_read, IsTree, IsSoundTree, AreTreeParts};
 
 use crate::client_number::{cursor_of, number_in, split_numbers};
 use crate::entries::Entries;
 use crate::entry::child_in;
-use crate::entry_rules::skip_entries;
+use crate::entry_rules::check_entries;
 use byte_format::{Stop, mark_at, u8_at, u64_at};
 use db_base::cursor::Cursor;
 use db_base::ids::{ClientId, PageId};
@@ -53,9 +54,22 @@ impl<'a> Model for TreeView<'a> {
     ghost invariant = { λ v. AreTreeParts v.next v.level v.cursor.now v.entries.now };
 }
 
-/// The root that the bytes spell.
-fn tree_at(bytes: &[u8]) -> Result<TreeView<'_>, Stop>
-    ensures { Gives (λ v. v) result (whole tree_format bytes.now) }
+/// The fields of a root, each read but for its entries.
+#[derive(Clone, Copy)]
+struct TreeFront<'a> {
+    version: u64,
+    next: u64,
+    level: u8,
+    cursor: &'a [u8],
+    entries: &'a [u8],
+}
+
+/// Splits the bytes of a root at its fields.
+fn front_at(bytes: &[u8]) -> Result<TreeFront<'_>, Stop>
+    ensures ok { IfOk result (λ f. whole tree_format bytes.now ≡ tree_read f.version f.next f.level f.cursor.now f.entries.now) }
+    ensures numbers { IfOk result (λ f. IsWholeList plain_number f.cursor.now) }
+    ensures next { IfOk result (λ f. 1 ≤ f.next) }
+    ensures err { IfErr result (λ stop. whole tree_format bytes.now ≡ Err stop.left) }
 {
     let rest = mark_at(bytes, 0x54)?;
     let rest = mark_at(rest, 1)?;
@@ -63,17 +77,38 @@ fn tree_at(bytes: &[u8]) -> Result<TreeView<'_>, Stop>
     let (next, rest) = u64_at(rest, 2, u64::MAX)?;
     let (level, rest) = u8_at(rest, 1, 255)?;
     let (cursor, entries) = split_numbers(rest)?;
-    let rest = skip_entries(&[], None, next - 1, entries)?;
-    if !rest.is_empty() {
-        return Err(Stop::at(rest));
-    }
-    Ok(TreeView {
+    Ok(TreeFront {
         version,
         next,
         level,
         cursor,
         entries,
     })
+}
+
+impl<'a> TreeFront<'a> {
+    /// The root that has these fields.
+    fn view(self) -> TreeView<'a>
+        requires { AreTreeParts self.next self.level self.cursor.now self.entries.now }
+        ensures { result ≡ tree_in self.entry.version self.entry.next self.entry.level self.entry.cursor.now self.entry.entries.now }
+    {
+        TreeView {
+            version: self.version,
+            next: self.next,
+            level: self.level,
+            cursor: self.cursor,
+            entries: self.entries,
+        }
+    }
+}
+
+/// The root that the bytes spell.
+fn tree_at(bytes: &[u8]) -> Result<TreeView<'_>, Stop>
+    ensures { Gives (λ v. v) result (whole tree_format bytes.now) }
+{
+    let front = front_at(bytes)?;
+    check_entries(&[], None, front.next - 1, front.entries)?;
+    Ok(front.view())
 }
 
 impl<'a> TreeView<'a> {
@@ -91,6 +126,17 @@ impl<'a> TreeView<'a> {
                 offset: stop.offset(bytes),
             }),
         }
+    }
+
+    /// The root of bytes that spell one: its entries are not looked at again.
+    pub fn known(bytes: &'a [u8]) -> TreeView<'a>
+        requires { (t : Tree) × IsTree bytes.now t }
+        ensures { IsTree bytes.now result }
+    {
+        let Ok(front) = front_at(bytes) else {
+            unreachable!()
+        };
+        front.view()
     }
 
     /// How often the root was put; 0 where it never was.

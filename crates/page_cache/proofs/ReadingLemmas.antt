@@ -1,13 +1,15 @@
 -- What is read of bytes, by what the readers of their formats answer.
-use Rattle.std.proofs.Common.{◌≡◌, ℕ, true, false, List, Some, None, Result, Ok, Err, refl, sym, ap, inl, inr}
-use Rattle.std.specs.Prelude.{IfOk, IsOkAnd}
+use Rattle.std.proofs.Common.{◌≡◌, ℕ, true, false, List, Some, None, Result, Ok, Err, refl, ap, inl, inr}
 use Rattle.std.specs.Result.{result_ok}
 use Rattle.byte_format.specs.Format.{Format, mark_at}
 use Rattle.byte_format.specs.Whole.{whole, offset, IsSpelling, IsBytes, IsExact}
 use Rattle.byte_format.proofs.Wholes.{whole_only, whole_found}
 use Rattle.leaf_view.specs.Leaf.{Leaf, IsLeaf, leaf, leaf_head}
 use Rattle.leaf_view.proofs.Exactness.{leaf_exact}
-use Rattle.node_codec.specs.Inner.{Inner, IsInner}
+use Rattle.node_codec.specs.Inner.{Inner, IsInner, inner_format, inner_of}
+use Rattle.node_codec.specs.Tree.{Tree as Root, IsTree, tree_format, tree_of}
+use Rattle.node_codec.proofs.InnerLemmas.{inner_exact}
+use Rattle.node_codec.proofs.TreeLemmas.{tree_exact}
 use Rattle.page_cache.specs.Held.{leaf_in}
 use Rattle.page_cache.specs.Spelled.{version_or, is_marked, IsPageSpelled}
 
@@ -22,16 +24,6 @@ module _ {A : Type 0} (f : Format A) (exact : IsExact f) (bytes : List ℕ) wher
     where
       on : (r : Result A ℕ) → whole f bytes ≡ r → version_or version (offset f bytes) r ≡ Err (offset f bytes)
       on (Ok v) is = absurd (never v (whole_found f exact bytes v fits is))
-      on (Err left) is = refl
-
-  -- a reader that answers a value exactly where bytes spell it answers what they are read as
-  pub value_read : {E : Type 0} → IsBytes bytes → (r : Result A E) → IfOk r (λ v. IsSpelling f bytes v) → ((v : A) → IsSpelling f bytes v → IsOkAnd r (λ w. w ≡ v))
-      → result_ok r ≡ result_ok (whole f bytes)
-  value_read fits (Ok v) found only = sym (ap result_ok (whole_only f exact bytes v found))
-  value_read fits (Err e) found only = on (whole f bytes) refl
-    where
-      on : (r : Result A ℕ) → whole f bytes ≡ r → None ≡ result_ok r
-      on (Ok v) is = absurd (only v (whole_found f exact bytes v fits is))
       on (Err left) is = refl
 
 -- the bytes of a leaf begin with its mark, and those of an inner node do not
@@ -60,3 +52,25 @@ unmarked_none bytes (inr inner) h = no_leaf bytes inner.0 inner.1
 pub is_leaf_in : (bytes : List ℕ) (l : Leaf) → IsLeaf bytes l → leaf_in bytes ≡ Some l
 unfolding leaf_in
 is_leaf_in bytes l s = ap result_ok (whole_only leaf leaf_exact bytes l s)
+
+no_inner : (bytes : List ℕ) (l : Leaf) → IsLeaf bytes l → inner_of bytes ≡ None
+unfolding inner_of leaf leaf_head mark_at
+no_inner bytes l s = rw s.is refl
+
+-- of the bytes of a page: those that do not begin as a leaf spell an inner node
+pub unmarked_inner : (bytes : List ℕ) → IsPageSpelled bytes → is_marked bytes ≡ false → (n : Inner) × IsInner bytes n
+unmarked_inner bytes (inl leaf) h = absurd cc (h, leaf_marked bytes leaf.0 leaf.1)
+unmarked_inner bytes (inr inner) h = inner
+
+-- and the others spell none
+pub marked_none : (bytes : List ℕ) → IsPageSpelled bytes → is_marked bytes ≡ true → inner_of bytes ≡ None
+marked_none bytes (inl leaf) h = no_inner bytes leaf.0 leaf.1
+marked_none bytes (inr inner) h = absurd cc (h, inner_unmarked bytes inner.0 inner.1)
+
+pub is_inner_of : (bytes : List ℕ) (n : Inner) → IsInner bytes n → inner_of bytes ≡ Some n
+unfolding inner_of
+is_inner_of bytes n s = ap result_ok (whole_only inner_format inner_exact bytes n s)
+
+pub is_tree_of : (bytes : List ℕ) (t : Root) → IsTree bytes t → tree_of bytes ≡ Some t
+unfolding tree_of
+is_tree_of bytes t s = ap result_ok (whole_only tree_format tree_exact bytes t s)

@@ -231,7 +231,7 @@ impl PageCache {
         }
     }
 
-    /// The inner node that is kept at a page. Takes no memory, and checks the kept bytes again.
+    /// The inner node that is kept at a page. Takes no memory.
     pub fn inner(&self, name: ObjName) -> Option<InnerView<'_>>
         ensures { result ≡ inner_at self.now name }
     {
@@ -244,13 +244,13 @@ impl PageCache {
         }
     }
 
-    /// The root that is kept of a tree. Takes no memory, and checks the kept bytes again.
+    /// The root that is kept of a tree. Takes no memory.
     pub fn tree(&self, name: ObjName) -> Option<TreeView<'_>>
         ensures { result ≡ root_at self.now name }
     {
         match name {
             ObjName::Tree(_) => match self.objects.get(&name)? {
-                Some(bytes) => root_of(bytes.as_slice()),
+                Some(bytes) => Some(root_of(bytes.as_slice())),
                 None => Some(TreeView::empty()),
             },
             _ => None,

@@ -34,18 +34,24 @@ pub(crate) fn leaf_of(bytes: &[u8]) -> Option<LeafView<'_>>
     }
 }
 
-/// The inner node that the bytes spell.
+/// The inner node that the bytes of a page spell, where they spell one.
 pub(crate) fn inner_of(bytes: &[u8]) -> Option<InnerView<'_>>
+    requires { IsPageSpelled bytes.now }
     ensures { result ≡ inner_of bytes.now }
 {
-    InnerView::read(bytes).ok()
+    if is_marked(bytes) {
+        None
+    } else {
+        Some(InnerView::known(bytes))
+    }
 }
 
 /// The root that the bytes spell.
-pub(crate) fn root_of(bytes: &[u8]) -> Option<TreeView<'_>>
-    ensures { result ≡ tree_of bytes.now }
+pub(crate) fn root_of(bytes: &[u8]) -> TreeView<'_>
+    requires { (t : Root) × IsTree bytes.now t }
+    ensures { tree_of bytes.now ≡ Some result }
 {
-    TreeView::read(bytes).ok()
+    TreeView::known(bytes)
 }
 
 /// The version of the leaf that the bytes spell, or the offset of their first fault.

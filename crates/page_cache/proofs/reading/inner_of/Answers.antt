@@ -1,9 +1,12 @@
-use Rattle.std.proofs.Common.{◌∙◌, arith}
-use Rattle.node_codec.specs.Inner.{inner_format, inner_of}
-use Rattle.node_codec.proofs.InnerLemmas.{inner_exact}
-use Rattle.page_cache.proofs.ReadingLemmas.{value_read}
+use Rattle.std.proofs.Common.{sym}
+use Rattle.page_cache.proofs.ReadingLemmas.{unmarked_inner, marked_none, is_inner_of}
 use Rattle.page_cache.proofs.reading.inner_of.Goals as goal
 
-pub returns : goal.returns
-unfolding inner_of
-returns c = c.ok.ensures.value ∙ value_read inner_format inner_exact c.args.bytes.now (λ i. omega (arith, c.type_inv.bytes i)) c.read.result c.read.ensures.found c.read.ensures.only
+pub known-requires : goal.known-requires
+known-requires c = unmarked_inner c.args.bytes.now c.requires (sym c.if-is_marked.ensures)
+
+pub returns-then-is_marked : goal.returns-then-is_marked
+returns-then-is_marked c = sym (marked_none c.args.bytes.now c.requires (sym c.if-is_marked.ensures))
+
+pub returns-else-is_marked : goal.returns-else-is_marked
+returns-else-is_marked c = sym (is_inner_of c.args.bytes.now c.known.result c.known.ensures)

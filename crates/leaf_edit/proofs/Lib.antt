@@ -6,6 +6,7 @@ pub mod Edits
 pub mod Folding
 pub mod HeadBytes
 pub mod InOrder
+pub mod Parted
 pub mod Sizes
 pub mod Spelled
 pub mod Spellings

@@ -1,5 +1,6 @@
 -- The items of a run that a leaf takes.
-use Rattle.std.specs.Prelude.{◌≡◌, ℕ, Bool, true, ◌&&◌, nat_lt, List, [], ◌∷◌, filter}
+use Rattle.std.specs.Prelude.{◌≡◌, ℕ, Bool, true, IsTrue, ◌&&◌, nat_lt, List, [], ◌∷◌, filter}
+use Rattle.std.specs.List.{AllByRecursion}
 use Rattle.db_base.specs.Change.{key_of}
 use Rattle.leaf_view.specs.Leaf.{Leaf}
 use Rattle.leaf_view.specs.Lookup.{holds, number_of}
@@ -17,3 +18,7 @@ lacked l queue run = filter (is_lacked l queue) run
 abbrev pub IsFirstLacked : Leaf → ℕ → List PuItem → Type 0
 IsFirstLacked l queue [] = Unit {0}
 IsFirstLacked l queue (x ∷ run) = is_lacked l queue x ≡ true
+
+-- the key of each item is in the leaf's range
+abbrev pub AllHeld : Leaf → List PuItem → Type 0
+AllHeld l xs = AllByRecursion (λ x. IsTrue (holds l (key_of x.rec.change))) xs

@@ -47,9 +47,12 @@ pub record AreChanges (xs : List PuItem) : Type 0 where
   pub rise : Rises xs
   pub items : AllByRecursion IsItem xs
 
--- no change is at a key below this one, or all are at keys above it
+-- no change is at a key below this one, all are at keys below it, or all at keys above it
 abbrev pub AllFrom : List ℕ → List PuItem → Type 0
 AllFrom key xs = AllByRecursion (λ y. bytes_below (key_of y.rec.change) key ≡ false) xs
+
+abbrev pub AllBelow : List ℕ → List PuItem → Type 0
+AllBelow key xs = AllByRecursion (λ y. IsTrue (bytes_below (key_of y.rec.change) key)) xs
 
 abbrev pub AllAbove : List ℕ → List PuItem → Type 0
 AllAbove key xs = AllByRecursion (λ y. IsTrue (bytes_below key (key_of y.rec.change))) xs

@@ -6,6 +6,7 @@ mod buffer;
 mod changes;
 mod count;
 mod cut;
+mod held;
 mod laws;
 mod merging;
 mod spell;

@@ -1,6 +1,6 @@
 use Rattle.std.proofs.Common.{sym, subst, arith}
 use Rattle.leaf_edit.specs.Merging.{AreChanges, AreRecords}
-use Rattle.leaf_edit.proofs.InOrder.{lacked-changes}
+use Rattle.leaf_edit.proofs.InOrder.{Rises-sorted, lacked-changes}
 use Rattle.leaf_edit.proofs.Sizes.{room-whole, room-table, room-mark, room-records}
 use Rattle.leaf_edit.proofs.Whole.{records-are, spelled-is}
 use Rattle.leaf_edit.proofs.merging.merge.Goals as goal
@@ -36,3 +36,6 @@ returns-clause-spelled c =
     spelled-is c.args.leaf.now c.args.queue c.args.run.now _ _ _ _ _ _ _ _ (omega arith) c.version.ensures.formed c.requires.ordered
     (omega (arith, c.if-version-eq18446744073709551615.false)) c.requires.empty c.version-2.ensures.version c.records.ensures.records c.of.ensures
     c.add_head.ensures.items c.add_table.ensures.items c.add_u8.ensures.items c.add_records.ensures.items
+
+pub of-requires-clause-rise : goal.of-requires-clause-rise
+of-requires-clause-rise c = Rises-sorted c.args.run.now c.requires.ordered.sorted

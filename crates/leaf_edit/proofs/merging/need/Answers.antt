@@ -5,7 +5,7 @@ use Rattle.leaf_edit.specs.Applied.{applied}
 use Rattle.leaf_edit.specs.Edited.{edited_by}
 use Rattle.leaf_edit.specs.Merging.{AreChanges, AreRecords}
 use Rattle.leaf_edit.specs.Sizes.{entries_size, high_size}
-use Rattle.leaf_edit.proofs.InOrder.{lacked-changes}
+use Rattle.leaf_edit.proofs.InOrder.{Rises-sorted, lacked-changes}
 use Rattle.leaf_edit.proofs.Sizes.{no-size, same-size, leaf-size}
 use Rattle.leaf_edit.proofs.Whole.{records-are}
 use Rattle.leaf_edit.proofs.merging.need.Goals as goal
@@ -37,3 +37,6 @@ returns c =
       ap (λ (rs : List Entry). entries_size (edited_by rs c.of.result)) c.records.ensures.records,
       ap (λ (xs : List PuItem). entries_size (edited_by c.args.leaf.now.records xs)) c.of.ensures,
     ))
+
+pub of-requires-clause-rise : goal.of-requires-clause-rise
+of-requires-clause-rise c = Rises-sorted c.args.run.now c.requires.sorted

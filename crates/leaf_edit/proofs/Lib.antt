@@ -7,6 +7,7 @@ pub mod Folding
 pub mod HeadBytes
 pub mod InOrder
 pub mod Parted
+pub mod Passed
 pub mod Sizes
 pub mod Spelled
 pub mod Spellings

@@ -1,8 +1,7 @@
 -- The sizes of the parts of a leaf are the lengths of their spellings.
-use Rattle.std.proofs.Common.{◌≡◌, ℕ, zero, suc, ◌+◌, ◌-◌, ◌≤◌, ◌^◌, true, false, List, [], ◌∷◌, ◌++◌, length, Option, Some, None, refl, sym, ap, subst, ◌∙◌, arith, append_assoc}
+use Rattle.std.proofs.Common.{◌≡◌, ℕ, zero, suc, ◌+◌, ◌-◌, ◌≤◌, ◌^◌, true, false, List, [], ◌∷◌, ◌++◌, length, Option, Some, None, refl, sym, ap, subst, ◌∙◌, arith}
 use Rattle.std.specs.Prelude.{filter, vec_len}
 use Rattle.std.specs.Global.{Vec}
-use Rattle.std.specs.Option.{option_to_list}
 use Rattle.std.specs.Vec.{vec_capacity}
 use Rattle.std.specs.Int.{w16, w64, to_be_bytes}
 use Rattle.std.proofs.lemmas.List.{length-append}
@@ -13,7 +12,6 @@ use Rattle.log_codec.specs.declared.record.PuItem.{PuItem}
 use Rattle.leaf_edit.specs.Applied.{applied, applied_length}
 use Rattle.leaf_edit.specs.Edited.{edited_by}
 use Rattle.leaf_edit.specs.Lacked.{lacked}
-use Rattle.leaf_edit.specs.Merging.{Steps}
 use Rattle.leaf_edit.specs.Raised.{AreRaised, own_entries, raised, raised_number, with_done}
 use Rattle.leaf_edit.specs.Sizes.{high_size, fields_size, dones_size, attr_size, entry_size, entry_size_of, entries_size, leaf_size, IsSize}
 use Rattle.leaf_edit.proofs.DoneBytes.{dones_before-rest, next-own}
@@ -178,30 +176,6 @@ room-records l queue run version rs cs out a b c hrs hcs empty room first second
 
 -- ---- a step of a merge
 
-known-size : (known : Option Entry) → length (entry_bytes_of known) ≡ entry_size_of known
+pub known-size : (known : Option Entry) → length (entry_bytes_of known) ≡ entry_size_of known
 known-size None = refl
 known-size (Some e) = entry-size e
-
-known-bytes : (known : Option Entry) (es : List Entry) → entries_bytes (option_to_list known ++ es) ≡ entry_bytes_of known ++ entries_bytes es
-known-bytes None es = refl
-known-bytes (Some e) es = refl
-
-known-more : (known : Option Entry) (es : List Entry) → entries_size (option_to_list known ++ es) ≡ entry_size_of known + entries_size es
-known-more None es = omega arith
-known-more (Some e) es = refl
-
--- what is known of the records is appended
-pub step-added : (out new : Vec ℕ) (start : List ℕ) (es left : List Entry) (xs coming : List PuItem) (known : Option Entry) (es' : List Entry) (xs' : List PuItem)
-    → es ≡ left → xs ≡ coming → Steps es xs known es' xs' → Adds out new (entry_bytes_of known)
-    → out.items ++ entries_bytes (edited_by left coming) ≡ start → vec_len out + entries_size (edited_by left coming) ≤ vec_capacity out
-    → (new.items ++ entries_bytes (edited_by es' xs') ≡ start) × (vec_len new + entries_size (edited_by es' xs') ≤ vec_capacity new)
-step-added out new start es left xs coming known es' xs' hes hxs h added before room = (
-  ap (λ l. l ++ entries_bytes (edited_by es' xs')) added.items
-      ∙ (append_assoc out.items (entry_bytes_of known) (entries_bytes (edited_by es' xs'))
-      ∙ (ap (λ l. out.items ++ l) (sym (known-bytes known (edited_by es' xs')) ∙ ap entries_bytes (sym split)) ∙ before)),
-  adds-room out new (entry_bytes_of known) (entry_size_of known) (entries_size (edited_by es' xs')) added (known-size known)
-      (omega (arith, room, known-more known (edited_by es' xs'), ap entries_size split)),
-)
-  where
-    split : edited_by left coming ≡ option_to_list known ++ edited_by es' xs'
-    split = ap (λ (l : List Entry). edited_by l coming) (sym hes) ∙ (ap (λ (l : List PuItem). edited_by es l) (sym hxs) ∙ h.is)

@@ -2,7 +2,7 @@
 use Rattle.std.proofs.Common.{◌≡◌, ℕ, List, [], ◌∷◌, ◌++◌, Option, None, Some, refl, ap, ◌∙◌, append_assoc}
 use Rattle.byte_format.specs.Format.{list_spelling}
 use Rattle.leaf_view.specs.declared.done.Done.{Done}
-use Rattle.leaf_view.specs.Leaf.{Entry, Head, Leaf, leaf, leaf_head, done_item, record_item}
+use Rattle.leaf_view.specs.Leaf.{Entry, Head, Leaf, leaf, leaf_head, done_item, record_item, plain_entry}
 use Rattle.leaf_edit.specs.Spelled.{done_bytes, dones_before, entry_bytes, entries_bytes}
 
 dones-spelled : (before : Option Done) (ds : List Done) (rest : List ℕ) → list_spelling done_item before ds ++ rest ≡ dones_before ds (0 ∷ rest)
@@ -24,6 +24,21 @@ entries-spelled low high before [] = refl
 entries-spelled low high before (e ∷ es) =
     ap (λ l. l ++ list_spelling (record_item 2 low high) (Some e) es) (entry-spelled low high before e)
     ∙ ap (λ l. entry_bytes e ++ l) (entries-spelled low high (Some e) es)
+
+-- records where they lie, in the format in which leaves are written
+plain-spelled : (e : Entry) → 1 ∷ (plain_entry 2).spelling e ≡ entry_bytes e
+unfolding plain_entry
+plain-spelled e = on e.value.attr
+  where
+    on : (attr : Option (List ℕ)) → 1 ∷ (plain_entry 2).spelling (record { key = e.key; value = record { payload = e.value.payload; attr = attr } })
+        ≡ entry_bytes (record { key = e.key; value = record { payload = e.value.payload; attr = attr } })
+    on None = refl
+    on (Some attr) = refl
+
+pub records-spelled : (before : Option Entry) (es : List Entry) → list_spelling (λ _. plain_entry 2) before es ≡ entries_bytes es
+records-spelled before [] = refl
+records-spelled before (e ∷ es) =
+    ap (λ l. l ++ list_spelling (λ _. plain_entry 2) (Some e) es) (plain-spelled e) ∙ ap (λ l. entry_bytes e ++ l) (records-spelled (Some e) es)
 
 -- the head of a leaf in the format in which leaves are written
 abbrev pub head_of : Leaf → Head

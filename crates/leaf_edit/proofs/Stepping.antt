@@ -101,13 +101,3 @@ steps-equal rs e es cs cs' k k' known es' xs' split splits same is h =
     let P : List Entry → Type 0 = λ rs. Steps rs cs known es' xs' in
     let C : List PuItem → Type 0 = λ cs. Steps (with_value k (Some e.value) es) cs known es' xs' in
     subst P (ap (λ k. record { key = k; value = e.value } ∷ es) (sym same') ∙ sym split) (subst C (sym splits) h)
-
--- no change is left, and what is handed on is none too
-pub steps-record : (rs : List Entry) (e : Entry) (es : List Entry) (cs left : List PuItem) → rs ≡ e ∷ es → AreRecords rs → cs ≡ [] → left ≡ cs
-    → Steps rs cs (Some e) es left
-steps-record rs e es cs left split h none same =
-    let P : List Entry → Type 0 = λ rs. Steps rs cs (Some e) es left in
-    let C : List PuItem → Type 0 = λ cs. Steps (e ∷ es) cs (Some e) es cs in
-    let L : List PuItem → Type 0 = λ left. Steps (e ∷ es) cs (Some e) es left in
-    subst P (sym split)
-    (subst L (sym same) (subst C (sym none) (step-record e es [] (subst AreRecords split h) (record { rise = tt; items = tt }) tt)))

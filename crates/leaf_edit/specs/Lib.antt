@@ -5,6 +5,7 @@ pub mod Cut
 pub mod Edited
 pub mod Lacked
 pub mod Merging
+pub mod Passing
 pub mod Raised
 pub mod Sizes
 pub mod Spelled

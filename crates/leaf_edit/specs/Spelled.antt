@@ -49,3 +49,8 @@ entry_bytes_of (Some e) = entry_bytes e
 abbrev pub entries_bytes : List Entry → List ℕ
 entries_bytes [] = 0 ∷ []
 entries_bytes (e ∷ es) = entry_bytes e ++ entries_bytes es
+
+-- records one behind another
+abbrev pub run_bytes : List Entry → List ℕ
+run_bytes [] = []
+run_bytes (e ∷ es) = entry_bytes e ++ run_bytes es

@@ -9,6 +9,7 @@ mod cut;
 mod held;
 mod laws;
 mod merging;
+mod passing;
 mod spell;
 mod step;
 mod table;

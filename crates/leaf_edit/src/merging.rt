@@ -1,6 +1,6 @@
 //! A run merged into a leaf, straight from bytes to bytes.
 
-ghost use Rattle.std.specs.Prelude.{◌≡◌, ◌+◌, ◌≤◌, ◌↔◌, [], IfSome, IsErr, OnErr, OnOk, vec_len};
+ghost use Rattle.std.specs.Prelude.{◌≡◌, ◌+◌, ◌≤◌, ◌↔◌, [], IfSome, IsErr, length, OnErr, OnOk, vec_len};
 ghost use Rattle.std.specs.Option.{option_map};
 ghost use Rattle.std.specs.Vec.{vec_capacity};
 ghost use Rattle.byte_format.specs.Adds.{Adds};
@@ -17,7 +17,7 @@ use crate::changes::Changes;
 use crate::spell::{add_entry, add_fields, entry_len, fields_len, right_of};
 use crate::step::next_step;
 use crate::table::{add_table, table_len};
-use byte_format::add_u8;
+use byte_format::{add, add_u8};
 use db_base::value::Value;
 use leaf_view::{LeafView, Records};
 use log_codec::record::PuItem;
@@ -57,6 +57,67 @@ fn add_record(out: &mut Vec<u8>, next: &Option<(&[u8], Value<'_>)>)
     }
 }
 
+/// So many bytes, and those of the records as a list.
+fn rest_len(total: usize, records: Records<'_>) -> Option<usize>
+    requires { AreRecords records }
+    ensures { IsSize result (total + entries_size records.entry) }
+{
+    match records.spelling() {
+        Some(bytes) => total.checked_add(bytes.len()),
+        None => each_len(total, records),
+    }
+}
+
+/// The same, a record at a time.
+fn each_len(total: usize, records: Records<'_>) -> Option<usize>
+    requires { AreRecords records }
+    ensures { IsSize result (total + entries_size records.entry) }
+{
+    let mut sum = total;
+    let mut left = records;
+    while let Some(((key, payload, attr), rest)) = left.again().split() {
+        sum = sum.checked_add(entry_len(key, payload, attr))?;
+        left = rest;
+    }
+    sum.checked_add(1)
+}
+
+/// Appends the records as a list.
+fn add_rest(out: &mut Vec<u8>, records: Records<'_>)
+    requires records { AreRecords records }
+    requires room { vec_len out.old + entries_size records ≤ vec_capacity out.old }
+    ensures { Adds out.old out.new (entries_bytes records.entry) }
+{
+    match records.spelling() {
+        Some(bytes) => add(out, bytes),
+        None => add_each(out, records),
+    }
+}
+
+/// The same, a record at a time.
+fn add_each(out: &mut Vec<u8>, records: Records<'_>)
+    requires records { AreRecords records }
+    requires room { vec_len out.old + entries_size records ≤ vec_capacity out.old }
+    ensures { Adds out.old out.new (entries_bytes records.entry) }
+{
+    let mut left = records;
+    while let Some(((key, payload, attr), rest)) = left.again().split() {
+        add_entry(out, key, payload, attr);
+        left = rest;
+    }
+    add_u8(out, 0);
+}
+
+/// So many bytes, those passed, and those of a record, where there is one.
+fn step_len(total: usize, passed: &[u8], next: &Option<(&[u8], Value<'_>)>) -> Option<usize>
+    requires { IfSome (option_map valued next.now) IsSized }
+    ensures { IsSize result (total + (length passed.now + entry_size_of (option_map valued next.now))) }
+{
+    total
+        .checked_add(passed.len())?
+        .checked_add(record_len(next))
+}
+
 /// So many bytes, and those of the records under the changes as a list.
 fn records_len<'a>(total: usize, records: Records<'a>, changes: Changes<'a>) -> Option<usize>
     requires records { AreRecords records }
@@ -66,12 +127,13 @@ fn records_len<'a>(total: usize, records: Records<'a>, changes: Changes<'a>) -> 
     let mut sum = total;
     let mut left = records;
     let mut coming = changes;
-    while let Some(step) = next_step(left.again(), coming.again()) {
-        sum = sum.checked_add(record_len(&step.record))?;
+    while let Some(x) = coming.first() {
+        let (passed, step) = next_step(x, left.again(), coming.again());
+        sum = step_len(sum, passed, &step.record)?;
         left = step.records;
         coming = step.changes;
     }
-    sum.checked_add(1)
+    rest_len(sum, left)
 }
 
 /// Appends the records under the changes as a list.
@@ -83,12 +145,14 @@ fn add_records<'a>(out: &mut Vec<u8>, records: Records<'a>, changes: Changes<'a>
 {
     let mut left = records;
     let mut coming = changes;
-    while let Some(step) = next_step(left.again(), coming.again()) {
+    while let Some(x) = coming.first() {
+        let (passed, step) = next_step(x, left.again(), coming.again());
+        add(out, passed);
         add_record(out, &step.record);
         left = step.records;
         coming = step.changes;
     }
-    add_u8(out, 0);
+    add_rest(out, left);
 }
 
 /// How many bytes `merge` needs: the length of the leaf behind the run, in format 2. `None` where it is above the greatest usize.

@@ -1,15 +1,17 @@
 //! Records and changes merged, one record at a time.
 
-ghost use Rattle.std.specs.Prelude.{◌≡◌, [], ◌∷◌, drop, IfSome, MatchOption};
+ghost use Rattle.std.specs.Prelude.{◌≡◌, ◌∷◌, drop, IfSome};
 ghost use Rattle.std.specs.Option.{option_map};
 ghost use Rattle.db_base.specs.Key.{IsKey};
 ghost use Rattle.db_base.specs.Change.{key_of, act, IsChange};
 ghost use Rattle.byte_format.specs.Order.{bytes_same};
 ghost use Rattle.leaf_view.specs.Shown.{shown, valued};
-ghost use Rattle.leaf_edit.specs.Edited.{edited_by, with_value};
+ghost use Rattle.leaf_edit.specs.Edited.{with_value};
 ghost use Rattle.leaf_edit.specs.Merging.{AllFrom, AreChanges, AreRecords, entry_at, Folds, IsValue, KeyBefore, Steps};
+ghost use Rattle.leaf_edit.specs.Passing.{Leaps};
 
 use crate::changes::Changes;
+use crate::passing::pass;
 use byte_format::{compare, is_same};
 use db_base::change::{Change, act};
 use db_base::value::Value;
@@ -136,22 +138,17 @@ fn at_change<'a>(x: &'a PuItem, changes: Changes<'a>, records: Records<'a>) -> S
     }
 }
 
-/// The step at records and changes; none where both are at their ends.
-pub(crate) fn next_step<'a>(records: Records<'a>, changes: Changes<'a>) -> Option<Step<'a>>
+/// The bytes of the records that the first change leaves before it, and the step behind them.
+pub(crate) fn next_step<'a>(
+    x: &'a PuItem,
+    records: Records<'a>,
+    changes: Changes<'a>,
+) -> (&'a [u8], Step<'a>)
     requires records { AreRecords records }
+    requires first { changes ≡ x.now ∷ drop 1 changes }
     requires changes { AreChanges changes }
-    ensures { MatchOption result (edited_by records.entry changes.entry ≡ [])
-        (λ s. Steps records.entry changes.entry (option_map valued s.record) s.records s.changes) }
+    ensures { Leaps records.entry changes.entry result.0.now (option_map valued result.1.record) result.1.records result.1.changes }
 {
-    match changes.first() {
-        None => match records.split() {
-            None => None,
-            Some((record, behind)) => Some(Step {
-                record: Some(kept(record)),
-                records: behind,
-                changes,
-            }),
-        },
-        Some(x) => Some(at_change(x, changes, records)),
-    }
+    let (passed, rest) = pass(records, key_at(x));
+    (passed, at_change(x, changes, rest))
 }

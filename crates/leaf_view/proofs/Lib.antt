@@ -1,4 +1,5 @@
 pub mod Exactness
+pub mod Spelled
 pub mod Split
 pub mod Reading
 pub mod PartsLemmas

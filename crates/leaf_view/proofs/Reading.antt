@@ -1,7 +1,7 @@
 -- Reading a leaf step by step.
 use Rattle.std.proofs.Common.{◌≡◌, ℕ, Bool, true, false, eqb, List, [], ◌∷◌, length, Option, None, Result, Ok, Err, refl, sym, ap, subst, ◌∙◌, arith, inl}
 use Rattle.std.specs.Prelude.{◌&&◌}
-use Rattle.std.proofs.lemmas.Bool.{and_parts, and_from}
+use Rattle.std.proofs.lemmas.Bool.{and_parts, and_from, eqb-true}
 use Rattle.byte_format.specs.Format.{Reading, Format, greatest, in_range, list_at, more_at}
 use Rattle.byte_format.specs.Whole.{whole, IsSpelling, IsBytes}
 use Rattle.byte_format.specs.Gives.{behind_it}
@@ -15,7 +15,9 @@ use Rattle.leaf_view.specs.Leaf.{Entry, Head, Leaf, leaf_head, done_item, record
 use Rattle.leaf_view.specs.Fits.{IsWellFormed}
 use Rattle.leaf_view.specs.Lookup.{empty_leaf}
 use Rattle.leaf_view.specs.Sound.{leaf_with, IsSound}
+use Rattle.leaf_view.specs.Spelled.{records_spelling}
 use Rattle.leaf_view.proofs.Exactness.{head_exact, done_exact, record_exact, leaf_exact, plain_done_exact, plain_entry_exact}
+use Rattle.leaf_view.proofs.Spelled.{all-read}
 use Rattle.leaf_view.proofs.Split.{range_from, dones_split, leaf_fits}
 
 -- ---- the items without their ties fit too
@@ -94,10 +96,11 @@ is_read bytes head done records rest fits h d r end =
     let plain_es = list_at-wider (record_item head.format head.low head.high) (λ _. plain_entry head.format) (record_exact head.format head.low head.high) (λ _. plain_entry_exact head.format) (entry_wider head.format head.low head.high) true None records (es.0, rest) records_fits es.1 in
     let dl = listed_of plain_done done (ds.0, records) plain_ds in
     let el = listed_of (plain_entry head.format) records (es.0, rest) plain_es in
+    let all = all-read head.format records es.0 rest records_fits plain_es (eqb-true (length rest) 0 end) in
     let is : whole leaf bytes ≡ Ok (leaf_with head done records) =
     ends_so bytes head done records rest ds.0 es.0 h ds.1 es.1 end ∙ ap (λ (xs : List Done). Ok (leaf_of (head, (xs, es.0)))) (sym dl.1) ∙ ap (λ (xs : List Entry). Ok (leaf_of (head, (items_in plain_done done, xs)))) (sym el.1) in
     record {
-      sound = record { done_listed = dl.0; records_listed = el.0; formed = (leaf_fits (leaf_with head done records) (whole_found leaf leaf_exact bytes (leaf_with head done records) fits is).fits).1 };
+      sound = record { done_listed = dl.0; records_listed = el.0; records_all = all; formed = (leaf_fits (leaf_with head done records) (whole_found leaf leaf_exact bytes (leaf_with head done records) fits is).fits).1 };
       is = is;
     }
 
@@ -139,6 +142,7 @@ pub empty_sound : IsSound empty_head (0 ∷ []) (0 ∷ [])
 empty_sound = record {
   done_listed = (listed_of plain_done (0 ∷ []) ([], []) (no_items plain_done)).0;
   records_listed = (listed_of (plain_entry 2) (0 ∷ []) ([], []) (no_items (plain_entry 2))).0;
+  records_all = ap (λ (xs : List Entry). records_spelling 2 xs) (sym (listed_of (plain_entry 2) (0 ∷ []) ([], []) (no_items (plain_entry 2))).1);
   formed = subst IsWellFormed (sym empty_is) empty_formed;
 }
 

@@ -4,3 +4,4 @@ pub mod Lookup
 pub mod Parts
 pub mod Shown
 pub mod Sound
+pub mod Spelled

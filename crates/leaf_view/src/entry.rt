@@ -1,10 +1,11 @@
 //! A record where it lies.
 
-ghost use Rattle.std.specs.Prelude.{◌≡◌, [], ◌∷◌, length, MatchOption};
+ghost use Rattle.std.specs.Prelude.{◌≡◌, [], ◌∷◌, length, IfSome, MatchOption};
 ghost use Rattle.std.specs.Option.{option_copied};
 ghost use Rattle.byte_format.specs.Plain.{items_in, IsListed};
 ghost use Rattle.leaf_view.specs.Leaf.{entry_of, attribute, plain_entry};
 ghost use Rattle.leaf_view.specs.Shown.{shown};
+ghost use Rattle.leaf_view.specs.Spelled.{IsAll};
 ghost use Rattle.byte_format.specs.Gives.{Gives};
 
 use byte_format::{Stop, maybe_text8_at, more_at, text8_at, text16_at};
@@ -72,9 +73,10 @@ pub(crate) fn entry_at(bytes: &[u8], format: u8) -> Result<(EntryView<'_>, &[u8]
 /// The first record of a list that was checked, and the rest of the list.
 pub(crate) fn split_entry(bytes: &[u8], format: u8) -> Option<(EntryView<'_>, &[u8])>
     requires { IsListed (plain_entry format) bytes.now }
-    ensures { MatchOption result (items_in (plain_entry format) bytes.now ≡ [])
+    ensures first { MatchOption result (items_in (plain_entry format) bytes.now ≡ [])
         (λ x. IsListed (plain_entry format) x.1.now
         × (items_in (plain_entry format) bytes.now ≡ x.0 ∷ items_in (plain_entry format) x.1.now)) }
+    ensures all { IsAll format bytes.now → IfSome result (λ x. IsAll format x.1.now) }
 {
     let Ok((more, rest)) = more_at(bytes, true) else {
         return None;

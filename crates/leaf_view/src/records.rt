@@ -14,22 +14,25 @@ impl<'a> Model for Records<'a> {
     ghost use Rattle.std.specs.Prelude.{List};
     ghost use Rattle.byte_format.specs.Plain.{items_in, IsListed};
     ghost use Rattle.leaf_view.specs.Leaf.{Entry, plain_entry};
+    ghost use Rattle.leaf_view.specs.Spelled.{IsAll};
 
     ghost Value = { List Entry };
 
     ghost view = { λ r. items_in (plain_entry r.format) r.rest.now };
 
-    ghost invariant = { λ r. IsListed (plain_entry r.format) r.rest.now };
+    ghost invariant = { λ r. IsListed (plain_entry r.format) r.rest.now × IsAll r.format r.rest.now };
 }
 
 impl<'a> Records<'a> {
-    ghost use Rattle.std.specs.Prelude.{◌≡◌, [], ◌∷◌, length, ◌==◌, MatchOption};
+    ghost use Rattle.std.specs.Prelude.{◌≡◌, [], ◌∷◌, length, ◌==◌, IfSome, MatchOption};
     ghost use Rattle.byte_format.specs.Plain.{items_in, IsListed};
     ghost use Rattle.leaf_view.specs.Leaf.{plain_entry};
     ghost use Rattle.leaf_view.specs.Shown.{shown};
+    ghost use Rattle.leaf_view.specs.Spelled.{records_spelling, IsAll};
 
     pub(crate) fn of(format: u8, rest: &'a [u8]) -> Records<'a>
-        requires { IsListed (plain_entry format) rest.now }
+        requires listed { IsListed (plain_entry format) rest.now }
+        requires all { IsAll format rest.now }
         ensures { result ≡ items_in (plain_entry format) rest.now }
     {
         Records { format, rest }
@@ -42,6 +45,17 @@ impl<'a> Records<'a> {
         Records {
             format: self.format,
             rest: self.rest,
+        }
+    }
+
+    /// The bytes that spell the records, where the leaf is of format 2: a byte 1 before each, a byte 0 at the end.
+    pub fn spelling(&self) -> Option<&'a [u8]>
+        ensures { IfSome result (λ bytes. bytes.now ≡ records_spelling 2 self.now) }
+    {
+        if self.format == 2 {
+            Some(self.rest)
+        } else {
+            None
         }
     }
 

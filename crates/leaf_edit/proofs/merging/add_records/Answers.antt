@@ -1,17 +1,34 @@
-use Rattle.std.proofs.Common.{◌∙◌}
+use Rattle.std.proofs.Common.{arith, ◌∙◌}
 use Rattle.std.specs.Option.{option_map}
 use Rattle.leaf_view.specs.Shown.{valued}
-use Rattle.leaf_edit.proofs.Sizes.{step-added}
+use Rattle.leaf_edit.proofs.Passed.{leap-size, leap-room, leap-added}
 use Rattle.leaf_edit.proofs.merging.add_records.Goals as goal
 
-pub loop-step-preserved : goal.loop-step-preserved
-loop-step-preserved c =
-    let p = step-added c.loop-step.out c.add_record.new.out _ _ _ _ _ (option_map valued c.in-Some.step.record) _ _ c.again.ensures
-    c.again-in-loop-step.ensures c.in-Some.ensures c.add_record.ensures c.loop-step.invariant.items c.loop-step.invariant.room in
+pub add-requires : goal.add-requires
+add-requires c =
+    omega (
+      arith,
+      leap-size _ c.loop-x.left _ c.loop-x.coming _ (option_map valued c.next_step-step.result.1.record) _ _ c.again.ensures c.again-in-Some.ensures
+          c.next_step-step.ensures,
+    )
+
+pub add_record-requires-clause-room : goal.add_record-requires-clause-room
+add_record-requires-clause-room c =
+    omega (
+      arith,
+      leap-room c.loop-x.out c.add.new.out _ c.loop-x.left _ c.loop-x.coming _ (option_map valued c.next_step-step.result.1.record) _ _ c.again.ensures
+          c.again-in-Some.ensures c.next_step-step.ensures c.add.ensures c.loop-x.invariant.room,
+    )
+
+pub loop-x-preserved : goal.loop-x-preserved
+loop-x-preserved c =
+    let p = leap-added c.loop-x.out c.add.new.out c.add_record.new.out _ _ c.loop-x.left _ c.loop-x.coming _
+    (option_map valued c.next_step-step.result.1.record) _ _ c.again.ensures c.again-in-Some.ensures c.next_step-step.ensures c.add.ensures
+    c.add_record.ensures c.loop-x.invariant.items c.loop-x.invariant.room in
     record {
-      records = c.in-Some.ensures.records;
-      changes = c.in-Some.ensures.changes;
+      records = c.next_step-step.ensures.records;
+      changes = c.next_step-step.ensures.changes;
       items = p.0;
       room = p.1;
-      kept = c.add_record.ensures.capacity ∙ c.loop-step.invariant.kept;
+      kept = c.add_record.ensures.capacity ∙ (c.add.ensures.capacity ∙ c.loop-x.invariant.kept);
     }

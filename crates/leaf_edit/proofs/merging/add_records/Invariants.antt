@@ -7,8 +7,8 @@ use Rattle.leaf_edit.specs.Sizes.{entries_size}
 use Rattle.leaf_edit.specs.Spelled.{entries_bytes}
 use Rattle.leaf_edit.proofs.merging.add_records.Given as goal
 
-abbrev pub invariant-loop-step : goal.invariant-loop-step
-invariant-loop-step l = record {
+abbrev pub invariant-loop-x : goal.invariant-loop-x
+invariant-loop-x l = record {
   records : AreRecords l.left;
   changes : AreChanges l.coming;
   items : l.out.items ++ entries_bytes (edited_by l.left l.coming)
@@ -17,5 +17,5 @@ invariant-loop-step l = record {
   kept : vec_capacity l.out ≡ vec_capacity l.initial.out;
 }
 
-abbrev pub decreases-loop-step : goal.decreases-loop-step
-decreases-loop-step l = length l.left + length l.coming
+abbrev pub decreases-loop-x : goal.decreases-loop-x
+decreases-loop-x l = length l.left + length l.coming

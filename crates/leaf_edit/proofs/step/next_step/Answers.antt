@@ -1,12 +1,11 @@
-use Rattle.std.proofs.Common.{Some, refl, sym, subst}
-use Rattle.leaf_view.specs.Leaf.{Entry}
-use Rattle.leaf_edit.specs.Merging.{Steps}
-use Rattle.leaf_view.specs.Shown.{shown}
-use Rattle.leaf_edit.proofs.Stepping.{steps-record}
+use Rattle.std.proofs.Common.{drop}
+use Rattle.std.specs.Option.{option_map}
+use Rattle.leaf_view.specs.Shown.{valued}
+use Rattle.leaf_edit.proofs.Passed.{leaps}
 use Rattle.leaf_edit.proofs.step.next_step.Goals as goal
 
-pub returns-in-Some-split : goal.returns-in-Some-split
-returns-in-Some-split c =
-    let P : Entry → Type 0 = λ e. Steps c.args.records c.args.changes (Some e) c.in-Some-split.behind c.args.changes in
-    subst P (sym c.kept.ensures)
-    (steps-record _ (shown c.in-Some-split.record) _ _ _ c.in-Some-split.ensures c.requires.records c.in-None.ensures refl)
+pub returns : goal.returns
+returns c =
+    leaps c.args.records c.pass-rest.result.1 c.args.changes c.args.x.now (drop 1 c.args.changes) c.key_at.result.now c.pass-rest.result.0.now
+    c.pass-rest.ensures.0 (option_map valued c.at_change.result.record) c.at_change.result.records c.at_change.result.changes
+    c.requires.first c.requires.changes c.key_at.ensures.key c.pass-rest.ensures.1 c.pass-rest.ensures.2 c.at_change.ensures

@@ -3,22 +3,28 @@ use Rattle.byte_format.specs.Format.{more_at}
 use Rattle.byte_format.proofs.Plain.{more_of, ended_of, split_is, item_of}
 use Rattle.leaf_view.specs.Leaf.{plain_entry}
 use Rattle.leaf_view.proofs.Exactness.{plain_entry_exact}
+use Rattle.leaf_view.proofs.Spelled.{all-behind}
 use Rattle.leaf_view.proofs.entry.split_entry.Goals as goal
 
-pub returns-in_default : goal.returns-in_default
-returns-in_default c = absurd (more_of (plain_entry c.args.format) c.args.bytes.now c.in_default.field-0.left c.requires c.in_default.ensures)
+pub returns-in_default-clause-first : goal.returns-in_default-clause-first
+returns-in_default-clause-first c = absurd (more_of (plain_entry c.args.format) c.args.bytes.now c.in_default.field-0.left c.requires c.in_default.ensures)
 
-pub returns-then-not-more : goal.returns-then-not-more
-returns-then-not-more c =
+pub returns-then-not-more-clause-first : goal.returns-then-not-more-clause-first
+returns-then-not-more-clause-first c =
     let more : more_at true c.args.bytes.now ≡ Ok (false, c.in-Ok.rest.now) = cc (c.in-Ok.ensures) in
     ended_of (plain_entry c.args.format) c.args.bytes.now c.in-Ok.rest.now more
 
-pub returns-in_default-entry_at : goal.returns-in_default-entry_at
-returns-in_default-entry_at c =
+pub returns-in_default-entry_at-clause-first : goal.returns-in_default-entry_at-clause-first
+returns-in_default-entry_at-clause-first c =
     let more : more_at true c.args.bytes.now ≡ Ok (true, c.in-Ok.rest.now) = cc (c.in-Ok.ensures) in
     absurd (item_of (plain_entry c.args.format) (plain_entry_exact c.args.format) c.args.bytes.now c.in-Ok.rest.now c.in_default-entry_at.field-0.left (λ i. omega (arith, c.type_inv.bytes i)) c.requires more c.in_default-entry_at.ensures)
 
-pub returns : goal.returns
-returns c =
+pub returns-clause-first : goal.returns-clause-first
+returns-clause-first c =
     let more : more_at true c.args.bytes.now ≡ Ok (true, c.in-Ok.rest.now) = cc (c.in-Ok.ensures) in
     split_is (plain_entry c.args.format) (plain_entry_exact c.args.format) c.args.bytes.now c.in-Ok.rest.now (c.in-Ok-entry_at.entry, c.in-Ok-entry_at.rest.now) (λ i. omega (arith, c.type_inv.bytes i)) c.requires more c.in-Ok-entry_at.ensures
+
+pub returns-clause-all : goal.returns-clause-all
+returns-clause-all c =
+    let more : more_at true c.args.bytes.now ≡ Ok (true, c.in-Ok.rest.now) = cc (c.in-Ok.ensures) in
+    λ all. all-behind c.args.format c.args.bytes.now c.in-Ok.rest.now (c.in-Ok-entry_at.entry, c.in-Ok-entry_at.rest.now) (λ i. omega (arith, c.type_inv.bytes i)) c.requires more c.in-Ok-entry_at.ensures all

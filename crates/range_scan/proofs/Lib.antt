@@ -1,5 +1,7 @@
 pub mod Outcomes
 pub mod Fences
+pub mod Order
+pub mod Placing
 pub mod Pairs
 pub mod Whole
 pub mod ScanLemmas

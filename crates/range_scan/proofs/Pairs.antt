@@ -1,47 +1,34 @@
 -- The list of a leaf's pairs has each of them once, in key order, and no other.
-use Rattle.std.proofs.Common.{◌≡◌, ℕ, Bool, true, false, List, [], ◌∷◌, Option, Some, None, refl, ap, sym, subst, ◌∙◌, map, ◌+◌, ◌++◌, take, add-one, Bor}
-use Rattle.std.specs.Prelude.{◌&&◌, nat_eq, nat_lt, ◌==◌, cond, if◌then◌else◌, filter, fold, slice_get}
+use Rattle.std.proofs.Common.{◌≡◌, ℕ, Bool, true, false, List, [], ◌∷◌, Option, Some, None, refl, ap, sym, subst, ◌∙◌, ◌+◌, ◌++◌, take, add-one}
+use Rattle.std.specs.Prelude.{◌&&◌, nat_eq, nat_lt, ◌==◌, if◌then◌else◌, filter, fold, slice_get}
 use Rattle.std.proofs.lemmas.Bool.{eq-eqb, eqb-true}
 use Rattle.std.proofs.lemmas.List.Sums.{fold_push}
 use Rattle.std.proofs.lemmas.Option.{slice_get_within, get_or_from_slice_get}
 use Rattle.std.proofs.lemmas.Slice.Eq.{bytes_eq-Decides}
 use Rattle.std.proofs.Math.Seq.{take-suc}
 use Rattle.std.specs.Str.{bytes_eq}
-use Rattle.std.specs.Ordering.{match_ordering, ordering_reverse, is_eq, is_lt, nat_cmp}
-use Rattle.std.specs.Cmp.Lexicographic.{slice_cmp}
-use Rattle.std.specs.Map.{lookup, remove_entry}
+use Rattle.std.specs.Ordering.{match_ordering, ordering_reverse, is_eq}
 use Rattle.std.specs.declared.cmp.Ordering.{Ordering}
 use Rattle.std.specs.declared.cmp.Ordering.TheVariants.{Less, Equal, Greater}
-use Rattle.std.specs.BTreeMap.{insert_entry}
 use Rattle.std.proofs.lemmas.Cmp.{tied_itself, nat_list_cmp_total}
 use Rattle.std.proofs.lemmas.Map.Text.{is_eq-slice_cmp}
 use Rattle.byte_format.specs.Order.{bytes_cmp, bytes_same}
 use Rattle.byte_format.proofs.OrderLemmas.{same_is, same_itself}
-use Rattle.leaf_view.specs.Fits.{Ascend, entry_below}
+use Rattle.leaf_view.specs.Fits.{Ascend, entry_below, IsWellFormed}
 use Rattle.leaf_view.specs.Leaf.{Entry}
 use Rattle.leaf_view.specs.Lookup.{value_of, number_of}
-use Rattle.leaf_view.specs.Shown.{valued}
 use Rattle.db_base.specs.Value.{Value}
 use Rattle.db_base.specs.Change.{act, key_of}
 use Rattle.db_base.specs.declared.change.Change.{Change}
 use Rattle.head_codec.specs.declared.lists.Pending.{Pending}
 use Rattle.txn_buffer.specs.Noted.{Noted, AreDistinct, found_in, is_of}
 use Rattle.route_plan.specs.Seen.{is_lacked_by, after_pending, after_buffered}
-use Rattle.range_scan.specs.Pairs.{Sight, BelowFirst, IsAscending, AreItems, is_listed, put_pair, without_pair, with_value, acted, with_record, is_listed_pending, with_pending, with_noted, items_of}
+use Rattle.range_scan.proofs.Order.{is_less}
+use Rattle.range_scan.proofs.Placing.{below_more, none_below, same_flip, records_between}
+use Rattle.range_scan.specs.Bounds.{cut_at, from_on, up_to}
+use Rattle.range_scan.specs.Pairs.{Sight, BelowFirst, IsAscending, AreItems, is_listed, put_pair, without_pair, with_value, acted, with_record, with_records, is_listed_pending, with_pending, with_noted, items_of}
 
 -- ---- a pair in its place
-
--- what a map of slices does to its entries
-pub valued_inserted : (es : List (Bor (List ℕ) × Value)) (k : Bor (List ℕ)) (v : Value)
-    → map valued (insert_entry (λ (a b : Bor (List ℕ)). slice_cmp nat_cmp a.now b.now) es k v) ≡ put_pair (map valued es) k.now v
-valued_inserted [] k v = refl
-valued_inserted (e ∷ es) k v = on (bytes_cmp k.now e.0.now) (valued_inserted es k v) where
-  on : (o : Ordering) → map valued (insert_entry (λ (a b : Bor (List ℕ)). slice_cmp nat_cmp a.now b.now) es k v) ≡ put_pair (map valued es) k.now v
-      → map valued (match_ordering o ((k, v) ∷ e ∷ es) ((e.0, v) ∷ es) (e ∷ insert_entry (λ (a b : Bor (List ℕ)). slice_cmp nat_cmp a.now b.now) es k v))
-      ≡ match_ordering o (record { key = k.now; value = v } ∷ valued e ∷ map valued es) (record { key = e.0.now; value = v } ∷ map valued es) (valued e ∷ put_pair (map valued es) k.now v)
-  on Less h = refl
-  on Equal h = refl
-  on Greater h = ap (λ (xs : List Entry). valued e ∷ xs) h
 
 put_below : (low key : List ℕ) (value : Value) (es : List Entry) → bytes_cmp low key ≡ Less → BelowFirst low es → BelowFirst low (put_pair es key value)
 put_below low key value [] below h = below
@@ -94,41 +81,6 @@ put_finds q key value (e ∷ es) = on (bytes_cmp key e.key) refl (put_finds q ke
   on Greater is h = twice (bytes_same key q) (bytes_same e.key q) (apart is) (value_of q (put_pair es key value)) h
 
 -- ---- a pair taken out
-
-same_flip : (a b : List ℕ) → bytes_same a b ≡ bytes_same b a
-same_flip a b = ap is_eq (nat_list_cmp_total.antisymm a b) ∙ turned (bytes_cmp b a) where
-  turned : (o : Ordering) → is_eq (ordering_reverse o) ≡ is_eq o
-  turned Less = refl
-  turned Equal = refl
-  turned Greater = refl
-
--- what a map of slices does to its entries
-pub valued_removed : (es : List (Bor (List ℕ) × Value)) (k : Bor (List ℕ))
-    → map valued (remove_entry (λ (a : Bor (List ℕ)). bytes_same k.now a.now) es) ≡ without_pair (map valued es) k.now
-valued_removed [] k = refl
-valued_removed (e ∷ es) k = on (bytes_same k.now e.0.now) (valued_removed es k) where
-  on : (b : Bool) → map valued (remove_entry (λ (a : Bor (List ℕ)). bytes_same k.now a.now) es) ≡ without_pair (map valued es) k.now
-      → map valued (cond b es (e ∷ remove_entry (λ (a : Bor (List ℕ)). bytes_same k.now a.now) es)) ≡ (if b then map valued es else valued e ∷ without_pair (map valued es) k.now)
-  on true h = refl
-  on false h = ap (λ (xs : List Entry). valued e ∷ xs) h
-
-pub valued_found : (es : List (Bor (List ℕ) × Value)) (k : Bor (List ℕ))
-    → lookup (λ (a : Bor (List ℕ)). bytes_same k.now a.now) es ≡ value_of k.now (map valued es)
-valued_found [] k = refl
-valued_found (e ∷ es) k =
-    ap (λ (o : Option Value). cond (bytes_same k.now e.0.now) (Some e.1) o) (valued_found es k)
-    ∙ ap (λ (b : Bool). cond b (Some e.1) (value_of k.now (map valued es))) (same_flip k.now e.0.now)
-
-below_more : (key low : List ℕ) (es : List Entry) → bytes_cmp key low ≡ Less → BelowFirst low es → BelowFirst key es
-below_more key low [] below h = tt
-below_more key low (e ∷ es) below h = nat_list_cmp_total.trans key low e.key below h
-
--- a list that begins above a key has none there
-none_below : (key : List ℕ) (es : List Entry) → IsAscending es → BelowFirst key es → value_of key es ≡ None
-none_below key [] h below = refl
-none_below key (e ∷ es) h below =
-    ap (λ (b : Bool). if b then Some e.value else value_of key es) (same_flip e.key key ∙ ap is_eq below)
-    ∙ none_below key es h.1 (below_more key e.key es below h.0)
 
 without_below : (low key : List ℕ) (es : List Entry) → IsAscending es → BelowFirst low es → BelowFirst low (without_pair es key)
 without_below low key [] h below = tt
@@ -210,10 +162,10 @@ all_ascend f keeps (x ∷ xs) pairs h = all_ascend f keeps xs (f pairs x) (keeps
 record_ascends : (s : Sight) (pairs : List Entry) (e : Entry) → IsAscending pairs → IsAscending (with_record s pairs e)
 record_ascends s pairs e h = if_ascends (is_listed s e.key) _ _ (put_ascends pairs e.key e.value h) h
 
-pending_ascends : (s : Sight) (pairs : List Entry) (p : Pending) → IsAscending pairs → IsAscending (with_pending s pairs p)
+pub pending_ascends : (s : Sight) (pairs : List Entry) (p : Pending) → IsAscending pairs → IsAscending (with_pending s pairs p)
 pending_ascends s pairs p h = if_ascends (is_listed_pending s p) _ _ (acted_ascends pairs p.change h) h
 
-noted_ascends : (s : Sight) (pairs : List Entry) (n : Noted) → IsAscending pairs → IsAscending (with_noted s pairs n)
+pub noted_ascends : (s : Sight) (pairs : List Entry) (n : Noted) → IsAscending pairs → IsAscending (with_noted s pairs n)
 noted_ascends s pairs n h = if_ascends ((n.tree == s.tree) && is_listed s (key_of n.change)) _ _ (acted_ascends pairs n.change h) h
 
 -- ---- what a list has at a key: a value where the key is asked for, and nothing else
@@ -222,11 +174,6 @@ abbrev Shows : Sight → List ℕ → Option Value → List Entry → Type 0
 Shows s q v pairs = value_of q pairs ≡ (if is_listed s q then v else None)
 
 -- ---- the records
-
-is_less : (o : Ordering) → is_lt o ≡ true → o ≡ Less
-is_less Less e = refl
-is_less Equal e = absurd (cc (e))
-is_less Greater e = absurd (cc (e))
 
 ascending_behind : (before : Entry) (es : List Entry) → Ascend entry_below (Some before) es → BelowFirst before.key es × IsAscending es
 ascending_behind before [] h = (tt, tt)
@@ -396,20 +343,20 @@ all_noted s q (n ∷ ns) pairs v apart up h = on (is_of s.tree q n) refl (noted_
 
 -- ---- the whole list
 
-abbrev with_records : Sight → List Entry
-with_records s = fold (with_record s) [] s.leaf.records
+pub ordered : (es : List Entry) → Ascend entry_below None es → IsAscending es
+ordered [] g = tt
+ordered (e ∷ es) g = ascending_behind e es g.1
+
+pub with_records_ascend : (s : Sight) → IsAscending (with_records s)
+with_records_ascend s = all_ascend (with_record s) (record_ascends s) s.leaf.records [] tt
 
 abbrev with_pendings : Sight → List Entry
 with_pendings s = fold (with_pending s) (with_records s) s.head.pending
 
 are_items : (s : Sight) → Ascend entry_below None s.leaf.records → AreDistinct s.buffer → AreItems s (items_of s)
 are_items s h apart = record { ascending = ascend; each = has } where
-  ordered : (es : List Entry) → Ascend entry_below None es → IsAscending es
-  ordered [] g = tt
-  ordered (e ∷ es) g = ascending_behind e es g.1
-
   up_first : IsAscending (with_records s)
-  up_first = all_ascend (with_record s) (record_ascends s) s.leaf.records [] tt
+  up_first = with_records_ascend s
 
   up_next : IsAscending (with_pendings s)
   up_next = all_ascend (with_pending s) (pending_ascends s) s.head.pending (with_records s) up_first
@@ -440,53 +387,14 @@ one_buffered s start now new buffer i n at before is =
 
 -- ---- what the code makes
 
-pub record_added : (s : Sight) (es new : List (Bor (List ℕ) × Value)) (old : List Entry) (k : Bor (List ℕ)) (e : Entry) (v : Value) → is_listed s e.key ≡ true → k.now ≡ e.key → v ≡ e.value
-    → map valued es ≡ old → new ≡ insert_entry (λ (a b : Bor (List ℕ)). slice_cmp nat_cmp a.now b.now) es k v → map valued new ≡ with_record s old e
-record_added s es new old k e v is key value view put =
-    ap (λ (x : List (Bor (List ℕ) × Value)). map valued x) put
-    ∙ valued_inserted es k v
-    ∙ ap (λ (x : List Entry). put_pair x k.now v) view
-    ∙ ap (λ (q : List ℕ). put_pair old q v) key
-    ∙ ap (λ (x : Value). put_pair old e.key x) value
-    ∙ ap (λ (b : Bool). if b then put_pair old e.key e.value else old) (sym is)
-
--- what a change leaves, by the value before it
-by_value : (es left : List (Bor (List ℕ) × Value)) (old : List Entry) (k : Bor (List ℕ)) (c : Change) (before after : Option Value) → k.now ≡ key_of c → map valued es ≡ old
-    → before ≡ lookup (λ (a : Bor (List ℕ)). bytes_same k.now a.now) es → left ≡ remove_entry (λ (a : Bor (List ℕ)). bytes_same k.now a.now) es → after ≡ act before c
-    → with_value (map valued left) k.now after ≡ acted old c
-by_value es left old k c before after key view was removed is =
-    let found : before ≡ value_of (key_of c) old =
-    was ∙ valued_found es k ∙ ap (λ (x : List Entry). value_of k.now x) view ∙ ap (λ (q : List ℕ). value_of q old) key in
-    let gone : map valued left ≡ without_pair old k.now =
-    ap (λ (x : List (Bor (List ℕ) × Value)). map valued x) removed ∙ valued_removed es k ∙ ap (λ (x : List Entry). without_pair x k.now) view in
-    ap (λ (x : List Entry). with_value x k.now after) gone
-    ∙ ap (λ (q : List ℕ). with_value (without_pair old q) q after) key
-    ∙ ap (λ (o : Option Value). with_value (without_pair old (key_of c)) (key_of c) o) (is ∙ ap (λ (o : Option Value). act o c) found)
-
-pub change_left : (es left : List (Bor (List ℕ) × Value)) (old : List Entry) (k : Bor (List ℕ)) (c : Change) (before : Option Value) → k.now ≡ key_of c → map valued es ≡ old
-    → before ≡ lookup (λ (a : Bor (List ℕ)). bytes_same k.now a.now) es → left ≡ remove_entry (λ (a : Bor (List ℕ)). bytes_same k.now a.now) es → None ≡ act before c
-    → map valued left ≡ acted old c
-change_left es left old k c before key view was removed is = by_value es left old k c before None key view was removed is
-
-pub change_put : (es left new : List (Bor (List ℕ) × Value)) (old : List Entry) (k : Bor (List ℕ)) (c : Change) (before : Option Value) (v : Value) → k.now ≡ key_of c → map valued es ≡ old
-    → before ≡ lookup (λ (a : Bor (List ℕ)). bytes_same k.now a.now) es → left ≡ remove_entry (λ (a : Bor (List ℕ)). bytes_same k.now a.now) es → Some v ≡ act before c
-    → new ≡ insert_entry (λ (a b : Bor (List ℕ)). slice_cmp nat_cmp a.now b.now) left k v → map valued new ≡ acted old c
-change_put es left new old k c before v key view was removed is put =
-    ap (λ (x : List (Bor (List ℕ) × Value)). map valued x) put ∙ valued_inserted left k v ∙ by_value es left old k c before (Some v) key view was removed is
-
-pub are_listed : (s x : Sight) (a b c d records : List Entry) (pending : List Pending) → x ≡ s → a ≡ [] → records ≡ x.leaf.records → pending ≡ x.head.pending
-    → b ≡ fold (with_record s) a records → c ≡ fold (with_pending s) b pending → d ≡ fold (with_noted s) c x.buffer → d ≡ items_of s
-are_listed s x a b c d records pending same none of_leaf of_head one two three =
-    let B : b ≡ with_records s =
-    one
-    ∙ ap (λ (z : List Entry). fold (with_record s) z records) none
-    ∙ ap (λ (r : List Entry). fold (with_record s) [] r) of_leaf
-    ∙ ap (λ (y : Sight). fold (with_record s) [] y.leaf.records) same in
+pub are_listed : (s x : Sight) (b c d : List Entry) (pending : List Pending) → x ≡ s → pending ≡ x.head.pending → b ≡ with_records s
+    → c ≡ fold (with_pending s) b pending → d ≡ fold (with_noted s) c x.buffer → d ≡ items_of s
+are_listed s x b c d pending same of_head one two three =
     let C : c ≡ with_pendings s =
     two
     ∙ ap (λ (p : List Pending). fold (with_pending s) b p) of_head
     ∙ ap (λ (y : Sight). fold (with_pending s) b y.head.pending) same
-    ∙ ap (λ (z : List Entry). fold (with_pending s) z s.head.pending) B in
+    ∙ ap (λ (z : List Entry). fold (with_pending s) z s.head.pending) one in
     three
     ∙ ap (λ (y : Sight). fold (with_noted s) c y.buffer) same
     ∙ ap (λ (z : List Entry). fold (with_noted s) z s.buffer) C
@@ -494,3 +402,13 @@ are_listed s x a b c d records pending same none of_leaf of_head one two three =
 pub items_are : (s x : Sight) (pairs : List Entry) → x ≡ s → Ascend entry_below None x.leaf.records → AreDistinct x.buffer → pairs ≡ items_of s → AreItems s pairs
 items_are s x pairs same h apart e =
     subst (AreItems s) (sym e) (are_items s (subst (λ (y : Sight). Ascend entry_below None y.leaf.records) same h) (subst (λ (y : Sight). AreDistinct y.buffer) same apart))
+
+pub records_listed : (s x : Sight) (records skipped start items : List Entry) (cut : Option (List ℕ)) → x ≡ s → IsWellFormed x.leaf → records ≡ x.leaf.records
+    → skipped ≡ from_on x.from records → cut ≡ cut_at s.leaf.high s.to → start ≡ [] → items ≡ start ++ up_to cut skipped → items ≡ with_records s
+records_listed s x records skipped start items cut same formed of_leaf skip end none up =
+    let h : IsWellFormed s.leaf = subst (λ (y : Sight). IsWellFormed y.leaf) same formed in
+    up
+    ∙ ap (λ (z : List Entry). z ++ up_to cut skipped) none
+    ∙ ap (λ (k : Option (List ℕ)). up_to k skipped) end
+    ∙ ap (up_to (cut_at s.leaf.high s.to)) (skip ∙ ap (from_on x.from) of_leaf ∙ ap (λ (y : Sight). from_on y.from y.leaf.records) same)
+    ∙ records_between s (ordered s.leaf.records h.records_ascend) h.records

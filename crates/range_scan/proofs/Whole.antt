@@ -1,13 +1,9 @@
 -- The joined lists of a scan's leaves ascend, and have each key's pair as its leaf shows it.
-use Rattle.std.proofs.Common.{◌≡◌, ◌≢◌, ℕ, Bool, true, false, List, [], ◌∷◌, ◌++◌, Option, Some, None, refl, ap, subst, ◌∙◌}
+use Rattle.std.proofs.Common.{◌≡◌, ◌≢◌, ℕ, Bool, true, false, List, [], ◌∷◌, ◌++◌, Option, Some, None, refl, ap, ◌∙◌}
 use Rattle.std.specs.Prelude.{◌&&◌, not, if◌then◌else◌}
 use Rattle.std.specs.List.{AllByRecursion}
-use Rattle.std.specs.Ordering.{ordering_reverse, is_eq, is_lt}
-use Rattle.std.specs.declared.cmp.Ordering.{Ordering}
-use Rattle.std.specs.declared.cmp.Ordering.TheVariants.{Less, Equal, Greater}
-use Rattle.std.proofs.lemmas.Cmp.{nat_list_cmp_total}
-use Rattle.byte_format.specs.Order.{bytes_cmp, bytes_below, bytes_same, below_bound}
-use Rattle.byte_format.proofs.OrderLemmas.{same_is, same_itself}
+use Rattle.byte_format.specs.Order.{bytes_below, bytes_same, below_bound}
+use Rattle.byte_format.proofs.OrderLemmas.{same_itself}
 use Rattle.leaf_view.specs.Fits.{IsHigh}
 use Rattle.db_base.specs.Value.{Value}
 use Rattle.leaf_view.specs.Leaf.{Entry, Leaf, IsLeaf}
@@ -16,35 +12,8 @@ use Rattle.leaf_view.proofs.Split.{leaf_fits}
 use Rattle.route_plan.specs.Seen.{seen}
 use Rattle.range_scan.specs.Pairs.{Sight, BelowFirst, IsAscending, item_at}
 use Rattle.range_scan.specs.Listing.{Range, AreMeeting}
+use Rattle.range_scan.proofs.Order.{bound_trans, below_least}
 use Rattle.range_scan.specs.Whole.{Listed, leaves_in, all_pairs, IsFenced, IsListed, IsOutside, IsAmong, IsWhole}
-
--- ---- the order of keys
-
-is_less : (o : Ordering) → is_lt o ≡ true → o ≡ Less
-is_less Less e = refl
-is_less Equal e = absurd (cc (e))
-is_less Greater e = absurd (cc (e))
-
-below_trans : (a b c : List ℕ) → bytes_below a b ≡ true → bytes_below b c ≡ true → bytes_below a c ≡ true
-below_trans a b c e f = ap is_lt (nat_list_cmp_total.trans a b c (is_less (bytes_cmp a b) e) (is_less (bytes_cmp b c) f))
-
-bound_trans : (a b : List ℕ) (bound : Option (List ℕ)) → bytes_below a b ≡ true → below_bound b bound ≡ true → below_bound a bound ≡ true
-bound_trans a b None e f = refl
-bound_trans a b (Some c) e f = below_trans a b c e f
-
--- a key below one that another is not below
-below_least : (a b c : List ℕ) → bytes_below a b ≡ true → bytes_below c b ≡ false → bytes_cmp a c ≡ Less
-below_least a b c e f = on (bytes_cmp b c) refl where
-  less : bytes_cmp a b ≡ Less
-  less = is_less (bytes_cmp a b) e
-
-  on : (o : Ordering) → bytes_cmp b c ≡ o → bytes_cmp a c ≡ Less
-  on Less is = nat_list_cmp_total.trans a b c less is
-  on Equal is = subst (λ (k : List ℕ). bytes_cmp a k ≡ Less) (same_is b c (ap is_eq is)) less
-  on Greater is =
-      let back : bytes_cmp c b ≡ Less = nat_list_cmp_total.antisymm c b ∙ ap ordering_reverse is in
-      let below : bytes_below c b ≡ true = ap is_lt back in
-      absurd (cc (below, f))
 
 -- ---- lists of pairs
 

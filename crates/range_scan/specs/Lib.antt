@@ -1,6 +1,7 @@
 pub mod Scan
 pub mod Ending
 pub mod Pairs
+pub mod Bounds
 pub mod Listing
 pub mod Causing
 pub mod Within

@@ -87,9 +87,13 @@ with_pending s pairs p = if is_listed_pending s p then acted pairs p.change else
 abbrev pub with_noted : Sight → List Entry → Noted → List Entry
 with_noted s pairs n = if (n.tree == s.tree) && is_listed s (key_of n.change) then acted pairs n.change else pairs
 
--- the leaf's records, after the client's pending entries and then its buffered changes
+-- the leaf's records whose keys are asked for
+abbrev pub with_records : Sight → List Entry
+with_records s = fold (with_record s) [] s.leaf.records
+
+-- .. after the client's pending entries and then its buffered changes
 abbrev pub items_of : Sight → List Entry
-items_of s = fold (with_noted s) (fold (with_pending s) (fold (with_record s) [] s.leaf.records) s.head.pending) s.buffer
+items_of s = fold (with_noted s) (fold (with_pending s) (with_records s) s.head.pending) s.buffer
 
 -- ---- of a scan
 

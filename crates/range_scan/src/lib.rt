@@ -1,6 +1,7 @@
 //! Scans of a range of keys.
 #![tactic(auto)]
 
+mod bounds;
 mod items;
 mod laws;
 mod scan;

@@ -334,7 +334,7 @@ impl RangeScan {
 
     /// The pairs of the leaf at which the scan ended as its client sees them, from the scan's first key on and below its last one, in
     /// key order, the client's own changes included; none where the cache does not keep the leaf. It is a list that borrows keys and
-    /// payloads and attributes where they lie, not an iterator over its sources: own keys come between those of the leaf, and a map orders them once.
+    /// payloads and attributes where they lie, not an iterator over its sources: own keys come between those of the leaf, each at its place.
     /// Fails for memory alone.
     pub fn items<'a>(
         &'a self,

@@ -1,10 +1,13 @@
 //! What of its own a client sees in a leaf.
 
-ghost use Rattle.std.specs.Prelude.{◌≡◌, ◌==◌, ◌&&◌};
+ghost use Rattle.std.specs.Prelude.{◌≡◌, ◌==◌, ◌&&◌, List, ℕ};
+ghost use Rattle.std.specs.Option.{option_copied};
 ghost use Rattle.db_base.specs.Change.{key_of};
+ghost use Rattle.range_scan.specs.Bounds.{AreBoundsOf, cut_at};
 ghost use Rattle.range_scan.specs.Pairs.{is_listed, is_listed_pending};
 
-use byte_format::{is_below, is_below_bound};
+use crate::bounds::{Bounds, later, nearer};
+use byte_format::is_below_bound;
 use db_base::change::Change;
 use db_base::ids::{ClientId, TreeId};
 use head_codec::entry::Entry;
@@ -55,27 +58,42 @@ impl<'a> Model for Sight<'a> {
 }
 
 impl<'a> Sight<'a> {
-    /// Whether a key is asked for, and one of the leaf's.
-    pub(crate) fn is_listed(&self, key: &[u8]) -> bool
-        ensures { result ≡ is_listed self.now key.now }
+    /// Between which keys a key is asked for, and one of the leaf's.
+    pub(crate) fn bounds(&self) -> Bounds<'a>
+        ensures { AreBoundsOf self.now result }
     {
-        self.leaf.holds(key) && !is_below(key, self.from) && is_below_bound(key, self.to)
+        Bounds {
+            from: later(self.leaf.low(), self.from),
+            to: nearer(self.leaf.high(), self.to),
+        }
+    }
+
+    /// The key of the leaf's range below which keys are asked for; none where no key of the leaf is too great.
+    pub(crate) fn cut(&self) -> Option<&'a [u8]>
+        ensures { option_copied result ≡ cut_at self.now.leaf.high self.now.to }
+    {
+        match self.to {
+            Some(to) if is_below_bound(to, self.leaf.high()) => Some(to),
+            _ => None,
+        }
     }
 
     /// Whether a pending entry is of a key that is asked for, and the leaf lacks it.
-    pub(crate) fn lists_pending(&self, entry: &Entry) -> bool
+    pub(crate) fn lists_pending(&self, bounds: &Bounds<'a>, entry: &Entry) -> bool
+        requires { AreBoundsOf self.now bounds.now }
         ensures { result ≡ is_listed_pending self.now entry.now }
     {
         let entry = entry.get();
         entry.tree.get() == self.tree.get()
-            && self.is_listed(entry.change.key().as_slice())
+            && bounds.hold(entry.change.key().as_slice())
             && self.leaf.done(entry.page, self.client) < entry.number
     }
 
     /// Whether a change that is noted for a tree is of a key that is asked for.
-    pub(crate) fn lists_noted(&self, tree: TreeId, change: &Change) -> bool
+    pub(crate) fn lists_noted(&self, bounds: &Bounds<'a>, tree: TreeId, change: &Change) -> bool
+        requires { AreBoundsOf self.now bounds.now }
         ensures { result ≡ ((tree == self.now.tree) && is_listed self.now (key_of change.now)) }
     {
-        tree.get() == self.tree.get() && self.is_listed(change.key().as_slice())
+        tree.get() == self.tree.get() && bounds.hold(change.key().as_slice())
     }
 }

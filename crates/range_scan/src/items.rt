@@ -89,7 +89,8 @@ impl<'a> Items<'a> {
         Ok(())
     }
 
-    /// The leaf's records whose keys are asked for. They ascend, so only those at the two ends are looked at. Fails for memory alone.
+    /// The leaf's records whose keys are asked for. They ascend, so none is put before another, and a key is compared only where a bound lies
+    /// inside the leaf's range. Fails for memory alone.
     fn of_records(alloc: Global, sight: &Sight<'a>) -> Result<Items<'a>, AllocError>
         ensures records { IfOk result (λ items. items ≡ with_records sight.now) }
         ensures formed { IsWellFormed sight.now.leaf }

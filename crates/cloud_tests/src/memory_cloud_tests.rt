@@ -56,7 +56,7 @@ trait Shown: Bench {
 
 impl Shown for MemoryCloud {
     fn has_version(&self, name: ObjName, number: u64) -> bool {
-        self.version(name, number).is_some()
+        self.has_version(name, number)
     }
 
     fn has_message(&self, queue: QueueName, number: u64) -> bool {
@@ -204,7 +204,7 @@ fn plants(cloud: &mut MemoryCloud, names: &Names) -> bool {
         && cloud.plant_message(names.queue, b"b").is_ok()
         && cloud.plant(names.object, b"c").is_ok()
         && cloud.message(names.queue, MsgId::new(2)) == Some(b"b".as_slice())
-        && cloud.version(names.object, 1) == Some(b"c".as_slice())
+        && cloud.version_is(names.object, 1, b"c")
 }
 
 #[test]

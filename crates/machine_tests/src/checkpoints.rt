@@ -294,7 +294,11 @@ impl Bench {
     }
 
     fn has(&self, number: u64, version: u64, bytes: Option<&[u8]>) -> Result<(), Fail> {
-        is(self.cloud.version(object(number)?, version) == bytes)
+        let name = object(number)?;
+        match bytes {
+            Some(bytes) => is(self.cloud.version_is(name, version, bytes)),
+            None => is(!self.cloud.has_version(name, version)),
+        }
     }
 
     fn leaf(&mut self, number: u64, version: u64, right: u64, count: usize) -> Result<(), Fail> {

@@ -23,7 +23,7 @@ trait Store: Bench {
 
 impl Store for MemoryCloud {
     fn has_version(&self, name: ObjName, number: u64, wanted: &[u8]) -> bool {
-        self.version(name, number) == Some(wanted)
+        self.version_is(name, number, wanted)
     }
 }
 

@@ -2,7 +2,9 @@
 #![tactic(auto)]
 
 mod calls;
+mod common;
 mod copies;
+mod kept;
 mod locks;
 pub mod memory;
 pub mod mood;
@@ -10,4 +12,5 @@ mod objects;
 mod queue;
 mod queues;
 mod service;
+mod shared;
 mod store;

@@ -1,4 +1,4 @@
-ghost use Rattle.std.specs.Prelude.{◌≡◌, [], None, Some, OnOk, OnErr, IfOk, IfErr, IsTrue};
+ghost use Rattle.std.specs.Prelude.{◌≡◌, [], None, Some, OnOk, OnErr, IfOk, IfErr, IsTrue, is_some};
 ghost use Rattle.std.specs.Option.{option_copied};
 ghost use Rattle.memory_cloud.specs.Memory.{planter};
 
@@ -35,6 +35,7 @@ impl Drop for MemoryCloud {
 impl MemoryCloud {
     ghost use Rattle.db_base.specs.declared.wish.Wish.TheVariants.{Plain};
     ghost use Rattle.cloud_trait.specs.State.{IsEmptyCloud, called, landed, sent, version_at, message_at};
+    ghost use Rattle.cloud_trait.specs.Bench.{has_bytes};
     ghost use Rattle.memory_cloud.specs.Memory.{state_of, counts_of, told_state, is_planted, next_mood, next_call, failing_calls, CountsCall, MakesNoCall};
     ghost use Rattle.memory_cloud.specs.Mood.{HasRoom, mood_at, wanted_mood, has_room};
 
@@ -80,11 +81,18 @@ impl MemoryCloud {
         Ok(cloud)
     }
 
-    /// The bytes of the n-th version of an object, from 1; none for 0, past the newest, and where it was removed.
-    pub fn version(&self, name: ObjName, n: u64) -> Option<&[u8]>
-        ensures { option_copied result ≡ version_at ((state_of self.now).versions name) n }
+    /// Whether an object has an n-th version, from 1, with bytes: false for 0, past the newest, and where it was removed.
+    pub fn has_version(&self, name: ObjName, n: u64) -> bool
+        ensures { result ≡ is_some (version_at ((state_of self.now).versions name) n) }
     {
-        copies::version_bytes(objects::versions(&self.store.objects, &name), n)
+        copies::has_version(objects::versions(&self.store.objects, &name), n)
+    }
+
+    /// Whether the n-th version of an object, from 1, has these bytes.
+    pub fn version_is(&self, name: ObjName, n: u64, bytes: &[u8]) -> bool
+        ensures { result ≡ has_bytes (version_at ((state_of self.now).versions name) n) bytes.now }
+    {
+        copies::version_has(objects::versions(&self.store.objects, &name), n, bytes)
     }
 
     /// The bytes of a message of a queue, deleted or not.

@@ -7,17 +7,17 @@ ghost use Rattle.memory_cloud.specs.Maps.{versions_in};
 ghost use Rattle.memory_cloud.specs.Pages.{IsListed, page_at};
 
 use crate::copies;
-use cloud_trait::state::Version;
+use crate::kept::Kept;
 use db_base::ids::{PageId, TreeId};
 use db_base::names::ObjName;
 use std::alloc::{AllocError, Global};
 use std::collections::BTreeMap;
 
 /// The landed versions of each object, oldest first.
-pub type Objects = BTreeMap<ObjName, Vec<Version>>;
+pub type Objects = BTreeMap<ObjName, Vec<Kept>>;
 
 /// The versions of an object.
-pub fn versions<'a>(objects: &'a Objects, name: &ObjName) -> &'a [Version]
+pub fn versions<'a>(objects: &'a Objects, name: &ObjName) -> &'a [Kept]
     ensures { result.now ≡ versions_in objects.now name.now }
 {
     match objects.get(name) {
@@ -31,7 +31,7 @@ pub fn add_version(
     alloc: Global,
     objects: &mut Objects,
     name: &ObjName,
-    version: Version,
+    version: Kept,
 ) -> Result<(), AllocError>
     ensures ok { (q : ObjName) → OnOk result (versions_in objects.new q ≡ put_at object_cmp (versions_in objects.old) name.now (versions_in objects.old name.now ++ version ∷ []) q) }
     ensures err { (q : ObjName) → OnErr result (versions_in objects.new q ≡ versions_in objects.old q) }
@@ -62,7 +62,7 @@ fn push_page(
     pages: &mut Vec<PageId>,
     tree: TreeId,
     name: &ObjName,
-    versions: &[Version],
+    versions: &[Kept],
 ) -> Result<(), AllocError>
     ensures added { OnOk result (pages.new.items ≡ pages.old.items ++ page_at tree name.now versions.now) }
     ensures pages { OnOk result (All IsPage (page_at tree name.now versions.now)) }

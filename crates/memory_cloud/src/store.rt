@@ -1,12 +1,14 @@
 ghost use Rattle.std.specs.Prelude.{◌≡◌, ◌+◌, ◌<◌, ◌∷◌, [], OnOk, OnErr, IfOk, length};
+ghost use Rattle.std.specs.Option.{option_copied};
 ghost use Rattle.memory_cloud.specs.Outcome.{positions_in};
 
+use crate::kept::Kept;
 use crate::locks::Locks;
 use crate::objects::Objects;
 use crate::queues::Queues;
 use crate::{locks, objects, queues};
 use cloud_trait::lease::Lease;
-use cloud_trait::state::{Hold, Landing, Posted, Site, Version};
+use cloud_trait::state::{Hold, Landing, Posted, Site};
 use cloud_trait::who::Who;
 use db_base::blob::Blob;
 use db_base::ids::{MsgId, PageId, TreeId};
@@ -97,7 +99,6 @@ impl Store {
         ensures err { OnErr result (store_state self.new ≡ store_state self.old) }
         ensures counts { store_counts self.new ≡ store_counts self.old }
     {
-        let bytes = Blob::copy_of(self.alloc, bytes)?;
         self.add(who, name, Some(bytes))
     }
 
@@ -111,14 +112,16 @@ impl Store {
     }
 
     // Lands a version, with bytes or without, as the newest of an object.
-    fn add(&mut self, who: Who, name: &ObjName, bytes: Option<Blob>) -> Result<(), AllocError>
-        ensures ok { OnOk result (store_state self.new ≡ stored who name.now bytes (store_state self.old)) }
+    fn add(&mut self, who: Who, name: &ObjName, bytes: Option<&[u8]>) -> Result<(), AllocError>
+        ensures ok { OnOk result (store_state self.new ≡ stored who name.now (option_copied bytes.entry) (store_state self.old)) }
         ensures err { OnErr result (store_state self.new ≡ store_state self.old) }
         ensures counts { store_counts self.new ≡ store_counts self.old }
     {
-        let position = objects::versions(&self.objects, name).len() as u64 + 1;
+        let versions = objects::versions(&self.objects, name);
+        let position = versions.len() as u64 + 1;
+        let version = Kept::behind(self.alloc, versions, who, bytes)?;
         self.trace.reserve(1)?;
-        objects::add_version(self.alloc, &mut self.objects, name, Version { who, bytes })?;
+        objects::add_version(self.alloc, &mut self.objects, name, version)?;
         self.trace.push_reserved(Landing {
             who,
             site: Site::Object(*name),

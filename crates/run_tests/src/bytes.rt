@@ -40,9 +40,9 @@ const ATOMIC: [u8; 44] = [
 
 /// Whether the objects of a tree and a client are these.
 fn has_objects(cloud: &MemoryCloud, tree: TreeId, client: ClientId) -> bool {
-    cloud.version(ObjName::Page(tree, PageId::first()), 1) == Some(PAGE.as_slice())
-        && cloud.version(ObjName::Tree(tree), 1) == Some(ROOT.as_slice())
-        && cloud.version(ObjName::Head(client), 3) == Some(HEAD.as_slice())
+    cloud.version_is(ObjName::Page(tree, PageId::first()), 1, PAGE.as_slice())
+        && cloud.version_is(ObjName::Tree(tree), 1, ROOT.as_slice())
+        && cloud.version_is(ObjName::Head(client), 3, HEAD.as_slice())
 }
 
 /// Whether the first messages in the queues of a tree and a client are these.

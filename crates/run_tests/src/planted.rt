@@ -222,7 +222,7 @@ const REWRITING_OUT: &[u8] =
 /// Whether a version of page 1 of tree 1 has these bytes.
 fn has_version(cloud: &MemoryCloud, version: u64, bytes: &[u8]) -> bool {
     match TreeId::new(1) {
-        Ok(tree) => cloud.version(ObjName::Page(tree, PageId::first()), version) == Some(bytes),
+        Ok(tree) => cloud.version_is(ObjName::Page(tree, PageId::first()), version, bytes),
         Err(_) => false,
     }
 }

@@ -24,10 +24,8 @@ fn is_done(alloc: Global, cloud: &mut MemoryCloud, most: u16) -> Option<bool> {
 
 /// Whether so many versions of the head were put, and no more.
 fn has_heads(cloud: &MemoryCloud, client: ClientId, count: u64) -> bool {
-    let last = cloud.version(ObjName::Head(client), count).is_some();
-    let more = cloud
-        .version(ObjName::Head(client), count.saturating_add(1))
-        .is_some();
+    let last = cloud.has_version(ObjName::Head(client), count);
+    let more = cloud.has_version(ObjName::Head(client), count.saturating_add(1));
     (count == 0 || last) && !more
 }
 

@@ -23,7 +23,7 @@ use Rattle.session_facts.specs.RowKinds.Asks.{MayAsk}
 use Rattle.session_facts.specs.Added.{AddsKinds, AddsTo}
 use Rattle.session_facts.specs.Facts.{IsPlaced, WorksAs}
 use Rattle.session_facts.proofs.CallKinds.{HasCheckpoint, IsWorkersRow, checkpoint_asks, errand_asks, call_kind}
-use Rattle.session_facts.specs.Errands.{Errand, settles, sweeps, event_for, session_for, WorksOn, IsRowOf, AreRowsOf}
+use Rattle.session_facts.specs.Errands.{Errand, WorksOn, AreRowsOf}
 use Rattle.recover_run.specs.declared.home.Home.{Home}
 use Rattle.session_facts.proofs.CommittedLemmas.{placed_effect}
 use Rattle.session_facts.proofs.LineRows.{kinds_effect, rows_line, rows_same}

@@ -38,7 +38,6 @@ use Rattle.cloud_facts.specs.Book.Records.{entries_of}
 use Rattle.cloud_facts.specs.Book.Tally.{Store}
 use Rattle.session_facts.specs.Facts.{WorksAs}
 use Rattle.session_facts.specs.Errands.{Errand, settles, sweeps, WorksOn, IsRowOf}
-use Rattle.session_facts.specs.Running.{PutsSettled}
 use Rattle.session_facts.proofs.CallAsks.{settling_may, page_at_work, tree_at_work, work_asks}
 use Rattle.session_facts.proofs.CommittedLemmas.{now_standing}
 use Rattle.session_facts.proofs.SettlingHeads.{settling_stays}

@@ -60,7 +60,7 @@ use Rattle.session_facts.specs.Running.{WritesAt, RunsAt}
 use Rattle.session_facts.specs.Opened.{first_at, first_in, first_of, later_at, later_in, later_of, TakesAt, TakesIn, TakesNumber, IsBelow, IsOpenedBy, MayHaveOpened, MayOpen, WorksFor, AllOpened, with_rows, AddsOpened, AddsOpenedTo, AddsNoneTwice, MayBeThere, AddsApart}
 use Rattle.session_facts.proofs.AddedRows.{effect_rows, effect_same}
 use Rattle.session_facts.proofs.CallKinds.{HasCheckpoint, checkpoint_asks, errand_asks, call_kind}
-use Rattle.session_facts.specs.Errands.{Errand, settles, sweeps, event_for, session_for, WorksOn, IsRowOf, AreRowsOf}
+use Rattle.session_facts.specs.Errands.{Errand, settles, sweeps, WorksOn, AreRowsOf}
 use Rattle.event_text.specs.declared.event.Event.TheVariants as event
 use Rattle.reply_text.specs.declared.reply.Reply.TheVariants as reply
 use Rattle.session_facts.proofs.CommittedLemmas.{placed_effect, now_standing}

@@ -1,4 +1,5 @@
 -- Openings: what an opening or a recovery knows of a cloud, that it survives the calls of others, and what its own calls leave.
+pub mod Turns
 pub mod Kept
 pub mod Messages
 pub mod Sends

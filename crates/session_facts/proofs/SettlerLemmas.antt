@@ -10,7 +10,7 @@ use Rattle.report_types.specs.declared.entry.Entry.{Entry}
 use Rattle.session_facts.specs.Sessions.Sessions.{Sessions}
 use Rattle.replay_meaning.specs.Standing.{Line, Standing, after_own}
 use Rattle.session_facts.specs.Facts.{ActsAs, AllAct, CloudHolds, IsFrontOf, SettlerRests, Stands}
-use Rattle.session_facts.specs.Errands.{Errand, settles, sweeps, event_for, session_for, WorksOn, IsRowOf, AreRowsOf}
+use Rattle.session_facts.specs.Errands.{Errand, settles, sweeps, event_for, AreRowsOf}
 use Rattle.session_facts.proofs.CommittedLemmas.{committed_line, standing_line}
 use Rattle.session_facts.proofs.LineLemmas.{line_of, still_line}
 use Rattle.session_facts.proofs.OrderLemmas.{reported_line}

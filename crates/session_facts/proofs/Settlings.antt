@@ -1,5 +1,6 @@
 -- Settlings: what one knows of a cloud at each of its calls, that others leave it, and what each call leaves of a cloud and of its leases.
 pub mod Recoveries
+pub mod Anew
 pub mod Passing
 pub mod Begins
 pub mod Rights

@@ -44,7 +44,7 @@ use Rattle.session_facts.proofs.Sessions.HeadPuts.{head_put}
 use Rattle.session_facts.proofs.Sessions.Laws.{rest_keeps, decodes}
 use Rattle.session_facts.specs.Facts.{IsPlaced, WorksAs, CloudHolds}
 use Rattle.session_facts.proofs.CallKinds.{HasCheckpoint, IsWorkersRow, checkpoint_asks, checkpoint_none, errand_none, errand_asks, call_kind, call_opens}
-use Rattle.session_facts.specs.Errands.{Errand, settles, sweeps, event_for, session_for, WorksOn, IsRowOf, AreRowsOf}
+use Rattle.session_facts.specs.Errands.{Errand, WorksOn, AreRowsOf}
 use Rattle.session_facts.proofs.CommitRows.{CommitsAs, stood_on, ask_commits, audited_commits}
 use Rattle.session_facts.proofs.CommittedLemmas.{placed_effect, placed_called}
 use Rattle.session_facts.proofs.Once.{OpensUnopened, once_same, once_effect}

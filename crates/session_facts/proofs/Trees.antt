@@ -1,6 +1,7 @@
 -- Checkpoints of trees of any height: what one knows at each of its calls, and what each call leaves of a cloud.
 pub mod Forks
 pub mod Unseen
+pub mod Descents
 pub mod Strides
 pub mod Walks
 pub mod ChartOthers

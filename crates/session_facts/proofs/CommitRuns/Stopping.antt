@@ -1,7 +1,8 @@
 -- Why a commit ends with nothing committed, or stays open: while its lease lasts its walks know their way, and no object is damaged.
-use Rattle.std.proofs.Common.{◌≡◌, ◌+◌, ◌≤◌, ℕ, Bool, true, false, cond, List, [], ◌∷◌, ◌++◌, length, Option, Some, None, Result, Ok, Err, refl, sym, subst}
+use Rattle.std.proofs.Common.{◌≡◌, ◌∙◌, ◌+◌, ℕ, Bool, true, false, cond, List, [], ◌∷◌, ◌++◌, length, Option, Some, None, Result, Ok, Err, refl, sym, subst}
 use Rattle.std.specs.Prelude.{nat_lt, slice_get}
 use Rattle.std.specs.Option.{option_map}
+use Rattle.std.proofs.lemmas.Option.{same_Some}
 use Rattle.cloud_facts.specs.Calls.Call.{IsCall}
 use Rattle.cloud_facts.specs.Calls.Standing.{StandsUnder}
 use Rattle.cloud_trait.specs.declared.answer.Answer.{Answer}
@@ -15,15 +16,17 @@ use Rattle.session_facts.proofs.Commits.Near.{IsNear, near_routed}
 use Rattle.session_facts.proofs.Commits.Begins.{KnowsHeld}
 use Rattle.commit_run.specs.declared.hand.Hand.{Hand}
 use Rattle.commit_run.specs.declared.hand.Hand.TheVariants.{Writes, First, Change}
-use Rattle.commit_run.specs.Draft.{Draft, new_draft, pruned_by_root, pruned_by_kept, pruned_with, pruned_behind, planned, leaf_noted, paged}
-use Rattle.commit_run.specs.Run.{Run, new_run, target_of, asks, ask_at, wrote, refused, troubled, by_turn, begun_turn, walk_to, seek, plan_on, stale_at, is_stale, walk_stopped, walk_turned, walked, long_walk, pending_target, begin_walks, run_ready, next_at, run_next}
+use Rattle.commit_run.specs.Draft.{Draft, pruned_by_root, pruned_by_kept, pruned_with, planned}
+use Rattle.commit_run.specs.Run.{Run, new_run, asks, ask_at, wrote, is_stale, pending_target, walked, run_ready, next_at, run_next}
+use Rattle.commit_run.proofs.Outcomes.{Begins, Plans, Behind, Comes, comes, Starts, starts, used_kept}
+use Rattle.commit_run.proofs.Outcomes as run
 use Rattle.session_facts.specs.CommitRuns.Running.{KnowsSeeking, KnowsHand, KnowsRun}
 use Rattle.session_facts.specs.Openings.Client.{AreCounted}
 use Rattle.session_facts.specs.CommitRuns.Stopping.{MayStop, EndsBy}
 use Rattle.session_facts.proofs.CommitRuns.Steps.{Step}
 use Rattle.commit_writes.specs.declared.stage.Stage.{Stage}
 use Rattle.commit_writes.specs.declared.stage.Stage.TheVariants.{Waiting, Logging, Opening, Sending, Settling, Deleting, Finished}
-use Rattle.commit_writes.specs.Writing.{Writing, waiting, with_attempt, with_home, is_spent, routed_of, passes, not_committed, log_or_open, begun, routing, send_or_settle, send_at, delete_or_end, delete_at, logged_by, not_opened, opened_by, sent_by, settled_by, deleted_by, next_at as writes_at, writing_next}
+use Rattle.commit_writes.specs.Writing.{Writing, log_or_open, send_or_settle, send_at, delete_or_end, delete_at, logged_by, not_opened, opened_by, sent_by, settled_by, deleted_by, next_at as writes_at, writing_next}
 use Rattle.db_base.specs.Ids.{IsTree}
 use Rattle.db_base.specs.declared.names.ObjName.{ObjName}
 use Rattle.db_base.specs.declared.names.ObjName.TheVariants as object
@@ -45,7 +48,7 @@ use Rattle.report_types.specs.declared.entry.Entry.{Entry}
 use Rattle.cloud_facts.specs.Book.Book.{Book}
 use Rattle.cloud_facts.specs.Book.Tally.{Store}
 use Rattle.cloud_facts.specs.Tellings.Told.{store_of}
-use Rattle.tree_walk.specs.Walk.{Walk, object_of, new_walk, walk_ready, walk_next}
+use Rattle.tree_walk.specs.Walk.{Walk, object_of, walk_next}
 use Rattle.txn_buffer.specs.Noted.{Noted}
 use Rattle.session_facts.specs.Walks.Caches.{KnowsCache}
 use Rattle.session_facts.specs.Walks.Walks.{WalkLeads, MayStop as MayStopWalk}
@@ -161,14 +164,6 @@ module _ (May : Trouble → Type 0) (txn : May (trouble.Exhausted counter.Txn)) 
       on Deleting may = deleted w (done_of a) may
       on Finished may = may
 
-  routes : (w : Writing) (pages : List ℕ) → length w.changes ≤ 200 → MayPass w.home.head.counters → WritesWell May (routing w pages)
-  routes w pages few may = on (passes (routed_of w.home w.changes pages)) refl
-    where
-      on : (b : Bool) → passes (routed_of w.home w.changes pages) ≡ b
-          → WritesWell May (cond b (not_committed w (trouble.Exhausted counter.Number)) (begun w (routed_of w.home w.changes pages)))
-      on true e = may (near_routed w.home w.changes pages few e)
-      on false e = logs (record w { records = routed_of w.home w.changes pages; place = 0 }) (slice_get (routed_of w.home w.changes pages) 0)
-
   -- ---- where a step leads
 
   wrote_well : (d : Draft) (c : Cache) (n : Next Writing CommitAnswer) → WritesWell May n → EndsWell May (wrote d c n)
@@ -176,51 +171,19 @@ module _ (May : Trouble → Type 0) (txn : May (trouble.Exhausted counter.Txn)) 
   wrote_well d c (Ends w a) may = may
   wrote_well d c (Stops w t) may = may
 
-  troubled_well : (d : Draft) (c : Cache) (t : Trouble) → May t → EndsWell May (troubled d c t)
-  troubled_well d c trouble.Memory may = may
-  troubled_well d c t may = may
-
-  -- ---- walks
-
-  -- a walk begins with a call
-  abbrev Begins : Next (Walk × Cache) ℕ → Type 0
-  Begins (Goes m) = Unit {0}
-  Begins (Ends m page) = Unit {0}
-  Begins (Stops m t) = ⊥
-
-  begun_well : (first : Bool) (d : Draft) (n : Next (Walk × Cache) ℕ) → Begins n → EndsWell May (by_turn (begun_turn first d) n)
-  begun_well first d (Goes m) may = tt
-  begun_well first d (Ends m page) may = tt
-  begun_well first d (Stops m t) may = troubled_well (pruned_behind d m.0 m.1) m.1 t (absurd may)
-
   module _ (st : Store) (h : Holds st) where
-    begins : (tree : ℕ) (key : List ℕ) (fresh : Bool) (c : Cache) → IsTree tree → KnowsCache st c → Begins (walk_ready (new_walk tree (Some key) fresh, c))
-    begins tree key fresh c is cache = subst Begins (sym (walk_begins st h.chains tree (Some key) fresh c is cache).1) tt
+    -- a walk begins with a call
+    begins_well : {first : Bool} {d : Draft} {k : Cache} {to : ℕ × List ℕ} {next : Step} → Begins first d k to next → IsTree to.0 → KnowsCache st k → EndsWell May next
+    begins_well (run.walks m e is aims) tree cache = tt
+    begins_well {first = first} {k = k} {to = to} (run.stops m t e link other) tree cache =
+        absurd (let goes = sym (walk_begins st h.chains to.0 (Some to.1) first k tree cache).1 ∙ e in cc (goes))
+    begins_well {first = first} {k = k} {to = to} (run.lacks m e) tree cache =
+        absurd (let goes = sym (walk_begins st h.chains to.0 (Some to.1) first k tree cache).1 ∙ e in cc (goes))
 
-    walk_to_well : (first : Bool) (d : Draft) (c : Cache) (to : ℕ × List ℕ) → KnowsCache st c → IsTree to.0 → EndsWell May (walk_to first d c to)
-    walk_to_well first d c to cache tree = begun_well first d (walk_ready (new_walk to.0 (Some to.1) first, c)) (begins to.0 to.1 first c tree cache)
-
-    plan_on_well : (d : Draft) (c : Cache) → MayCommit d.writes.changes → MayPass d.writes.home.head.counters → KnowsCache st c → EndsWell May (plan_on d c)
-    plan_on_well d c may pass cache = on (slice_get d.writes.changes (length (planned d).plan.pages)) refl
-      where
-        on : (o : Option Noted) → slice_get d.writes.changes (length (planned d).plan.pages) ≡ o → EndsWell May (seek (planned d) c (option_map target_of o))
-        on (Some n) e = walk_to_well false (planned d) c (target_of n) cache (may.each n (length (planned d).plan.pages, e)).0
-        on None e = wrote_well (planned d) c (routing d.writes (planned d).plan.pages) (routes d.writes (planned d).plan.pages may.noted.most pass)
-
-    -- pruning leaves the changes
-    same_changes : (w : Writing) (c : Cache) (used : Option ObjName) → MayCommit w.changes → MayCommit (pruned_with w c used).changes
-    same_changes w c None may = may
-    same_changes w c (Some (object.Head client)) may = may
-    same_changes w c (Some (object.Tree tree)) may = on (root_at c (object.Tree tree))
-      where
-        on : (o : Option Tree) → MayCommit (pruned_by_root w tree o).changes
-        on (Some root) = may
-        on None = may
-    same_changes w c (Some (object.Page tree page)) may = on (leaf_at c (object.Page tree page))
-      where
-        on : (o : Option Leaf) → MayCommit (pruned_by_kept w tree o).changes
-        on (Some leaf) = may
-        on None = may
+    plans_well : {d : Draft} {k : Cache} {next : Step} → Plans d k next → MayCommit d.writes.changes → MayPass d.writes.home.head.counters → KnowsCache st k → EndsWell May next
+    plans_well {d = d} (run.seeks n next is begins) may pass cache = begins_well begins (may.each n (length (planned d).plan.pages, is)).0 cache
+    plans_well {d = d} (run.full none over) may pass cache = pass (near_routed d.writes.home d.writes.changes (planned d).plan.pages may.noted.most over)
+    plans_well (run.writes w none fits e) may pass cache = tt
 
     same_counters : (w : Writing) (c : Cache) (used : Option ObjName) → MayPass w.home.head.counters → MayPass (pruned_with w c used).home.head.counters
     same_counters w c None pass = pass
@@ -236,32 +199,27 @@ module _ (May : Trouble → Type 0) (txn : May (trouble.Exhausted counter.Txn)) 
         on (Some leaf) = pass
         on None = pass
 
-    long_well : (d : Draft) (c : Cache) → MayCommit d.writes.changes → MayPass d.writes.home.head.counters → KnowsCache st c → (o : Option Pending) → ((e : Pending) → o ≡ Some e → IsTree e.tree)
-        → EndsWell May (long_walk d c (option_map pending_target o))
-    long_well d c may pass cache (Some e) tree = walk_to_well true d c (pending_target e) cache (tree e refl)
-    long_well d c may pass cache None tree = plan_on_well d c may pass cache
+    -- pruning leaves the changes
+    pruned_may : (d : Draft) (m : Walk × Cache) → MayCommit d.writes.changes → MayCommit (pruned_with d.writes m.1 m.0.used).changes
+    pruned_may d m may = subst MayCommit (sym (used_kept d.writes m.1 m.0.used).changes) may
 
-    -- a turn of a walk, whose stale pages are passed over
+    -- behind a turn of a walk planning goes on, and stale pages are passed over
+    planned_well : {d e : Draft} {w : Walk} {c k : Cache} {a : Answer} {first : Bool} {next : Step} → Behind d w c a first e k → Plans e k next → MayCommit d.writes.changes
+        → MayPass d.writes.home.head.counters → LeavesKnown st (walk_next (w, c) a) → EndsWell May next
+    planned_well {d = d} (run.at_leaf first m page e aims) plans may pass known =
+        plans_well plans (pruned_may d m may) (same_counters d.writes m.1 m.0.used pass) (subst (LeavesKnown st) e known)
+    planned_well {d = d} (run.at_stale m t e stale) plans may pass known =
+        plans_well plans (pruned_may d m may) (same_counters d.writes m.1 m.0.used pass) (subst (LeavesKnown st) e known)
+    planned_well {d = d} (run.passed_over m t e stale) plans may pass known =
+        plans_well plans (pruned_may d m may) (same_counters d.writes m.1 m.0.used pass) (subst (LeavesKnown st) e known)
+
     module _ (MayWalk : Trouble → Type 0) (fair : (t : Trouble) → MayWalk t → is_stale t ≡ false → May t) where
-      stopped_well : (first : Bool) (d : Draft) (c : Cache) (t : Trouble) → MayCommit d.writes.changes → MayPass d.writes.home.head.counters → KnowsCache st c → MayWalk t
-          → EndsWell May (walk_stopped first d c t)
-      stopped_well first d c t may pass cache stops = on (is_stale t) refl
-        where
-          passed_over : (b : Bool) → EndsWell May (stale_at b d c)
-          passed_over true = plan_on_well d c may pass cache
-          passed_over false = plan_on_well (paged d 1) c may pass cache
-
-          on : (b : Bool) → is_stale t ≡ b → EndsWell May (cond b (stale_at first d c) (troubled d c t))
-          on true e = passed_over first
-          on false e = troubled_well d c t (fair t stops e)
-
-      turned_well : (first : Bool) (d : Draft) (n : Next (Walk × Cache) ℕ) → MayCommit d.writes.changes → MayPass d.writes.home.head.counters → LeavesKnown st n
-          → WalkLeads st MayWalk n → EndsWell May (by_turn (walk_turned first d) n)
-      turned_well first d (Goes m) may pass cache leads = tt
-      turned_well first d (Ends m page) may pass cache leads =
-          plan_on_well (leaf_noted (pruned_behind d m.0 m.1) m.0 m.1 page) m.1 (same_changes d.writes m.1 m.0.used may) (same_counters d.writes m.1 m.0.used pass) cache
-      turned_well first d (Stops m t) may pass cache leads =
-          stopped_well first (pruned_behind d m.0 m.1) m.1 t (same_changes d.writes m.1 m.0.used may) (same_counters d.writes m.1 m.0.used pass) cache leads.1
+      comes_well : {d : Draft} {w : Walk} {c : Cache} {a : Answer} {first : Bool} {next : Step} → Comes d w c a first next → MayCommit d.writes.changes → MayPass d.writes.home.head.counters
+          → LeavesKnown st (walk_next (w, c) a) → WalkLeads st MayWalk (walk_next (w, c) a) → EndsWell May next
+      comes_well (run.goes m e is aims) may pass known leads = tt
+      comes_well (run.ends m t e fresh other) may pass known leads = fair t (subst (WalkLeads st MayWalk) e leads).1 fresh
+      comes_well (run.lacks m e) may pass known leads = fair trouble.Memory (subst (WalkLeads st MayWalk) e leads).1 refl
+      comes_well (run.plans e k next behind plans) may pass known leads = planned_well behind plans may pass known
 
   -- ---- a call, by what it may have answered
 
@@ -274,7 +232,7 @@ module _ (May : Trouble → Type 0) (txn : May (trouble.Exhausted counter.Txn)) 
         walks : (first : Bool) (w : Walk) → KnowsSeeking (store_of book order s) t.now m.0.draft w part → IsCall who (ask_at (Change w) m.0.draft.writes) reply s t
             → WalkLeads (store_of book order s) MayWalk (walk_next (w, m.1) reply) → EndsWell May (walked first m.0.draft w m.1 reply)
         walks first w seeks call leads =
-            turned_well (store_of book order s) stands.holds MayWalk fair first m.0.draft (walk_next (w, m.1) reply) seeks.draft.may
+            comes_well (store_of book order s) stands.holds MayWalk fair (comes m.0.draft w m.1 reply first) seeks.draft.may
             (number m.0.draft.writes.home.client m.0.draft.writes.home.head.counters seeks.draft.taken.home.counted)
             (turn_leaves (store_of book order s) w m.1 reply k.cache (call_answers book order s stands who (object_of w) reply t call)) leads
 
@@ -287,23 +245,23 @@ module _ (May : Trouble → Type 0) (txn : May (trouble.Exhausted counter.Txn)) 
     -- and one that is answered at once
     module _ (now : ℕ) (part : Part) (home : Owner) (changes : List Noted) (c : Cache) (k : KnowsHeld (store_of book order s) now home part) (may : MayCommit changes)
         (cache : KnowsCache (store_of book order s) c) where
-      abbrev numbered : Draft
-      numbered = new_draft (with_home (waiting home changes) (with_attempt home))
-
       pass : MayPass home.head.counters
       pass = number home.client home.head.counters k.counted
 
-      long : (b : Bool) → EndsWell May (long_walk numbered c (cond b (option_map pending_target (slice_get home.head.pending 0)) None))
-      long true = long_well (store_of book order s) stands.holds numbered c may pass cache (slice_get home.head.pending 0) (λ e is. k.trees e (0, is))
-      long false = plan_on_well (store_of book order s) stands.holds numbered c may pass cache
+      -- a long list of pending entries is pruned by the first, which is of a tree
+      first_tree : (b : Bool) (o : Option Pending) (to : ℕ × List ℕ) → slice_get home.head.pending 0 ≡ o → cond b (option_map pending_target o) None ≡ Some to → IsTree to.0
+      first_tree true (Some e) to is aims = subst (λ (t : ℕ × List ℕ). IsTree t.0) (same_Some (pending_target e) to aims) (k.trees e (0, is))
+      first_tree true None to is aims = absurd (cc)
+      first_tree false o to is aims = absurd (cc)
+
+      starts_well : {next : Step} → Starts home changes c next → EndsWell May next
+      starts_well (run.spent e) = txn
+      starts_well (run.long to next left aims begins) =
+          begins_well (store_of book order s) stands.holds begins (first_tree (nat_lt 256 (length home.head.pending)) (slice_get home.head.pending 0) to refl aims) cache
+      starts_well (run.few next left none plans) = plans_well (store_of book order s) stands.holds plans may pass cache
 
       pub ready_ends_by : EndsWell May (run_ready (new_run home changes, c))
-      ready_ends_by = on (is_spent home)
-        where
-          on : (b : Bool) → EndsWell May (cond b (refused (new_draft (waiting home changes)) c (trouble.Exhausted counter.Txn))
-              (begin_walks (new_draft (cond b (waiting home changes) (with_home (waiting home changes) (with_attempt home)))) c))
-          on true = txn
-          on false = long (nat_lt 256 (length home.head.pending))
+      ready_ends_by = starts_well (starts home changes c)
 
 -- ---- answers that bring no value
 

@@ -1,9 +1,9 @@
 -- What a call of an opening or a recovery shows of the trouble that it meets, and that a trouble which waits is its answer.
-use Rattle.std.proofs.Common.{◌≡◌, ◌+◌, ◌-◌, ◌^◌, ◌<◌, ◌≤◌, ◌==◌, ◌⊎◌, inl, inr, ℕ, Bool, true, false, cond, List, [], ◌∷◌, ◌++◌, length, Option, Some, None, Result, Ok, Err, refl, sym, ap, subst, ◌∙◌, arith}
+use Rattle.std.proofs.Common.{◌≡◌, ◌≢◌, ◌-◌, ◌^◌, ◌<◌, ◌≤◌, ◌==◌, ◌⊎◌, inl, inr, ℕ, true, false, List, [], ◌∷◌, length, Option, Some, None, Result, Ok, Err, refl, sym, ap, subst, ◌∙◌, arith}
 use Rattle.std.specs.Prelude.{slice_get, nat_le}
 use Rattle.std.specs.Option.{option_and_then}
 use Rattle.std.specs.List.{AllByRecursion}
-use Rattle.std.proofs.lemmas.Bool.{cases_lt, and_from, eq-eqb, eqb-true}
+use Rattle.std.proofs.lemmas.Bool.{cases_lt, and_from, eq-eqb}
 use Rattle.std.proofs.lemmas.Bool.Decides.{nat_tests}
 use Rattle.cloud_facts.specs.Book.Book.{Book}
 use Rattle.cloud_facts.specs.Book.Messages.{IsDeleted}
@@ -13,9 +13,9 @@ use Rattle.cloud_facts.specs.Calls.Standing.{StandsUnder}
 use Rattle.cloud_facts.specs.Homes.Homes.{Part, PartHolds, OpeningHolds}
 use Rattle.cloud_facts.specs.Tellings.Told.{store_of}
 use Rattle.cloud_trait.specs.declared.answer.Answer.{Answer}
-use Rattle.cloud_trait.specs.declared.answer.Answer.TheVariants.{Received}
+use Rattle.cloud_trait.specs.declared.answer.Answer.TheVariants.{Got, Received}
 use Rattle.cloud_trait.specs.declared.message.Message.{Message}
-use Rattle.cloud_trait.specs.Ask.{Ask, GetHeld, PutHeld, Send, Receive, Delete, Take}
+use Rattle.cloud_trait.specs.Ask.{Ask, GetHeld, PutHeld, Receive}
 use Rattle.cloud_trait.specs.Caller.{Caller}
 use Rattle.cloud_trait.specs.Claim.{Claim, Lasts}
 use Rattle.cloud_trait.specs.Delivery.{IsDelivering}
@@ -23,8 +23,9 @@ use Rattle.cloud_trait.specs.Machine.{Goes, Ends, Stops}
 use Rattle.cloud_trait.specs.Seen.{Seen}
 use Rattle.cloud_trait.specs.State.{CloudState, Counts, called, newest}
 use Rattle.cloud_trait.specs.declared.state.Version.{Version}
-use Rattle.cloud_trait.specs.Views.{given_of, got_of, sent_of, received_of, done_of}
+use Rattle.cloud_trait.specs.Views.{sent_of, received_of, done_of}
 use Rattle.cloud_trait.specs.Weather.{Makes, Rose, Weather}
+use Rattle.db_base.specs.Ids.{IsClient}
 use Rattle.db_base.specs.declared.names.Lock.TheVariants as lock
 use Rattle.db_base.specs.declared.names.ObjName.TheVariants as object
 use Rattle.db_base.specs.declared.names.QueueName.{QueueName}
@@ -34,16 +35,13 @@ use Rattle.db_base.specs.declared.trouble.Counter.TheVariants as counter
 use Rattle.db_base.specs.declared.trouble.Trouble.{Trouble}
 use Rattle.db_base.specs.declared.trouble.Trouble.TheVariants as trouble
 use Rattle.log_codec.specs.declared.record.AtomicRec.{AtomicRec}
-use Rattle.head_codec.specs.Head.{empty_head}
 use Rattle.head_codec.specs.Spelling.{head_of}
 use Rattle.head_codec.specs.declared.head.Head.{Head}
-use Rattle.head_codec.specs.declared.head.Phase.{Phase}
-use Rattle.head_codec.specs.declared.head.Phase.TheVariants.{Settled, Open}
 use Rattle.report_types.specs.declared.entry.Entry.{Entry}
 use Rattle.route_plan.specs.Queue.{queue_name}
-use Rattle.session_facts.specs.Openings.Opening.{leases_of_recovery, IsWanted, HasSifted, opening_with, MayEnd, KnowsGathering, KnowsSifted, KnowsOpeningAt, KnowsOpening}
+use Rattle.session_facts.specs.Openings.Opening.{leases_of_recovery, IsWanted, HasSifted, HasLease, opening_with, MayEnd, KnowsGathering, KnowsSifted, KnowsOpeningAt, KnowsOpening}
 use Rattle.session_facts.specs.Sessions.Spent.{HasLastEpoch}
-use Rattle.session_facts.specs.Sessions.Explaining.{trouble_at, trouble_of_recovery, MeetsNext, IsShown}
+use Rattle.session_facts.specs.Sessions.Explaining.{trouble_at, trouble_of_ending, trouble_of_recovery, MeetsNext, IsShown}
 use Rattle.session_facts.proofs.Openings.Completing.{none_missing}
 use Rattle.session_facts.proofs.Openings.Messages.{sent_message}
 use Rattle.session_facts.proofs.Openings.Others.{lease_in_hand}
@@ -51,19 +49,22 @@ use Rattle.session_facts.proofs.Openings.Sifting.{none_some}
 use Rattle.session_facts.proofs.Openings.Unmarked.{deleted_gone}
 use Rattle.session_facts.proofs.Sessions.Showing.{held_newest, row_of, got_shown, put_shown, delete_shown, received_shown, sent_shown, given_shown}
 use Rattle.recover_run.specs.declared.items.AtomicItem.{AtomicItem}
-use Rattle.recover_run.specs.declared.stage.Aim.{Aim}
-use Rattle.recover_run.specs.declared.stage.Aim.TheVariants.{Opening, Settling}
 use Rattle.recover_run.specs.declared.stage.RecoverAnswer.{RecoverAnswer}
 use Rattle.recover_run.specs.declared.stage.Stage.{Stage}
-use Rattle.recover_run.specs.declared.stage.Stage.TheVariants.{ReleasingOld, Taking, Getting, Receiving, Deleting, Sending, Putting, Clearing, Sweeping, Releasing, Finished}
+use Rattle.recover_run.specs.declared.stage.Stage.TheVariants.{Taking, Getting, Receiving, Putting, Releasing}
 use Rattle.recover_run.specs.declared.wanted.Wanted.{Wanted}
 use Rattle.recover_run.specs.Calls.{Calls, HoldsItem, Brought}
-use Rattle.recover_run.specs.Gathering.{Gathered, gathered_with, is_of, is_counted, is_lost, kept_with, lost_now, past_ids}
-use Rattle.recover_run.specs.Ids.{has_id, new_ids, rest_of}
+use Rattle.recover_run.specs.Gathering.{Gathered, gathered_with, is_of, is_counted, is_lost, kept_with}
+use Rattle.recover_run.specs.Ids.{has_id, new_ids}
 use Rattle.recover_run.specs.Items.{items_of, ids_of}
 use Rattle.recover_run.specs.Meaning.{IsKept}
 use Rattle.recover_run.specs.Missing.{IsComplete}
-use Rattle.recover_run.specs.Recovery.{Recovery, Step, recovery_ask, recovery_next, ask_at, next_at, under, delete_next, send_next, stopping, goes_to, taken_by, phase_read, behind, head_read, bytes_read, none_read, got_by, send_or_put, decided, deleting, gathered_by, received_by, deleted_by, with_pending, send_at, sent_by, clearing, kept_ids, put_by, opened, sweeping, swept_with, swept_by, ended, SendsRecord, IsSoundAt, IsSound}
+use Rattle.recover_run.specs.Recovery.{Recovery, Step, recovery_ask, recovery_next, under, delete_next, send_next, SendsRecord, IsSoundAt, IsSound}
+use Rattle.recover_run.proofs.Outcomes.{at, Loses, Fails, Comes, comes_to}
+use Rattle.recover_run.proofs.Outcomes as step
+use Rattle.std.proofs.lemmas.Option.{none-some, same_Some}
+use Rattle.session_facts.proofs.Openings.Turns.{AtWork, Turns, turns}
+use Rattle.session_facts.proofs.Openings.Turns as turn
 use Rattle.recover_run.proofs.Keeping.{all_so}
 use Rattle.recover_run.proofs.Sifting.{HasSeen, IsLostAt, seen_whole}
 use Rattle.recover_run.proofs.Sweeping.{IsHandled, each_has}
@@ -144,158 +145,52 @@ held_last client h t {bytes} is reads last = on (t.versions (object.Head client)
 -- ---- one step
 
 module _ (who : Caller) (before after : Seen) (s t : CloudState) (book : Book) (order : List Entry) (told : before.state ≡ Some s) (told_after : after.state ≡ Some t)
-    (cloud : StandsUnder book order s) (r : Recovery) (part : Part) (holds : PartHolds (store_of book order s).tally t.now part) (reply : Answer)
-    (made : Makes who (recovery_ask r) reply before after) (knows : KnowsOpening (store_of book order s) t.now r part) (sound : IsSound r)
-    (Spent : CloudState → Counter → Type 0) (own : HasLastEpoch t → Spent t counter.Epoch) where
+    (cloud : StandsUnder book order s) (part : Part) (holds : PartHolds (store_of book order s).tally t.now part) (Spent : CloudState → Counter → Type 0)
+    (own : HasLastEpoch t → Spent t counter.Epoch) where
   abbrev st : Store
   st = store_of book order s
 
-  abbrev ShownBy : Ask → Trouble → Type 0
-  ShownBy ask k = IsShown ask (leases_of_recovery r) Spent before.counts after.counts s t k
+  -- where the call was made and had this answer, it shows the trouble
+  abbrev By : List Claim → Ask → Answer → Trouble → Type 0
+  By held ask a k = Makes who ask a before after → IsShown ask held Spent before.counts after.counts s t k
 
-  -- the call shows each trouble that the step meets
-  abbrev Shows : Step → Type 0
-  Shows next = (k : Trouble) → MeetsNext trouble_of_recovery next k → ShownBy (recovery_ask r) k
+  abbrev Shown : Recovery → Answer → Trouble → Type 0
+  Shown r a k = By (leases_of_recovery r) (recovery_ask r) a k
 
-  -- and each for which an answer brings no value
-  abbrev Fails : {X : Type 0} → Result X Trouble → Type 0
-  Fails g = (k : Trouble) → g ≡ Err k → ShownBy (recovery_ask r) k
+  under_lease : (r : Recovery) (make : Claim → Ask) (a : Answer) (k : Trouble) → (has : HasLease r.client r.former r.lease) → By (leases_of_recovery r) (make has.now) a k
+      → By (leases_of_recovery r) (under r r.lease make) a k
+  under_lease r make a k has by = subst (λ (o : Option Claim). By (leases_of_recovery r) (under r o make) a k) (sym has.is) by
 
-  failing : {X : Type 0} → (ask : Ask) (g : Result X Trouble) → recovery_ask r ≡ ask → (Makes who ask reply before after → (k : Trouble) → g ≡ Err k → ShownBy ask k) → Fails g
-  failing ask g asked f k e = subst (λ a. ShownBy a k) (sym asked) (f (subst (λ a. Makes who a reply before after) asked made) k e)
+  delete_missed : (r : Recovery) (ids : List ℕ) (a : Answer) (k : Trouble) → 1 ≤ length ids → done_of a ≡ Err k → By (leases_of_recovery r) (delete_next r ids) a k
+  delete_missed r [] a k some e = absurd (omega (arith, some))
+  delete_missed r (id ∷ ids) a k some e = λ made. delete_shown who before after s t told told_after (leases_of_recovery r) Spent (queue.Atomic r.client) id a made k e
 
-  -- where it goes on with none
-  never : (k : Trouble) → None ≡ Some k → ⊥
-  never k e = cc
+  send_missed : (r : Recovery) (o : Option AtomicItem) (a : Answer) (k : Trouble) → SendsRecord r o → sent_of a ≡ Err k → By (leases_of_recovery r) (send_next r o) a k
+  send_missed r None a k never e = absurd never
+  send_missed r (Some x) a k reads e = λ made. sent_shown who before after s t told told_after (leases_of_recovery r) Spent (queue_name x.rec.tree x.rec.page) r.out a made k e
 
-  stops_shown : (m : Recovery) (q : Trouble) → ShownBy (recovery_ask r) q → Shows (stopping m q)
-  stops_shown m q shown k e = let same : q ≡ k = cc in subst (ShownBy (recovery_ask r)) same shown
+  receive_missed : (r : Recovery) (a : Answer) (k : Trouble) → received_of a ≡ Err k → By (leases_of_recovery r) (Receive (queue.Atomic r.client) 256) a k
+  receive_missed r a k e = λ made. received_shown who before after s t told told_after (leases_of_recovery r) Spent (queue.Atomic r.client) 256 a made k e
 
-  -- ---- up to the head
-
-  taken_shows : (m : Recovery) (g : Result Claim Trouble) → Fails g → Shows (taken_by m g)
-  taken_shows m (Ok l) fails = λ k e. absurd (never k e)
-  taken_shows m (Err q) fails = λ k e. subst (ShownBy (recovery_ask r)) e (fails q refl)
-
-  phase_shows : (p : Phase) (m : Recovery) → Shows (phase_read p m)
-  phase_shows Settled m = λ k e. absurd (never k e)
-  phase_shows (Open count) m = λ k e. absurd (never k e)
-
-  -- where its epoch is the last one, the cloud tells so
-  abbrev TellsLast : Head → Type 0
-  TellsLast h = h.epoch ≡ 2 ^ 64 - 1 → HasLastEpoch t
-
-  head_shows : (m : Recovery) (h : Head) → TellsLast h → Shows (head_read m h)
-  head_shows m h tells = on (h.epoch == 2 ^ 64 - 1) refl
-    where
-      on : (b : Bool) → (h.epoch == 2 ^ 64 - 1) ≡ b → Shows (cond b (stopping m (trouble.Exhausted counter.Epoch)) (phase_read h.phase (behind m h)))
-      on true e = stops_shown m (trouble.Exhausted counter.Epoch) (own (tells (eqb-true h.epoch (2 ^ 64 - 1) e)))
-      on false e = phase_shows h.phase (behind m h)
-
-  bytes_shows : (m : Recovery) (bytes : List ℕ) (o : Option Head) → ((h : Head) → o ≡ Some h → TellsLast h) → Shows (bytes_read m bytes o)
-  bytes_shows m bytes (Some h) tells = head_shows m h (tells h refl)
-  bytes_shows m bytes None tells = stops_shown m _ tt
-
-  none_shows : (aim : Aim) (m : Recovery) → Shows (none_read aim m)
-  none_shows Opening m = head_shows m empty_head (λ (last : 0 ≡ 2 ^ 64 - 1). absurd (omega (arith, last)))
-  none_shows Settling m = λ k e. absurd (never k e)
-
-  got_shows : (m : Recovery) (g : Result (Option (List ℕ)) Trouble) → Fails g → ((bytes : List ℕ) → g ≡ Ok (Some bytes) → (h : Head) → head_of bytes ≡ Some h → TellsLast h)
-      → Shows (got_by m g)
-  got_shows m (Ok None) fails tells = none_shows m.aim m
-  got_shows m (Ok (Some bytes)) fails tells = bytes_shows m bytes (head_of bytes) (tells bytes refl)
-  got_shows m (Err q) fails tells = stops_shown m q (fails q refl)
-
-  -- ---- what is gathered and sent on
-
-  next_shows : (m : Recovery) (o : Option AtomicItem) → Shows (send_or_put m o)
-  next_shows m (Some x) = λ k e. absurd (never k e)
-  next_shows m None = λ k e. absurd (never k e)
-
-  -- where it waits for records
-  abbrev Waits : Recovery → Type 0
-  Waits m = (length m.gathered.kept == m.wanted.count) ≡ false → m.gathered.fresh ≡ false → ShownBy (recovery_ask r) (trouble.Waiting (length m.gathered.kept) m.wanted.count)
-
-  decided_shows : (m : Recovery) → Waits m → Shows (decided m)
-  decided_shows m waits = on (length m.gathered.kept == m.wanted.count) refl m.gathered.fresh refl
-    where
-      on : (b : Bool) → (length m.gathered.kept == m.wanted.count) ≡ b → (c : Bool) → m.gathered.fresh ≡ c
-          → Shows (cond b (send_at m 0) (cond c (goes_to Receiving m) (stopping m (trouble.Waiting (length m.gathered.kept) m.wanted.count))))
-      on true e c f = next_shows (record m { sent = 0 }) (slice_get m.gathered.kept 0)
-      on false e true f = λ k e. absurd (never k e)
-      on false e false f = stops_shown m _ (waits e f)
-
-  deleting_shows : (m : Recovery) (ids : List ℕ) → Waits m → Shows (deleting m ids)
-  deleting_shows m [] waits = decided_shows (record m { ids = [] }) waits
-  deleting_shows m (id ∷ ids) waits = λ k e. absurd (never k e)
-
-  gathered_shows : (m : Recovery) (o : Result (List AtomicItem) Message) → ((items : List AtomicItem) → o ≡ Ok items → Waits (record m { gathered = gathered_with m.wanted m.gathered items }))
-      → Shows (gathered_by m o)
-  gathered_shows m (Ok items) waits = deleting_shows (record m { gathered = gathered_with m.wanted m.gathered items }) (lost_now m.wanted m.gathered items) (waits items refl)
-  gathered_shows m (Err bad) waits = stops_shown m _ tt
-
-  received_shows : (m : Recovery) (g : Result (List Message) Trouble) → Fails g
-      → ((ms : List Message) → g ≡ Ok ms → (items : List AtomicItem) → items_of ms ≡ Ok items → Waits (record m { gathered = gathered_with m.wanted m.gathered items }))
-      → Shows (received_by m g)
-  received_shows m (Ok ms) fails waits = gathered_shows m (items_of ms) (waits ms refl)
-  received_shows m (Err q) fails waits = stops_shown m q (fails q refl)
-
-  deleted_shows : {X : Type 0} → (m : Recovery) (g : Result X Trouble) → Fails g → m.gathered.fresh ≡ true → Shows (deleted_by m g)
-  deleted_shows m (Ok x) fails new = deleting_shows m (rest_of m.ids) (λ e f. let clash : true ≡ false = sym new ∙ f in absurd (cc))
-  deleted_shows m (Err q) fails new = stops_shown m q (fails q refl)
-
-  pending_shows : (m : Recovery) (o : Option AtomicItem) → Shows (send_at (with_pending m o) (m.sent + 1))
-  pending_shows m (Some x) = next_shows (record (with_pending m (Some x)) { sent = m.sent + 1 }) (slice_get m.gathered.kept (m.sent + 1))
-  pending_shows m None = next_shows (record m { sent = m.sent + 1 }) (slice_get m.gathered.kept (m.sent + 1))
-
-  sent_shows : {X : Type 0} → (m : Recovery) (g : Result X Trouble) → Fails g → Shows (sent_by m g)
-  sent_shows m (Ok x) fails = pending_shows m (slice_get m.gathered.kept m.sent)
-  sent_shows m (Err q) fails = stops_shown m q (fails q refl)
-
-  -- ---- behind the put
-
-  clearing_shows : (m : Recovery) (ids : List ℕ) → Shows (clearing m ids)
-  clearing_shows m [] = λ k e. absurd (never k e)
-  clearing_shows m (id ∷ ids) = λ k e. absurd (never k e)
-
-  put_shows : {X : Type 0} → (m : Recovery) (g : Result X Trouble) → Fails g → Shows (put_by m g)
-  put_shows m (Ok x) fails = clearing_shows (record m { swept = kept_ids m }) (kept_ids m)
-  put_shows m (Err q) fails = stops_shown m q (fails q refl)
-
-  opened_shows : (aim : Aim) (m : Recovery) → Shows (opened aim m)
-  opened_shows Opening m = λ k e. absurd e
-  opened_shows Settling m = λ k e. absurd (never k e)
-
-  sweeping_shows : (m : Recovery) (ids : List ℕ) → Shows (sweeping m ids)
-  sweeping_shows m [] = opened_shows m.aim (record m { swept = m.swept ++ []; ids = [] })
-  sweeping_shows m (id ∷ ids) = λ k e. absurd (never k e)
-
-  items_show : (m : Recovery) (o : Result (List AtomicItem) Message) → Shows (swept_with m o)
-  items_show m (Ok items) = sweeping_shows m (new_ids m.swept (past_ids m.wanted items))
-  items_show m (Err bad) = stops_shown m _ tt
-
-  swept_shows : (m : Recovery) (g : Result (List Message) Trouble) → Fails g → Shows (swept_by m g)
-  swept_shows m (Ok ms) fails = items_show m (items_of ms)
-  swept_shows m (Err q) fails = stops_shown m q (fails q refl)
-
-  ended_shows : (m : Recovery) (ending : Option (Result RecoverAnswer Trouble)) → MayEnd ending → trouble_at Releasing ending ≡ None → Shows (ended m ending)
-  ended_shows m (Some (Ok a)) may none = λ k e. absurd e
-  ended_shows m (Some (Err q)) may none = absurd (cc)
-  ended_shows m None may none = absurd may
+  -- the head that is got under the lease is the newest, and has landed
+  head_last : (r : Recovery) (l : Claim) (bytes : List ℕ) (h : Head) → head_of bytes ≡ Some h → h.epoch ≡ 2 ^ 64 - 1
+      → By (leases_of_recovery r) (GetHeld (object.Head r.client) l) (Got (Some bytes)) (trouble.Exhausted counter.Epoch)
+  head_last r l bytes h reads last made =
+      own (held_last r.client h t (held_newest who (object.Head r.client) l (Got (Some bytes)) before.counts after.counts (called who t.now s) t
+      (row_of who before after s t told told_after (leases_of_recovery r) Spent (GetHeld (object.Head r.client) l) (Got (Some bytes)) made) (Some bytes) refl) reads last)
 
   -- ---- records that are not received
 
-  abbrev receive : Ask
-  receive = Receive (queue.Atomic r.client) 256
+  abbrev receive : Recovery → Ask
+  receive r = Receive (queue.Atomic r.client) 256
 
-  module _ (g : KnowsGathering st r part) (sifted : KnowsSifted st r []) (ms : List Message) (got : received_of reply ≡ Ok ms) (items : List AtomicItem) (read : items_of ms ≡ Ok items)
-      (asked : recovery_ask r ≡ receive) where
+  module _ (r : Recovery) (is : IsClient r.client) (g : KnowsGathering st r part) (sifted : KnowsSifted st r []) (ms : List Message) (items : List AtomicItem) (read : items_of ms ≡ Ok items) where
     -- while the lease lasts, a receive that delivers and brings nothing new leaves no record out
     whole : Lasts t.now g.read.held.now → IsDelivering (st.tally.logged r.client) 256 ms → new_ids r.gathered.seen (ids_of items) ≡ []
         → length (kept_with r.wanted r.gathered.kept items) ≡ r.wanted.count
     whole lasts delivers none =
-        seen_whole r.wanted (st.tally.logged r.client) r.gathered ms items (calls_from st r.client r.wanted receive r.gathered.kept g.read.kept_are) receive read delivers complete
-        (seen_so st r.client r.wanted r.gathered sifted) (kept_so st r.client r.wanted receive r.gathered.kept g.read.kept_are) g.read.rising none
+        seen_whole r.wanted (st.tally.logged r.client) r.gathered ms items (calls_from st r.client r.wanted (receive r) r.gathered.kept g.read.kept_are) (receive r) read delivers complete
+        (seen_so st r.client r.wanted r.gathered sifted) (kept_so st r.client r.wanted (receive r) r.gathered.kept g.read.kept_are) g.read.rising none
       where
         newest_of : OpeningHolds st.tally t.now (opening_with r.client g.read.before g.read.held.now) → st.tally.head r.client ≡ g.read.before
         newest_of o = o.newest lasts
@@ -306,94 +201,66 @@ module _ (who : Caller) (before after : Seen) (s t : CloudState) (book : Book) (
         complete : IsComplete r.wanted (st.tally.logged r.client)
         complete =
             subst (λ (w : Wanted). IsComplete w (st.tally.logged r.client)) (sym g.read.wanted_is)
-            (none_missing st r.client g.read.before cloud.holds.leaves knows.client newest)
+            (none_missing st r.client g.read.before cloud.holds.leaves is newest)
 
-    waiting_shown : Waits (record r { gathered = gathered_with r.wanted r.gathered items })
-    waiting_shown fewer stale =
-        subst (λ a. ShownBy a (trouble.Waiting (length (kept_with r.wanted r.gathered.kept items)) r.wanted.count)) (sym asked)
-        (on (cases_lt t.now g.read.held.now.end) (received_row who (queue.Atomic r.client) reply before.counts after.counts (called who t.now s) t
-        (row_of who before after s t told told_after (leases_of_recovery r) Spent receive reply (subst (λ a. Makes who a reply before after) asked made)) ms got))
+    waiting_shown : length (kept_with r.wanted r.gathered.kept items) ≢ r.wanted.count → (gathered_with r.wanted r.gathered items).fresh ≡ false
+        → By (leases_of_recovery r) (receive r) (Received ms) (trouble.Waiting (length (kept_with r.wanted r.gathered.kept items)) r.wanted.count)
+    waiting_shown fewer stale made =
+        on (cases_lt t.now g.read.held.now.end) (received_row who (queue.Atomic r.client) (Received ms) before.counts after.counts (called who t.now s) t
+        (row_of who before after s t told told_after (leases_of_recovery r) Spent (receive r) (Received ms) made) ms refl)
       where
-        clash : length (kept_with r.wanted r.gathered.kept items) ≡ r.wanted.count → ⊥
-        clash same = let is = eq-eqb (length (kept_with r.wanted r.gathered.kept items)) r.wanted.count same in let never : true ≡ false = sym is ∙ fewer in cc
-
         on : (t.now < g.read.held.now.end) ⊎ (g.read.held.now.end ≤ t.now) → IsDelivering (st.tally.logged r.client) 256 ms ⊎ Rose before.counts.withheld after.counts.withheld
-            → ShownBy receive (trouble.Waiting (length (kept_with r.wanted r.gathered.kept items)) r.wanted.count)
-        on (inl lasts) (inl delivers) = absurd (clash (whole lasts delivers (none_some _ stale)))
+            → IsShown (receive r) (leases_of_recovery r) Spent before.counts after.counts s t (trouble.Waiting (length (kept_with r.wanted r.gathered.kept items)) r.wanted.count)
+        on (inl lasts) (inl delivers) = absurd (fewer (whole lasts delivers (none_some _ stale)))
         on (inl lasts) (inr rose) = inl rose
         on (inr over) delivered = inr (g.read.held.now, lease_in_hand r.former r.lease g.read.held.now g.read.held.is, over)
 
+  waits_shown : {r q : Recovery} {a : Answer} {ids : List ℕ} → Loses r a q ids → IsClient r.client → KnowsOpeningAt r.stage st t.now r part → length q.gathered.kept ≢ q.wanted.count
+      → q.gathered.fresh ≡ false → Shown r a (trouble.Waiting (length q.gathered.kept) q.wanted.count)
+  waits_shown (step.received r ms items read) is c fewer stale = waiting_shown (at r Receiving) is c.0 c.1 ms items read fewer stale
+  waits_shown (step.one_gone r) is c fewer stale = absurd (let clash : true ≡ false = sym c.2.1 ∙ stale in cc (clash))
+
   -- ---- the whole
 
-  asks : (stage : Stage) → r.stage ≡ stage → recovery_ask r ≡ ask_at stage r
-  asks stage e = ap (λ (g : Stage). ask_at g r) e
-
-  under_lease : (stage : Stage) → r.stage ≡ stage → (l : Claim) (make : Claim → Ask) → ask_at stage r ≡ under r r.lease make → r.lease ≡ Some l → recovery_ask r ≡ make l
-  under_lease stage e l make is_under held = asks stage e ∙ (is_under ∙ ap (λ (o : Option Claim). under r o make) held)
-
-  abbrev held : List Claim
-  held = leases_of_recovery r
-
-  delete_fails : (stage : Stage) → r.stage ≡ stage → ask_at stage r ≡ delete_next r r.ids → 1 ≤ length r.ids → Fails (done_of reply)
-  delete_fails stage e is some = on r.ids refl
-    where
-      on : (ids : List ℕ) → r.ids ≡ ids → Fails (done_of reply)
-      on [] f = let none : length r.ids ≡ 0 = ap (λ (l : List ℕ). length l) f in absurd (omega (arith, some, none))
-      on (id ∷ ids) f =
-          failing (Delete (queue.Atomic r.client) id) (done_of reply) (asks stage e ∙ (is ∙ ap (delete_next r) f))
-          (λ m. delete_shown who before after s t told told_after held Spent (queue.Atomic r.client) id reply m)
-
-  send_fails : r.stage ≡ Sending → SendsRecord r (slice_get r.gathered.kept r.sent) → Fails (sent_of reply)
-  send_fails e sends = on (slice_get r.gathered.kept r.sent) refl sends
-    where
-      on : (o : Option AtomicItem) → slice_get r.gathered.kept r.sent ≡ o → SendsRecord r o → Fails (sent_of reply)
-      on None f never = absurd never
-      on (Some x) f reads =
-          failing (Send (queue_name x.rec.tree x.rec.page) r.out) (sent_of reply) (asks Sending e ∙ ap (send_next r) f)
-          (λ m. sent_shown who before after s t told told_after held Spent (queue_name x.rec.tree x.rec.page) r.out reply m)
-
-  receive_fails : (stage : Stage) → r.stage ≡ stage → ask_at stage r ≡ receive → Fails (received_of reply)
-  receive_fails stage e is =
-      failing receive (received_of reply) (asks stage e ∙ is) (λ m. received_shown who before after s t told told_after held Spent (queue.Atomic r.client) 256 reply m)
-
-  -- the head that is got under the lease is the newest, and has landed
-  head_told : (l : Claim) → recovery_ask r ≡ GetHeld (object.Head r.client) l → (bytes : List ℕ) → got_of reply ≡ Ok (Some bytes) → (h : Head) → head_of bytes ≡ Some h → TellsLast h
-  head_told l asked bytes got h reads last =
-      held_last r.client h t (held_newest who (object.Head r.client) l reply before.counts after.counts (called who t.now s) t
-      (row_of who before after s t told told_after held Spent (GetHeld (object.Head r.client) l) reply (subst (λ a. Makes who a reply before after) asked made)) (Some bytes) got) reads last
-
-  by_stage : trouble_of_recovery r ≡ None → Shows (recovery_next r reply)
-  by_stage none = on r.stage refl knows.at sound none
-    where
-      on : (stage : Stage) → r.stage ≡ stage → KnowsOpeningAt stage st t.now r part → IsSoundAt stage r → trouble_at stage r.ending ≡ None → Shows (next_at stage r reply)
-      on ReleasingOld e a w n = λ k e. absurd (never k e)
-      on Taking e a w n =
-          taken_shows r (given_of (lock.Client r.client) reply)
-          (failing (Take (lock.Client r.client) 600) (given_of (lock.Client r.client) reply) (asks Taking e)
-          (λ m. given_shown who before after s t told told_after held Spent (lock.Client r.client) 600 reply m))
-      on Getting e a w n =
-          got_shows r (got_of reply)
-          (failing (GetHeld (object.Head r.client) a.0.now) (got_of reply) (under_lease Getting e a.0.now (λ l. GetHeld (object.Head r.client) l) refl a.0.is)
-          (λ m. got_shown who before after s t told told_after held Spent (object.Head r.client) a.0.now reply m))
-          (head_told a.0.now (under_lease Getting e a.0.now (λ l. GetHeld (object.Head r.client) l) refl a.0.is))
-      on Receiving e a w n =
-          received_shows r (received_of reply) (receive_fails Receiving e refl) (λ ms got items read. waiting_shown a.0 a.1 ms got items read (asks Receiving e))
-      on Deleting e a w n = deleted_shows r (done_of reply) (delete_fails Deleting e refl w.1) a.2.1
-      on Sending e a w n = sent_shows r (sent_of reply) (send_fails e w.1)
-      on Putting e a w n =
-          put_shows r (done_of reply)
-          (failing (PutHeld (object.Head r.client) r.out a.read.held.now None) (done_of reply)
-          (under_lease Putting e a.read.held.now (λ l. PutHeld (object.Head r.client) r.out l None) refl a.read.held.is)
-          (λ m. put_shown who before after s t told told_after held Spent (object.Head r.client) r.out a.read.held.now None reply m))
-      on Clearing e a w n = clearing_shows r (rest_of r.ids)
-      on Sweeping e a w n = swept_shows r (received_of reply) (receive_fails Sweeping e refl)
-      on Releasing e a w n = ended_shows (record r { stage = Finished; lease = None; ending = None }) r.ending a.2 n
-      on Finished e a w n = absurd a
+  fails_shown : {r q : Recovery} {a : Answer} {k : Trouble} → Fails r a q k → IsClient r.client → KnowsOpeningAt r.stage st t.now r part → IsSoundAt r.stage r → Shown r a k
+  fails_shown (step.no_head r a k e) is c sound =
+      under_lease (at r Getting) (λ l. GetHeld (object.Head r.client) l) a k c.0
+      (λ made. got_shown who before after s t told told_after (leases_of_recovery r) Spent (object.Head r.client) c.0.now a made k e)
+  fails_shown (step.no_messages r a k e) is c sound = receive_missed r a k e
+  fails_shown (step.not_deleted r a k e) is c sound = delete_missed r r.ids a k sound.1 e
+  fails_shown (step.not_sent r a k e) is c sound = send_missed r (slice_get r.gathered.kept r.sent) a k sound.1 e
+  fails_shown (step.not_put r a k e) is c sound =
+      let held = c.read.held in
+      under_lease (at r Putting) (λ l. PutHeld (object.Head r.client) r.out l None) a k held
+      (λ made. put_shown who before after s t told told_after (leases_of_recovery r) Spent (object.Head r.client) r.out held.now None a made k e)
+  fails_shown (step.not_swept r a k e) is c sound = receive_missed r a k e
+  fails_shown (step.last_epoch r bytes h reads last) is c sound =
+      under_lease (at r Getting) (λ l. GetHeld (object.Head r.client) l) (Got (Some bytes)) (trouble.Exhausted counter.Epoch) c.0 (head_last r c.0.now bytes h reads last)
+  fails_shown (step.waits q loses fewer stale) is c sound = waits_shown loses is c fewer stale
+  fails_shown f is c sound = λ made. tt
 
   -- where no trouble waits, the call shows the one that the step keeps or stops with
+  step_shown : {r : Recovery} {a : Answer} {next : Step} → Comes r a next → IsClient r.client → KnowsOpeningAt r.stage st t.now r part → IsSoundAt r.stage r → trouble_of_recovery r ≡ None
+      → (k : Trouble) → MeetsNext trouble_of_recovery next k → Shown r a k
+  step_shown (step.refused r a j e) is c sound none k meets =
+      subst (λ (q : Trouble). Shown (at r Taking) a q) meets
+      (λ made. given_shown who before after s t told told_after (leases_of_recovery r) Spent (lock.Client r.client) 600 a made j e)
+  step_shown {r = r} {a = a} (step.stops q j f) is c sound none k meets = subst (λ (q : Trouble). Shown r a q) (same_Some j k meets) (fails_shown f is c sound)
+  step_shown (step.opens r ms items read past aims) is c sound none k meets = absurd meets
+  step_shown (step.ends r a answer e) is c sound none k meets = absurd meets
+  step_shown (step.stopped r a j e) is c sound none k meets = absurd (none-some j (sym none ∙ ap trouble_of_ending e))
+  step_shown (step.astray r a e) is c sound none k meets = absurd (subst MayEnd e c.2)
+  step_shown (step.nothing r a) is c sound none k meets = absurd c
+  step_shown outcome is c sound none k meets = absurd (none-some k meets)
+
+module _ (who : Caller) (before after : Seen) (s t : CloudState) (book : Book) (order : List Entry) (told : before.state ≡ Some s) (told_after : after.state ≡ Some t)
+    (cloud : StandsUnder book order s) (r : Recovery) (part : Part) (holds : PartHolds (store_of book order s).tally t.now part) (reply : Answer)
+    (made : Makes who (recovery_ask r) reply before after) (knows : KnowsOpening (store_of book order s) t.now r part) (sound : IsSound r)
+    (Spent : CloudState → Counter → Type 0) (own : HasLastEpoch t → Spent t counter.Epoch) where
   pub recovery_shows : trouble_of_recovery r ≡ None → (next : Step) → recovery_next r reply ≡ next → (k : Trouble) → MeetsNext trouble_of_recovery next k
       → IsShown (recovery_ask r) (leases_of_recovery r) Spent before.counts after.counts s t k
-  recovery_shows none next e k meets = by_stage none k (subst (λ n. MeetsNext trouble_of_recovery n k) (sym e) meets)
+  recovery_shows none next e k meets =
+      step_shown who before after s t book order told told_after cloud part holds Spent own (comes_to r reply next e) knows.client knows.at sound none k meets made
 
 -- ---- a trouble that waits
 
@@ -403,26 +270,18 @@ StopsWith (Goes n) k = ⊥
 StopsWith (Ends n a) k = ⊥
 StopsWith (Stops n q) k = q ≡ k
 
+none_waits : (stage : Stage) (ending : Option (Result RecoverAnswer Trouble)) (k : Trouble) → AtWork stage → trouble_at stage ending ≡ Some k → ⊥
+none_waits Releasing ending k work e = absurd work
+none_waits stage ending k work e = none-some k e
+
+answers : {r : Recovery} {a : Answer} {next : Step} → Turns r a next → (k : Trouble) → trouble_of_recovery r ≡ Some k → StopsWith next k
+answers {r = r} (turn.works n w goes) k waits = none_waits r.stage r.ending k w.at_work waits
+answers {r = r} (turn.halts q ending w may) k waits = none_waits r.stage r.ending k w.at_work waits
+answers {r = r} (turn.opens q epoch w is) k waits = none_waits r.stage r.ending k w.at_work waits
+answers (turn.ends r a answer e) k waits = none-some k (sym (ap trouble_of_ending e) ∙ waits)
+answers (turn.stopped r a t e) k waits = same_Some t k (sym (ap trouble_of_ending e) ∙ waits)
+answers (turn.astray r a e) k waits = absurd (none-some k (sym (ap trouble_of_ending e) ∙ waits))
+answers c k waits = absurd (none-some k waits)
+
 pub recovery_answers : (r : Recovery) (reply : Answer) (k : Trouble) → trouble_of_recovery r ≡ Some k → StopsWith (recovery_next r reply) k
-recovery_answers r reply k waits = on r.stage waits
-  where
-    never : None ≡ Some k → ⊥
-    never e = cc
-
-    ends : (ending : Option (Result RecoverAnswer Trouble)) → trouble_at Releasing ending ≡ Some k → StopsWith (ended (record r { stage = Finished; lease = None; ending = None }) ending) k
-    ends (Some (Ok a)) e = absurd (never e)
-    ends (Some (Err q)) e = cc
-    ends None e = absurd (never e)
-
-    on : (stage : Stage) → trouble_at stage r.ending ≡ Some k → StopsWith (next_at stage r reply) k
-    on Releasing e = ends r.ending e
-    on ReleasingOld e = absurd (never e)
-    on Taking e = absurd (never e)
-    on Getting e = absurd (never e)
-    on Receiving e = absurd (never e)
-    on Deleting e = absurd (never e)
-    on Sending e = absurd (never e)
-    on Putting e = absurd (never e)
-    on Clearing e = absurd (never e)
-    on Sweeping e = absurd (never e)
-    on Finished e = absurd (never e)
+recovery_answers r reply k waits = answers (turns r reply) k waits

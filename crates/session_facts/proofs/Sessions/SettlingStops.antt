@@ -1,6 +1,5 @@
 -- Why a settling stops: for no object that is damaged, no fence, no way, no page and no stale read.
-use Rattle.std.proofs.Common.{◌≡◌, ◌+◌, ◌==◌, ℕ, Bool, true, false, cond, List, [], ◌∷◌, Option, Some, None, refl, sym, subst}
-use Rattle.std.specs.Prelude.{nat_lt}
+use Rattle.std.proofs.Common.{◌≡◌, ◌∙◌, ℕ, true, false, List, Some, sym, subst}
 use Rattle.cloud_facts.specs.Calls.Acting.{Setting}
 use Rattle.cloud_facts.specs.Calls.Call.{IsCall}
 use Rattle.cloud_trait.specs.declared.answer.Answer.{Answer}
@@ -20,7 +19,6 @@ use Rattle.page_ckpt.specs.Paging.{Paging, PagingLeads}
 use Rattle.session_facts.specs.PageCheckpoints.Checkpoint.{MayStop as MayStopPage}
 use Rattle.session_facts.proofs.PageCheckpoints.Steps.{paging_stops}
 use Rattle.recover_run.specs.declared.stage.RecoverAnswer.{RecoverAnswer}
-use Rattle.recover_run.specs.Ids.{new_ids}
 use Rattle.recover_run.specs.Recovery.{Recovery, recovery_next}
 use Rattle.report_types.specs.declared.entry.Entry.{Entry}
 use Rattle.session_facts.specs.Sessions.Answering.{MaySettle}
@@ -28,8 +26,10 @@ use Rattle.session_facts.specs.Settlings.Settling.{IsOfNoPage, KnowsAtWork, Know
 use Rattle.session_facts.proofs.Settlings.Ways.{PartWay, part_way, unvisited}
 use Rattle.settle_run.specs.declared.part.Part.{Part as AtWork}
 use Rattle.settle_run.specs.declared.part.Part.TheVariants.{Client, Tree, Page}
-use Rattle.settle_run.specs.Parts.{part_ask, part_received, part_of_tree, recovers, makes, pages, PartLeads}
-use Rattle.settle_run.specs.Settling.{Settling, Step, settle_ask, begins, to_page, behind_tree, is_visited, goes_right, goes_on, passed_with, passed, ended_by, counted, with_part, moved, SettleLeads}
+use Rattle.settle_run.specs.Parts.{part_ask, recovers, makes, pages, PartLeads}
+use Rattle.settle_run.specs.Settling.{Settling, Step, settle_ask, is_visited, counted, with_part, SettleLeads}
+use Rattle.settle_run.proofs.Outcomes.{Passes, passes_by, Comes, came_by}
+use Rattle.settle_run.proofs.Outcomes as step
 use Rattle.cloud_facts.specs.Book.Book.{Book}
 use Rattle.cloud_facts.specs.Book.Tally.{Store}
 use Rattle.cloud_facts.specs.Tellings.Told.{store_of}
@@ -50,32 +50,9 @@ LeadsOnce (Client client m) s = Unit {0}
 LeadsOnce (Tree tree m) s = Unit {0}
 LeadsOnce (Page tree page m) s = (right : ℕ) → page_at m.home.right ≡ Some right → is_visited s right ≡ false
 
-tree_may : (s : Settling) (tree : ℕ) → StepMay (behind_tree s tree)
-tree_may s tree = on (nat_lt tree 16)
-  where
-    on : (b : Bool) → (let over : Step = Ends s (record { calls = s.calls }) in StepMay (cond b (begins (record s { visited = [] }) (part_of_tree (tree + 1))) over))
-    on true = tt
-    on false = tt
-
-right_may : (s : Settling) (tree : ℕ) (o : Option ℕ) → ((right : ℕ) → o ≡ Some right → is_visited s right ≡ false) → StepMay (goes_right s tree o)
-right_may s tree None once = tree_may s tree
-right_may s tree (Some page) once = subst (λ b. StepMay (cond b (Stops s (trouble.Loop page)) (to_page s tree page))) (sym (once page refl)) tt
-
-on_may : (s : Settling) (w : AtWork) → LeadsOnce w s → StepMay (goes_on s w)
-on_may s (Client client m) once = tt
-on_may s (Tree tree m) once = tt
-on_may s (Page tree page m) once = right_may s tree (page_at m.home.right) once
-
-passed_may : (s : Settling) (ids : List ℕ) → LeadsOnce s.part s → StepMay (passed_with s ids)
-passed_may s [] once = on_may s s.part once
-passed_may s (id ∷ ids) once = tt
-
-ended_may : (s : Settling) (left : ℕ) → LeadsOnce s.part s → StepMay (ended_by s left)
-ended_may s left once = on (left == 0)
-  where
-    on : (b : Bool) → StepMay (cond b (passed s) (Stops s trouble.Failed))
-    on true = passed_may s (new_ids s.known (part_received s.part)) once
-    on false = tt
+passes_may : {s : Settling} {next : Step} → Passes s next → LeadsOnce s.part s → StepMay next
+passes_may (step.round s tree page m right none link seen) once = absurd (let clash : true ≡ false = sym seen ∙ once right link in cc (clash))
+passes_may p once = tt
 
 -- ---- the part at work
 
@@ -90,10 +67,10 @@ same_once s (Client client m) once = tt
 same_once s (Tree tree m) once = tt
 same_once s (Page tree page m) once = once
 
-moved_may : (s : Settling) (x : Next AtWork ℕ) → PartMay s x → StepMay (moved s x)
-moved_may s (Goes w) may = tt
-moved_may s (Ends w left) may = ended_may (counted (with_part s w)) left (same_once s w may)
-moved_may s (Stops w t) may = may
+may_by : {s : Settling} {x : Next AtWork ℕ} {next : Step} → Comes s x next → PartMay s x → StepMay next
+may_by (step.stops w t) may = may
+may_by {s = s} (step.ends w next e) may = passes_may (passes_by (counted (with_part s w)) next e) (same_once s w may)
+may_by c may = tt
 
 of_opening : (t : Trouble) → MayStopOpening t → MaySettle t
 of_opening (trouble.Exhausted counter.Epoch) may = tt
@@ -153,6 +130,6 @@ pub settling_stops : (who : Caller) (s t : CloudState) (book : Book) (order : Li
     → Setting book order s t.now parts who.session (leases_of_settling m) → KnowsSettling (store_of book order s) s.now m (parts who.session)
     → IsCall who (settle_ask m) reply s t → (n : Settling) (k : Trouble) → SettleLeads m reply (Stops n k) → MaySettle k
 settling_stops who s t book order parts reply m setting knows call n k (x, leads, to) =
-    subst StepMay (sym to) (moved_may m x
+    may_by (came_by m x (Stops n k) to)
     (part_may who s t book order parts reply m (leases_of_settling m) setting m.part setting knows.work call x leads
-    (part_way who s t book order parts (leases_of_settling m) reply m.visited setting m.part knows.work knows.way call x leads)))
+    (part_way who s t book order parts (leases_of_settling m) reply m.visited setting m.part knows.work knows.way call x leads))

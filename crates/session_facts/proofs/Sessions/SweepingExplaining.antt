@@ -1,5 +1,5 @@
 -- Why a sweep meets a trouble.
-use Rattle.std.proofs.Common.{◌≡◌, ◌≢◌, ◌≤◌, ◌<◌, ◌⊎◌, inl, inr, ℕ, List, Option, Some, None, refl, sym, ap, subst, ◌∙◌, arith}
+use Rattle.std.proofs.Common.{◌≡◌, ◌≢◌, inl, inr, ℕ, Option, Some, None, refl, sym, subst, ◌∙◌, arith}
 use Rattle.client_work.specs.Session.{StepsSweeping}
 use Rattle.client_work.specs.declared.answer.Answer.{Answer}
 use Rattle.client_work.specs.declared.answer.Answer.TheVariants as answer
@@ -8,15 +8,15 @@ use Rattle.client_work.specs.declared.work.Work.TheVariants.{Closed, Sweeping as
 use Rattle.cloud_facts.specs.Book.Tally.{Store}
 use Rattle.cloud_facts.specs.Homes.Homes.{Part}
 use Rattle.cloud_trait.specs.declared.answer.Answer.{Answer as Heard}
-use Rattle.cloud_trait.specs.declared.answer.Answer.TheVariants.{Held, Late, Memory}
+use Rattle.cloud_trait.specs.declared.answer.Answer.TheVariants.{Held, Late}
 use Rattle.cloud_trait.specs.declared.turn.Turn.{Turn}
 use Rattle.cloud_trait.specs.declared.turn.Turn.TheVariants.{More, Ended, Stopped}
 use Rattle.cloud_trait.specs.Ask.{Ask, Take}
 use Rattle.cloud_trait.specs.Caller.{Caller}
 use Rattle.cloud_trait.specs.Machine.{Goes, Stops}
 use Rattle.cloud_trait.specs.Seen.{Seen}
-use Rattle.cloud_trait.specs.State.{CloudState, called}
-use Rattle.cloud_trait.specs.Weather.{Makes, Weather}
+use Rattle.cloud_trait.specs.State.{CloudState}
+use Rattle.cloud_trait.specs.Weather.{Makes}
 use Rattle.db_base.specs.declared.names.Lock.{Lock}
 use Rattle.db_base.specs.declared.trouble.Trouble.{Trouble}
 use Rattle.db_base.specs.declared.trouble.Trouble.TheVariants as trouble
@@ -24,9 +24,8 @@ use Rattle.orphan_sweep.proofs.Causes.{took_tells}
 use Rattle.orphan_sweep.specs.Causing.{Shows, IsShown as IsShownBy}
 use Rattle.orphan_sweep.specs.declared.swept.Swept.{Swept}
 use Rattle.orphan_sweep.specs.Stepped.{Stepped}
-use Rattle.orphan_sweep.specs.Sweeping.{Sweeping, sweep_ask, sweep_next}
-use Rattle.session_facts.specs.Sessions.Calls.{sweeping_reply}
-use Rattle.session_facts.specs.Sessions.Explaining.{Explains, IsShown, Meets, KeepsTrouble, trouble_in}
+use Rattle.orphan_sweep.specs.Sweeping.{Sweeping, sweep_ask}
+use Rattle.session_facts.specs.Sessions.Explaining.{Explains, IsShown, Meets}
 use Rattle.session_facts.specs.Sessions.Sessions.{leases_of}
 use Rattle.session_facts.specs.Sweeps.Sweep.{KnowsSweep}
 use Rattle.session_facts.proofs.Sessions.Answered.{waited_is}

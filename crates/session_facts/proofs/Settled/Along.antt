@@ -1,66 +1,20 @@
 -- What holds whenever a part of a settling begins holds along it, where each part that runs whole hands it on.
-use Rattle.std.proofs.Common.{◌≡◌, ◌+◌, ℕ, Bool, true, false, cond, List, [], ◌∷◌, ◌++◌, length, Option, Some, None, refl, sym, ap, subst, ◌∙◌, arith}
-use Rattle.std.specs.Prelude.{◌==◌, nat_lt}
-use Rattle.std.proofs.lemmas.Bool.Decides.{nat_tests}
+use Rattle.std.proofs.Common.{◌≡◌, ◌+◌, ℕ, List, [], ◌∷◌, length, refl, sym, ap, subst, ◌∙◌, arith}
 use Rattle.cloud_trait.specs.Machine.{Next, Goes, Ends, Stops, Deed}
-use Rattle.db_base.specs.declared.trouble.Trouble.TheVariants as trouble
-use Rattle.leaf_view.specs.Lookup.{page_at}
-use Rattle.recover_run.specs.Ids.{new_ids}
 use Rattle.session_facts.specs.Settled.Story.{Moment, IsAtWork, IsTurn, PartStory, PartRan}
+use Rattle.session_facts.proofs.Settlings.Anew.{BeginsAnew, passed_anew}
 use Rattle.settle_run.proofs.Ending.{part_stays}
-use Rattle.settle_run.specs.Parts.{part_again, part_of_client, part_of_tree, part_received, PartLeads}
-use Rattle.settle_run.specs.Settling.{Settling, Step, begins, to_page, behind_client, behind_tree, is_visited, goes_right, goes_on, passed_with, passed, ended_by, counted, with_part, moved, SettleLeads}
+use Rattle.settle_run.proofs.Outcomes.{Comes, came_by}
+use Rattle.settle_run.proofs.Outcomes as step
+use Rattle.settle_run.specs.Parts.{part_again, PartLeads}
+use Rattle.settle_run.specs.Settling.{Settling, Step, passed, counted, with_part, SettleLeads}
 use Rattle.settle_run.specs.declared.part.Part.{Part}
-use Rattle.settle_run.specs.declared.part.Part.TheVariants.{Client, Tree, Page}
 use Rattle.settle_run.specs.declared.settled.Settled.{Settled}
 
 -- each call is so
 abbrev pub Each : (Deed → Type 0) → List Deed → Type 0
 Each P [] = Unit {0}
 Each P (d ∷ h) = P d × Each P h
-
--- ---- what comes next is before its first call
-
-abbrev pub IsFresh : Step → Type 0
-IsFresh (Goes n) = part_again n.part ≡ n.part
-IsFresh (Ends n x) = Unit {0}
-IsFresh (Stops n t) = Unit {0}
-
-fresh_client : (s : Settling) (client : ℕ) → IsFresh (begins s (behind_client client))
-fresh_client s client = on (nat_lt client 64)
-  where
-    on : (b : Bool) → IsFresh (begins s (cond b (part_of_client (client + 1)) (part_of_tree 1)))
-    on true = refl
-    on false = refl
-
-fresh_tree : (s : Settling) (tree : ℕ) → IsFresh (behind_tree s tree)
-fresh_tree s tree = on (nat_lt tree 16)
-  where
-    on : (b : Bool) → IsFresh (cond b (begins (record s { visited = [] }) (part_of_tree (tree + 1))) (Ends s (record { calls = s.calls })))
-    on true = refl
-    on false = tt
-
-fresh_right : (s : Settling) (tree : ℕ) (right : Option ℕ) → IsFresh (goes_right s tree right)
-fresh_right s tree None = fresh_tree s tree
-fresh_right s tree (Some page) = on (is_visited s page)
-  where
-    on : (b : Bool) → IsFresh (cond b (Stops s (trouble.Loop page)) (to_page s tree page))
-    on true = tt
-    on false = refl
-
-fresh_on : (s : Settling) (p : Part) → IsFresh (goes_on s p)
-fresh_on s (Client client m) = fresh_client s client
-fresh_on s (Tree tree m) = refl
-fresh_on s (Page tree page m) = fresh_right s tree (page_at m.home.right)
-
-fresh_passed : (s : Settling) (ids : List ℕ) → IsFresh (passed_with s ids)
-fresh_passed s [] = fresh_on s s.part
-fresh_passed s (id ∷ ids) = again s.part
-  where
-    again : (p : Part) → IsFresh (Goes (record s { part = part_again p; known = s.known ++ id ∷ ids }))
-    again (Client client m) = refl
-    again (Tree tree m) = refl
-    again (Page tree page m) = refl
 
 -- ---- the law of a part, and what it gives
 
@@ -98,9 +52,6 @@ AlongNext B E P (Ends n x) m = E n x m
 AlongNext B E P (Stops n t) m = Unit {0}
 
 module _ (B : Settling → Moment → Type 0) (E : Settling → Settled → Moment → Type 0) (P : Deed → Type 0) (hands : Hands B E P) where
-  zero_is : (n : ℕ) → (n == 0) ≡ true → n ≡ 0
-  zero_is n e = grind (arith, nat_tests)
-
   begun : (n : Settling) (m : Moment) → B n m → part_again n.part ≡ n.part → IsAtWork m n.part → Along B P n m
   begun n m holds fresh works = record {
     start = n;
@@ -142,30 +93,21 @@ module _ (B : Settling → Moment → Type 0) (E : Settling → Settled → Mome
         on next
         (subst (λ (x : Step). Handed B E x to) (sym (ap passed (now_with p)) ∙ e)
         (hands along.start p (d ∷ along.own) along.first to along.holds (part_stays s.part d.answer (Ends p 0) leads ∙ along.place) (ran p leads) (is, along.each) along.works))
-        (subst IsFresh e (fresh_passed (counted (with_part s p)) (new_ids s.known (part_received p))))
+        (passed_anew (counted (with_part s p)) next e)
       where
-        on : (x : Step) → Handed B E x to → IsFresh x → AlongNext B E P x to
+        on : (x : Step) → Handed B E x to → BeginsAnew x → AlongNext B E P x to
         on (Goes n) holds fresh = λ works. begun n to holds fresh works
         on (Ends n x) holds fresh = holds
         on (Stops n t) holds fresh = tt
 
-    ends_along : (p : Part) (left : ℕ) → PartLeads s.part d.answer (Ends p left) → AlongNext B E P (ended_by (counted (with_part s p)) left) to
-    ends_along p left leads = on (left == 0) refl
-      where
-        on : (b : Bool) → (left == 0) ≡ b → AlongNext B E P (cond b (passed (counted (with_part s p))) (Stops (counted (with_part s p)) trouble.Failed)) to
-        on true e =
-            let none : left ≡ 0 = zero_is left e in
-            passed_along p (passed (counted (with_part s p))) (subst (λ (l : ℕ). PartLeads s.part d.answer (Ends p l)) none leads) refl
-        on false e = tt
-
-    along_moved : (x : Next Part ℕ) → PartLeads s.part d.answer x → AlongNext B E P (moved s x) to
-    along_moved (Goes p) leads = λ works. goes_along p leads
-    along_moved (Ends p left) leads = ends_along p left leads
-    along_moved (Stops p t) leads = tt
+    along_by : {x : Next Part ℕ} {next : Step} → Comes s x next → PartLeads s.part d.answer x → AlongNext B E P next to
+    along_by (step.goes p) leads = λ works. goes_along p leads
+    along_by (step.ends p next e) leads = passed_along p next leads e
+    along_by c leads = tt
 
     -- a call of the settling leads on along it, or to its end
     pub along_step : (next : Step) → SettleLeads s d.answer next → AlongNext B E P next to
-    along_step next (x, leads, e) = subst (λ (n : Step). AlongNext B E P n to) (sym e) (along_moved x leads)
+    along_step next (x, leads, e) = along_by (came_by s x next e) leads
 
   pub along_begins : (n : Settling) (m : Moment) → B n m → part_again n.part ≡ n.part → IsAtWork m n.part → Along B P n m
   along_begins n m holds fresh works = begun n m holds fresh works

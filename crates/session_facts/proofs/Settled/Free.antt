@@ -1,5 +1,5 @@
 -- Where nobody else has a lease, no call of a settling finds a lock held.
-use Rattle.std.proofs.Common.{◌≡◌, ◌≢◌, ◌≤◌, ◌==◌, inl, ℕ, Bool, true, false, cond, List, [], refl, sym, subst}
+use Rattle.std.proofs.Common.{◌≡◌, ◌≢◌, ◌≤◌, inl, ℕ, List, [], refl, sym, subst}
 use Rattle.cloud_trait.specs.Calm.{TakesFree}
 use Rattle.ckpt_parts.specs.Leasing.{outstanding_after}
 use Rattle.cloud_facts.specs.Book.Tally.{Store}
@@ -13,7 +13,6 @@ use Rattle.cloud_trait.specs.Machine.{Next, Goes, Ends, Stops}
 use Rattle.cloud_trait.specs.State.{CloudState, Counts, called}
 use Rattle.cloud_trait.specs.Weather.{Weather}
 use Rattle.db_base.specs.declared.names.Lock.{Lock}
-use Rattle.db_base.specs.declared.trouble.Trouble.TheVariants as trouble
 use Rattle.page_ckpt.specs.Paging.{Paging}
 use Rattle.recover_run.specs.declared.stage.RecoverAnswer.{RecoverAnswer}
 use Rattle.recover_run.specs.Recovery.{Recovery}
@@ -26,11 +25,13 @@ use Rattle.session_facts.proofs.Settled.ClientLeases.{recovery_uses, recovery_ho
 use Rattle.session_facts.proofs.Settled.Locks.{HoldsNext, takes_free, call_alone}
 use Rattle.session_facts.proofs.Settled.PageLeases.{paging_uses, paging_holds}
 use Rattle.session_facts.proofs.Settled.TreeLeases.{making_uses, making_holds}
-use Rattle.session_facts.proofs.Settlings.Explaining.{BeginsAnew, passed_anew}
+use Rattle.session_facts.proofs.Settlings.Anew.{BeginsAnew, passed_anew, each_anew}
+use Rattle.settle_run.proofs.Outcomes.{Comes, came_by}
+use Rattle.settle_run.proofs.Outcomes as step
 use Rattle.settle_run.specs.declared.part.Part.{Part as AtWork}
 use Rattle.settle_run.specs.declared.part.Part.TheVariants.{Client, Tree, Page}
 use Rattle.settle_run.specs.Parts.{part_again, part_ask, recovers, makes, pages, PartLeads, IsSoundPart}
-use Rattle.settle_run.specs.Settling.{Settling, Step, new_settling, settle_ask, passed, ended_by, counted, with_part, moved, SettleLeads}
+use Rattle.settle_run.specs.Settling.{Settling, Step, new_settling, settle_ask, counted, with_part, SettleLeads}
 use Rattle.tree_ckpt.specs.Making.{Making}
 
 -- ---- the part at work
@@ -75,22 +76,15 @@ again_none (Tree tree m) = refl
 again_none (Page tree page m) = refl
 
 anew_none : (next : Step) → BeginsAnew next → HoldsNext leases_of_settling [] next
-anew_none (Goes n) anew = subst (λ (w : AtWork). leases_at_work w ≡ []) anew (again_none n.part)
+anew_none (Goes n) anew = each_anew (λ (w : AtWork). leases_at_work w ≡ []) again_none n.part anew
 anew_none (Ends n x) anew = refl
 anew_none (Stops n t) anew = refl
 
-ended_none : (s : Settling) (left : ℕ) → HoldsNext leases_of_settling [] (ended_by s left)
-ended_none s left = on (left == 0)
-  where
-    on : (b : Bool) → HoldsNext leases_of_settling [] (cond b (passed s) (Stops s trouble.Failed))
-    on true = anew_none (passed s) (passed_anew s)
-    on false = refl
-
-moved_holds : (s : Settling) (held : List Claim) (x : Next AtWork ℕ) → HoldsNext leases_at_work held x → HoldsNext leases_of_settling held (moved s x)
-moved_holds s held (Goes w) same = same
-moved_holds s held (Ends w left) none =
-    subst (λ (cs : List Claim). HoldsNext leases_of_settling cs (ended_by (counted (with_part s w)) left)) (sym none) (ended_none (counted (with_part s w)) left)
-moved_holds s held (Stops w t) none = none
+holds_by : {s : Settling} {x : Next AtWork ℕ} {next : Step} → Comes s x next → (held : List Claim) → HoldsNext leases_at_work held x → HoldsNext leases_of_settling held next
+holds_by {s = s} (step.ends w next e) held none =
+    subst (λ (cs : List Claim). HoldsNext leases_of_settling cs next) (sym none) (anew_none next (passed_anew (counted (with_part s w)) next e))
+holds_by (step.goes w) held same = same
+holds_by c held none = none
 
 -- ---- a settling
 
@@ -106,8 +100,7 @@ module _ (st : Store) (now : ℕ) (m : Settling) (part : Part) (knows : KnowsAtW
   -- and has those that its call left it
   pub settling_holds : (a : Answer) (next : Step) → SettleLeads m a next → HoldsNext leases_of_settling (outstanding_after (settle_ask m) a (leases_of_settling m)) next
   settling_holds a next (x, leads, to) =
-      subst (HoldsNext leases_of_settling (outstanding_after (settle_ask m) a (leases_of_settling m))) (sym to)
-      (moved_holds m (outstanding_after (settle_ask m) a (leases_of_settling m)) x (part_holds st now m.part part knows sound a x leads))
+      holds_by (came_by m x next to) (outstanding_after (settle_ask m) a (leases_of_settling m)) (part_holds st now m.part part knows sound a x leads)
 
   module _ (s : CloudState) (alone : HoldsAlone (leases_of_settling m) s) where
     -- the lock that its call takes is free

@@ -1,21 +1,18 @@
 -- Each part of a settling hands on what the parts before it left; at the end nothing is left.
-use Rattle.std.proofs.Common.{◌≡◌, ◌≢◌, ◌+◌, ◌<◌, ◌≤◌, ◌⊎◌, inl, inr, ℕ, zero, suc, Bool, true, false, cond, List, [], ◌∷◌, ◌++◌, map, Option, Some, None, refl, sym, ap, subst, ◌∙◌, arith}
-use Rattle.std.specs.Prelude.{nat_lt}
+use Rattle.std.proofs.Common.{◌≡◌, ◌≢◌, ◌+◌, ◌<◌, ◌⊎◌, inl, inr, ℕ, zero, suc, Bool, true, false, List, [], ◌∷◌, ◌++◌, map, Some, None, refl, sym, ap, subst, ◌∙◌, arith}
 use Rattle.std.proofs.lemmas.Bool.{cases_eq}
-use Rattle.std.proofs.lemmas.Bool.Decides.{nat_tests}
 use Rattle.cloud_facts.proofs.Book.Places.{get_single, in_either, in_behind}
 use Rattle.cloud_facts.specs.Book.Records.{IsIn}
 use Rattle.cloud_facts.specs.Book.Telling.{queue_of, head_in, last_or}
 use Rattle.cloud_facts.specs.Homes.Homes.{Part as Place}
 use Rattle.cloud_facts.specs.Book.Tally.{Store}
 use Rattle.cloud_trait.specs.Delivery.{unmarked}
-use Rattle.cloud_trait.specs.Machine.{Ends, Stops, Deed}
+use Rattle.cloud_trait.specs.Machine.{Goes, Deed}
 use Rattle.cloud_trait.specs.declared.state.Version.{Version}
 use Rattle.db_base.specs.Ids.{IsPage, IsTree}
 use Rattle.db_base.specs.declared.names.ObjName.TheVariants as object
 use Rattle.db_base.specs.declared.names.QueueName.{QueueName}
 use Rattle.db_base.specs.declared.names.QueueName.TheVariants as queue
-use Rattle.db_base.specs.declared.trouble.Trouble.TheVariants as trouble
 use Rattle.head_codec.specs.Head.{empty_head}
 use Rattle.head_codec.specs.declared.head.Phase.TheVariants.{Settled}
 use Rattle.leaf_view.specs.Lookup.{page_at}
@@ -31,8 +28,10 @@ use Rattle.session_facts.specs.Settled.Bound.{LeadAlong}
 use Rattle.session_facts.specs.Settled.Runs.{AreDelivered, waiting, right_at, Drains, TreeRun, PageRun, RecoveryRun, TreesRun, PagesRun, RecoveriesRun}
 use Rattle.session_facts.specs.Settled.Story.{Moment, store_at, IsAtWork, PartRan}
 use Rattle.session_facts.specs.Settlings.Settling.{KnowsAtWork}
-use Rattle.settle_run.specs.Parts.{part_again, part_of_client, part_of_tree}
-use Rattle.settle_run.specs.Settling.{Settling, Step, begins, to_page, behind_tree, is_visited, goes_right, passed_with, passed}
+use Rattle.settle_run.proofs.Outcomes.{Passes, passes}
+use Rattle.settle_run.proofs.Outcomes as step
+use Rattle.settle_run.specs.Parts.{part_again, part_received, part_of_tree, part_of_page}
+use Rattle.settle_run.specs.Settling.{Settling, Step, to_page}
 use Rattle.settle_run.specs.declared.part.Part.{Part}
 use Rattle.settle_run.specs.declared.part.Part.TheVariants.{Client, Tree, Page}
 use Rattle.tree_ckpt.specs.Making.{Making}
@@ -115,12 +114,13 @@ page_is (suc n) q e = let same : suc n ≡ q = cc (e) in omega (arith, same)
 
 -- ---- each part
 
-module _ (trees : TreesRun) (pages : PagesRun) (clients : RecoveriesRun) (s : Settling) (h : List Deed) (first last : Moment) (delivered : AreDelivered h) where
+module _ (trees : TreesRun) (pages : PagesRun) (clients : RecoveriesRun) (h : List Deed) (first last : Moment) (delivered : AreDelivered h) where
   abbrev HandsOn : Step → Type 0
   HandsOn next = Handed Left NothingWaits next last
 
-  client_left : (client : ℕ) (r : Recovery) → HeadsRest client first → PartRan (Client client r) h first last → HandsOn (passed (behind_part s (Client client r) h))
-  client_left client r rest ran = on (nat_lt client 64) refl
+  -- the heads of one client more are settled
+  one_more : (client : ℕ) (r : Recovery) → HeadsRest client first → PartRan (Client client r) h first last → HeadsRest (client + 1) last
+  one_more client r rest ran k is less = by (cases_eq client k)
     where
       run : RecoveryRun client h first last
       run = clients client r h first last ran
@@ -128,95 +128,78 @@ module _ (trees : TreesRun) (pages : PagesRun) (clients : RecoveriesRun) (s : Se
       keeps : ClientKeeps client first.state.versions last.state.versions first.state.messages last.state.messages
       keeps = ran_keeps (Client client r) h first last ran
 
-      one_more : HeadsRest (client + 1) last
-      one_more k is less = by (cases_eq client k)
-        where
-          by : (client ≡ k) ⊎ (client ≢ k) → ((store_at last).tally.head k).phase ≡ Settled
-          by (inl e) = subst (λ (n : ℕ). ((store_at last).tally.head n).phase ≡ Settled) e run.settles
-          by (inr other) = head_stays first last k (keeps.heads k (λ e. absurd (other e))) (rest k is (omega (arith, less, other)))
+      by : (client ≡ k) ⊎ (client ≢ k) → ((store_at last).tally.head k).phase ≡ Settled
+      by (inl e) = subst (λ (n : ℕ). ((store_at last).tally.head n).phase ≡ Settled) e run.settles
+      by (inr other) = head_stays first last k (keeps.heads k (λ e. absurd (other e))) (rest k is (omega (arith, less, other)))
 
-      enough : nat_lt client 64 ≡ false → 64 ≤ client
-      enough e = grind (arith, nat_tests, e)
+  module _ (s : Settling) (tree : ℕ) (r : Making) (left : LeftAt (Tree tree r) s.known s.visited first) (ran : PartRan (Tree tree r) h first last) where
+    run : TreeRun tree r h first last
+    run = trees tree r h first last ran
 
-      on : (b : Bool) → nat_lt client 64 ≡ b → HandsOn (begins (behind_part s (Client client r) h) (cond b (part_of_client (client + 1)) (part_of_tree 1)))
-      on true e = one_more
-      on false e =
-          let far : 64 ≤ client = enough e in (
-            λ k is less. let most = is.most in one_more k is (omega (arith, far, most)),
-            (λ t is less. let some = is.some in absurd (omega (arith, some, less)), none_received (queue.TreePu 1) last.state),
-          )
-
-  tree_left : (tree : ℕ) (r : Making) → LeftAt (Tree tree r) s.known s.visited first → PartRan (Tree tree r) h first last → HandsOn (passed (behind_part s (Tree tree r) h))
-  tree_left tree r left ran = on (new_ids s.known r.received) refl
-    where
-      run : TreeRun tree r h first last
-      run = trees tree r h first last ran
-
-      drains : Drains (queue.TreePu tree) r.received first.state last.state
-      drains = run.drains delivered
-
-      keeps : QueueKeeps true tree (queue.TreePu tree) first.state.versions last.state.versions first.state.messages last.state.messages
-      keeps = ran_keeps (Tree tree r) h first last ran
-
-      heads : HeadsRest 65 last
-      heads = heads_stay true tree (queue.TreePu tree) first last keeps left.0
-
-      before : TreesRest tree last.state
-      before = trees_stay true tree (queue.TreePu tree) first last keeps refl left.1.0
-
-      on : (ids : List ℕ) → new_ids s.known r.received ≡ ids → HandsOn (passed_with (behind_part s (Tree tree r) h) ids)
-      on [] e = (
-        heads,
-        (
-          before,
-          (
-            none_received (queue.PagePu tree 1) last.state,
-            record {
-              own = none_left (queue.TreePu tree) s.known r.received first.state last.state left.1.1 drains e;
-              leads = (omega arith, (refl, refl));
-              here = (zero, refl);
-              behind = λ p is other. absurd (other (get_single 1 is.0 p is.1));
-            },
-          ),
-        ),
-      )
-      on (id ∷ ids) e = (heads, (before, news_left (queue.TreePu tree) s.known r.received first.state last.state left.1.1 drains (id ∷ ids) e))
-
-  module _ (tree page : ℕ) (r : Paging) (is_tree : IsTree tree) (left : LeftAt (Page tree page r) s.known s.visited first) (ran : PartRan (Page tree page r) h first last) where
-    run : PageRun tree page r h first last
-    run = pages tree page r h first last ran
-
-    drains : Drains (queue.PagePu tree page) r.received first.state last.state
+    drains : Drains (queue.TreePu tree) r.received first.state last.state
     drains = run.drains delivered
 
-    keeps : QueueKeeps false tree (queue.PagePu tree page) first.state.versions last.state.versions first.state.messages last.state.messages
-    keeps = ran_keeps (Page tree page r) h first last ran
+    keeps : QueueKeeps true tree (queue.TreePu tree) first.state.versions last.state.versions first.state.messages last.state.messages
+    keeps = ran_keeps (Tree tree r) h first last ran
 
     heads : HeadsRest 65 last
-    heads = heads_stay false tree (queue.PagePu tree page) first last keeps left.0
+    heads = heads_stay true tree (queue.TreePu tree) first last keeps left.0
 
     before : TreesRest tree last.state
-    before = trees_stay false tree (queue.PagePu tree page) first last keeps refl left.1.0
+    before = trees_stay true tree (queue.TreePu tree) first last keeps refl left.1.0
+
+    more_left : (id : ℕ) (ids : List ℕ) → new_ids s.known r.received ≡ id ∷ ids → HandsOn (Goes (record s { part = part_of_tree tree; known = s.known ++ id ∷ ids }))
+    more_left id ids e = (heads, (before, news_left (queue.TreePu tree) s.known r.received first.state last.state left.1.1 drains (id ∷ ids) e))
+
+    tree_left : new_ids s.known r.received ≡ [] → HandsOn (to_page (record s { visited = [] }) tree 1)
+    tree_left e = (
+      heads,
+      (
+        before,
+        (
+          none_received (queue.PagePu tree 1) last.state,
+          record {
+            own = none_left (queue.TreePu tree) s.known r.received first.state last.state left.1.1 drains e;
+            leads = (omega arith, (refl, refl));
+            here = (zero, refl);
+            behind = λ p is other. absurd (other (get_single 1 is.0 p is.1));
+          },
+        ),
+      ),
+    )
+
+  module _ (s : Settling) (tree page : ℕ) (r : Paging) (is_tree : IsTree tree) (left : LeftAt (Page tree page r) s.known s.visited first) (ran : PartRan (Page tree page r) h first last) where
+    page_run : PageRun tree page r h first last
+    page_run = pages tree page r h first last ran
+
+    page_drains : Drains (queue.PagePu tree page) r.received first.state last.state
+    page_drains = page_run.drains delivered
+
+    page_keeps : QueueKeeps false tree (queue.PagePu tree page) first.state.versions last.state.versions first.state.messages last.state.messages
+    page_keeps = ran_keeps (Page tree page r) h first last ran
+
+    page_heads : HeadsRest 65 last
+    page_heads = heads_stay false tree (queue.PagePu tree page) first last page_keeps left.0
+
+    page_before : TreesRest tree last.state
+    page_before = trees_stay false tree (queue.PagePu tree page) first last page_keeps refl left.1.0
 
     was : PagesRest tree page s.visited first.state
     was = left.1.1.1
 
     same_rights : right_at first.state tree ≡ right_at last.state tree
-    same_rights = λ i p. (sym (run.rights p)) i
+    same_rights = λ i p. (sym (page_run.rights p)) i
 
     rest : PagesRest tree page s.visited last.state
     rest = record {
-      own = waiting_stays false tree (queue.PagePu tree page) first last keeps (queue.TreePu tree) (λ e. cc (e)) ∙ was.own;
+      own = waiting_stays false tree (queue.PagePu tree page) first last page_keeps (queue.TreePu tree) (λ e. cc (e)) ∙ was.own;
       leads = subst (λ (right : ℕ → ℕ). LeadAlong right 1 s.visited (right page)) same_rights was.leads;
       here = was.here;
-      behind = λ p is other. waiting_stays false tree (queue.PagePu tree page) first last keeps (queue.PagePu tree p) (λ e. other (cc (e))) ∙ was.behind p is other;
+      behind = λ p is other. waiting_stays false tree (queue.PagePu tree page) first last page_keeps (queue.PagePu tree p) (λ e. other (cc (e))) ∙ was.behind p is other;
     }
 
-    abbrev after : Settling
-    after = behind_part s (Page tree page r) h
-
     drained : new_ids s.known r.received ≡ [] → waiting last.state (queue.PagePu tree page) ≡ []
-    drained none = none_left (queue.PagePu tree page) s.known r.received first.state last.state left.1.1.0 drains none
+    drained none = none_left (queue.PagePu tree page) s.known r.received first.state last.state left.1.1.0 page_drains none
 
     -- behind the last page the tree is empty
     tree_done : new_ids s.known r.received ≡ [] → page_at r.home.right ≡ None → TreesRest (tree + 1) last.state
@@ -225,27 +208,15 @@ module _ (trees : TreesRun) (pages : PagesRun) (clients : RecoveriesRun) (s : Se
         by : (t ≡ tree) ⊎ (t ≢ tree) → NoneWaits t last.state
         by (inl same) =
             subst (λ (n : ℕ). NoneWaits n last.state) (sym same)
-            (tree_rests last tree page s.visited is_tree rest (run.right ∙ page_zero r.home.right e) (drained none))
-        by (inr other) = before t is (omega (arith, less, other))
-
-    tree_ends : new_ids s.known r.received ≡ [] → page_at r.home.right ≡ None → HandsOn (behind_tree after tree)
-    tree_ends none e = by (nat_lt tree 16) refl
-      where
-        enough : nat_lt tree 16 ≡ false → 16 ≤ tree
-        enough f = grind (arith, nat_tests, f)
-
-        by : (b : Bool) → nat_lt tree 16 ≡ b → HandsOn (cond b (begins (record after { visited = [] }) (part_of_tree (tree + 1))) (Ends after (record { calls = after.calls })))
-        by true f = (heads, (tree_done none e, none_received (queue.TreePu (tree + 1)) last.state))
-        by false f =
-            let far : 16 ≤ tree = enough f in
-            (heads, λ t is less. let most = is.most in tree_done none e t is (omega (arith, far, most)))
+            (tree_rests last tree page s.visited is_tree rest (page_run.right ∙ page_zero r.home.right e) (drained none))
+        by (inr other) = page_before t is (omega (arith, less, other))
 
     -- what was behind the right page
     further : new_ids s.known r.received ≡ [] → (q : ℕ) → page_at r.home.right ≡ Some q → PagesRest tree q (s.visited ++ q ∷ []) last.state
     further none q e = record {
       own = rest.own;
       leads = leads_more (right_at last.state tree) 1 q s.visited
-          (subst (LeadAlong (right_at last.state tree) 1 s.visited) (run.right ∙ page_some r.home.right q e) rest.leads) (page_is r.home.right q e);
+          (subst (LeadAlong (right_at last.state tree) 1 s.visited) (page_run.right ∙ page_some r.home.right q e) rest.leads) (page_is r.home.right q e);
       here = in_behind s.visited (q ∷ []) q (zero, refl);
       behind = λ p is other. at p other (in_either s.visited (q ∷ []) p is);
     }
@@ -258,31 +229,32 @@ module _ (trees : TreesRun) (pages : PagesRun) (clients : RecoveriesRun) (s : Se
             own (inl same) = subst (λ (n : ℕ). waiting last.state (queue.PagePu tree n) ≡ []) same (drained none)
             own (inr apart) = rest.behind p is (λ f. absurd (apart f))
 
-    to_right : new_ids s.known r.received ≡ [] → (q : ℕ) → page_at r.home.right ≡ Some q → HandsOn (goes_right after tree (Some q))
-    to_right none q e = by (is_visited after q)
-      where
-        by : (b : Bool) → HandsOn (cond b (Stops after (trouble.Loop q)) (to_page after tree q))
-        by true = tt
-        by false = (heads, (before, (none_received (queue.PagePu tree q) last.state, further none q e)))
+    page_again : (id : ℕ) (ids : List ℕ) → new_ids s.known r.received ≡ id ∷ ids → HandsOn (Goes (record s { part = part_of_page tree page; known = s.known ++ id ∷ ids }))
+    page_again id ids e = (page_heads, (page_before, (news_left (queue.PagePu tree page) s.known r.received first.state last.state left.1.1.0 page_drains (id ∷ ids) e, rest)))
 
-    to_next : new_ids s.known r.received ≡ [] → (o : Option ℕ) → page_at r.home.right ≡ o → HandsOn (goes_right after tree o)
-    to_next none None e = tree_ends none e
-    to_next none (Some q) e = to_right none q e
+  again_on : (s : Settling) (w : Part) → IsOfTree w → LeftAt w s.known s.visited first → PartRan w h first last → (id : ℕ) (ids : List ℕ) → new_ids s.known (part_received w) ≡ id ∷ ids
+      → HandsOn (Goes (record s { part = part_again w; known = s.known ++ id ∷ ids }))
+  again_on s (Client client r) is left ran id ids e = absurd (cc (e))
+  again_on s (Tree tree r) is left ran id ids e = more_left s tree r left ran id ids e
+  again_on s (Page tree page r) is left ran id ids e = page_again s tree page r is left ran id ids e
 
-    page_left : HandsOn (passed after)
-    page_left = on (new_ids s.known r.received) refl
-      where
-        on : (ids : List ℕ) → new_ids s.known r.received ≡ ids → HandsOn (passed_with after ids)
-        on [] e = to_next e (page_at r.home.right) refl
-        on (id ∷ ids) e =
-            (heads, (before, (news_left (queue.PagePu tree page) s.known r.received first.state last.state left.1.1.0 drains (id ∷ ids) e, rest)))
-
-  part_left : (w : Part) → IsOfTree w → LeftAt w s.known s.visited first → PartRan w h first last → HandsOn (passed (behind_part s w h))
-  part_left (Client client r) is left ran = client_left client r left ran
-  part_left (Tree tree r) is left ran = tree_left tree r left ran
-  part_left (Page tree page r) is left ran = page_left tree page r is left ran
+  left_on : {m : Settling} {next : Step} → Passes m next → IsOfTree m.part → LeftAt m.part m.known m.visited first → PartRan m.part h first last → HandsOn next
+  left_on (step.again s id ids news) is left ran = again_on s s.part is left ran id ids news
+  left_on (step.next_client s client r less) is left ran = one_more client r left ran
+  left_on (step.first_tree s client r most) is left ran = (
+    λ k own less. let upto = own.most in one_more client r left ran k own (omega (arith, most, upto)),
+    (λ t own less. let some = own.some in absurd (omega (arith, some, less)), none_received (queue.TreePu 1) last.state),
+  )
+  left_on (step.first_page s tree r none) is left ran = tree_left s tree r left ran none
+  left_on (step.right_page s tree page r right none link new) is left ran =
+      (page_heads s tree page r is left ran, (page_before s tree page r is left ran, (none_received (queue.PagePu tree right) last.state, further s tree page r is left ran none right link)))
+  left_on (step.round s tree page r right none link seen) is left ran = tt
+  left_on (step.next_tree s tree page r none end less) is left ran =
+      (page_heads s tree page r is left ran, (tree_done s tree page r is left ran none end, none_received (queue.TreePu (tree + 1)) last.state))
+  left_on (step.all_done s tree page r none end most) is left ran =
+      (page_heads s tree page r is left ran, λ t own less. let upto = own.most in tree_done s tree page r is left ran none end t own (omega (arith, most, upto)))
 
 pub left_hands : TreesRun → PagesRun → RecoveriesRun → Hands Left NothingWaits IsDelivered
 left_hands trees pages clients s w h first last left place ran each works =
-    part_left trees pages clients s h first last (each_delivered h each) w (works_tree first s.part w place works)
+    left_on trees pages clients h first last (each_delivered h each) (passes (behind_part s w h)) (works_tree first s.part w place works)
     (left_again w s.known s.visited first (subst (λ (x : Part). LeftAt x s.known s.visited first) (sym place) (again_left s.part s.known s.visited first left))) ran

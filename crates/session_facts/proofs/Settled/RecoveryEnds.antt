@@ -1,5 +1,5 @@
 -- What a settling's recovery leaves where nobody else acts: no message of its client, and no open head.
-use Rattle.std.proofs.Common.{◌≡◌, ◌-◌, ◌^◌, ◌==◌, ℕ, Bool, true, false, cond, List, [], ◌∷◌, ◌++◌, Option, Some, None, Result, Ok, Err, refl, sym, ap, subst, ◌∙◌}
+use Rattle.std.proofs.Common.{◌≡◌, ℕ, List, [], ◌∷◌, Option, Some, None, Result, Ok, Err, refl, sym, ap, subst, ◌∙◌}
 use Rattle.std.specs.List.{AllByRecursion}
 use Rattle.cloud_trait.specs.Calm.{IsCalm, AreCalm, AreAlone}
 use Rattle.cloud_trait.specs.Plenty.{HadMemory}
@@ -20,41 +20,32 @@ use Rattle.cloud_trait.specs.Claim.{Claim, Lasts}
 use Rattle.cloud_trait.specs.Delivery.{unmarked}
 use Rattle.cloud_trait.specs.Machine.{Goes, Ends, Stops, Deed, IsMade, calls_of}
 use Rattle.cloud_trait.specs.State.{CloudState, newest, newest_of, called}
-use Rattle.cloud_trait.specs.Views.{given_of, got_of, sent_of, received_of, done_of}
+use Rattle.cloud_trait.specs.Views.{got_of}
 use Rattle.cloud_trait.specs.Weather.{Weather}
 use Rattle.cloud_trait.proofs.RowLemmas.{row_versions}
-use Rattle.db_base.specs.declared.names.Lock.TheVariants as lock
 use Rattle.db_base.specs.declared.names.ObjName.{ObjName}
 use Rattle.db_base.specs.declared.names.ObjName.TheVariants as object
 use Rattle.db_base.specs.declared.names.QueueName.TheVariants as queue
-use Rattle.db_base.specs.declared.trouble.Counter.TheVariants as counter
 use Rattle.db_base.specs.declared.trouble.Trouble.{Trouble}
-use Rattle.db_base.specs.declared.trouble.Trouble.TheVariants as trouble
-use Rattle.head_codec.specs.Spelling.{head_of}
 use Rattle.head_codec.specs.declared.head.Head.{Head}
-use Rattle.head_codec.specs.declared.head.Phase.{Phase}
-use Rattle.head_codec.specs.declared.head.Phase.TheVariants.{Settled, Open}
+use Rattle.head_codec.specs.declared.head.Phase.TheVariants.{Settled}
 use Rattle.report_types.specs.declared.entry.Entry.{Entry}
-use Rattle.recover_run.specs.declared.items.AtomicItem.{AtomicItem}
-use Rattle.recover_run.specs.declared.stage.Aim.{Aim}
-use Rattle.recover_run.specs.declared.stage.Aim.TheVariants.{Opening, Settling}
+use Rattle.recover_run.specs.declared.stage.Aim.TheVariants.{Settling}
 use Rattle.recover_run.specs.declared.stage.RecoverAnswer.{RecoverAnswer}
 use Rattle.recover_run.specs.declared.stage.RecoverAnswer.TheVariants.{Opened, Nothing}
 use Rattle.recover_run.specs.declared.stage.Stage.{Stage}
-use Rattle.recover_run.specs.declared.stage.Stage.TheVariants.{ReleasingOld, Taking, Getting, Receiving, Deleting, Sending, Putting, Clearing, Sweeping, Releasing, Finished}
+use Rattle.recover_run.specs.declared.stage.Stage.TheVariants.{Getting, Putting, Clearing, Sweeping, Releasing}
 use Rattle.recover_run.specs.Calls.{head_in}
 use Rattle.recover_run.specs.Emptying.{IsBeginning, HadMemory as HadMemoryOf, HasNoLater}
-use Rattle.recover_run.specs.Gathering.{past_ids}
-use Rattle.recover_run.specs.Ids.{new_ids, rest_of}
-use Rattle.recover_run.specs.Items.{items_of}
 use Rattle.recover_run.specs.Meaning.{IsOpened, IsNothing}
-use Rattle.recover_run.specs.Recovery.{Recovery, Step, recovery_ask, recovery_next, ask_at, next_at, take_lease, under, delete_next, stopping, taken_by, phase_read, behind, bytes_read, none_read, got_by, put_by, clearing, clearing_kept, kept_ids, opened, sweeping, swept_with, swept_by, ended}
+use Rattle.recover_run.specs.Recovery.{Recovery, Step, recovery_ask, recovery_next, ask_at, take_lease, under, delete_next}
+use Rattle.recover_run.proofs.Outcomes.{Clears, Comes, comes_to}
+use Rattle.recover_run.proofs.Outcomes as step
 use Rattle.recover_run.specs.Standing.{Went}
 use Rattle.recover_run.proofs.Calmly.{Moves, Shrunk, move_shrinks, shrunk_all, unmarked_since}
 use Rattle.recover_run.proofs.Emptying.{came_empties}
-use Rattle.recover_run.proofs.Leading.{Bears, bears_received, bears_deleted, bears_sent}
 use Rattle.recover_run.proofs.Meaning.{Knows, came_known, came_means}
-use Rattle.session_facts.specs.Openings.Opening.{HasPut, KnowsOpening}
+use Rattle.session_facts.specs.Openings.Opening.{KnowsPut, KnowsOpening}
 use Rattle.session_facts.proofs.Settled.RecoveryCalls.{LeadsOver, deed_row, calls_read, opened_reads, nothing_reads}
 
 -- ---- no message is left
@@ -131,108 +122,41 @@ SettledAt Sweeping ending P = P
 SettledAt Releasing ending P = EndsSettled ending P
 SettledAt stage ending P = Unit {0}
 
-abbrev pub SettledNext : Type 0 → Step → Type 0
+abbrev EndsIn : Step → Type 0 → Type 0
+EndsIn (Goes n) P = Unit {0}
+EndsIn (Ends n a) P = P
+EndsIn (Stops n t) P = Unit {0}
+
+abbrev SettledNext : Type 0 → Step → Type 0
 SettledNext P (Goes n) = SettledAt n.stage n.ending P
 SettledNext P (Ends n a) = P
 SettledNext P (Stops n t) = Unit {0}
 
-module _ (P : Type 0) where
-  bears : Bears (SettledNext P)
-  bears = record { gathers = λ m. tt; deletes = λ m. tt; sends = λ m. tt; puts = λ m. tt; halts = λ m t may. tt }
+module _ (P : Type 0) (st : Store) (now : ℕ) (part : Part) where
+  abbrev KnowsOn : Step → Type 0
+  KnowsOn (Goes n) = KnowsOpening st now n part
+  KnowsOn (Ends n a) = Unit {0}
+  KnowsOn (Stops n t) = Unit {0}
 
-  taken_next : (r : Recovery) (g : Result Claim Trouble) → SettledNext P (taken_by r g)
-  taken_next r (Ok l) = tt
-  taken_next r (Err t) = tt
-
-  phase_next : (p : Phase) (r : Recovery) → SettledNext P (phase_read p r)
-  phase_next Settled r = tt
-  phase_next (Open count) r = tt
-
-  bytes_next : (r : Recovery) (bytes : List ℕ) (o : Option Head) → SettledNext P (bytes_read r bytes o)
-  bytes_next r bytes None = tt
-  bytes_next r bytes (Some h) = on (h.epoch == 2 ^ 64 - 1)
-    where
-      on : (b : Bool) → SettledNext P (cond b (stopping r (trouble.Exhausted counter.Epoch)) (phase_read h.phase (behind r h)))
-      on true = tt
-      on false = phase_next h.phase (behind r h)
-
-  none_next : (aim : Aim) (r : Recovery) → aim ≡ Settling → P → SettledNext P (none_read aim r)
-  none_next Settling r settles p = p
-  none_next Opening r settles p = absurd (cc)
-
-  got_next : (r : Recovery) (g : Result (Option (List ℕ)) Trouble) → r.aim ≡ Settling → (g ≡ Ok None → P) → SettledNext P (got_by r g)
-  got_next r (Ok None) settles p = none_next r.aim r settles (p refl)
-  got_next r (Ok (Some bytes)) settles p = bytes_next r bytes (head_of bytes)
-  got_next r (Err t) settles p = tt
-
-  clearing_next : (r : Recovery) (ids : List ℕ) → P → SettledNext P (clearing r ids)
-  clearing_next r [] p = p
-  clearing_next r (id ∷ ids) p = p
-
-  put_next : (r : Recovery) (g : Result (Unit {0}) Trouble) → (g ≡ Ok tt → P) → SettledNext P (put_by r g)
-  put_next r (Ok done) p = clearing_next (record r { swept = kept_ids r }) (kept_ids r) (p refl)
-  put_next r (Err t) p = tt
-
-  opened_next : (aim : Aim) (r : Recovery) → P → SettledNext P (opened aim r)
-  opened_next Opening r p = p
-  opened_next Settling r p = p
-
-  sweeping_next : (r : Recovery) (ids : List ℕ) → P → SettledNext P (sweeping r ids)
-  sweeping_next r [] p = opened_next r.aim (record r { swept = r.swept ++ []; ids = [] }) p
-  sweeping_next r (id ∷ ids) p = p
-
-  items_next : (r : Recovery) (o : Result (List AtomicItem) Message) → P → SettledNext P (swept_with r o)
-  items_next r (Ok items) p = sweeping_next r (new_ids r.swept (past_ids r.wanted items)) p
-  items_next r (Err m) p = tt
-
-  swept_next : (r : Recovery) (g : Result (List Message) Trouble) → P → SettledNext P (swept_by r g)
-  swept_next r (Ok ms) p = items_next r (items_of ms) p
-  swept_next r (Err t) p = tt
-
-  ended_next : (r : Recovery) (ending : Option (Result RecoverAnswer Trouble)) → EndsSettled ending P → SettledNext P (ended r ending)
-  ended_next r (Some (Ok a)) p = p
-  ended_next r (Some (Err t)) p = tt
-  ended_next r None p = tt
+  -- a put that landed leaves it so, and deletions behind it do
+  clears_settled : {r q : Recovery} {a : Answer} {ids : List ℕ} → Clears r a q ids → SettledAt r.stage r.ending P → KnowsPut st now q part
+      → (r.stage ≡ Putting → a ≡ Done → KnowsPut st now r part → P) → P
+  clears_settled (step.head_put r) p k put = put refl refl k
+  clears_settled (step.one_tried r a) p k put = p
 
   -- where a step of a settling's recovery leads
-  next_settled : (stage : Stage) (r : Recovery) (a : Answer) → r.aim ≡ Settling → SettledAt stage r.ending P → (stage ≡ Getting → got_of a ≡ Ok None → P)
-      → (stage ≡ Putting → done_of a ≡ Ok tt → P) → SettledNext P (next_at stage r a)
-  next_settled ReleasingOld r a settles p none put = tt
-  next_settled Taking r a settles p none put = taken_next r (given_of (lock.Client r.client) a)
-  next_settled Getting r a settles p none put = got_next r (got_of a) settles (none refl)
-  next_settled Receiving r a settles p none put = bears_received (SettledNext P) bears r (received_of a) (λ t e. tt)
-  next_settled Deleting r a settles p none put = bears_deleted (SettledNext P) bears r (done_of a) (λ t e. tt)
-  next_settled Sending r a settles p none put = bears_sent (SettledNext P) bears r (sent_of a) (λ t e. tt)
-  next_settled Putting r a settles p none put = put_next r (done_of a) (put refl)
-  next_settled Clearing r a settles p none put = clearing_next r (rest_of r.ids) p
-  next_settled Sweeping r a settles p none put = swept_next r (received_of a) p
-  next_settled Releasing r a settles p none put = ended_next (record r { stage = Finished; lease = None; ending = None }) r.ending p
-  next_settled Finished r a settles p none put = tt
+  next_settled : {r : Recovery} {a : Answer} {next : Step} → Comes r a next → SettledAt r.stage r.ending P → KnowsOn next → (r.stage ≡ Getting → got_of a ≡ Ok None → P)
+      → (r.stage ≡ Putting → a ≡ Done → KnowsPut st now r part → P) → SettledNext P next
+  next_settled (step.finds_none r settles) p k none put = none refl refl
+  next_settled (step.clears q id ids c) p k none put = clears_settled c p k.at.0 put
+  next_settled (step.sweeps q c) p k none put = clears_settled c p k.at put
+  next_settled (step.clears_past r ms items id ids e are) p k none put = p
+  next_settled (step.opens r ms items e past is) p k none put = p
+  next_settled (step.closes r ms items e past is) p k none put = p
+  next_settled (step.ends r a answer e) p k none put = subst (λ (o : Option (Result RecoverAnswer Trouble)). EndsSettled o P) e p
+  next_settled c p k none put = tt
 
 -- ---- each call
-
--- a deletion behind the put ends nothing
-clearing_goes : (r n : Recovery) (ids : List ℕ) (a : RecoverAnswer) → clearing r ids ≡ Ends n a → ⊥
-clearing_goes r n [] a e = cc
-clearing_goes r n (id ∷ ids) a e = cc
-
--- what is known behind a landed put
-put_known : (st : Store) (now : ℕ) (part : Part) (m n : Recovery) (ids : List ℕ) → clearing m ids ≡ Goes n → KnowsOpening st now n part
-    → HasPut st now m.client m.former m.lease m.wanted m.head part
-put_known st now part m n [] e k = here (subst (λ x. KnowsOpening st now x part) (sym same) k)
-  where
-    same : record m { ids = []; stage = Sweeping } ≡ n
-    same = cc
-
-    here : KnowsOpening st now (record m { ids = []; stage = Sweeping }) part → HasPut st now m.client m.former m.lease m.wanted m.head part
-    here o = o.at
-put_known st now part m n (id ∷ ids) e k = here (subst (λ x. KnowsOpening st now x part) (sym same) k)
-  where
-    same : record m { ids = id ∷ ids; stage = Clearing } ≡ n
-    same = cc
-
-    here : KnowsOpening st now (record m { ids = id ∷ ids; stage = Clearing }) part → HasPut st now m.client m.former m.lease m.wanted m.head part
-    here o = o.at.0
 
 puts_release : (r : Recovery) (o : Option Claim) → PutsNothing (under r o Release)
 puts_release r (Some l) = tt
@@ -290,30 +214,16 @@ module _ (client : ℕ) (d : Deed) (r : Recovery) (b t : CloudState) (asks : d.a
       on o asked a f g = absurd (cc)
 
   -- a head that landed
-  put_settled : (book : Book) (order : List Entry) (part : Part) (n : Recovery) → r.stage ≡ Putting → done_of d.answer ≡ Ok tt → recovery_next r d.answer ≡ Goes n
-      → KnowsOpening (store_of book order t) t.now n part → IsSettled client t
-  put_settled book order part n e done goes k = subst (λ c. IsSettled c t) own phase
+  put_settled : (book : Book) (order : List Entry) (part : Part) → r.stage ≡ Putting → d.answer ≡ Done → KnowsPut (store_of book order t) t.now r part → IsSettled client t
+  put_settled book order part e done p = subst (λ c. IsSettled c t) own phase
     where
-      st : Store
-      st = store_of book order t
-
-      stepped : clearing_kept r ≡ Goes n
-      stepped = ap (put_by r) (sym done) ∙ (ap (λ (g : Stage). next_at g r d.answer) (sym e) ∙ goes)
-
-      p : HasPut st t.now r.client r.former r.lease r.wanted r.head part
-      p = put_known st t.now part (record r { swept = kept_ids r }) n (kept_ids r) stepped k
-
       asked : recovery_ask r ≡ PutHeld (object.Head r.client) r.out p.held.now None
       asked = asks_at Putting e ∙ ap (λ (o : Option Claim). under r o (λ l. PutHeld (object.Head r.client) r.out l None)) p.held.is
 
-      done_so : (a : Answer) → done_of a ≡ Ok tt → a ≡ Done
-      done_so Done f = refl
-      done_so a f = absurd (cc)
-
       lasts : Lasts t.now p.held.now
-      lasts = put_lasts d.who (object.Head r.client) r.out p.held.now None (called d.who t.now b) t (row_at (PutHeld (object.Head r.client) r.out p.held.now None) Done asked (done_so d.answer done))
+      lasts = put_lasts d.who (object.Head r.client) r.out p.held.now None (called d.who t.now b) t (row_at (PutHeld (object.Head r.client) r.out p.held.now None) Done asked done)
 
-      pruned : IsPruned st.tally r.client (st.tally.head r.client) r.head
+      pruned : IsPruned (store_of book order t).tally r.client ((store_of book order t).tally.head r.client) r.head
       pruned = p.home.at.newest lasts
 
       phase : IsSettled r.client t
@@ -323,11 +233,12 @@ module _ (client : ℕ) (d : Deed) (r : Recovery) (b t : CloudState) (asks : d.a
   pub step_settles : (book : Book) (order : List Entry) (part : Part) (n : Recovery) → recovery_next r d.answer ≡ Goes n → r.aim ≡ Settling
       → SettledAt r.stage r.ending (IsSettled client b) → KnowsOpening (store_of book order t) t.now n part → SettledAt n.stage n.ending (IsSettled client t)
   step_settles book order part n goes settles p k =
-      subst (SettledNext (IsSettled client t)) goes
-      (next_settled (IsSettled client t) r.stage r d.answer settles (stage_stays r.stage refl p) none_settled (λ e done. put_settled book order part n e done goes k))
+      next_settled (IsSettled client t) (store_of book order t) t.now part (comes_to r d.answer (Goes n) goes) (stage_stays r.stage refl p) k none_settled (put_settled book order part)
+
+  ended : {m : Recovery} {a : Answer} {next : Step} → Comes m a next → SettledAt m.stage m.ending (IsSettled client t) → EndsIn next (IsSettled client t)
+  ended (step.opens m ms items e past is) p = p
+  ended (step.ends m a answer e) p = subst (λ (o : Option (Result RecoverAnswer Trouble)). EndsSettled o (IsSettled client t)) e p
+  ended c p = tt
 
   pub end_settles : (n : Recovery) (a : RecoverAnswer) → recovery_next r d.answer ≡ Ends n a → r.aim ≡ Settling → SettledAt r.stage r.ending (IsSettled client b) → IsSettled client t
-  end_settles n a ends settles p =
-      subst (SettledNext (IsSettled client t)) ends
-      (next_settled (IsSettled client t) r.stage r d.answer settles (stage_stays r.stage refl p) none_settled
-      (λ e done. absurd (clearing_goes (record r { swept = kept_ids r }) n (kept_ids r) a (ap (put_by r) (sym done) ∙ (ap (λ (g : Stage). next_at g r d.answer) (sym e) ∙ ends)))))
+  end_settles n a ends settles p = ended (comes_to r d.answer (Ends n a) ends) (stage_stays r.stage refl p)

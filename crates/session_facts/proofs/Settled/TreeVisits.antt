@@ -1,5 +1,5 @@
 -- A tree checkpoint comes to no page twice on its way to the leaf of a key.
-use Rattle.std.proofs.Common.{◌≡◌, ◌≢◌, ℕ, zero, suc, Bool, true, false, cond, List, [], ◌∷◌, ◌++◌, length, Option, Some, None, Result, Ok, Err, refl, sym, subst, ◌∙◌}
+use Rattle.std.proofs.Common.{◌≡◌, ◌≢◌, ℕ, Bool, true, false, cond, List, [], ◌∷◌, ◌++◌, Option, Result, refl, sym, subst, ◌∙◌}
 use Rattle.std.specs.Prelude.{◌==◌}
 use Rattle.std.proofs.lemmas.Bool.{eq-eqb}
 use Rattle.cloud_facts.proofs.Copies.Tops.{any_of}
@@ -8,7 +8,6 @@ use Rattle.cloud_trait.specs.declared.answer.Answer.{Answer}
 use Rattle.cloud_trait.specs.Machine.{Next, Goes, Ends, Stops}
 use Rattle.cloud_trait.specs.Views.{got_of, done_of}
 use Rattle.db_base.specs.declared.trouble.Trouble.{Trouble}
-use Rattle.db_base.specs.declared.trouble.Trouble.TheVariants as trouble
 use Rattle.leaf_fold.specs.declared.folding.Folding.{Folding}
 use Rattle.leaf_fold.specs.declared.folding.Left.{Left}
 use Rattle.leaf_fold.specs.declared.folding.Left.TheVariants.{Right, Handled}
@@ -16,22 +15,21 @@ use Rattle.leaf_fold.specs.Folding as fold
 use Rattle.run_cursor.specs.Covered.{is_seen}
 use Rattle.session_facts.proofs.Settled.TreeLists.{apart_more}
 use Rattle.session_facts.specs.TreeCheckpoints.Counting.{Once}
+use Rattle.session_facts.proofs.Trees.Descents.{Arrives, arrives_at, Gets, gets}
+use Rattle.session_facts.proofs.Trees.Descents as way
 use Rattle.tree_ckpt.proofs.LeafOutcomes.{reads, put_lands}
 use Rattle.tree_ckpt.proofs.LeafOutcomes as leaf
 use Rattle.tree_ckpt.proofs.Outcomes.{Descends, Comes, comes}
 use Rattle.tree_ckpt.proofs.Outcomes as step
 use Rattle.tree_descent.specs.declared.descent.Descent.{Descent}
-use Rattle.tree_descent.specs.declared.descent.Reach.{Reach}
-use Rattle.tree_descent.specs.declared.descent.Reach.TheVariants.{Node, Leaf}
 use Rattle.tree_descent.specs.declared.fork.Fork.{Fork}
 use Rattle.tree_descent.specs.declared.fork.Fork.TheVariants as fork
-use Rattle.tree_descent.specs.Descent.{passed, fork_of, go_on, stride_at, kept_at, stride, follow, walk, arrived, arrive, begun, with_node, got_node, descent_got}
+use Rattle.tree_descent.specs.Descent.{passed, begun, with_node}
 use Rattle.tree_moves.specs.declared.work.Held.{Held}
 use Rattle.tree_moves.specs.declared.work.Work.{Work}
 use Rattle.tree_moves.specs.declared.work.Work.TheVariants as work
 use Rattle.tree_moves.specs.Moves.{Step, root_entry, onward_from, Leads}
 use Rattle.tree_parts.specs.declared.chart.Chart.{Chart}
-use Rattle.tree_parts.specs.declared.kept.KeptNode.{KeptNode}
 use Rattle.tree_parts.specs.Placing.{has_nothing}
 
 abbrev pub OnceNext : Step → Type 0
@@ -66,60 +64,22 @@ passed_once : (d : Descent) (f : Fork) → is_seen d.visited d.page ≡ false �
 passed_once d (fork.Right low page) unseen apart = one_more d.visited d.page unseen apart
 passed_once d (fork.Down low page) unseen apart = one_more d.visited d.page unseen apart
 
-go_on_once : (d : Descent) (f : Result Fork Trouble) → is_seen d.visited d.page ≡ false → Apart d.visited → WayOnce (go_on d f)
-go_on_once d (Ok f) unseen apart = passed_once d f unseen apart
-go_on_once d (Err t) unseen apart = tt
+arrives_once : {n : ℕ} {d : Descent} {s : Next Descent (Unit {0})} → Arrives n d s → Apart d.visited → WayOnce s
+arrives_once (way.at_leaf d level) apart = apart
+arrives_once (way.at_node d new none) apart = apart
+arrives_once (way.further d k f p on) apart = arrives_once on (passed_once d f p.new.unseen apart)
+arrives_once w apart = tt
 
-stride_at_once : (d : Descent) (k : Option KeptNode) → is_seen d.visited d.page ≡ false → Apart d.visited → WayOnce (stride_at d k)
-stride_at_once d (Some k) unseen apart = go_on_once d (fork_of d k.bytes) unseen apart
-stride_at_once d None unseen apart = apart
-
-stride_once : (d : Descent) → Apart d.visited → WayOnce (stride d)
-stride_once d apart = on (d.level == 0) (is_seen d.visited d.page) refl
-  where
-    further : (seen : Bool) → is_seen d.visited d.page ≡ seen → WayOnce (cond seen (Stops d (trouble.Loop d.page)) (stride_at d (kept_at d)))
-    further true e = tt
-    further false e = stride_at_once d (kept_at d) e apart
-
-    on : (b seen : Bool) → is_seen d.visited d.page ≡ seen → WayOnce (cond b (Ends d Leaf) (cond seen (Stops d (trouble.Loop d.page)) (stride_at d (kept_at d))))
-    on true seen e = apart
-    on false seen e = further seen e
-
-follow_once : (next : Descent → Next Descent Reach) → ((e : Descent) → Apart e.visited → WayOnce (next e)) → (s : Next Descent Reach) → WayOnce s
-    → WayOnce (follow next s)
-follow_once next each (Goes e) apart = each e apart
-follow_once next each (Ends e reach) apart = apart
-follow_once next each (Stops e t) apart = tt
-
-walk_once : (n : ℕ) (d : Descent) → Apart d.visited → WayOnce (walk n d)
-unfolding walk
-walk_once zero d apart = follow_once (λ e. Stops e (trouble.Loop e.page)) (λ e is. tt) (stride d) (stride_once d apart)
-walk_once (suc n) d apart = follow_once (walk n) (walk_once n) (stride d) (stride_once d apart)
-
-arrived_once : (s : Next Descent Reach) → WayOnce s → WayOnce (arrived s)
-arrived_once (Goes d) apart = apart
-arrived_once (Ends d Node) apart = apart
-arrived_once (Ends d Leaf) apart = apart
-arrived_once (Stops d t) apart = tt
-
-arrive_once : (d : Descent) → Apart d.visited → WayOnce (arrive d)
-arrive_once d apart = arrived_once (walk (length d.chart.nodes) d) (walk_once (length d.chart.nodes) d apart)
-
-got_once : (d : Descent) (bytes : List ℕ) (f : Result Fork Trouble) → is_seen d.visited d.page ≡ false → Apart d.visited → WayOnce (got_node d bytes f)
-got_once d bytes (Ok f) unseen apart = arrive_once (passed (with_node d bytes) f) (passed_once (with_node d bytes) f unseen apart)
-got_once d bytes (Err t) unseen apart = tt
-
-descent_got_once : (d : Descent) (got : Result (Option (List ℕ)) Trouble) → is_seen d.visited d.page ≡ false → Apart d.visited → WayOnce (descent_got d got)
-descent_got_once d (Ok (Some bytes)) unseen apart = got_once d bytes (fork_of d bytes) unseen apart
-descent_got_once d (Ok None) unseen apart = tt
-descent_got_once d (Err t) unseen apart = tt
+gets_once : {d : Descent} {g : Result (Option (List ℕ)) Trouble} {s : Next Descent (Unit {0})} → Gets d g s → is_seen d.visited d.page ≡ false → Apart d.visited → WayOnce s
+gets_once {d = d} (way.leads bytes f e on) unseen apart = arrives_once on (passed_once (with_node d bytes) f unseen apart)
+gets_once w unseen apart = tt
 
 -- the way begins with no page, and goes on from one that was not visited
 descends_once : {tree : ℕ} {w : Work} {a : Answer} {h : Held} {next : Next Descent (Unit {0})} → Once w → IsNew w → Descends tree w a h next → WayOnce next
 descends_once is new (step.begins {c = c} key s e) =
     let to : Chart = record c { key = key } in
-    arrive_once (begun to (root_entry to).0 (root_entry to).1) tt
-descends_once is new (step.goes_on h d a) = descent_got_once d (got_of a) new is
+    arrives_once (arrives_at (begun to (root_entry to).0 (root_entry to).1)) tt
+descends_once is new (step.goes_on h d a) = gets_once (gets d (got_of a)) new is
 
 -- ---- a leaf
 

@@ -1,14 +1,12 @@
 -- A settling at its begin, and its parts at theirs.
-use Rattle.std.proofs.Common.{◌≡◌, ◌+◌, ◌≤◌, ℕ, Bool, true, false, cond, None, refl, subst, sym, arith}
-use Rattle.std.specs.Prelude.{nat_lt}
-use Rattle.std.proofs.lemmas.Bool.Decides.{nat_tests}
+use Rattle.std.proofs.Common.{◌≡◌, ℕ, None, refl, subst, sym, arith}
 use Rattle.db_base.specs.Ids.{IsClient, IsTree, IsPage}
 use Rattle.cloud_facts.specs.Homes.Homes.{Part, Away}
 use Rattle.session_facts.proofs.Openings.Begins.{opening_begins}
 use Rattle.session_facts.proofs.PageCheckpoints.Begins.{paging_begins}
 use Rattle.recover_run.specs.declared.stage.Aim.TheVariants as aim
 use Rattle.settle_run.specs.Parts.{part_of_client, part_of_tree, part_of_page}
-use Rattle.settle_run.specs.Settling.{new_settling, behind_client}
+use Rattle.settle_run.specs.Settling.{new_settling}
 use Rattle.cloud_facts.specs.Book.Tally.{Store}
 use Rattle.session_facts.specs.Settlings.Settling.{KnowsAtWork, KnowsSettling}
 use Rattle.session_facts.proofs.TreeCheckpoints.Begins.{making_begins}
@@ -25,17 +23,6 @@ module _ (st : Store) (now : ℕ) (part : Part) (away : part ≡ Away) where
 
   pub page_begins : (tree page : ℕ) → IsTree tree → IsPage page → KnowsAtWork st now (part_of_page tree page) part
   page_begins tree page t g = record { tree_is = refl; page_is = refl; knows = paging_begins st now tree page t g; away = away }
-
-  -- behind a client comes the next one, and behind the last the first tree
-  pub behind_begins : (client : ℕ) → IsClient client → KnowsAtWork st now (behind_client client) part
-  behind_begins client is = on (nat_lt client 64) refl
-    where
-      more : nat_lt client 64 ≡ true → client + 1 ≤ 64
-      more e = grind (arith, nat_tests)
-
-      on : (b : Bool) → nat_lt client 64 ≡ b → KnowsAtWork st now (cond b (part_of_client (client + 1)) (part_of_tree 1)) part
-      on true e = client_begins (client + 1) (record { some = omega (arith, is.some); most = more e })
-      on false e = tree_begins 1 (record { some = omega arith; most = omega arith })
 
 -- a settling begins with the recovery of client 1, and knows nothing
 pub settling_begins : (st : Store) (now : ℕ) → KnowsSettling st now new_settling Away

@@ -1,7 +1,5 @@
 -- Why a settling meets a trouble: the call of its part at work shows it, or a deletion of that part failed.
-use Rattle.std.proofs.Common.{◌≡◌, ◌≢◌, ◌≤◌, ◌+◌, ◌==◌, ◌⊎◌, inl, inr, ℕ, Bool, true, false, cond, List, [], ◌∷◌, Option, Some, None, refl, sym, subst, ◌∙◌, arith}
-use Rattle.std.specs.Prelude.{nat_lt}
-use Rattle.std.proofs.lemmas.Bool.{eqb-false}
+use Rattle.std.proofs.Common.{◌≡◌, ◌≢◌, ◌≤◌, ◌⊎◌, inl, inr, ℕ, List, Option, Some, None, sym, subst, ◌∙◌, arith}
 use Rattle.cloud_facts.specs.Book.Book.{Book}
 use Rattle.cloud_facts.specs.Book.Tally.{Store}
 use Rattle.cloud_facts.specs.Calls.Standing.{StandsUnder}
@@ -16,11 +14,8 @@ use Rattle.cloud_trait.specs.Seen.{Seen}
 use Rattle.cloud_trait.specs.State.{CloudState}
 use Rattle.cloud_trait.specs.Weather.{Makes, Rose}
 use Rattle.db_base.specs.declared.trouble.Trouble.{Trouble}
-use Rattle.db_base.specs.declared.trouble.Trouble.TheVariants as trouble
-use Rattle.leaf_view.specs.Lookup.{page_at}
 use Rattle.page_ckpt.specs.Paging.{Paging, PagingLeads, paging_ask}
 use Rattle.recover_run.specs.declared.stage.RecoverAnswer.{RecoverAnswer}
-use Rattle.recover_run.specs.Ids.{new_ids}
 use Rattle.recover_run.specs.Recovery.{Recovery, recovery_ask, recovery_next, IsSound}
 use Rattle.report_types.specs.declared.entry.Entry.{Entry}
 use Rattle.session_facts.specs.Openings.Opening.{KnowsOpening}
@@ -32,72 +27,16 @@ use Rattle.session_facts.specs.TreeCheckpoints.Checkpoint.{KnowsMaking, leases_o
 use Rattle.session_facts.proofs.Openings.Showing.{recovery_shows, StopsWith, recovery_answers}
 use Rattle.session_facts.proofs.PageCheckpoints.Explaining.{KeepsNext, left_behind, paging_shown, paging_left, waiting_kept}
 use Rattle.session_facts.proofs.Sessions.Spending.{IsToldBy, pages_in_tree}
-use Rattle.session_facts.proofs.Sessions.Showing.{IsFree, free_shown}
+use Rattle.session_facts.proofs.Sessions.Showing.{free_shown}
 use Rattle.session_facts.proofs.TreeCheckpoints.Explaining.{left_next, making_shows, making_left, making_keeps}
 use Rattle.settle_run.specs.declared.part.Part.{Part as AtWork}
 use Rattle.settle_run.specs.declared.part.Part.TheVariants.{Client, Tree, Page}
-use Rattle.settle_run.specs.Parts.{part_of_client, part_of_tree, part_again, part_ask, part_received, recovers, makes, pages, PartLeads, IsSoundPart}
-use Rattle.settle_run.specs.Settling.{Settling, Step, settle_ask, begins, behind_client, to_page, behind_tree, is_visited, goes_right, goes_on, passed_with, passed, ended_by, counted, with_part, moved, SettleLeads}
+use Rattle.settle_run.specs.Parts.{part_ask, recovers, makes, pages, PartLeads, IsSoundPart}
+use Rattle.settle_run.specs.Settling.{Settling, Step, settle_ask, counted, with_part, SettleLeads}
+use Rattle.settle_run.proofs.Outcomes.{Comes, came_by}
+use Rattle.settle_run.proofs.Outcomes as step
 use Rattle.tree_ckpt.specs.Making.{Making, making_ask, MakingLeads}
-
--- ---- what comes next
-
--- a part begins anew, or a page that is come to twice stops the settling, which no call shows
-abbrev pub BeginsAnew : Step → Type 0
-BeginsAnew (Goes n) = part_again n.part ≡ n.part
-BeginsAnew (Ends n x) = Unit {0}
-BeginsAnew (Stops n q) = IsFree q
-
-again_anew : (w : AtWork) → part_again (part_again w) ≡ part_again w
-again_anew (Client client m) = refl
-again_anew (Tree tree m) = refl
-again_anew (Page tree page m) = refl
-
-client_anew : (s : Settling) (client : ℕ) → BeginsAnew (begins s (behind_client client))
-client_anew s client = on (nat_lt client 64)
-  where
-    on : (b : Bool) → BeginsAnew (begins s (cond b (part_of_client (client + 1)) (part_of_tree 1)))
-    on true = refl
-    on false = refl
-
-tree_anew : (s : Settling) (tree : ℕ) → BeginsAnew (behind_tree s tree)
-tree_anew s tree = on (nat_lt tree 16)
-  where
-    on : (b : Bool) → BeginsAnew (cond b (begins (record s { visited = [] }) (part_of_tree (tree + 1))) (Ends s (record { calls = s.calls })))
-    on true = refl
-    on false = tt
-
-right_anew : (s : Settling) (tree : ℕ) (o : Option ℕ) → BeginsAnew (goes_right s tree o)
-right_anew s tree None = tree_anew s tree
-right_anew s tree (Some page) = on (is_visited s page)
-  where
-    on : (b : Bool) → BeginsAnew (cond b (Stops s (trouble.Loop page)) (to_page s tree page))
-    on true = tt
-    on false = refl
-
-on_anew : (s : Settling) (w : AtWork) → BeginsAnew (goes_on s w)
-on_anew s (Client client m) = client_anew s client
-on_anew s (Tree tree m) = refl
-on_anew s (Page tree page m) = right_anew s tree (page_at m.home.right)
-
-pub passed_anew : (s : Settling) → BeginsAnew (passed s)
-passed_anew s = on (new_ids s.known (part_received s.part))
-  where
-    on : (ids : List ℕ) → BeginsAnew (passed_with s ids)
-    on [] = on_anew s s.part
-    on (id ∷ ids) = again_anew s.part
-
--- one that begins has met nothing
-abbrev pub HasMetNothing : AtWork → Type 0
-HasMetNothing w = (trouble_of_part w ≡ None) × (left_of_part w ≡ 0)
-
-again_clean : (w : AtWork) → HasMetNothing (part_again w)
-again_clean (Client client m) = (refl, refl)
-again_clean (Tree tree m) = (refl, refl)
-again_clean (Page tree page m) = (refl, refl)
-
-pub anew_clean : (w : AtWork) → part_again w ≡ w → HasMetNothing w
-anew_clean w anew = subst HasMetNothing anew (again_clean w)
+use Rattle.session_facts.proofs.Settlings.Anew.{BeginsAnew, passed_anew, anew_clean}
 
 -- ---- the part at work
 
@@ -222,41 +161,28 @@ module _ (who : Caller) (before after : Seen) (s t : CloudState) (book : Book) (
     anew_left (Ends n x) anew = omega arith
     anew_left (Stops n q) anew = omega arith
 
-    -- the part ended: where it tells failed deletions and none had failed before, this call failed
-    ended_shows : (w : AtWork) (left : ℕ) → (left ≤ left_of_part m.part) ⊎ FaultsRose → left_of_part m.part ≡ 0 → (k : Trouble)
-        → MeetsNext trouble_by (ended_by (counted (with_part m w)) left) k → Shows m.part k
-    ended_shows w left less clean k meets = on (left == 0) refl meets
+    shows_by : {x : Next AtWork ℕ} {next : Step} → Comes m x next → PartExplains m.part x → trouble_of_part m.part ≡ None → left_of_part m.part ≡ 0 → (k : Trouble)
+        → MeetsNext trouble_by next k → Shows m.part k
+    shows_by (step.goes w) e none clean k meets = e.shown none k meets
+    shows_by (step.stops w q) e none clean k meets = e.shown none k meets
+    shows_by (step.leaves w left some) e none clean k same = subst (Shows m.part) same (rose e.left)
       where
-        rose : (left == 0) ≡ false → (left ≤ left_of_part m.part) ⊎ FaultsRose → FaultsRose
-        rose e (inl most) = let some = eqb-false left 0 e in absurd (omega (arith, some, most, clean))
-        rose e (inr failed) = failed
+        -- none had failed before, so this call failed
+        rose : (left ≤ left_of_part m.part) ⊎ FaultsRose → FaultsRose
+        rose (inl most) = absurd (omega (arith, some, most, clean))
+        rose (inr failed) = failed
+    shows_by (step.ends w next is) e none clean k meets = anew_shows next (passed_anew (counted (with_part m w)) next is) k meets
 
-        on : (b : Bool) → (left == 0) ≡ b → MeetsNext trouble_by (cond b (passed (counted (with_part m w))) (Stops (counted (with_part m w)) trouble.Failed)) k → Shows m.part k
-        on true e same = anew_shows (passed (counted (with_part m w))) (passed_anew (counted (with_part m w))) k same
-        on false e same = subst (Shows m.part) same (rose e less)
+    keeps_by : {x : Next AtWork ℕ} {next : Step} → Comes m x next → PartExplains m.part x → (k : Trouble) → trouble_of_part m.part ≡ Some k → MeetsNext trouble_by next k
+    keeps_by (step.goes w) e k waits = e.kept k waits
+    keeps_by (step.stops w q) e k waits = e.kept k waits
+    keeps_by (step.leaves w left some) e k waits = absurd (e.kept k waits)
+    keeps_by (step.ends w next is) e k waits = absurd (e.kept k waits)
 
-    ended_left : (w : AtWork) (left : ℕ) → left_by (ended_by (counted (with_part m w)) left) ≤ left_of_part m.part
-    ended_left w left = on (left == 0)
-      where
-        on : (b : Bool) → left_by (cond b (passed (counted (with_part m w))) (Stops (counted (with_part m w)) trouble.Failed)) ≤ left_of_part m.part
-        on true = anew_left (passed (counted (with_part m w))) (passed_anew (counted (with_part m w)))
-        on false = omega arith
-
-    moved_shows : (x : Next AtWork ℕ) → PartExplains m.part x → trouble_of_part m.part ≡ None → left_of_part m.part ≡ 0 → (k : Trouble)
-        → MeetsNext trouble_by (moved m x) k → Shows m.part k
-    moved_shows (Goes w) e none clean k meets = e.shown none k meets
-    moved_shows (Ends w left) e none clean k meets = ended_shows w left e.left clean k meets
-    moved_shows (Stops w q) e none clean k meets = e.shown none k meets
-
-    moved_keeps : (x : Next AtWork ℕ) → PartExplains m.part x → (k : Trouble) → trouble_of_part m.part ≡ Some k → MeetsNext trouble_by (moved m x) k
-    moved_keeps (Goes w) e k waits = e.kept k waits
-    moved_keeps (Ends w left) e k waits = absurd (e.kept k waits)
-    moved_keeps (Stops w q) e k waits = e.kept k waits
-
-    moved_left : (x : Next AtWork ℕ) → PartExplains m.part x → (left_by (moved m x) ≤ left_of_part m.part) ⊎ FaultsRose
-    moved_left (Goes w) e = e.left
-    moved_left (Ends w left) e = inl (ended_left w left)
-    moved_left (Stops w q) e = inl (omega arith)
+    left_after : {x : Next AtWork ℕ} {next : Step} → Comes m x next → PartExplains m.part x → (left_by next ≤ left_of_part m.part) ⊎ FaultsRose
+    left_after (step.goes w) e = e.left
+    left_after (step.ends w next is) e = inl (anew_left next (passed_anew (counted (with_part m w)) next is))
+    left_after c e = inl (omega arith)
 
     module _ (knows : KnowsAtWork st t.now m.part part) (sound : IsSoundPart m.part) (made : Makes who (settle_ask m) reply before after) where
       explained : (x : Next AtWork ℕ) → PartLeads m.part reply x → PartExplains m.part x
@@ -264,11 +190,10 @@ module _ (who : Caller) (before after : Seen) (s t : CloudState) (book : Book) (
 
       pub settle_shows : (next : Step) → SettleLeads m reply next → trouble_of_part m.part ≡ None → left_of_part m.part ≡ 0 → (k : Trouble) → MeetsNext trouble_by next k
           → IsShown (settle_ask m) (leases_at_work m.part) IsSpentToSettle before.counts after.counts s t k
-      settle_shows next (x, leads, to) none clean k meets =
-          moved_shows x (explained x leads) none clean k (subst (λ (n : Step). MeetsNext trouble_by n k) to meets)
+      settle_shows next (x, leads, to) none clean k meets = shows_by (came_by m x next to) (explained x leads) none clean k meets
 
       pub settle_keeps : (next : Step) → SettleLeads m reply next → (k : Trouble) → trouble_of_part m.part ≡ Some k → MeetsNext trouble_by next k
-      settle_keeps next (x, leads, to) k waits = subst (λ (n : Step). MeetsNext trouble_by n k) (sym to) (moved_keeps x (explained x leads) k waits)
+      settle_keeps next (x, leads, to) k waits = keeps_by (came_by m x next to) (explained x leads) k waits
 
       pub settle_left : (next : Step) → SettleLeads m reply next → (left_by next ≤ left_of_part m.part) ⊎ Rose before.counts.faults after.counts.faults
-      settle_left next (x, leads, to) = subst (λ (n : Step). (left_by n ≤ left_of_part m.part) ⊎ FaultsRose) (sym to) (moved_left x (explained x leads))
+      settle_left next (x, leads, to) = left_after (came_by m x next to) (explained x leads)

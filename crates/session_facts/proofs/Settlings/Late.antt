@@ -1,6 +1,5 @@
 -- A settling that waits for records under a lease that is over gives this lease back next.
-use Rattle.std.proofs.Common.{◌≡◌, ◌⊎◌, inl, inr, ℕ, Bool, true, false, cond, List, Some, None, sym, subst, ◌∙◌}
-use Rattle.std.specs.Prelude.{◌==◌}
+use Rattle.std.proofs.Common.{◌≡◌, ◌⊎◌, inl, inr, ℕ, List, Some, None, sym, subst, ◌∙◌}
 use Rattle.cloud_facts.specs.Book.Book.{Book}
 use Rattle.cloud_facts.specs.Book.Tally.{Store}
 use Rattle.cloud_facts.specs.Calls.Standing.{StandsUnder}
@@ -32,12 +31,15 @@ use Rattle.session_facts.proofs.Openings.Showing.{recovery_shows}
 use Rattle.session_facts.proofs.PageCheckpoints.Explaining.{paging_shown}
 use Rattle.session_facts.proofs.Sessions.Spending.{IsToldBy, told_behind}
 use Rattle.session_facts.proofs.Sessions.Quiet.{paging_quiet, making_quiet}
-use Rattle.session_facts.proofs.Settlings.Explaining.{BeginsAnew, passed_anew, anew_clean, trouble_by}
+use Rattle.session_facts.proofs.Settlings.Anew.{BeginsAnew, passed_anew, anew_clean}
+use Rattle.session_facts.proofs.Settlings.Explaining.{trouble_by}
+use Rattle.settle_run.proofs.Outcomes.{Comes, came_by}
+use Rattle.settle_run.proofs.Outcomes as step
 use Rattle.session_facts.proofs.TreeCheckpoints.Explaining.{making_shows}
 use Rattle.settle_run.specs.declared.part.Part.{Part as AtWork}
 use Rattle.settle_run.specs.declared.part.Part.TheVariants.{Client, Tree, Page}
 use Rattle.settle_run.specs.Parts.{part_ask, recovers, makes, pages, PartLeads, IsSoundPart}
-use Rattle.settle_run.specs.Settling.{Settling, Step, settle_ask, passed, ended_by, counted, with_part, moved, SettleLeads}
+use Rattle.settle_run.specs.Settling.{Settling, Step, settle_ask, counted, with_part, SettleLeads}
 use Rattle.tree_ckpt.specs.Making.{Making, making_ask, MakingLeads}
 
 -- a part, or a settling, is about to give back a lease that is over
@@ -59,13 +61,6 @@ anew_waits : (next : Step) → BeginsAnew next → (have need : ℕ) → MeetsNe
 anew_waits (Goes n) anew have need meets = let other : None ≡ Some (trouble.Waiting have need) = sym (anew_clean n.part anew).0 ∙ meets in cc (other)
 anew_waits (Ends n x) anew have need never = never
 anew_waits (Stops n q) anew have need same = absurd (subst (λ (k : Trouble). BeginsAnew (Stops n k)) same anew)
-
-ended_waits : (m : Settling) (left : ℕ) (have need : ℕ) → MeetsNext trouble_by (ended_by m left) (trouble.Waiting have need) → ⊥
-ended_waits m left have need = on (left == 0)
-  where
-    on : (b : Bool) → MeetsNext trouble_by (cond b (passed m) (Stops m trouble.Failed)) (trouble.Waiting have need) → ⊥
-    on true meets = anew_waits (passed m) (passed_anew m) have need meets
-    on false same = absurd (cc (same))
 
 module _ (who : Caller) (before after : Seen) (s t : CloudState) (book : Book) (order : List Entry) (told : before.state ≡ Some s) (told_after : after.state ≡ Some t)
     (cloud : StandsUnder book order s) (part : Part) (holds : PartHolds (store_of book order s).tally t.now part) (reply : Answer) where
@@ -142,15 +137,10 @@ module _ (who : Caller) (before after : Seen) (s t : CloudState) (book : Book) (
   pub settle_waits : (m : Settling) → KnowsAtWork st t.now m.part part → IsSoundPart m.part → Makes who (settle_ask m) reply before after → (next : Step) → SettleLeads m reply next
       → trouble_of_part m.part ≡ None → (have need : ℕ) → MeetsNext trouble_by next (trouble.Waiting have need)
       → Rose before.counts.withheld after.counts.withheld ⊎ SettlingGivesBack next t.now
-  settle_waits m knows sound made next (x, leads, to) none have need meets =
-      subst (λ (n : Step). Withheld ⊎ SettlingGivesBack n t.now) (sym to)
-      (on x (part_waits m.part knows sound made x leads) (subst (λ (n : Step). MeetsNext trouble_by n (trouble.Waiting have need)) to meets))
+  settle_waits m knows sound made next (x, leads, to) none have need meets = on (came_by m x next to) (part_waits m.part knows sound made x leads) meets
     where
-      on : (y : Next AtWork ℕ) → Waits m.part y → MeetsNext trouble_by (moved m y) (trouble.Waiting have need) → Withheld ⊎ SettlingGivesBack (moved m y) t.now
-      on (Goes w) waits met = waits none have need met
-      on (Ends w left) waits met = absurd (ended_waits (counted (with_part m w)) left have need met)
-      on (Stops w q) waits met = only (waits none have need met)
-        where
-          only : Withheld ⊎ ⊥ → Withheld ⊎ SettlingGivesBack (moved m (Stops w q)) t.now
-          only (inl rose) = inl rose
-          only (inr never) = absurd never
+      on : {y : Next AtWork ℕ} {n : Step} → Comes m y n → Waits m.part y → MeetsNext trouble_by n (trouble.Waiting have need) → Withheld ⊎ SettlingGivesBack n t.now
+      on (step.goes w) waits met = waits none have need met
+      on (step.stops w q) waits met = waits none have need met
+      on (step.leaves w left some) waits same = absurd (cc (same))
+      on (step.ends w n e) waits met = absurd (anew_waits n (passed_anew (counted (with_part m w)) n e) have need met)

@@ -1,6 +1,5 @@
 -- What a settling knows of its way to the right is known behind each of its steps, and no step leads to a page twice.
-use Rattle.std.proofs.Common.{◌≡◌, ◌∙◌, ◌+◌, ℕ, suc, Bool, true, false, cond, List, [], ◌∷◌, Option, Some, None, Result, Ok, Err, refl, sym, ap, subst, arith}
-use Rattle.std.specs.Prelude.{◌==◌, nat_lt}
+use Rattle.std.proofs.Common.{◌≡◌, ◌∙◌, ℕ, suc, false, List, Option, Some, Result, Ok, Err, refl, sym, ap, subst, arith}
 use Rattle.ckpt_parts.specs.Leaves.{HoldsLinked}
 use Rattle.ckpt_parts.specs.declared.leases.Leases.{Leases}
 use Rattle.cloud_facts.specs.Book.Book.{Book, Link}
@@ -28,7 +27,6 @@ use Rattle.leaf_view.specs.Lookup.{page_at}
 use Rattle.page_ckpt.specs.Paging.{Paging, Step as PageStep, ask_at, paging_ask, under, home_name, right_name, HoldsNamed, PagingLeads}
 use Rattle.page_ckpt.specs.declared.stage.Stage.{Stage}
 use Rattle.page_ckpt.specs.declared.stage.Stage.TheVariants.{GettingHome, GettingRight}
-use Rattle.recover_run.specs.Ids.{new_ids}
 use Rattle.recover_run.specs.Recovery.{Step as RecoveryStep}
 use Rattle.report_types.specs.declared.entry.Entry.{Entry}
 use Rattle.session_facts.specs.PageCheckpoints.Checkpoint.{HasPage, HasRight, MayStop, ComesOn, KnowsPagingAt, KnowsPaging}
@@ -42,8 +40,10 @@ use Rattle.session_facts.proofs.Settlings.Rights.{reads_nothing, first_comes, ri
 use Rattle.session_facts.specs.Settlings.Settling.{IsOfNoPage, ReadsPage, ComesTo, KnowsAtWork, KnowsWay}
 use Rattle.settle_run.specs.declared.part.Part.{Part as AtWork}
 use Rattle.settle_run.specs.declared.part.Part.TheVariants.{Client, Tree, Page}
-use Rattle.settle_run.specs.Parts.{part_of_client, part_of_tree, part_again, part_ask, part_received, recovers, makes, pages, PartLeads}
-use Rattle.settle_run.specs.Settling.{Settling, Step, begins, to_page, is_visited, goes_right, goes_on, passed_with, passed, ended_by, counted, with_part, moved}
+use Rattle.settle_run.specs.Parts.{part_again, part_ask, recovers, makes, pages, PartLeads}
+use Rattle.settle_run.specs.Settling.{Settling, Step, is_visited, counted, with_part, moved}
+use Rattle.settle_run.proofs.Outcomes.{Passes, passes_by, Comes, comes}
+use Rattle.settle_run.proofs.Outcomes as step
 use Rattle.tree_ckpt.specs.Making.{Making}
 
 -- ---- a step of a page's checkpoint
@@ -197,9 +197,6 @@ module _ (who : Caller) (s t : CloudState) (book : Book) (order : List Entry) (p
 
   -- ---- a step of the settling
 
-  abbrev WayNext : Step → Type 0
-  WayNext next = WayIn st next
-
   module _ (tree : ℕ) (is : IsTree tree) where
     chained : IsChained (book.chain tree) (nodes_of s tree) (roots_of s tree) (st.tally.done tree) (st.tally.cursor tree 0)
     chained = setting.cloud.holds.chains tree is
@@ -212,49 +209,23 @@ module _ (who : Caller) (s t : CloudState) (book : Book) (order : List Entry) (p
         → is_visited m right ≡ false
     unvisited m page home comes landed right named = right_unvisited st tree height chained.levels chained.versions page home m.visited comes landed right named m refl
 
-    to_right : (m : Settling) (page : ℕ) (home : Leaf) → ComesTo st tree page m.visited → IsLanded (st.tally.nodes tree) page home → (o : Option ℕ) → page_at home.right ≡ o
-        → WayNext (goes_right m tree o)
-    to_right m page home comes landed None e = on (nat_lt tree 16)
-      where
-        on : (b : Bool) → WayNext (cond b (begins (record m { visited = [] }) (part_of_tree (tree + 1))) (Ends m (record { calls = m.calls })))
-        on true = tt
-        on false = tt
-    to_right m page home comes landed (Some right) e = on (is_visited m right)
-      where
-        on : (b : Bool) → WayNext (cond b (Stops m (trouble.Loop right)) (to_page m tree right))
-        on true = tt
-        on false =
-            (right_comes st tree height chained.levels chained.versions page home m.visited comes landed right e, reads_nothing st tree right)
-
-    first : (m : Settling) → WayNext (to_page (record m { visited = [] }) tree 1)
-    first m = (first_comes st tree height chained.levels chained.versions, reads_nothing st tree 1)
-
-  on_way : (m : Settling) (w : AtWork) → EndsAt st w m.visited → WayNext (goes_on m w)
-  on_way m (Client client r) ends = on (nat_lt client 64)
-    where
-      on : (b : Bool) → WayNext (begins m (cond b (part_of_client (client + 1)) (part_of_tree 1)))
-      on true = tt
-      on false = tt
-  on_way m (Tree tree r) ends = first tree ends m
-  on_way m (Page tree page r) ends = to_right tree ends.0 m page r.home ends.1 ends.2 (page_at r.home.right) refl
-
   again_way : (w : AtWork) (visited : List ℕ) → EndsAt st w visited → KnowsWay st (part_again w) visited
   again_way (Client client r) visited ends = tt
   again_way (Tree tree r) visited ends = tt
   again_way (Page tree page r) visited ends = (ends.1, reads_nothing st tree page)
 
-  passed_way : (m : Settling) (ids : List ℕ) → EndsAt st m.part m.visited → WayNext (passed_with m ids)
-  passed_way m [] ends = on_way m m.part ends
-  passed_way m (id ∷ ids) ends = again_way m.part m.visited ends
+  passes_way : {m : Settling} {next : Step} → Passes m next → EndsAt st m.part m.visited → WayIn st next
+  passes_way (step.again m id ids news) ends = again_way m.part m.visited ends
+  passes_way (step.first_page m tree r none) ends = let c = chained tree ends in (first_comes st tree (height tree ends) c.levels c.versions, reads_nothing st tree 1)
+  passes_way (step.right_page m tree page r right none link new) ends =
+      let c = chained tree ends.0 in
+      (right_comes st tree (height tree ends.0) c.levels c.versions page r.home m.visited ends.1 ends.2 right link, reads_nothing st tree right)
+  passes_way p ends = tt
 
-  ended_way : (m : Settling) (left : ℕ) → EndsAt st m.part m.visited → WayNext (ended_by m left)
-  ended_way m left ends = on (left == 0)
-    where
-      on : (b : Bool) → WayNext (cond b (passed m) (Stops m trouble.Failed))
-      on true = passed_way m (new_ids m.known (part_received m.part)) ends
-      on false = tt
+  way_by : {m : Settling} {x : Next AtWork ℕ} {next : Step} → Comes m x next → PartWay st m.visited x → WayIn st next
+  way_by (step.goes w) way = way
+  way_by {m = m} (step.ends w next e) way = passes_way (passes_by (counted (with_part m w)) next e) way
+  way_by c way = tt
 
-  pub moved_way : (m : Settling) (x : Next AtWork ℕ) → m.visited ≡ visited → PartWay st visited x → WayNext (moved m x)
-  moved_way m (Goes w) same way = subst (KnowsWay st w) (sym same) way
-  moved_way m (Ends w left) same way = ended_way (counted (with_part m w)) left (subst (EndsAt st w) (sym same) way)
-  moved_way m (Stops w q) same way = tt
+  pub moved_way : (m : Settling) (x : Next AtWork ℕ) → m.visited ≡ visited → PartWay st visited x → WayIn st (moved m x)
+  moved_way m x same way = way_by (comes m x) (subst (λ (v : List ℕ). PartWay st v x) (sym same) way)

@@ -1,5 +1,5 @@
 -- The lease of a sweep: its calls use no other, and behind each call it holds what the calls left.
-use Rattle.std.proofs.Common.{◌≡◌, List, [], ◌∷◌, ℕ, Option, Some, None, Err, refl, sym, ap, subst, ◌∙◌}
+use Rattle.std.proofs.Common.{◌≡◌, List, [], ◌∷◌, ℕ, Option, Some, None, Err, refl, sym}
 use Rattle.ckpt_parts.specs.Leasing.{outstanding_after}
 use Rattle.cloud_facts.specs.Book.Records.{IsIn}
 use Rattle.cloud_facts.specs.Book.Tally.{Store}
@@ -18,7 +18,7 @@ use Rattle.orphan_sweep.specs.declared.stage.Stage.TheVariants.{TakingTree, Gett
 use Rattle.orphan_sweep.specs.Standing.{HoldsTree, HoldsAt, claims_of}
 use Rattle.orphan_sweep.specs.Sweeping.{Sweeping, Step, sweep_ask, sweep_next, ask_at, remove_next, next_orphan}
 use Rattle.session_facts.specs.Settled.Locks.{UsesOwn}
-use Rattle.session_facts.specs.Sweeps.Sweep.{Under, KnowsAt, KnowsSweep, leases_of_sweep, leases_next}
+use Rattle.session_facts.specs.Sweeps.Sweep.{Under, KnowsAt, leases_of_sweep, leases_next}
 
 -- ---- what is held
 

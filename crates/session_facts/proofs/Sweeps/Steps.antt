@@ -24,7 +24,7 @@ use Rattle.cloud_trait.specs.Caller.{Caller}
 use Rattle.cloud_trait.specs.Claim.{Claim, Lasts}
 use Rattle.cloud_trait.specs.Listing.{IsListing}
 use Rattle.cloud_trait.specs.Machine.{Stops}
-use Rattle.cloud_trait.specs.State.{CloudState, called, newest}
+use Rattle.cloud_trait.specs.State.{CloudState, called}
 use Rattle.cloud_trait.specs.Views.{given_of, got_of, listed_of, done_of}
 use Rattle.db_base.specs.Ids.{IsTree}
 use Rattle.db_base.specs.declared.names.Lock.{Lock}

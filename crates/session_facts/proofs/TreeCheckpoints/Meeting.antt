@@ -1,5 +1,5 @@
 -- The troubles that the local work of a checkpoint meets: that of the answer in hand, or one of what was read or planned, which no call shows.
-use Rattle.std.proofs.Common.{◌≡◌, ◌==◌, ◌&&◌, ℕ, zero, suc, Bool, true, false, cond, List, length, Option, Some, None, Result, Ok, Err, refl, sym, ap, subst, ◌∙◌}
+use Rattle.std.proofs.Common.{◌≡◌, ◌==◌, ◌&&◌, ℕ, Bool, true, false, cond, List, Option, Some, None, Result, Ok, Err, refl, sym, ap, subst, ◌∙◌}
 use Rattle.std.specs.Prelude.{not, is_some}
 use Rattle.byte_format.specs.Order.{bytes_below, bytes_same}
 use Rattle.byte_format.specs.Whole.{offset}
@@ -14,7 +14,6 @@ use Rattle.leaf_fold.specs.declared.plan.LeafPlan.{LeafPlan}
 use Rattle.leaf_fold.specs.Folding.{bad_low, leaf_got, leaf_put, folding_next}
 use Rattle.leaf_view.specs.Leaf.{Leaf, leaf as leaf_format}
 use Rattle.node_codec.specs.Inner.{Inner, inner_of, inner_format}
-use Rattle.run_cursor.specs.Covered.{is_seen}
 use Rattle.session_facts.proofs.Sessions.Showing.{IsFree}
 use Rattle.tree_ckpt.proofs.Spending.{IsSpentFor, PlanTells, leaf_plan_tells, node_plan_tells, last_plan_tells}
 use Rattle.tree_ckpt.specs.Due.{Due, LeafDue, NodeDue, RootDue}
@@ -22,11 +21,11 @@ use Rattle.tree_ckpt.specs.Working.{HoldsLeaf}
 use Rattle.tree_ckpt.proofs.LeafOutcomes.{reads, put_lands}
 use Rattle.tree_ckpt.proofs.LeafOutcomes as leaf
 use Rattle.tree_ckpt.proofs.RiseOutcomes as rise
+use Rattle.session_facts.proofs.Trees.Descents.{Arrives, arrives_at, Gets, gets}
+use Rattle.session_facts.proofs.Trees.Descents as way
 use Rattle.tree_descent.specs.declared.descent.Descent.{Descent}
-use Rattle.tree_descent.specs.declared.descent.Reach.{Reach}
-use Rattle.tree_descent.specs.declared.descent.Reach.TheVariants.{Node, Leaf as AtLeaf}
 use Rattle.tree_descent.specs.declared.fork.Fork.{Fork}
-use Rattle.tree_descent.specs.Descent.{begun, forked, forked_by, fork_of, passed, go_on, stride_at, kept_at, stride, follow, walk, arrived, arrive, absent_node, with_node, got_node, descent_got}
+use Rattle.tree_descent.specs.Descent.{begun, forked, forked_by, fork_of, passed, arrive, absent_node, descent_got}
 use Rattle.tree_descent.specs.Fork.{bad_fence, forked_on}
 use Rattle.tree_moves.specs.Moves.{down_from, root_entry}
 use Rattle.tree_parts.specs.declared.chart.Chart.{Chart}
@@ -84,47 +83,15 @@ MeetsSpent Met due = (t : Trouble) → IsSpentFor due t → Met t
 module _ (Met : Trouble → Type 0) (free : (t : Trouble) → IsFree t → Met t) where
   -- ---- down
 
-  go_on_for : (d : Descent) (r : Result Fork Trouble) → HasFree r → StopsFor Met (go_on d r)
-  go_on_for d (Ok fork) is = tt
-  go_on_for d (Err t) is = free t is
-
-  stride_at_for : (d : Descent) (k : Option KeptNode) → StopsFor Met (stride_at d k)
-  stride_at_for d (Some k) = go_on_for d (fork_of d k.bytes) (fork_free d k.bytes)
-  stride_at_for d None = tt
-
-  stride_for : (d : Descent) → StopsFor Met (stride d)
-  stride_for d = on (d.level == 0)
-    where
-      further : (b : Bool) → StopsFor Met (cond b (Stops d (trouble.Loop d.page)) (stride_at d (kept_at d)))
-      further true = free (trouble.Loop d.page) tt
-      further false = stride_at_for d (kept_at d)
-
-      on : (b : Bool) → StopsFor Met (cond b (Ends d AtLeaf) (cond (is_seen d.visited d.page) (Stops d (trouble.Loop d.page)) (stride_at d (kept_at d))))
-      on true = tt
-      on false = further (is_seen d.visited d.page)
-
-  follow_for : (next : Descent → Next Descent Reach) (x : Next Descent Reach) → StopsFor Met x → ((e : Descent) → StopsFor Met (next e)) → StopsFor Met (follow next x)
-  follow_for next (Goes e) is further = further e
-  follow_for next (Ends e reach) is further = tt
-  follow_for next (Stops e t) is further = is
-
-  walk_for : (n : ℕ) (d : Descent) → StopsFor Met (walk n d)
-  unfolding walk
-  walk_for zero d = follow_for (λ (e : Descent). Stops e (trouble.Loop e.page)) (stride d) (stride_for d) (λ e. free (trouble.Loop e.page) tt)
-  walk_for (suc n) d = follow_for (walk n) (stride d) (stride_for d) (λ e. walk_for n e)
-
-  arrived_for : (x : Next Descent Reach) → StopsFor Met x → StopsFor Met (arrived x)
-  arrived_for (Goes e) is = tt
-  arrived_for (Ends e Node) is = tt
-  arrived_for (Ends e AtLeaf) is = tt
-  arrived_for (Stops e t) is = is
+  arrives_for : {n : ℕ} {d : Descent} {next : Next Descent (Unit {0})} → Arrives n d next → StopsFor Met next
+  arrives_for (way.round d seen) = free (trouble.Loop d.page) tt
+  arrives_for (way.breaks d k t new kept e) = free t (subst HasFree e (fork_free d k.bytes))
+  arrives_for (way.too_far d k fork p) = free (trouble.Loop (passed d fork).page) tt
+  arrives_for (way.further d k fork p on) = arrives_for on
+  arrives_for w = tt
 
   arrive_for : (d : Descent) → StopsFor Met (arrive d)
-  arrive_for d = arrived_for (walk (length d.chart.nodes) d) (walk_for (length d.chart.nodes) d)
-
-  node_for : (d : Descent) (bytes : List ℕ) (r : Result Fork Trouble) → HasFree r → StopsFor Met (got_node d bytes r)
-  node_for d bytes (Ok fork) is = arrive_for (passed (with_node d bytes) fork)
-  node_for d bytes (Err t) is = free t is
+  arrive_for d = arrives_for (arrives_at d)
 
   absent_for : (d : Descent) → Met (absent_node d)
   absent_for d = on (d.page == 1)
@@ -133,10 +100,14 @@ module _ (Met : Trouble → Type 0) (free : (t : Trouble) → IsFree t → Met t
       on true = free (damaged d.chart.tree d.page 0) tt
       on false = free (trouble.Absent d.page) tt
 
+  gets_for : {d : Descent} {g : Result (Option (List ℕ)) Trouble} {next : Next Descent (Unit {0})} → Gets d g next → ((t : Trouble) → g ≡ Err t → Met t) → StopsFor Met next
+  gets_for (way.leads bytes fork e on) refused = arrives_for on
+  gets_for {d = d} (way.wrong bytes t e) refused = free t (subst HasFree e (fork_free d bytes))
+  gets_for {d = d} way.absent refused = absent_for d
+  gets_for (way.refused t) refused = refused t refl
+
   pub descent_for : (d : Descent) (g : Result (Option (List ℕ)) Trouble) → ((t : Trouble) → g ≡ Err t → Met t) → StopsFor Met (descent_got d g)
-  descent_for d (Ok (Some bytes)) refused = node_for d bytes (fork_of d bytes) (fork_free d bytes)
-  descent_for d (Ok None) refused = absent_for d
-  descent_for d (Err t) refused = refused t refl
+  descent_for d g refused = gets_for (gets d g) refused
 
   -- ---- a leaf
 

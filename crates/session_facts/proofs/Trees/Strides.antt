@@ -1,26 +1,25 @@
 -- The way over inner nodes that were got: it comes to a node that was not, or to a leaf, and to no page twice.
-use Rattle.std.proofs.Common.{◌≡◌, ◌<◌, ◌≤◌, ◌==◌, ℕ, zero, suc, Bool, true, false, cond, List, [], ◌∷◌, ◌++◌, length, Option, Some, None, Ok, refl, sym, ap, subst, ◌∙◌, arith}
-use Rattle.std.proofs.lemmas.Bool.{eqb-true, eqb-false}
+use Rattle.std.proofs.Common.{◌≡◌, ◌<◌, ◌≤◌, ◌==◌, ℕ, true, false, List, [], ◌∷◌, ◌++◌, Some, Result, Ok, sym, ap, subst, ◌∙◌, arith}
+use Rattle.std.proofs.lemmas.Bool.{eqb-true}
 use Rattle.cloud_facts.specs.Chains.Chain.{ChainHolds}
 use Rattle.cloud_facts.proofs.Meanings.Steps.{not_passed}
 use Rattle.cloud_facts.proofs.Calls.Searching.{found}
 use Rattle.cloud_trait.specs.Claim.{Claim}
-use Rattle.cloud_trait.specs.Machine.{Next, Goes, Ends, Stops}
+use Rattle.cloud_trait.specs.Machine.{Next}
 use Rattle.db_base.specs.declared.trouble.Trouble.{Trouble}
-use Rattle.db_base.specs.declared.trouble.Trouble.TheVariants as trouble
 use Rattle.node_codec.specs.Inner.{Inner}
 use Rattle.run_cursor.specs.Covered.{is_seen}
 use Rattle.cloud_facts.specs.Book.Records.{IsIn}
 use Rattle.cloud_facts.specs.Book.Tally.{Branch, Store}
 use Rattle.tree_descent.specs.declared.descent.Descent.{Descent}
-use Rattle.tree_descent.specs.declared.descent.Reach.{Reach}
-use Rattle.tree_descent.specs.declared.descent.Reach.TheVariants.{Node, Leaf}
 use Rattle.tree_descent.specs.declared.fork.Fork.{Fork}
-use Rattle.tree_descent.specs.Descent.{forked_by, fork_of, passed, go_on, stride_at, kept_at, stride, follow, walk, arrived, arrive}
+use Rattle.tree_descent.specs.Descent.{forked_by, fork_of, passed, kept_at, arrive}
 use Rattle.tree_descent.specs.Fork.{forked_on}
 use Rattle.tree_parts.proofs.Reading.{inner_is}
 use Rattle.tree_parts.specs.declared.kept.KeptNode.{KeptNode}
 use Rattle.tree_parts.specs.Read.{inner_read}
+use Rattle.session_facts.proofs.Trees.Descents.{Passes, Arrives, arrives_at}
+use Rattle.session_facts.proofs.Trees.Descents as way
 use Rattle.session_facts.specs.Trees.Charts.{KnowsNode}
 use Rattle.session_facts.specs.Trees.Ways.{KnowsWay, LeadsOn}
 use Rattle.session_facts.proofs.Trees.Forks.{is_forked, fork_leads, passed_known, passed_visited, passed_nodes}
@@ -43,14 +42,7 @@ module _ (st : Store) (now : ℕ) (lease : Claim) (h : ChainHolds st) where
         (h d.chart.tree k.chart.tree) d n k.way landed),
   )
 
-  -- ---- one stride
-
-  -- a stride goes on to another link and leaves fewer nodes ahead, or ends; it stops for nothing
-  abbrev pub StridesOn : Descent → Next Descent Reach → Type 0
-  StridesOn d (Goes e) = KnowsWay st now lease e × (ahead e < ahead d)
-  StridesOn d (Ends e Node) = KnowsWay st now lease e × (0 < e.level)
-  StridesOn d (Ends e Leaf) = KnowsWay st now lease e × (e.level ≡ 0)
-  StridesOn d (Stops e t) = ⊥
+  -- ---- over nodes that were got
 
   -- no page is come to twice
   never_seen : (d : Descent) → KnowsWay st now lease d → is_seen d.visited d.page ≡ true → ⊥
@@ -64,16 +56,13 @@ module _ (st : Store) (now : ℕ) (lease : Claim) (h : ChainHolds st) where
       (subst (λ (ks : List KeptNode). unseen (d.visited ++ d.page ∷ []) ks < ahead d) (sym (passed_nodes d fork))
       (unseen_less d.visited d.page d.chart.nodes k there same fresh))
 
-  strides_at : (d : Descent) → KnowsWay st now lease d → 0 < d.level → is_seen d.visited d.page ≡ false → (o : Option KeptNode) → kept_at d ≡ o → StridesOn d (stride_at d o)
-  strides_at d k above fresh None e = (k, above)
-  strides_at d k above fresh (Some kept) e =
-      subst (λ x. StridesOn d (go_on d x)) (sym leads.0) (leads.1, fork_fewer d (forked_on d.chart.key known.inner) kept there.0 page fresh)
+  -- where one that was got leads
+  leads_over : (d : Descent) → KnowsWay st now lease d → (kept : KeptNode) → kept_at d ≡ Some kept
+      → (n : Inner) × (fork_of d kept.bytes ≡ Ok (forked_on d.chart.key n)) × KnowsWay st now lease (passed d (forked_on d.chart.key n))
+  leads_over d k kept e = (known.inner, leads.0, leads.1)
     where
       there : IsIn d.chart.nodes kept × ((kept.page == d.page) ≡ true)
       there = found (λ (n : KeptNode). n.page == d.page) d.chart.nodes kept e
-
-      page : kept.page ≡ d.page
-      page = eqb-true kept.page d.page there.1
 
       known : KnowsNode st now lease d.chart.tree kept
       known = k.chart.nodes kept there.0
@@ -81,46 +70,32 @@ module _ (st : Store) (now : ℕ) (lease : Claim) (h : ChainHolds st) where
       leads : (fork_of d kept.bytes ≡ Ok (forked_on d.chart.key known.inner)) × KnowsWay st now lease (passed d (forked_on d.chart.key known.inner))
       leads =
           bytes_lead d kept.bytes known.inner k (inner_is d.chart.tree d.page kept.bytes known.inner known.spells)
-          (subst (λ (p : ℕ). IsIn (st.tally.nodes d.chart.tree p) (Branch known.inner)) page known.landed)
+          (subst (λ (p : ℕ). IsIn (st.tally.nodes d.chart.tree p) (Branch known.inner)) (eqb-true kept.page d.page there.1) known.landed)
 
-  strides : (d : Descent) → KnowsWay st now lease d → StridesOn d (stride d)
-  strides d k = on (d.level == 0) refl
+  -- it leads on to another link and leaves fewer nodes ahead
+  passes_on : (d : Descent) (kept : KeptNode) (fork : Fork) → Passes d kept fork → KnowsWay st now lease d → KnowsWay st now lease (passed d fork) × (ahead (passed d fork) < ahead d)
+  passes_on d kept fork p k = (
+    subst (λ (f : Fork). KnowsWay st now lease (passed d f)) (same_Ok (forked_on d.chart.key leads.0) fork (sym leads.1 ∙ p.forks)) leads.2,
+    fork_fewer d fork kept there.0 (eqb-true kept.page d.page there.1) p.new.unseen,
+  )
     where
-      further : 0 < d.level → (b : Bool) → is_seen d.visited d.page ≡ b → StridesOn d (cond b (Stops d (trouble.Loop d.page)) (stride_at d (kept_at d)))
-      further above true seen = never_seen d k seen
-      further above false fresh = strides_at d k above fresh (kept_at d) refl
+      leads : (n : Inner) × (fork_of d kept.bytes ≡ Ok (forked_on d.chart.key n)) × KnowsWay st now lease (passed d (forked_on d.chart.key n))
+      leads = leads_over d k kept p.kept
 
-      on : (b : Bool) → (d.level == 0) ≡ b → StridesOn d (cond b (Ends d Leaf) (cond (is_seen d.visited d.page) (Stops d (trouble.Loop d.page)) (stride_at d (kept_at d))))
-      on true e = (k, eqb-true d.level 0 e)
-      on false e = let some = eqb-false d.level 0 e in further (omega (arith, some)) (is_seen d.visited d.page) refl
+      there : IsIn d.chart.nodes kept × ((kept.page == d.page) ≡ true)
+      there = found (λ (n : KeptNode). n.page == d.page) d.chart.nodes kept p.kept
 
-  -- ---- all of them
+      same_Ok : (f g : Fork) → ◌≡◌ {A = Result Fork Trouble} (Ok f) (Ok g) → f ≡ g
+      same_Ok f g e = cc (e)
 
-  -- the way ends at a node that is to be got, or at a leaf
-  abbrev pub Arrives : Next Descent Reach → Type 0
-  Arrives (Goes e) = ⊥
-  Arrives (Ends e Node) = KnowsWay st now lease e × (0 < e.level)
-  Arrives (Ends e Leaf) = KnowsWay st now lease e × (e.level ≡ 0)
-  Arrives (Stops e t) = ⊥
-
-  follows : (d : Descent) (next : Descent → Next Descent Reach) (x : Next Descent Reach) → StridesOn d x
-      → ((e : Descent) → KnowsWay st now lease e → ahead e < ahead d → Arrives (next e)) → Arrives (follow next x)
-  follows d next (Goes e) k on = on e k.0 k.1
-  follows d next (Ends e Node) k on = k
-  follows d next (Ends e Leaf) k on = k
-  follows d next (Stops e t) k on = k
-
-  walks : (n : ℕ) (d : Descent) → KnowsWay st now lease d → ahead d ≤ n → Arrives (walk n d)
-  unfolding walk
-  walks zero d k most =
-      follows d (λ (e : Descent). Stops e (trouble.Loop e.page)) (stride d) (strides d k) (λ e known less. absurd (omega (arith, less, most)))
-  walks (suc n) d k most = follows d (walk n) (stride d) (strides d k) (λ e known less. walks n e known (omega (arith, less, most)))
+  -- the way ends at a node that is to be got, or at a leaf; it stops for nothing
+  arrives_on : (May : Trouble → Type 0) {n : ℕ} {d : Descent} {x : Next Descent (Unit {0})} → Arrives n d x → KnowsWay st now lease d → ahead d ≤ n → LeadsOn st now lease May x
+  arrives_on May (way.at_leaf d level) k most = (k, level)
+  arrives_on May (way.at_node d new none) k most = (k, new.above)
+  arrives_on May (way.round d seen) k most = absurd (never_seen d k seen)
+  arrives_on May (way.breaks d kept t new at e) k most = absurd (let clash = sym (leads_over d k kept at).1 ∙ e in cc (clash))
+  arrives_on May (way.further d kept fork p on) k most = let next = passes_on d kept fork p k in let fewer = next.1 in arrives_on May on next.0 (omega (arith, fewer, most))
+  arrives_on May (way.too_far d kept fork p) k most = let fewer = (passes_on d kept fork p k).1 in absurd (omega (arith, fewer, most))
 
   pub arrives : (May : Trouble → Type 0) (d : Descent) → KnowsWay st now lease d → LeadsOn st now lease May (arrive d)
-  arrives May d k = on (walk (length d.chart.nodes) d) (walks (length d.chart.nodes) d k (unseen_most d.visited d.chart.nodes))
-    where
-      on : (x : Next Descent Reach) → Arrives x → LeadsOn st now lease May (arrived x)
-      on (Goes e) a = absurd a
-      on (Ends e Node) a = a
-      on (Ends e Leaf) a = a
-      on (Stops e t) a = absurd a
+  arrives May d k = arrives_on May (arrives_at d) k (unseen_most d.visited d.chart.nodes)

@@ -1,5 +1,5 @@
 -- The way down changes the nodes and the links of a chart alone, and it gets no page twice.
-use Rattle.std.proofs.Common.{◌≡◌, ◌≢◌, ◌==◌, ◌⊎◌, inl, inr, ℕ, zero, suc, Bool, true, false, cond, List, [], ◌∷◌, ◌++◌, length, take, drop, Option, Some, None, Result, Ok, Err, refl, sym, ap, subst, ◌∙◌, take-append-drop}
+use Rattle.std.proofs.Common.{◌≡◌, ◌≢◌, ◌==◌, ◌⊎◌, inl, inr, ℕ, zero, suc, Bool, true, false, cond, List, [], ◌∷◌, ◌++◌, take, drop, Option, Some, None, Result, refl, sym, ap, subst, ◌∙◌, take-append-drop}
 use Rattle.std.specs.Prelude.{find}
 use Rattle.std.proofs.lemmas.Bool.{eqb-false}
 use Rattle.cloud_facts.proofs.Chains.Pieces.{none_in, in_first, in_rest, in_cases}
@@ -8,20 +8,18 @@ use Rattle.cloud_trait.specs.Claim.{Claim}
 use Rattle.cloud_trait.specs.Machine.{Next, Goes, Ends, Stops}
 use Rattle.cloud_trait.specs.Views.{got_of}
 use Rattle.db_base.specs.declared.trouble.Trouble.{Trouble}
-use Rattle.db_base.specs.declared.trouble.Trouble.TheVariants as trouble
-use Rattle.run_cursor.specs.Covered.{is_seen}
 use Rattle.cloud_facts.specs.Book.Records.{IsIn}
 use Rattle.cloud_facts.specs.Book.Tally.{Store}
 use Rattle.cloud_facts.proofs.Book.Places.{in_either, in_front, in_behind}
 use Rattle.tree_descent.specs.declared.descent.Descent.{Descent}
-use Rattle.tree_descent.specs.declared.descent.Reach.{Reach}
-use Rattle.tree_descent.specs.declared.descent.Reach.TheVariants.{Node, Leaf}
 use Rattle.tree_descent.specs.declared.fork.Fork.{Fork}
 use Rattle.tree_descent.specs.declared.fork.Fork.TheVariants.{Right, Down}
-use Rattle.tree_descent.specs.Descent.{fork_of, passed, go_on, stride_at, kept_at, stride, follow, walk, arrived, arrive, with_node, got_node, descent_got, descent_next}
+use Rattle.tree_descent.specs.Descent.{passed, arrive, with_node, descent_next}
 use Rattle.tree_parts.specs.declared.chart.Chart.{Chart}
 use Rattle.tree_parts.specs.declared.kept.KeptNode.{KeptNode}
 use Rattle.tree_parts.specs.Kept.{place_of}
+use Rattle.session_facts.proofs.Trees.Descents.{Arrives, arrives_at, Gets, gets}
+use Rattle.session_facts.proofs.Trees.Descents as way
 use Rattle.session_facts.specs.Trees.Folds.{KnowsRun, IsLeast}
 use Rattle.session_facts.specs.Trees.Leaves.{IsGetting, IsCome}
 use Rattle.session_facts.specs.Trees.Risings.{AreApart}
@@ -73,58 +71,6 @@ apart_more (suc n) (x ∷ ks) k a f =
     front m (inl there) = a.0 m (in_taken n ks m there)
     front m (inr there) = behind m (in_cases k (drop n ks) m there)
 
--- ---- over nodes that were got
-
-abbrev StridesApart : Chart → Next Descent Reach → Type 0
-StridesApart c (Goes e) = KeepsChart c e.chart × AreApart e.chart.nodes
-StridesApart c (Ends e Node) = KeepsChart c e.chart × AreApart e.chart.nodes × IsFresh e.page e.chart.nodes
-StridesApart c (Ends e Leaf) = KeepsChart c e.chart × AreApart e.chart.nodes
-StridesApart c (Stops e t) = Unit {0}
-
-passed_apart : (d : Descent) (fork : Fork) → AreApart d.chart.nodes → KeepsChart d.chart (passed d fork).chart × AreApart (passed d fork).chart.nodes
-passed_apart d (Right low page) a = (refl, a)
-passed_apart d (Down low page) a = (refl, a)
-
-go_on_apart : (d : Descent) (fork : Result Fork Trouble) → AreApart d.chart.nodes → StridesApart d.chart (go_on d fork)
-go_on_apart d (Ok fork) a = passed_apart d fork a
-go_on_apart d (Err t) a = tt
-
-stride_at_apart : (d : Descent) (k : Option KeptNode) → kept_at d ≡ k → AreApart d.chart.nodes → StridesApart d.chart (stride_at d k)
-stride_at_apart d (Some k) e a = go_on_apart d (fork_of d k.bytes) a
-stride_at_apart d None e a = (refl, a, fresh_of d.page d.chart.nodes e)
-
-stride_apart : (d : Descent) → AreApart d.chart.nodes → StridesApart d.chart (stride d)
-stride_apart d a = on (d.level == 0) (is_seen d.visited d.page)
-  where
-    on : (b c : Bool) → StridesApart d.chart (cond b (Ends d Leaf) (cond c (Stops d (trouble.Loop d.page)) (stride_at d (kept_at d))))
-    on true c = (refl, a)
-    on false true = tt
-    on false false = stride_at_apart d (kept_at d) refl a
-
--- a walk ends
-abbrev WalksApart : Chart → Next Descent Reach → Type 0
-WalksApart c (Goes e) = ⊥
-WalksApart c (Ends e reach) = StridesApart c (Ends e reach)
-WalksApart c (Stops e t) = Unit {0}
-
-strides_on : (c d : Chart) (s : Next Descent Reach) → KeepsChart c d → WalksApart d s → WalksApart c s
-strides_on c d (Goes e) f w = w
-strides_on c d (Ends e Node) f w = (keeps_on c d e.chart f w.0, w.1, w.2)
-strides_on c d (Ends e Leaf) f w = (keeps_on c d e.chart f w.0, w.1)
-strides_on c d (Stops e t) f w = tt
-
-follow_apart : (c : Chart) (next : Descent → Next Descent Reach) → ((e : Descent) → AreApart e.chart.nodes → WalksApart e.chart (next e)) → (s : Next Descent Reach) → StridesApart c s
-    → WalksApart c (follow next s)
-follow_apart c next each (Goes e) k = strides_on c e.chart (next e) k.0 (each e k.1)
-follow_apart c next each (Ends e Node) k = k
-follow_apart c next each (Ends e Leaf) k = k
-follow_apart c next each (Stops e t) k = tt
-
-walk_apart : (n : ℕ) (d : Descent) → AreApart d.chart.nodes → WalksApart d.chart (walk n d)
-unfolding walk
-walk_apart zero d a = follow_apart d.chart (λ e. Stops e (trouble.Loop e.page)) (λ e k. tt) (stride d) (stride_apart d a)
-walk_apart (suc n) d a = follow_apart d.chart (walk n) (walk_apart n) (stride d) (stride_apart d a)
-
 -- ---- where a way leads
 
 abbrev pub LeadsApart : Chart → Next Descent (Unit {0}) → Type 0
@@ -132,37 +78,36 @@ LeadsApart c (Goes e) = KeepsChart c e.chart × AreApart e.chart.nodes × IsFres
 LeadsApart c (Ends e x) = KeepsChart c e.chart × AreApart e.chart.nodes
 LeadsApart c (Stops e t) = Unit {0}
 
-arrived_apart : (c : Chart) (s : Next Descent Reach) → WalksApart c s → LeadsApart c (arrived s)
-arrived_apart c (Goes e) w = absurd w
-arrived_apart c (Ends e Node) w = w
-arrived_apart c (Ends e Leaf) w = w
-arrived_apart c (Stops e t) w = tt
-
-pub arrive_apart : (d : Descent) → AreApart d.chart.nodes → LeadsApart d.chart (arrive d)
-arrive_apart d a = arrived_apart d.chart (walk (length d.chart.nodes) d) (walk_apart (length d.chart.nodes) d a)
-
 later : (c d : Chart) (s : Next Descent (Unit {0})) → KeepsChart c d → LeadsApart d s → LeadsApart c s
 later c d (Goes e) f k = (keeps_on c d e.chart f k.0, k.1, k.2)
 later c d (Ends e x) f k = (keeps_on c d e.chart f k.0, k.1)
 later c d (Stops e t) f k = tt
 
-got_apart : (d : Descent) (bytes : List ℕ) (fork : Result Fork Trouble) → AreApart d.chart.nodes → IsFresh d.page d.chart.nodes → LeadsApart d.chart (got_node d bytes fork)
-got_apart d bytes (Err t) a fresh = tt
-got_apart d bytes (Ok fork) a fresh =
-    let node : KeptNode = record { page = d.page; level = d.level; low = d.low; bytes = bytes } in
-    let more : AreApart (with_node d bytes).chart.nodes = apart_more (place_of node d.chart.nodes) d.chart.nodes node a fresh in
-    let on = passed_apart (with_node d bytes) fork more in
-    later d.chart (passed (with_node d bytes) fork).chart (arrive (passed (with_node d bytes) fork))
-    (keeps_on d.chart (with_node d bytes).chart (passed (with_node d bytes) fork).chart refl on.0)
-    (arrive_apart (passed (with_node d bytes) fork) on.1)
+-- a node leads on over the same chart but for a link
+passed_apart : (d : Descent) (fork : Fork) → AreApart d.chart.nodes → KeepsChart d.chart (passed d fork).chart × AreApart (passed d fork).chart.nodes
+passed_apart d (Right low page) a = (refl, a)
+passed_apart d (Down low page) a = (refl, a)
 
-descent_got_apart : (d : Descent) (got : Result (Option (List ℕ)) Trouble) → AreApart d.chart.nodes → IsFresh d.page d.chart.nodes → LeadsApart d.chart (descent_got d got)
-descent_got_apart d (Ok (Some bytes)) a fresh = got_apart d bytes (fork_of d bytes) a fresh
-descent_got_apart d (Ok None) a fresh = tt
-descent_got_apart d (Err t) a fresh = tt
+arrives_apart : {n : ℕ} {d : Descent} {s : Next Descent (Unit {0})} → Arrives n d s → AreApart d.chart.nodes → LeadsApart d.chart s
+arrives_apart (way.at_leaf d level) a = (refl, a)
+arrives_apart (way.at_node d new none) a = (refl, a, fresh_of d.page d.chart.nodes none)
+arrives_apart {s = s} (way.further d k fork p on) a =
+    let more = passed_apart d fork a in
+    later d.chart (passed d fork).chart s more.0 (arrives_apart on more.1)
+arrives_apart w a = tt
+
+pub arrive_apart : (d : Descent) → AreApart d.chart.nodes → LeadsApart d.chart (arrive d)
+arrive_apart d a = arrives_apart (arrives_at d) a
+
+gets_apart : {d : Descent} {g : Result (Option (List ℕ)) Trouble} {s : Next Descent (Unit {0})} → Gets d g s → AreApart d.chart.nodes → IsFresh d.page d.chart.nodes → LeadsApart d.chart s
+gets_apart {d = d} {s = s} (way.leads bytes fork e on) a fresh =
+    let node : KeptNode = record { page = d.page; level = d.level; low = d.low; bytes = bytes } in
+    let more = passed_apart (with_node d bytes) fork (apart_more (place_of node d.chart.nodes) d.chart.nodes node a fresh) in
+    later d.chart (passed (with_node d bytes) fork).chart s (keeps_on d.chart (with_node d bytes).chart (passed (with_node d bytes) fork).chart refl more.0) (arrives_apart on more.1)
+gets_apart w a fresh = tt
 
 pub descent_apart : (d : Descent) (a : Answer) → AreApart d.chart.nodes → IsFresh d.page d.chart.nodes → LeadsApart d.chart (descent_next d a)
-descent_apart d a apart fresh = descent_got_apart d (got_of a) apart fresh
+descent_apart d a apart fresh = gets_apart (gets d (got_of a)) apart fresh
 
 -- ---- what is known where it leads
 

@@ -35,7 +35,8 @@ use Rattle.recover_run.specs.Recovery.{Recovery, new_recovery, recovery_ask, rec
 use Rattle.recover_run.proofs.Calmly.{Moves, Shrunk, along, row_of_move, move_shrinks, shrunk_all, unmarked_since}
 use Rattle.recover_run.proofs.Knowing.{KnowsAt, Put}
 use Rattle.recover_run.proofs.Meaning.{Knows, came_known}
-use Rattle.recover_run.proofs.Sweeping.{SweptAt, SweptNext, Delivers, Deletes, HeardAt, swept_at}
+use Rattle.recover_run.proofs.Sweeping.{SweptAt, SweptNext, Delivers, Deletes, HeardAt, swept}
+use Rattle.recover_run.proofs.Outcomes.{comes}
 
 -- ---- what a calm call did to the queue
 
@@ -95,7 +96,7 @@ step_swept : (client : ℕ) (aim : Aim) (old : Option Claim) (cs : Calls) (from 
     → SweptNext (t.messages (queue.Atomic client)) (recovery_next from d.answer)
 step_swept client aim old cs from d b t k m other is =
     subst (λ c. SweptNext (t.messages (queue.Atomic c)) (recovery_next from d.answer)) k.client_is
-    (swept_at from.stage from d.answer (b.messages (queue.Atomic from.client)) (t.messages (queue.Atomic from.client))
+    (swept (comes from d.answer) (b.messages (queue.Atomic from.client)) (t.messages (queue.Atomic from.client))
     (heard_at from.stage from d b t old cs refl m k.at other)
     (subst (λ c. SweptAt from.stage (b.messages (queue.Atomic c)) from) (sym k.client_is) is))
 

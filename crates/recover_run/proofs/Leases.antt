@@ -1,6 +1,6 @@
 -- The leases that a recovery holds are those that it was handed and took and has not given back, and its calls name those alone.
 use Rattle.std.proofs.Common.{◌≡◌, ◌≢◌, ◌≤◌, ℕ, List, [], ◌∷◌, length, Option, Some, None, Result, Ok, Err, inl, inr, refl, ap, sym, subst, ◌∙◌, arith}
-use Rattle.std.specs.Prelude.{◌++◌, slice_get}
+use Rattle.std.specs.Prelude.{slice_get}
 use Rattle.db_base.specs.declared.names.Lock.{Lock}
 use Rattle.db_base.specs.declared.names.Lock.TheVariants as lock
 use Rattle.db_base.specs.declared.names.ObjName.TheVariants as object
@@ -8,13 +8,14 @@ use Rattle.db_base.specs.declared.names.QueueName.TheVariants as queue
 use Rattle.cloud_trait.specs.declared.answer.Answer.TheVariants as call
 use Rattle.cloud_trait.specs.Seen.{Seen}
 use Rattle.recover_run.specs.Meaning.{HandsNone}
-use Rattle.recover_run.specs.Recovery.{new_recovery, ask_at, under, delete_next, send_next, behind, with_pending, home_at, home_of}
+use Rattle.recover_run.specs.Recovery.{new_recovery, ask_at, under, delete_next, send_next, home_at, home_of}
 use Rattle.recover_run.specs.Standing.{leases_of, outstanding_after, outstanding, IsClients, Names, Leaves, GivesBack, LeavesOf, AreReturned}
 use Rattle.recover_run.proofs.Knowing.{KnowsAt}
 use Rattle.recover_run.proofs.Meaning.{came_known}
-use Rattle.recover_run.proofs.Outcomes.{at, Reads, Loses, Readies, Clears, Fails, Comes, comes_to}
-use Rattle.recover_run.proofs.Outcomes as step
-use Rattle.recover_run.proofs.Words.{Trouble, Head, Answer, Turn, More, Ended, Stopped, Ask, GetHeld, PutHeld, Take, Release, Claim, Goes, Ends, Stops, LeadsBy, Took, Deed, calls_of, given_of, Fits, AtomicItem, Aim, Opening, Settling, Stage, ReleasingOld, Taking, Getting, Receiving, Deleting, Sending, Putting, Clearing, Sweeping, Releasing, Finished, RecoverAnswer, Opened, Nothing, Recovery, Step, recovery_ask, recovery_next, KeepsLeases, Went}
+use Rattle.recover_run.proofs.Outcomes.{at}
+use Rattle.recover_run.proofs.Turns.{AtWork, Works, MayHalt, Turns, turns_to}
+use Rattle.recover_run.proofs.Turns as step
+use Rattle.recover_run.proofs.Words.{Trouble, Answer, Turn, More, Ended, Stopped, Ask, GetHeld, PutHeld, Take, Release, Claim, Goes, Ends, Stops, LeadsBy, Took, Deed, calls_of, given_of, Fits, AtomicItem, Aim, Opening, Settling, Stage, ReleasingOld, Taking, Getting, Receiving, Deleting, Sending, Putting, Clearing, Sweeping, Releasing, Finished, RecoverAnswer, Opened, Nothing, Recovery, Step, recovery_ask, recovery_next, KeepsLeases, Went}
 
 -- ---- what is held at a stage
 
@@ -85,72 +86,26 @@ stands_ends Finished client aim old h r s = absurd s
 
 -- ---- while the client's lease is held
 
--- a stage between the take and the release
-abbrev AtWork : Stage → Type 0
-AtWork ReleasingOld = ⊥
-AtWork Taking = ⊥
-AtWork Releasing = ⊥
-AtWork Finished = ⊥
-AtWork stage = Unit {0}
-
--- local work that leaves the leases as they are
-record Works (r q : Recovery) : Type 0 where
-  pub at_work : AtWork r.stage
-  pub client : q.client ≡ r.client
-  pub aim : q.aim ≡ r.aim
-  pub former : q.former ≡ r.former
-  pub lease : q.lease ≡ r.lease
-  pub ending : q.ending ≡ r.ending
-
-reads_works : {r : Recovery} {a : Answer} (h : Head) → Reads r a h → Works r (behind r h)
-reads_works h (step.spelled r bytes k e other) = record { at_work = tt; client = refl; aim = refl; former = refl; lease = refl; ending = refl }
-reads_works h (step.absent r e) = record { at_work = tt; client = refl; aim = refl; former = refl; lease = refl; ending = refl }
-
-loses_works : {r : Recovery} {a : Answer} (q : Recovery) (ids : List ℕ) → Loses r a q ids → Works r q
-loses_works q ids (step.received r ms items e) = record { at_work = tt; client = refl; aim = refl; former = refl; lease = refl; ending = refl }
-loses_works q ids (step.one_gone r) = record { at_work = tt; client = refl; aim = refl; former = refl; lease = refl; ending = refl }
-
-readies_works : {r : Recovery} {a : Answer} (q : Recovery) (place : ℕ) → Readies r a q place → Works r q
-readies_works q place (step.whole d loses e) =
-    let w = loses_works d [] loses in
-    record { at_work = w.at_work; client = w.client; aim = w.aim; former = w.former; lease = w.lease; ending = w.ending }
-readies_works q place (step.one_sent r id) = passed (slice_get r.gathered.kept r.sent) where
-  passed : (o : Option AtomicItem) → Works (at r Sending) (with_pending (at r Sending) o)
-  passed (Some x) = record { at_work = tt; client = refl; aim = refl; former = refl; lease = refl; ending = refl }
-  passed None = record { at_work = tt; client = refl; aim = refl; former = refl; lease = refl; ending = refl }
-
-clears_works : {r : Recovery} {a : Answer} (q : Recovery) (ids : List ℕ) → Clears r a q ids → Works r q
-clears_works q ids (step.head_put r) = record { at_work = tt; client = refl; aim = refl; former = refl; lease = refl; ending = refl }
-clears_works q ids (step.one_tried r a) = record { at_work = tt; client = refl; aim = refl; former = refl; lease = refl; ending = refl }
-
-fails_works : {r : Recovery} {a : Answer} (q : Recovery) (t : Trouble) → Fails r a q t → Works r q
-fails_works q t (step.no_head r a u e) = record { at_work = tt; client = refl; aim = refl; former = refl; lease = refl; ending = refl }
-fails_works q t (step.no_messages r a u e) = record { at_work = tt; client = refl; aim = refl; former = refl; lease = refl; ending = refl }
-fails_works q t (step.not_deleted r a u e) = record { at_work = tt; client = refl; aim = refl; former = refl; lease = refl; ending = refl }
-fails_works q t (step.not_sent r a u e) = record { at_work = tt; client = refl; aim = refl; former = refl; lease = refl; ending = refl }
-fails_works q t (step.not_put r a u e) = record { at_work = tt; client = refl; aim = refl; former = refl; lease = refl; ending = refl }
-fails_works q t (step.not_swept r a u e) = record { at_work = tt; client = refl; aim = refl; former = refl; lease = refl; ending = refl }
-fails_works q t (step.bad_head r bytes e) = record { at_work = tt; client = refl; aim = refl; former = refl; lease = refl; ending = refl }
-fails_works q t (step.last_epoch r bytes h e last) = record { at_work = tt; client = refl; aim = refl; former = refl; lease = refl; ending = refl }
-fails_works q t (step.bad_message r ms m e) = record { at_work = tt; client = refl; aim = refl; former = refl; lease = refl; ending = refl }
-fails_works q t (step.bad_swept r ms m e) = record { at_work = tt; client = refl; aim = refl; former = refl; lease = refl; ending = refl }
-fails_works q t (step.waits d loses other stale) =
-    let w = loses_works d [] loses in
-    record { at_work = w.at_work; client = w.client; aim = w.aim; former = w.former; lease = w.lease; ending = w.ending }
-
 work_has : (st : Stage) (client : ℕ) (aim : Aim) (old : Option Claim) (h : List Deed) (r : Recovery) → AtWork st → StandsAt st client aim old h r
     → Has client aim old h r × (r.ending ≡ None)
 work_has ReleasingOld client aim old h r work s = absurd work
 work_has Taking client aim old h r work s = absurd work
 work_has Releasing client aim old h r work s = absurd work
 work_has Finished client aim old h r work s = absurd work
-work_has Getting client aim old h r work s = s
-work_has Receiving client aim old h r work s = s
-work_has Deleting client aim old h r work s = s
-work_has Sending client aim old h r work s = s
-work_has Putting client aim old h r work s = s
-work_has Clearing client aim old h r work s = s
-work_has Sweeping client aim old h r work s = s
+work_has st client aim old h r work s = s
+
+work_stands : (st : Stage) (client : ℕ) (aim : Aim) (old : Option Claim) (h : List Deed) (r : Recovery) → AtWork st → Has client aim old h r × (r.ending ≡ None)
+    → StandsAt st client aim old h r
+work_stands ReleasingOld client aim old h r work has = absurd work
+work_stands Taking client aim old h r work has = absurd work
+work_stands Releasing client aim old h r work has = absurd work
+work_stands Finished client aim old h r work has = absurd work
+work_stands st client aim old h r work has = has
+
+may_end : (aim : Aim) (ending : Result RecoverAnswer Trouble) → MayHalt aim ending → EndsSo (Some ending) aim
+may_end aim (Ok (Opened epoch)) may = may
+may_end aim (Ok Nothing) may = tt
+may_end aim (Err t) may = tt
 
 -- ---- calls that move no lease
 
@@ -243,7 +198,7 @@ ends_with client Opening old d h n Nothing is free none homeless = (free, none, 
 ends_with client Settling old d h n Nothing is free none homeless = (free, none, homeless)
 
 stands_after : (client : ℕ) (aim : Aim) (old : Option Claim) (d : Deed) (h : List Deed) {r : Recovery} {a : Answer} {next : Step} → d.answer ≡ a
-    → Stands client aim old h r → KnowsAt r.stage old (calls_of h) r → d.ask ≡ recovery_ask r → Fits (recovery_ask r) a → Comes r a next
+    → Stands client aim old h r → KnowsAt r.stage old (calls_of h) r → d.ask ≡ recovery_ask r → Fits (recovery_ask r) a → Turns r a next
     → NextStands client aim old d h next
 stands_after client aim old d h e s k asks fits (step.gives_old r a) = (
   record { client_is = s.1.client_is; aim_is = s.1.aim_is; former_is = refl; lease_is = s.1.lease_is; ending_is = s.1.ending_is },
@@ -274,26 +229,14 @@ stands_after client aim old d h e s k asks fits (step.refused r a t u) = (
       ∙ (not_given (lock.Client r.client) a t (outstanding old h) u ∙ s.1)),
   refl,
 )
-stands_after client aim old d h {r = r} e s k asks fits (step.stops q t f) = ((worked client aim old d h r q s k asks (fails_works q t f)).0, tt)
-stands_after client aim old d h e s k asks fits (step.finds_none r aims) =
-    ((worked client aim old d h (at r Getting) (at r Getting) s k asks (record { at_work = tt; client = refl; aim = refl; former = refl; lease = refl; ending = refl })).0, tt)
-stands_after client aim old d h {r = r} e s k asks fits (step.reads_settled head reads is) = worked client aim old d h r (behind r head) s k asks (reads_works head reads)
-stands_after client aim old d h {r = r} e s k asks fits (step.reads_open head count reads is) = worked client aim old d h r (behind r head) s k asks (reads_works head reads)
-stands_after client aim old d h {r = r} e s k asks fits (step.deletes q id ids loses) = worked client aim old d h r q s k asks (loses_works q (id ∷ ids) loses)
-stands_after client aim old d h {r = r} e s k asks fits (step.receives q loses other new) = worked client aim old d h r q s k asks (loses_works q [] loses)
-stands_after client aim old d h {r = r} e s k asks fits (step.sends q place x ready is) = worked client aim old d h r q s k asks (readies_works q place ready)
-stands_after client aim old d h {r = r} e s k asks fits (step.puts q place ready is) = worked client aim old d h r q s k asks (readies_works q place ready)
-stands_after client aim old d h {r = r} e s k asks fits (step.clears q id ids c) = worked client aim old d h r q s k asks (clears_works q (id ∷ ids) c)
-stands_after client aim old d h {r = r} e s k asks fits (step.sweeps q c) = worked client aim old d h r q s k asks (clears_works q [] c)
-stands_after client aim old d h e s k asks fits (step.clears_past r ms items id ids is are) =
-    worked client aim old d h (at r Sweeping) (at r Sweeping) s k asks (record { at_work = tt; client = refl; aim = refl; former = refl; lease = refl; ending = refl })
-stands_after client aim old d h e s k asks fits (step.opens r ms items is none opening) =
-    let n : Recovery = record (at r Finished) { swept = r.swept ++ []; ids = [] } in
-    let has = worked client aim old d h (at r Sweeping) n s k asks (record { at_work = tt; client = refl; aim = refl; former = refl; lease = refl; ending = refl }) in
-    opens_with client aim old d h (at r Sweeping) n r.head.epoch (sym s.0.aim_is ∙ opening) s.0 (leases_are n s.0.lease s.0.former_is s.0.lease_is) has.0
-stands_after client aim old d h e s k asks fits (step.closes r ms items is none settling) =
-    let has = worked client aim old d h (at r Sweeping) (at r Sweeping) s k asks (record { at_work = tt; client = refl; aim = refl; former = refl; lease = refl; ending = refl }) in
-    (has.0, sym s.0.aim_is ∙ settling)
+stands_after client aim old d h {r = r} e s k asks fits (step.works n w goes) = work_stands n.stage client aim old (d ∷ h) n goes (worked client aim old d h r n s k asks w)
+stands_after client aim old d h {r = r} e s k asks fits (step.halts q ending w may) =
+    let was = work_has r.stage client aim old h r w.at_work s in
+    ((worked client aim old d h r q s k asks w).0, may_end aim ending (subst (λ (a : Aim). MayHalt a ending) was.0.aim_is may))
+stands_after client aim old d h {r = r} e s k asks fits (step.opens q epoch w is) =
+    let was = work_has r.stage client aim old h r w.at_work s in
+    let has = (worked client aim old d h r q s k asks w).0 in
+    opens_with client aim old d h r (at q Finished) epoch (sym was.0.aim_is ∙ is) was.0 (leases_are (at q Finished) was.0.lease (w.former ∙ was.0.former_is) (w.lease ∙ was.0.lease_is)) has
 stands_after client aim old d h e s k asks fits (step.ends r a x is) =
     ends_with client aim old d h (record (at r Finished) { lease = None; ending = None }) x (subst (λ (o : Option (Result RecoverAnswer Trouble)). EndsSo o aim) is s.1)
     (free_of (record (at r Finished) { lease = None; ending = None }) s.0.former_is refl) (released client aim old d h (at r Releasing) s.0 asks) refl
@@ -312,7 +255,7 @@ pub went_stands : (client : ℕ) (aim : Aim) (old : Option Claim) (h : List Deed
 went_stands client aim old [] r is = subst (λ (m : Recovery). Stands client aim old [] m) (sym is) (start_stands client aim old)
 went_stands client aim old (d ∷ h) r (from, came, asks, made, leads, follows) =
     let fits : Fits (recovery_ask from) d.answer = subst (λ (q : Ask). Fits q d.answer) asks made.fits in
-    stands_after client aim old d h refl (went_stands client aim old h from came) (came_known client aim old h from came).at asks fits (comes_to from d.answer (Goes r) leads)
+    stands_after client aim old d h refl (went_stands client aim old h from came) (came_known client aim old h from came).at asks fits (turns_to from d.answer (Goes r) leads)
 
 -- ---- what is held is what a history leaves
 
@@ -387,7 +330,7 @@ stands_names client aim old h r went =
 next_stands : (client : ℕ) (aim : Aim) (old : Option Claim) (d : Deed) (h : List Deed) (r : Recovery) (next : Step) → Went client aim old h r → d.ask ≡ recovery_ask r
     → Fits (recovery_ask r) d.answer → recovery_next r d.answer ≡ next → NextStands client aim old d h next
 next_stands client aim old d h r next went asks fits leads =
-    stands_after client aim old d h refl (went_stands client aim old h r went) (came_known client aim old h r went).at asks fits (comes_to r d.answer next leads)
+    stands_after client aim old d h refl (went_stands client aim old h r went) (came_known client aim old h r went).at asks fits (turns_to r d.answer next leads)
 
 -- a deed that asked and answered this
 abbrev asked : Ask → Answer → Deed

@@ -1,5 +1,6 @@
 pub mod Words
 pub mod Outcomes
+pub mod Turns
 pub mod Causes
 pub mod End
 pub mod Demands
@@ -10,7 +11,6 @@ pub mod Calm
 pub mod Handing
 pub mod Keeping
 pub mod Knowing
-pub mod Leading
 pub mod Marks
 pub mod Meaning
 pub mod Missing

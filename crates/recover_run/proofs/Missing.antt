@@ -1,6 +1,5 @@
 -- A calm recovery with which nobody else acts waits for no record where none is missing.
-use Rattle.std.proofs.Common.{◌≡◌, ◌≤◌, ◌+◌, ◌++◌, ℕ, List, [], ◌∷◌, length, drop, false, Option, Some, None, Result, Ok, Err, refl, ap, sym, subst, ◌∙◌, arith}
-use Rattle.std.specs.Prelude.{slice_get}
+use Rattle.std.proofs.Common.{◌≡◌, ◌≤◌, ℕ, List, [], ◌∷◌, length, false, Option, Some, None, Result, Ok, Err, refl, ap, sym, subst, ◌∙◌, arith}
 use Rattle.std.specs.List.{AllByRecursion}
 use Rattle.db_base.specs.declared.names.Lock.{Lock}
 use Rattle.db_base.specs.declared.names.Lock.TheVariants as lock
@@ -9,10 +8,10 @@ use Rattle.db_base.specs.declared.names.ObjName.TheVariants as object
 use Rattle.db_base.specs.declared.names.QueueName.{QueueName}
 use Rattle.db_base.specs.declared.names.QueueName.TheVariants as queue
 use Rattle.db_base.specs.declared.trouble.Trouble.{Trouble}
+use Rattle.db_base.specs.declared.trouble.Trouble.TheVariants as trouble
 use Rattle.head_codec.specs.declared.head.Head.{Head}
 use Rattle.cloud_trait.specs.declared.answer.Answer.{Answer}
 use Rattle.cloud_trait.specs.declared.answer.Answer.TheVariants.{Got, Sent, Received, Done, Given, Held, Late, Memory}
-use Rattle.cloud_trait.specs.declared.message.Message.{Message}
 use Rattle.cloud_trait.specs.declared.state.Posted.{Posted}
 use Rattle.cloud_trait.specs.declared.state.Version.{Version}
 use Rattle.cloud_trait.specs.declared.turn.Turn.{Turn}
@@ -20,33 +19,30 @@ use Rattle.cloud_trait.specs.declared.turn.Turn.TheVariants.{More, Ended, Stoppe
 use Rattle.cloud_trait.specs.Ask.{Ask, GetHeld, Release, PutsNothing, TouchesNoMessage}
 use Rattle.cloud_trait.specs.Caller.{Caller}
 use Rattle.cloud_trait.specs.Claim.{Claim}
-use Rattle.cloud_trait.specs.Delivery.{IsDelivering}
 use Rattle.cloud_trait.specs.Machine.{Goes, Ends, Stops, LeadsBy, Came, Deed, Took, calls_of}
 use Rattle.cloud_trait.specs.Seen.{Seen}
-use Rattle.cloud_trait.specs.State.{CloudState, Counts, newest, newest_of, called, marked}
+use Rattle.cloud_trait.specs.State.{CloudState, Counts, newest, newest_of, called}
 use Rattle.cloud_trait.specs.Views.{given_of, got_of, sent_of, received_of, done_of, trouble_of}
 use Rattle.cloud_trait.specs.Weather.{Weather, Makes}
 use Rattle.cloud_trait.proofs.RowLemmas.{row_messages, row_versions}
 use Rattle.cloud_trait.specs.Calm.{IsCalm, AreCalm, AreAlone}
-use Rattle.recover_run.specs.declared.items.AtomicItem.{AtomicItem}
 use Rattle.recover_run.specs.declared.stage.Aim.{Aim}
-use Rattle.recover_run.specs.declared.stage.Aim.TheVariants.{Opening, Settling}
 use Rattle.recover_run.specs.declared.stage.Stage.{Stage}
-use Rattle.recover_run.specs.declared.stage.Stage.TheVariants.{ReleasingOld, Taking, Getting, Receiving, Deleting, Sending, Putting, Clearing, Sweeping, Releasing, Finished}
+use Rattle.recover_run.specs.declared.stage.Stage.TheVariants.{ReleasingOld, Taking, Getting, Receiving, Deleting, Releasing}
 use Rattle.recover_run.specs.declared.stage.RecoverAnswer.{RecoverAnswer}
 use Rattle.recover_run.specs.Calls.{Calls, head_in}
 use Rattle.recover_run.specs.Emptying.{IsBeginning, deed_of}
-use Rattle.recover_run.specs.Gathering.{nothing_gathered, gathered_with, lost_now, past_ids, wanted_of}
-use Rattle.recover_run.specs.Ids.{new_ids, has_some, rest_of}
-use Rattle.recover_run.specs.Items.{items_of}
+use Rattle.recover_run.specs.Gathering.{nothing_gathered, lost_now, wanted_of}
+use Rattle.recover_run.specs.Ids.{has_some, rest_of}
 use Rattle.recover_run.specs.Meaning.{IsKept}
 use Rattle.recover_run.specs.Missing.{IsComplete, NoneMissing, IsNoWaiting, WaitsForNone}
-use Rattle.recover_run.specs.Recovery.{Recovery, Step, new_recovery, recovery_ask, recovery_next, ask_at, next_at, under, delete_next, receive_next, taken_by, got_by, deleting, gathered_by, received_by, deleted_by, with_pending, send_or_put, sent_by, put_by, kept_ids, clearing, opened, sweeping, swept_with, swept_by, ended, KeepsLeases}
+use Rattle.recover_run.specs.Recovery.{Recovery, Step, new_recovery, recovery_ask, recovery_next, ask_at, under, delete_next, receive_next, KeepsLeases}
+use Rattle.recover_run.proofs.Outcomes.{gathered, Loses, Fails, Comes, comes}
+use Rattle.recover_run.proofs.Outcomes as step
 use Rattle.recover_run.proofs.Calmly.{Moves, along}
 use Rattle.recover_run.proofs.Emptying.{delete_marks, row_at, receive_delivers}
 use Rattle.recover_run.proofs.Calm.{memory_or}
 use Rattle.recover_run.proofs.Knowing.{KnowsAt, IsRising}
-use Rattle.recover_run.proofs.Leading.{sent_cases, decided_cases, got_cases}
 use Rattle.recover_run.proofs.Meaning.{Knows, came_known}
 use Rattle.recover_run.proofs.Sifting.{HasSeen, deleted_complete, deleted_seen, received_seen, seen_whole}
 use Rattle.recover_run.proofs.Sweeping.{Deletes, Delivers}
@@ -119,130 +115,79 @@ done_other : (a : Answer) (t : Trouble) → done_of a ≡ Err t → IsNoWaiting 
 done_other Done t e = absurd (cc)
 done_other a t e = no_waiting a t (cc)
 
--- ---- up to the head
+given_other : (k : Lock) (a : Answer) (t : Trouble) → given_of k a ≡ Err t → IsNoWaiting t
+given_other k (Given l) t e = absurd (cc)
+given_other k (Held until) t e = let same : trouble.Busy k until ≡ t = cc in subst IsNoWaiting same tt
+given_other k a t e = no_waiting a t (cc)
 
-taken_misses : (h : Head) (v : Option (List ℕ)) (ms : List Posted) (r : Recovery) (l : Lock) (a : Answer) → Before h v ms r → MissNext h v ms (taken_by r (given_of l a))
-taken_misses h v ms r l (Given lease) is = is
-taken_misses h v ms r l (Held until) is = tt
-taken_misses h v ms r l a is = trouble_other a
+-- ---- what is gathered
 
-same_head : (v u : Option (List ℕ)) (h k : Head) → u ≡ v → head_in v ≡ Some h → head_in u ≡ Some k → h ≡ k
-same_head v u h k e is at = let both : Some h ≡ Some k = sym is ∙ (ap head_in (sym e) ∙ at) in cc
+-- the head that was read is the one that is known
+read_is : {r : Recovery} {a : Answer} {k : Head} → step.Reads r a k → (v : Option (List ℕ)) → Reads a v → head_in v ≡ Some k
+read_is (step.spelled r bytes k e other) v heard = ap head_in (sym heard) ∙ e
+read_is (step.absent r aims) v heard = ap head_in (sym heard)
 
-got_is : (a : Answer) (u : Option (List ℕ)) → got_of a ≡ Ok u → a ≡ Got u
-got_is (Got v) u e = let same : v ≡ u = cc in ap Got same
-got_is a u e = absurd (cc)
+read_at : {r : Recovery} {a : Answer} {k : Head} → step.Reads r a k → (v u : Option (List ℕ)) (ms ns : List Posted) → HeardAt r.stage r a v u ms ns → (ns ≡ ms) × Reads a v
+read_at (step.spelled r bytes k e other) v u ms ns heard = heard
+read_at (step.absent r aims) v u ms ns heard = heard
 
-got_misses : (h : Head) (v w : Option (List ℕ)) (ms : List Posted) (r : Recovery) (a : Answer) → Reads a v → Before h v ms r → MissNext h w ms (got_by r (got_of a))
-got_misses h v w ms r a reads is =
-    got_cases (MissNext h w ms) r (got_of a) (got_other a) (λ p n. tt) tt tt (λ u k e at. tt)
-    (λ u k e at.
-    let heard : u ≡ v = subst (λ b. Reads b v) (got_is a u e) reads in
-    let same : h ≡ k = same_head v u h k heard is.0 at in (
-      subst (λ k. IsComplete (wanted_of k) ms) same is.1,
-      subst (λ g. HasSeen (wanted_of k) ms [] g) (sym is.2) (record { handled = tt; seen = tt; named = tt }),
-    ))
-
--- ---- gathering
-
-send_misses : (h : Head) (v : Option (List ℕ)) (ms : List Posted) (r : Recovery) (o : Option AtomicItem) → MissNext h v ms (send_or_put r o)
-send_misses h v ms r o = sent_cases (MissNext h v ms) r o (λ out. tt) tt
-
-deleting_misses : (h : Head) (v : Option (List ℕ)) (ms : List Posted) (r : Recovery) (ids : List ℕ) → IsComplete r.wanted ms → HasSeen r.wanted ms ids r.gathered
-    → (r.gathered.fresh ≡ false → length r.gathered.kept ≡ r.wanted.count) → MissNext h v ms (deleting r ids)
-deleting_misses h v ms r [] c k whole =
-    decided_cases (MissNext h v ms) (record r { ids = [] }) (λ e. send_misses h v ms (record r { ids = []; sent = 0 }) (slice_get r.gathered.kept 0))
-    (λ e. (c, k)) (λ other stale. absurd (other (whole stale)))
-deleting_misses h v ms r (id ∷ ids) c k whole = (c, k, whole)
+before_at : {r : Recovery} {a : Answer} {k : Head} → step.Reads r a k → (h : Head) (v : Option (List ℕ)) (ms : List Posted) → MissAt r.stage h v ms r → Before h v ms r
+before_at (step.spelled r bytes k e other) h v ms is = is
+before_at (step.absent r aims) h v ms is = is
 
 none_some : (ids : List ℕ) → has_some ids ≡ false → ids ≡ []
 none_some [] e = refl
 none_some (id ∷ ids) e = absurd (cc)
 
-gathered_misses : (h : Head) (v : Option (List ℕ)) (ms : List Posted) (r : Recovery) (answer : List Message) (o : Result (List AtomicItem) Message) (cs : Calls) → items_of answer ≡ o
-    → IsDelivering ms 256 answer → AllByRecursion (IsKept r.wanted cs) r.gathered.kept → IsRising 1 r.gathered.kept → IsComplete r.wanted ms → HasSeen r.wanted ms [] r.gathered
-    → MissNext h v ms (gathered_by r o)
-gathered_misses h v ms r answer (Err m) cs e is kept up c k = tt
-gathered_misses h v ms r answer (Ok items) cs e is kept up c k =
-    deleting_misses h v ms (record r { gathered = gathered_with r.wanted r.gathered items }) (lost_now r.wanted r.gathered items) c
-    (received_seen r.wanted ms r.gathered answer items e is c k)
-    (λ stale. seen_whole r.wanted ms r.gathered answer items cs (receive_next r) e is c k kept up (none_some _ stale))
+-- these ids of lost records are still to be deleted
+abbrev Sifts : List Posted → Recovery → List ℕ → Type 0
+Sifts ms r ids = IsComplete r.wanted ms × HasSeen r.wanted ms ids r.gathered × (r.gathered.fresh ≡ false → length r.gathered.kept ≡ r.wanted.count)
 
-received_misses : (h : Head) (v : Option (List ℕ)) (ms : List Posted) (r : Recovery) (a : Answer) (cs : Calls) → Delivers a ms → AllByRecursion (IsKept r.wanted cs) r.gathered.kept
-    → IsRising 1 r.gathered.kept → IsComplete r.wanted ms → HasSeen r.wanted ms [] r.gathered → MissNext h v ms (received_by r (received_of a))
-received_misses h v ms r (Received answer) cs is kept up c k = gathered_misses h v ms r answer (items_of answer) cs refl is kept up c k
-received_misses h v ms r a cs is kept up c k = trouble_other a
+one_deleted : (ms ns : List Posted) (r : Recovery) (ids : List ℕ) → Deletes ids ms ns → Sifts ms r ids → Sifts ns r (rest_of ids)
+one_deleted ms ns r [] e is = absurd e
+one_deleted ms ns r (id ∷ ids) e (c, k, whole) =
+    subst (λ l. Sifts l r ids) (sym e) (deleted_complete r.wanted ms id k.named.0 c, deleted_seen r.wanted ms id ids r.gathered k, whole)
 
-deleted_misses : (h : Head) (v : Option (List ℕ)) (ms ns : List Posted) (r : Recovery) (ids : List ℕ) → Deletes ids ms ns → IsComplete r.wanted ms → HasSeen r.wanted ms ids r.gathered
-    → (r.gathered.fresh ≡ false → length r.gathered.kept ≡ r.wanted.count) → MissNext h v ns (deleting r (drop 1 ids))
-deleted_misses h v ms ns r [] e c k whole = absurd e
-deleted_misses h v ms ns r (id ∷ ids) e c k whole =
-    subst (λ l. MissNext h v l (deleting r ids)) (sym e)
-    (deleting_misses h v (marked ms id) r ids (deleted_complete r.wanted ms id k.named.0 c) (deleted_seen r.wanted ms id ids r.gathered k) whole)
-
-deleted_by_misses : (h : Head) (v : Option (List ℕ)) (ms ns : List Posted) (r : Recovery) (a : Answer) → DeletesDone a r.ids ms ns → MissAt Deleting h v ms r
-    → MissNext h v ns (deleted_by r (done_of a))
-deleted_by_misses h v ms ns r Done e is = deleted_misses h v ms ns r r.ids e is.0 is.1 is.2
-deleted_by_misses h v ms ns r a e is = trouble_other a
-
--- ---- sends, and behind the put
-
-sent_by_misses : (h : Head) (v : Option (List ℕ)) (ms : List Posted) (r : Recovery) (g : Result ℕ Trouble) → ((t : Trouble) → g ≡ Err t → IsNoWaiting t) → MissNext h v ms (sent_by r g)
-sent_by_misses h v ms r (Ok id) fails =
-    let m : Recovery = with_pending r (slice_get r.gathered.kept r.sent) in
-    send_misses h v ms (record m { sent = r.sent + 1 }) (slice_get m.gathered.kept (r.sent + 1))
-sent_by_misses h v ms r (Err t) fails = fails t refl
-
-clearing_misses : (h : Head) (v : Option (List ℕ)) (ms : List Posted) (r : Recovery) (ids : List ℕ) → MissNext h v ms (clearing r ids)
-clearing_misses h v ms r [] = tt
-clearing_misses h v ms r (id ∷ ids) = tt
-
-put_misses : (h : Head) (v : Option (List ℕ)) (ms : List Posted) (r : Recovery) (g : Result (Unit {0}) Trouble) → ((t : Trouble) → g ≡ Err t → IsNoWaiting t) → MissNext h v ms (put_by r g)
-put_misses h v ms r (Ok done) fails = clearing_misses h v ms (record r { swept = kept_ids r }) (kept_ids r)
-put_misses h v ms r (Err t) fails = fails t refl
-
-opened_misses : (h : Head) (v : Option (List ℕ)) (ms : List Posted) (r : Recovery) (aim : Aim) → MissNext h v ms (opened aim r)
-opened_misses h v ms r Opening = tt
-opened_misses h v ms r Settling = tt
-
-sweeping_misses : (h : Head) (v : Option (List ℕ)) (ms : List Posted) (r : Recovery) (ids : List ℕ) → MissNext h v ms (sweeping r ids)
-sweeping_misses h v ms r [] = opened_misses h v ms (record r { swept = r.swept ++ []; ids = [] }) r.aim
-sweeping_misses h v ms r (id ∷ ids) = tt
-
-swept_misses : (h : Head) (v : Option (List ℕ)) (ms : List Posted) (r : Recovery) (o : Result (List AtomicItem) Message) → MissNext h v ms (swept_with r o)
-swept_misses h v ms r (Ok items) = sweeping_misses h v ms r (new_ids r.swept (past_ids r.wanted items))
-swept_misses h v ms r (Err m) = tt
-
-swept_by_misses : (h : Head) (v : Option (List ℕ)) (ms : List Posted) (r : Recovery) (g : Result (List Message) Trouble) → ((t : Trouble) → g ≡ Err t → IsNoWaiting t)
-    → MissNext h v ms (swept_by r g)
-swept_by_misses h v ms r (Ok answer) fails = swept_misses h v ms r (items_of answer)
-swept_by_misses h v ms r (Err t) fails = fails t refl
-
-ended_misses : (h : Head) (v : Option (List ℕ)) (ms : List Posted) (r : Recovery) (o : Option (Result RecoverAnswer Trouble)) → NoWaitingEnding o → MissNext h v ms (ended r o)
-ended_misses h v ms r (Some (Ok a)) is = tt
-ended_misses h v ms r (Some (Err t)) is = is
-ended_misses h v ms r None is = tt
+loses_misses : {r q : Recovery} {a : Answer} {ids : List ℕ} → Loses r a q ids → (h : Head) (v u : Option (List ℕ)) (ms ns : List Posted) → HeardAt r.stage r a v u ms ns
+    → MissAt r.stage h v ms r → Sifts ns q ids
+loses_misses (step.received r answer items e) h v u ms ns (same, delivers, (cs, kept, up)) (c, k) =
+    subst (λ l. Sifts l (gathered r items) (lost_now r.wanted r.gathered items)) (sym same)
+    (c, received_seen r.wanted ms r.gathered answer items e delivers c k, λ stale. seen_whole r.wanted ms r.gathered answer items cs (receive_next r) e delivers c k kept up (none_some _ stale))
+loses_misses (step.one_gone r) h v u ms ns heard is = one_deleted ms ns r r.ids heard is
 
 -- ---- each step
 
-same_both : (h : Head) (v u : Option (List ℕ)) (ms ns : List Posted) (s : Step) → u ≡ v → ns ≡ ms → MissNext h v ms s → MissNext h u ns s
-same_both h v u ms ns s e f is = subst (λ l. MissNext h u l s) (sym f) (subst (λ o. MissNext h o ms s) (sym e) is)
+fails_misses : {r q : Recovery} {a : Answer} {t : Trouble} → Fails r a q t → (h : Head) (v u : Option (List ℕ)) (ms ns : List Posted) → HeardAt r.stage r a v u ms ns
+    → MissAt r.stage h v ms r → IsNoWaiting t
+fails_misses (step.no_head r a t e) h v u ms ns heard is = got_other a t e
+fails_misses (step.no_messages r a t e) h v u ms ns heard is = received_other a t e
+fails_misses (step.not_deleted r a t e) h v u ms ns heard is = done_other a t e
+fails_misses (step.not_sent r a t e) h v u ms ns heard is = sent_other a t e
+fails_misses (step.not_put r a t e) h v u ms ns heard is = done_other a t e
+fails_misses (step.not_swept r a t e) h v u ms ns heard is = received_other a t e
+fails_misses (step.waits q loses other stale) h v u ms ns heard is = absurd (other ((loses_misses loses h v u ms ns heard is).2 stale))
+fails_misses f h v u ms ns heard is = tt
 
-miss_at : (st : Stage) (h : Head) (r : Recovery) (a : Answer) (v u : Option (List ℕ)) (ms ns : List Posted) → HeardAt st r a v u ms ns → MissAt st h v ms r
-    → MissNext h u ns (next_at st r a)
-miss_at ReleasingOld h r a v u ms ns heard is = same_both h v u ms ns (next_at ReleasingOld r a) heard.0 heard.1 is
-miss_at Taking h r a v u ms ns heard is = same_both h v u ms ns (next_at Taking r a) heard.0 heard.1 (taken_misses h v ms r (lock.Client r.client) a is)
-miss_at Getting h r a v u ms ns heard is = subst (λ l. MissNext h u l (got_by r (got_of a))) (sym heard.0) (got_misses h v u ms r a heard.1 is)
-miss_at Receiving h r a v u ms ns heard is =
-    subst (λ l. MissNext h u l (received_by r (received_of a))) (sym heard.0)
-    (received_misses h u ms r a heard.2.0 heard.1 heard.2.1 heard.2.2 is.0 is.1)
-miss_at Deleting h r a v u ms ns heard is = deleted_by_misses h u ms ns r a heard is
-miss_at Sending h r a v u ms ns heard is = sent_by_misses h u ns r (sent_of a) (sent_other a)
-miss_at Putting h r a v u ms ns heard is = put_misses h u ns r (done_of a) (done_other a)
-miss_at Clearing h r a v u ms ns heard is = clearing_misses h u ns r (rest_of r.ids)
-miss_at Sweeping h r a v u ms ns heard is = swept_by_misses h u ns r (received_of a) (received_other a)
-miss_at Releasing h r a v u ms ns heard is = ended_misses h u ns (record r { stage = Finished; lease = None; ending = None }) r.ending is
-miss_at Finished h r a v u ms ns heard is = tt
+before_so : (h : Head) (v u : Option (List ℕ)) (ms ns : List Posted) (r : Recovery) → u ≡ v → ns ≡ ms → Before h v ms r → Before h u ns r
+before_so h v u ms ns r e f is = subst (λ l. Before h u l r) (sym f) (subst (λ o. Before h o ms r) (sym e) is)
+
+misses : {r : Recovery} {a : Answer} {next : Step} → Comes r a next → (h : Head) (v u : Option (List ℕ)) (ms ns : List Posted) → HeardAt r.stage r a v u ms ns
+    → MissAt r.stage h v ms r → MissNext h u ns next
+misses (step.gives_old r a) h v u ms ns heard is = before_so h v u ms ns r heard.0 heard.1 is
+misses (step.takes r l) h v u ms ns heard is = before_so h v u ms ns r heard.0 heard.1 is
+misses (step.refused r a t e) h v u ms ns heard is = given_other (lock.Client r.client) a t e
+misses (step.stops q t f) h v u ms ns heard is = fails_misses f h v u ms ns heard is
+misses {r = r} (step.reads_open k count reads e) h v u ms ns heard is =
+    let was = before_at reads h v ms is in
+    let both : Some h ≡ Some k = sym was.0 ∙ read_is reads v (read_at reads v u ms ns heard).1 in
+    let same : h ≡ k = cc (both) in (
+      subst (λ l. IsComplete (wanted_of k) l) (sym (read_at reads v u ms ns heard).0) (subst (λ x. IsComplete (wanted_of x) ms) same was.1),
+      subst (λ g. HasSeen (wanted_of k) ns [] g) (sym was.2) (record { handled = tt; seen = tt; named = tt }),
+    )
+misses (step.deletes q id ids loses) h v u ms ns heard is = loses_misses loses h v u ms ns heard is
+misses (step.receives q loses other new) h v u ms ns heard is = let k = loses_misses loses h v u ms ns heard is in (k.0, k.1)
+misses (step.stopped r a t e) h v u ms ns heard is = subst NoWaitingEnding e is
+misses c h v u ms ns heard is = tt
 
 -- ---- what a calm call did and heard
 
@@ -307,7 +252,7 @@ step_misses : (client : ℕ) (aim : Aim) (old : Option Claim) (h : Head) (cs : C
     → MissIn client h from b → MissNext h (newest t (object.Head client)) (t.messages (queue.Atomic client)) (recovery_next from d.answer)
 step_misses client aim old h cs from d b t k m is =
     subst (λ c. MissNext h (newest t (object.Head c)) (t.messages (queue.Atomic c)) (recovery_next from d.answer)) k.client_is
-    (miss_at from.stage h from d.answer (newest b (object.Head from.client)) (newest t (object.Head from.client)) (b.messages (queue.Atomic from.client))
+    (misses (comes from d.answer) h (newest b (object.Head from.client)) (newest t (object.Head from.client)) (b.messages (queue.Atomic from.client))
     (t.messages (queue.Atomic from.client)) (heard_at from.stage from d b t old cs refl m k.at) (subst (λ c. MissIn c h from b) (sym k.client_is) is))
 
 start_misses : (client : ℕ) (aim : Aim) (old : Option Claim) (first : CloudState) (n : NoneMissing client first) → MissIn client n.head (new_recovery client aim old) first

@@ -1,5 +1,5 @@
 -- What keeps a head's spelling.
-use Rattle.std.proofs.Common.{[], ◌∷◌, ◌++◌}
+use Rattle.std.proofs.Common.{[], ◌∷◌}
 use Rattle.head_codec.specs.declared.head.Head.{Head}
 use Rattle.head_codec.specs.Spelling.{HasSpelling}
 use Rattle.head_codec.proofs.Keeping.{HasSpelling-append}

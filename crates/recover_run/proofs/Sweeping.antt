@@ -1,9 +1,8 @@
 -- What a calm recovery knows of its queue behind the put: whatever it is to delete is marked, once it was.
-use Rattle.std.proofs.Common.{◌≡◌, ◌≢◌, ◌≤◌, ◌⊎◌, ◌+◌, ◌++◌, ℕ, List, [], ◌∷◌, drop, Bool, true, false, cond, ◌||◌, Option, Some, None, Result, Ok, Err, inl, inr, refl, sym, subst, arith}
+use Rattle.std.proofs.Common.{◌≡◌, ◌≢◌, ◌≤◌, ◌⊎◌, ◌+◌, ◌++◌, ℕ, List, [], ◌∷◌, Bool, true, false, cond, ◌||◌, Option, Some, None, Result, Ok, Err, inl, inr, refl, sym, subst, arith}
 use Rattle.std.specs.Prelude.{◌==◌}
 use Rattle.std.specs.List.{AllByRecursion}
 use Rattle.std.proofs.lemmas.Bool.Decides.{nat_tests}
-use Rattle.db_base.specs.declared.names.Lock.TheVariants as lock
 use Rattle.db_base.specs.declared.trouble.Trouble.{Trouble}
 use Rattle.head_codec.proofs.Keeping.{AllByRecursion-append}
 use Rattle.log_codec.specs.declared.record.AtomicRec.{AtomicRec}
@@ -12,24 +11,21 @@ use Rattle.cloud_trait.specs.declared.answer.Answer.{Answer}
 use Rattle.cloud_trait.specs.declared.answer.Answer.TheVariants.{Received}
 use Rattle.cloud_trait.specs.declared.message.Message.{Message}
 use Rattle.cloud_trait.specs.declared.state.Posted.{Posted}
-use Rattle.cloud_trait.specs.Claim.{Claim}
 use Rattle.cloud_trait.specs.Delivery.{unmarked, IsDelivering}
 use Rattle.cloud_trait.specs.Machine.{Goes, Ends, Stops}
-use Rattle.cloud_trait.specs.Views.{given_of, got_of, sent_of, received_of, done_of}
 use Rattle.recover_run.specs.declared.items.AtomicItem.{AtomicItem}
 use Rattle.recover_run.specs.declared.wanted.Wanted.{Wanted}
-use Rattle.recover_run.specs.declared.stage.Aim.{Aim}
-use Rattle.recover_run.specs.declared.stage.Aim.TheVariants.{Opening, Settling}
 use Rattle.recover_run.specs.declared.stage.Stage.{Stage}
-use Rattle.recover_run.specs.declared.stage.Stage.TheVariants.{ReleasingOld, Taking, Getting, Receiving, Deleting, Sending, Putting, Clearing, Sweeping, Releasing, Finished}
+use Rattle.recover_run.specs.declared.stage.Stage.TheVariants.{Clearing, Sweeping, Releasing}
 use Rattle.recover_run.specs.declared.stage.RecoverAnswer.{RecoverAnswer}
 use Rattle.recover_run.specs.declared.stage.RecoverAnswer.TheVariants.{Opened, Nothing}
 use Rattle.recover_run.specs.Emptying.{HasNoLater, IsUptoEpoch}
 use Rattle.recover_run.specs.Gathering.{is_past, past_ids}
-use Rattle.recover_run.specs.Ids.{has_id, new_ids}
+use Rattle.recover_run.specs.Ids.{has_id, new_ids, rest_of}
 use Rattle.recover_run.specs.Items.{items_of, item_with, with_first}
-use Rattle.recover_run.specs.Recovery.{Recovery, Step, next_at, taken_by, put_by, kept_ids, clearing, opened, sweeping, swept_with, swept_by, ended}
-use Rattle.recover_run.proofs.Leading.{Bears, bears_got, bears_received, bears_deleted, bears_sent}
+use Rattle.recover_run.specs.Recovery.{Recovery, Step, kept_ids}
+use Rattle.recover_run.proofs.Outcomes.{Clears, Comes}
+use Rattle.recover_run.proofs.Outcomes as step
 use Rattle.recover_run.proofs.Marks.{IsGone, marked_all, marked_gone, none_gone, brought_all, brought_none}
 use Rattle.cloud_trait.specs.State.{marked}
 
@@ -117,12 +113,10 @@ HeardAt st r a ms ns = Unit {0}
 
 -- ---- deletions
 
-clearing_swept : (ms : List Posted) (r : Recovery) (ids : List ℕ) → AllByRecursion (IsHandled ms ids) r.swept → SweptNext ms (clearing r ids)
-clearing_swept ms r [] all = none r.swept all where
-  none : (xs : List ℕ) → AllByRecursion (IsHandled ms []) xs → AllByRecursion (IsGone ms) xs
-  none [] all = tt
-  none (x ∷ xs) all = (elim all.0 [ inl has ↦ absurd (cc) | inr gone ↦ gone ], none xs all.1)
-clearing_swept ms r (id ∷ ids) all = all
+-- with no id to be deleted each was
+handled_none : (ms : List Posted) (xs : List ℕ) → AllByRecursion (IsHandled ms []) xs → AllByRecursion (IsGone ms) xs
+handled_none ms [] all = tt
+handled_none ms (x ∷ xs) all = (elim all.0 [ inl has ↦ absurd (cc) | inr gone ↦ gone ], handled_none ms xs all.1)
 
 -- of the handled ids the deletion of the first leaves those behind it
 pub deletes_first : (ms : List Posted) (id : ℕ) (ids swept : List ℕ) → AllByRecursion (IsHandled ms (id ∷ ids)) swept → AllByRecursion (IsHandled (marked ms id) ids) swept
@@ -135,10 +129,9 @@ deletes_first ms id ids (x ∷ swept) all = (here all.0, deletes_first ms id ids
     on false other e = inl e
   here (inr gone) = inr (marked_all (λ (m : Message). m.id ≢ x) ms id gone)
 
-cleared_swept : (ms ns : List Posted) (r : Recovery) (ids : List ℕ) → Deletes ids ms ns → AllByRecursion (IsHandled ms ids) r.swept → SweptNext ns (clearing r (drop 1 ids))
-cleared_swept ms ns r [] e all = absurd e
-cleared_swept ms ns r (id ∷ ids) e all =
-    clearing_swept ns r ids (subst (λ l. AllByRecursion (IsHandled l ids) r.swept) (sym e) (deletes_first ms id ids r.swept all))
+first_gone : (ms ns : List Posted) (ids swept : List ℕ) → Deletes ids ms ns → AllByRecursion (IsHandled ms ids) swept → AllByRecursion (IsHandled ns (rest_of ids)) swept
+first_gone ms ns [] swept e all = absurd e
+first_gone ms ns (id ∷ ids) swept e all = subst (λ l. AllByRecursion (IsHandled l ids) swept) (sym e) (deletes_first ms id ids swept all)
 
 pub handled_ids : (ms : List Posted) (ids xs : List ℕ) → AllByRecursion (λ id. has_id ids id ≡ true) xs → AllByRecursion (IsHandled ms ids) xs
 handled_ids ms ids [] all = tt
@@ -147,10 +140,6 @@ handled_ids ms ids (x ∷ xs) all = (inl all.0, handled_ids ms ids xs all.1)
 pub handled_gone : (ms : List Posted) (ids xs : List ℕ) → AllByRecursion (IsGone ms) xs → AllByRecursion (IsHandled ms ids) xs
 handled_gone ms ids [] all = tt
 handled_gone ms ids (x ∷ xs) all = (inr all.0, handled_gone ms ids xs all.1)
-
-put_swept : (ms : List Posted) (r : Recovery) (g : Result (Unit {0}) Trouble) → SweptNext ms (put_by r g)
-put_swept ms r (Ok done) = clearing_swept ms (record r { swept = kept_ids r }) (kept_ids r) (handled_ids ms (kept_ids r) (kept_ids r) (each_has (kept_ids r)))
-put_swept ms r (Err t) = tt
 
 -- ---- receives
 
@@ -183,54 +172,32 @@ last_empties ms w swept answer items e none gone is upto =
     first_none ms w swept answer items e none gone (brought_all (IsUptoEpoch w.epoch) ms 256 answer is upto) (brought_all _ ms 256 answer is (none_gone ms)) in
     brought_none ms 256 (omega arith) (subst (IsDelivering ms 256) nothing is)
 
-opened_swept : (ms : List Posted) (r : Recovery) (aim : Aim) → r.head.epoch ≡ r.wanted.epoch + 1 → IsEmptied ms r.wanted → SweptNext ms (opened aim r)
-opened_swept ms r Opening next is = (next, is)
-opened_swept ms r Settling next is = (next, is)
-
-sweeping_swept : (ms : List Posted) (r : Recovery) (ids : List ℕ) → r.head.epoch ≡ r.wanted.epoch + 1 → AllByRecursion (IsGone ms) r.swept
-    → (ids ≡ [] → IsEmptied ms r.wanted) → SweptNext ms (sweeping r ids)
-sweeping_swept ms r [] next gone last = opened_swept ms (record r { swept = r.swept ++ []; ids = [] }) r.aim next (last refl)
-sweeping_swept ms r (id ∷ ids) next gone last =
-    AllByRecursion-append (IsHandled ms (id ∷ ids)) r.swept (id ∷ ids) (handled_gone ms (id ∷ ids) r.swept gone)
-    (handled_ids ms (id ∷ ids) (id ∷ ids) (each_has (id ∷ ids)))
-
-swept_items : (ms : List Posted) (r : Recovery) (answer : List Message) (o : Result (List AtomicItem) Message) → items_of answer ≡ o → IsDelivering ms 256 answer
-    → r.head.epoch ≡ r.wanted.epoch + 1 → AllByRecursion (IsGone ms) r.swept → SweptNext ms (swept_with r o)
-swept_items ms r answer (Err m) e is next gone = tt
-swept_items ms r answer (Ok items) e is next gone =
-    sweeping_swept ms r (new_ids r.swept (past_ids r.wanted items)) next gone (λ none. last_empties ms r.wanted r.swept answer items e none gone is)
-
-swept_received : (ms : List Posted) (r : Recovery) (a : Answer) → Delivers a ms → r.head.epoch ≡ r.wanted.epoch + 1 → AllByRecursion (IsGone ms) r.swept
-    → SweptNext ms (swept_by r (received_of a))
-swept_received ms r (Received answer) is next gone = swept_items ms r answer (items_of answer) refl is next gone
-swept_received ms r a is next gone = tt
-
-ended_swept : (ms : List Posted) (r : Recovery) (o : Option (Result RecoverAnswer Trouble)) → SweptEnding ms r.wanted o → SweptNext ms (ended r o)
-ended_swept ms r (Some (Ok (Opened epoch))) is = is
-ended_swept ms r (Some (Ok Nothing)) is = tt
-ended_swept ms r (Some (Err t)) is = tt
-ended_swept ms r None is = tt
-
 -- ---- each step
 
-swept_bears : (ms : List Posted) → Bears (SweptNext ms)
-swept_bears ms = record { gathers = λ m. tt; deletes = λ m. tt; sends = λ m. tt; puts = λ m. tt; halts = λ m t may. tt }
+clears_swept : {r q : Recovery} {a : Answer} {ids : List ℕ} → Clears r a q ids → (ms ns : List Posted) → HeardAt r.stage r a ms ns → SweptAt r.stage ms r
+    → AllByRecursion (IsHandled ns ids) q.swept
+clears_swept (step.head_put r) ms ns heard is = handled_ids ns (kept_ids r) (kept_ids r) (each_has (kept_ids r))
+clears_swept (step.one_tried r a) ms ns heard is = first_gone ms ns r.ids r.swept heard is
 
-taken_swept : (ms : List Posted) (r : Recovery) (g : Result Claim Trouble) → SweptNext ms (taken_by r g)
-taken_swept ms r (Ok l) = tt
-taken_swept ms r (Err t) = tt
+-- a receive behind the put that brings nothing to be deleted is the last
+receive_last : (r : Recovery) (answer : List Message) (items : List AtomicItem) (ms ns : List Posted) → items_of answer ≡ Ok items → step.swept r items ≡ []
+    → HeardAt Sweeping r (Received answer) ms ns → AllByRecursion (IsGone ms) r.swept → (r.head.epoch ≡ r.wanted.epoch + 1) × IsEmptied ns r.wanted
+receive_last r answer items ms ns e none heard gone =
+    (heard.2, subst (λ l. IsEmptied l r.wanted) (sym heard.0) (last_empties ms r.wanted r.swept answer items e none gone heard.1))
 
-pub swept_at : (st : Stage) (r : Recovery) (a : Answer) (ms ns : List Posted) → HeardAt st r a ms ns → SweptAt st ms r → SweptNext ns (next_at st r a)
-swept_at ReleasingOld r a ms ns heard is = tt
-swept_at Taking r a ms ns heard is = taken_swept ns r (given_of (lock.Client r.client) a)
-swept_at Getting r a ms ns heard is = bears_got (SweptNext ns) (swept_bears ns) r (got_of a) (λ t e. tt) tt
-swept_at Receiving r a ms ns heard is = bears_received (SweptNext ns) (swept_bears ns) r (received_of a) (λ t e. tt)
-swept_at Deleting r a ms ns heard is = bears_deleted (SweptNext ns) (swept_bears ns) r (done_of a) (λ t e. tt)
-swept_at Sending r a ms ns heard is = bears_sent (SweptNext ns) (swept_bears ns) r (sent_of a) (λ t e. tt)
-swept_at Putting r a ms ns heard is = put_swept ns r (done_of a)
-swept_at Clearing r a ms ns heard is = cleared_swept ms ns r r.ids heard is
-swept_at Sweeping r a ms ns heard is =
-    subst (λ l. SweptNext l (swept_by r (received_of a))) (sym heard.0) (swept_received ms r a heard.1 heard.2 is)
-swept_at Releasing r a ms ns heard is =
-    ended_swept ns (record r { stage = Finished; lease = None; ending = None }) r.ending (subst (λ l. SweptEnding l r.wanted r.ending) (sym heard) is)
-swept_at Finished r a ms ns heard is = tt
+swept_ends : (ms : List Posted) (w : Wanted) (answer : RecoverAnswer) → SweptEnding ms w (Some (Ok answer)) → SweptEnds ms w answer
+swept_ends ms w (Opened epoch) is = is
+swept_ends ms w Nothing is = tt
+
+pub swept : {r : Recovery} {a : Answer} {next : Step} → Comes r a next → (ms ns : List Posted) → HeardAt r.stage r a ms ns → SweptAt r.stage ms r → SweptNext ns next
+swept (step.clears q id ids c) ms ns heard is = clears_swept c ms ns heard is
+swept (step.sweeps q c) ms ns heard is = handled_none ns q.swept (clears_swept c ms ns heard is)
+swept (step.clears_past r answer items id ids e are) ms ns heard is =
+    AllByRecursion-append (IsHandled ns (id ∷ ids)) r.swept (id ∷ ids)
+    (handled_gone ns (id ∷ ids) r.swept (subst (λ l. AllByRecursion (IsGone l) r.swept) (sym heard.0) is))
+    (handled_ids ns (id ∷ ids) (id ∷ ids) (each_has (id ∷ ids)))
+swept (step.opens r answer items e none aims) ms ns heard is = receive_last r answer items ms ns e none heard is
+swept (step.closes r answer items e none aims) ms ns heard is = receive_last r answer items ms ns e none heard is
+swept (step.ends r a answer e) ms ns heard is =
+    swept_ends ns r.wanted answer (subst (SweptEnding ns r.wanted) e (subst (λ l. SweptEnding l r.wanted r.ending) (sym heard) is))
+swept c ms ns heard is = tt

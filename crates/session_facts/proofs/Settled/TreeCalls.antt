@@ -4,6 +4,7 @@ use Rattle.std.specs.Prelude.{◌==◌, ◌||◌, ◌&&◌, not, is_some}
 use Rattle.std.proofs.lemmas.Option.{slice_get_within}
 use Rattle.byte_format.specs.Order.{bytes_below}
 use Rattle.ckpt_parts.specs.declared.intake.Intake.{Intake}
+use Rattle.ckpt_parts.specs.declared.leases.Leases.{Leases}
 use Rattle.ckpt_parts.specs.Deleting.{next_id, tried}
 use Rattle.ckpt_parts.specs.Intakes.{has_items, TakesIn}
 use Rattle.ckpt_parts.specs.Leasing.{claims_of, newest_lease, without_newest}
@@ -30,6 +31,8 @@ use Rattle.tree_ckpt.proofs.Charts.{GoesFurther, arrive_further, descent_further
 use Rattle.tree_ckpt.proofs.Folds.{not_empty, GetLeaves, PutLeaves, got_leaves, put_leaves}
 use Rattle.tree_ckpt.proofs.Keys.{next_fewer}
 use Rattle.tree_ckpt.proofs.Tours.{page_left as has_page}
+use Rattle.tree_ckpt.proofs.Outcomes.{Seeks, Descends, Ascends, Clears, Fails, Comes, comes}
+use Rattle.tree_ckpt.proofs.Outcomes as step
 use Rattle.tree_ckpt.specs.Ending.{from_on, from_on_or_none, above, unhandled, behind_key, ids_in}
 use Rattle.tree_descent.specs.declared.descent.Descent.{Descent}
 use Rattle.tree_descent.specs.Descent.{descent_next}
@@ -40,7 +43,7 @@ use Rattle.tree_moves.specs.declared.work.Onward.{Onward}
 use Rattle.tree_moves.specs.declared.work.Onward.TheVariants as onward
 use Rattle.tree_moves.specs.declared.work.Work.{Work}
 use Rattle.tree_moves.specs.declared.work.Work.TheVariants as work
-use Rattle.tree_moves.specs.Moves.{Step, stopping, finished, released_by, deleting, deleting_by, deleted_by, went, rising_on, descending_on, root_entry, down_from, key_from_or_none, next_key, going, going_by, page_taken, folding_on, page_left, tree_taken, tree_read, tree_got, chart_of, started, intake_taken, ReceivedBy, Leads}
+use Rattle.tree_moves.specs.Moves.{Step, stopping, went, descending_on, root_entry, down_from, key_from_or_none, folding_on, Leads}
 use Rattle.tree_moves.specs.Work.{one_lease}
 use Rattle.tree_parts.specs.declared.chart.Chart.{Chart}
 use Rattle.tree_parts.specs.declared.kept.KeptNode.{KeptNode}
@@ -105,17 +108,17 @@ unfolding for_keys
 no_more_for p a b h = mul-le-mul_right (3 * p + 8) h
 
 -- all of it is within the bound
-pub all_within : (p d keys : ℕ) → keys + 1 ≤ d → d + for_keys p keys + 7 * p + 15 ≤ d * (8 * p + 16) + 13
+all_within : (p d keys : ℕ) → keys ≤ d → 1 ≤ d → d + for_keys p keys + 4 * p + 10 ≤ 14 + d * (8 * p + 16)
 unfolding for_keys
-all_within p d keys h =
-    let few : for_keys p keys + (3 * p + 8) ≤ for_keys p d = fewer_for p keys d h in
+all_within p d keys h some =
+    let few : keys * (3 * p + 8) ≤ d * (3 * p + 8) = mul-le-mul_right (3 * p + 8) h in
     let whole : d * ((3 * p + 8) + (5 * p + 8)) ≡ d * (3 * p + 8) + d * (5 * p + 8) = mul-add d (3 * p + 8) (5 * p + 8) in
     let rest : d * ((5 * p + 7) + 1) ≡ d * (5 * p + 7) + d * 1 = mul-add d (5 * p + 7) 1 in
-    let some : 1 * (5 * p + 7) ≤ d * (5 * p + 7) = mul-le-mul_right (5 * p + 7) (omega (arith, h)) in
+    let one : 1 * (5 * p + 7) ≤ d * (5 * p + 7) = mul-le-mul_right (5 * p + 7) some in
     let sum : (3 * p + 8) + (5 * p + 8) ≡ 8 * p + 16 = omega arith in
     let shown : d * ((3 * p + 8) + (5 * p + 8)) ≡ d * (8 * p + 16) = ap (λ (n : ℕ). d * n) sum in
     let more : d * ((5 * p + 7) + 1) ≡ d * (5 * p + 8) = ap (λ (n : ℕ). d * n) (omega arith) in
-    omega (arith, few, whole, rest, some, shown, more)
+    omega (arith, few, whole, rest, one, shown, more)
 
 from_most : (from : List ℕ) (xs : List PuItem) → from_on from xs ≤ length xs
 from_most from [] = omega arith
@@ -137,21 +140,17 @@ next_same c e root = ap (λ (r : Option (List ℕ)). (tree_held r).next) root
 
 -- ---- stops and deletions
 
-below_by : (p n : ℕ) (next made : Step) → next ≡ made → Below p n made → Below p n next
-below_by p n next made e below = subst (Below p n) (sym e) below
-
 below_stop : (p n : ℕ) (l : Claim) (t : Trouble) → 2 < n → Below p n (stopping (one_lease l) t)
 unfolding Below
 below_stop p n l t h = λ room. omega (arith, h)
 
-below_deletes : (p n : ℕ) (h : Held) (applied : ℕ) → ids_in h + 3 < n → Below p n (deleting h applied)
-unfolding Below
-below_deletes p n h applied few = on (next_id h.deletions.ids) where
-  on : (id : Option ℕ) → Below p n (deleting_by h applied id)
-  on (Some id) = λ room. few
-  on None = λ room. omega (arith, few)
-
 -- ---- up
+
+-- the way up goes on, or stops; behind its end the deletions come
+abbrev rising_then : Held → Next Rising (Unit {0}) → Step
+rising_then h (Goes r) = Goes (work.Rising h r)
+rising_then h (Ends r x) = Goes (work.Deleting h r.chart.applied)
+rising_then h (Stops r t) = stopping (one_lease h.lease) t
 
 -- where the way up goes on
 BelowUp : ℕ → ℕ → Next Rising (Unit {0}) → Type 0
@@ -159,11 +158,11 @@ BelowUp p n (Goes r) = next_of r.chart ≤ p + 1 → Reserving (own_of r.last) r
 BelowUp p n (Ends r x) = Unit {0}
 BelowUp p n (Stops r t) = Unit {0}
 
-below_rising : (p n m : ℕ) (h : Held) (next : Next Rising (Unit {0})) → BelowUp p m next → ids_in h + 4 + m ≤ n → ids_in h + 3 < n → Below p n (rising_on h next)
+below_rising : (p n m : ℕ) (h : Held) (next : Next Rising (Unit {0})) → BelowUp p m next → ids_in h + 4 + m ≤ n → Below p n (rising_then h next)
 unfolding Below BelowUp
-below_rising p n m h (Goes r) up few some = λ room. omega (arith, up room.0 room.1, few)
-below_rising p n m h (Ends r x) up few some = below_deletes p n h r.chart.applied some
-below_rising p n m h (Stops r t) up few some = below_stop p n h.lease t (omega (arith, some))
+below_rising p n m h (Goes r) up few = λ room. omega (arith, up room.0 room.1, few)
+below_rising p n m h (Ends r x) up few = λ room. omega (arith, few)
+below_rising p n m h (Stops r t) up few = below_stop p n h.lease t (omega (arith, few))
 
 up_more : (p n m : ℕ) (next : Next Rising (Unit {0})) → n ≤ m → BelowUp p n next → BelowUp p m next
 unfolding BelowUp
@@ -305,55 +304,15 @@ below_descending p n more h c (Ends d x) f few some = λ room.
     omega (arith, few (omega (arith, f.nodes, nodes)), f.nodes, nodes, keys, next)
 below_descending p n more h c (Stops d t) f few some = below_stop p n h.lease t some
 
-below_going : (p n : ℕ) (h : Held) (c : Chart) → length c.nodes ≤ p → around p h c + for_keys p (unhandled c) < n → Below p n (going h c)
-below_going p n h c within few = on (next_key c) refl where
-  on : (key : Option (List ℕ)) → next_key c ≡ key → Below p n (going_by h c key)
-  on (Some key) e =
-      let with_key : Chart = record c { key = key } in
-      let fewer : for_keys p (behind_key with_key) + (3 * p + 8) ≤ for_keys p (unhandled c) =
-      fewer_for p (behind_key with_key) (unhandled c) (fewer_keys c.from key c.run.items e) in
-      below_descending p n 0 h with_key (down_from with_key (root_entry with_key))
-      (arrive_further (way.begun with_key (root_entry with_key).0 (root_entry with_key).1)) (λ nodes. omega (arith, few, fewer)) (omega (arith, few))
-  on None e =
-      below_rising p n (2 * (length c.nodes - 0) + (p + 1 - next_of c) + 4) h (rise.rise (rise.begun c)) (rise_up p (rise.begun c) refl)
-      (omega (arith, few, within)) (omega (arith, few))
-
--- ---- behind the receive
-
 some_within : (p d : ℕ) → d ≤ d * (8 * p + 16)
 some_within p d =
     let split : d * ((8 * p + 15) + 1) ≡ d * (8 * p + 15) + d * 1 = mul-add d (8 * p + 15) 1 in
     let same : d * ((8 * p + 15) + 1) ≡ d * (8 * p + 16) = ap (λ (n : ℕ). d * n) (omega arith) in
     omega (arith, split, same)
 
-below_start : (p d tree : ℕ) (h : Held) (root : Option (List ℕ)) (run : Taken) → ids_in h ≤ d → length run.items ≤ d → 1 ≤ d
-    → Below p (14 + d * (8 * p + 16)) (going h (chart_of tree root run))
-below_start p d tree h root run ids items some = on (next_key (chart_of tree root run)) refl where
-  on : (key : Option (List ℕ)) → next_key (chart_of tree root run) ≡ key → Below p (14 + d * (8 * p + 16)) (going_by h (chart_of tree root run) key)
-  on (Some key) e =
-      let with_key : Chart = record (chart_of tree root run) { key = key } in
-      let fewer : above key run.items + 1 ≤ from_on [] run.items = fewer_keys (Some []) key run.items e in
-      let most : from_on [] run.items ≤ length run.items = from_most [] run.items in
-      let within = all_within p d (behind_key with_key) (omega (arith, fewer, most, items)) in
-      below_descending p (14 + d * (8 * p + 16)) 0 h with_key (down_from with_key (root_entry with_key))
-      (arrive_further (way.begun with_key (root_entry with_key).0 (root_entry with_key).1)) (λ nodes. omega (arith, within, ids)) (omega arith)
-  on None e =
-      let within = all_within p d 0 (omega (arith, some)) in
-      below_rising p (14 + d * (8 * p + 16)) (2 * (length {A = KeptNode} [] - 0) + (p + 1 - next_of (chart_of tree root run)) + 4) h
-      (rise.rise (rise.begun (chart_of tree root run)))
-      (rise_up p (rise.begun (chart_of tree root run)) refl)
-      (omega (arith, within, ids)) (omega (arith, within, ids))
-
 some_items : (xs : List PuItem) (d : ℕ) → has_items xs ≡ true → length xs ≤ d → 1 ≤ d
 some_items [] d e few = absurd (cc (e))
 some_items (x ∷ xs) d e few = omega (arith, few)
-
-below_started : (p d tree : ℕ) (h : Held) (root : Option (List ℕ)) (run : Taken) → ids_in h ≤ d → length run.items ≤ d
-    → Below p (14 + d * (8 * p + 16)) (started h (chart_of tree root run) (has_items run.items))
-below_started p d tree h root run ids items = on (has_items run.items) refl where
-  on : (b : Bool) → has_items run.items ≡ b → Below p (14 + d * (8 * p + 16)) (started h (chart_of tree root run) b)
-  on true e = below_start p d tree h root run ids items (some_items run.items d e items)
-  on false e = let within = some_within p d in below_deletes p (14 + d * (8 * p + 16)) h 0 (omega (arith, within, ids))
 
 -- ---- a leaf
 
@@ -365,11 +324,6 @@ calls_at p h f some =
     (λ (none : Bool). cond none (at_leaves p h f.chart (length f.visited) + 5)
     (around p h f.chart + for_keys p (unhandled f.chart) + piece_calls 2 f.placing + 2))
     (not_empty f.placing.puts some)
-
-below_page_taken : (p : ℕ) (h : Held) (c : Coming) (g : Result Claim Trouble) → Below p (at_leaves p h c.chart (length c.visited) + 6) (page_taken h c g)
-unfolding Below
-below_page_taken p h c (Ok l) = λ room. omega arith
-below_page_taken p h c (Err t) = λ room. omega arith
 
 below_got : (p : ℕ) (h : Held) (f : Folding) (next : Next Folding Left) → GetLeaves f next → GotLeaf f next
     → Below p (at_leaves p h f.chart (length f.visited) + 5) (folding_on h next)
@@ -429,73 +383,8 @@ below_folded p h f a (inr putting) = on (has_nothing f.placing) (has_page f.plac
   on false e =
       subst (λ (n : ℕ). Below p n (folding_on h (fold.leaf_put f (done_of a)))) (sym (calls_at p h f putting.0)) (below_put p h f (done_of a) putting.0 putting.1)
 
--- a leaf that was given back is left
-below_left : (p : ℕ) (h : Held) (l : Claim) (o : Onward) → FitsWork p (work.ReleasingPage h l o) → Below p (calls_left p (work.ReleasingPage h l o)) (page_left h o)
-unfolding Below
-below_left p h l (onward.Right c) room = λ after. omega arith
-below_left p h l (onward.Handled c) room = below_going p (around p h c + for_keys p (unhandled c) + 1) h c room.nodes (omega arith)
-
--- the leaf's lease has left
-below_gone : (p : ℕ) (h : Held) (o : Onward) → FitsWork p (work.LeftPage h o) → Below p (calls_left p (work.LeftPage h o)) (page_left h o)
-unfolding Below
-below_gone p h (onward.Right c) room = λ after. omega arith
-below_gone p h (onward.Handled c) room = below_going p (around p h c + for_keys p (unhandled c) + 1) h c room.nodes (omega arith)
-
--- ---- deletions and releases
-
-below_none : (p : ℕ) (h : Held) (applied : ℕ) → Below p 3 (deleting_by h applied None)
-unfolding Below
-below_none p h applied = λ room. omega arith
-
-below_deleted : (p : ℕ) (h : Held) (applied : ℕ) (done : Result (Unit {0}) Trouble) → Below p (ids_in h + 3) (deleted_by h applied done)
-below_deleted p h applied done = on h.deletions.ids h.deletions.deleted h.deletions.left (went done) where
-  on : (ids : List ℕ) (deleted left : ℕ) (b : Bool)
-      → Below p (length ids + 3) (deleting (record h { deletions = tried (record { ids = ids; deleted = deleted; left = left }) b }) applied)
-  on [] deleted left b = below_none p (record h { deletions = record { ids = []; deleted = deleted; left = left } }) applied
-  on (id ∷ ids) deleted left true =
-      below_deletes p (length (id ∷ ids) + 3) (record h { deletions = record { ids = ids; deleted = deleted + 1; left = left } }) applied (omega arith)
-  on (id ∷ ids) deleted left false =
-      below_deletes p (length (id ∷ ids) + 3) (record h { deletions = record { ids = ids; deleted = deleted; left = left + 1 } }) applied (omega arith)
-
-below_finished : (p n : ℕ) (end : Result CkptAnswer Trouble) → Below p n (finished end)
-unfolding Below
-below_finished p n (Ok a) = tt
-below_finished p n (Err t) = tt
-
-below_released : (p : ℕ) (first second : Option Claim) (end : Result CkptAnswer Trouble)
-    → Below p (length (claims_of (record { first = first; second = second })) + 1)
-    (released_by (without_newest (record { first = first; second = second })) end (newest_lease (without_newest (record { first = first; second = second }))))
-unfolding Below
-below_released p (Some l) (Some r) end = λ room. omega arith
-below_released p (Some l) None end = below_finished p 2 end
-below_released p None (Some r) end = below_finished p 2 end
-below_released p None None end = below_finished p 1 end
-
--- ---- opening
-
-below_tree_taken : (p : ℕ) (g : Result Claim Trouble) → Below p 16 (tree_taken g)
-unfolding Below
-below_tree_taken p (Ok l) = λ room. omega arith
-below_tree_taken p (Err t) = tt
-
-below_tree_read : (p tree : ℕ) (l : Claim) (bytes : List ℕ) (t : Option Tree) → Below p 15 (tree_read tree l bytes t)
-unfolding Below
-below_tree_read p tree l bytes (Some t) = λ room. omega arith
-below_tree_read p tree l bytes None = λ room. omega arith
-
-below_tree_got : (p tree : ℕ) (l : Claim) (g : Result (Option (List ℕ)) Trouble) → Below p 15 (tree_got tree l g)
-unfolding Below
-below_tree_got p tree l (Ok (Some bytes)) = below_tree_read p tree l bytes (tree_of bytes)
-below_tree_got p tree l (Ok None) = λ room. omega arith
-below_tree_got p tree l (Err t) = λ room. omega arith
-
-below_intake : (p d tree : ℕ) (l : Claim) (root : Option (List ℕ)) (taken : Result Intake Trouble)
-    → ((i : Intake) → taken ≡ Ok i → (length i.deletions.ids ≤ d) × (length i.run.items ≤ d)) → Below p (14 + d * (8 * p + 16)) (intake_taken tree l root taken)
-unfolding Below
-below_intake p d tree l root (Ok i) few =
-    let most = few i refl in
-    below_started p d tree (record { lease = l; deletions = i.deletions }) root i.run most.0 most.1
-below_intake p d tree l root (Err t) few = λ room. omega arith
+folded_below : (p : ℕ) (h : Held) (f : Folding) (a : Answer) (next : Next Folding Left) → FitsLeaf p f → fold.folding_next f a ≡ next → Below p (calls_left p (work.Folding h f)) (folding_on h next)
+folded_below p h f a next fits e = subst (λ (x : Next Folding Left). Below p (calls_left p (work.Folding h f)) (folding_on h x)) e (below_folded p h f a fits)
 
 -- ---- wherever it stands
 
@@ -504,32 +393,99 @@ abbrev pub before_step : ℕ → Work → ℕ → ℕ
 before_step p (work.Receiving l root) d = 14 + d * (8 * p + 16)
 before_step p w d = calls_left p w
 
-below_at : (p d tree : ℕ) (w : Work) (a : Answer) (next : Step) → FitsWork p w
-    → ((l : Claim) (root : Option (List ℕ)) → w ≡ work.Receiving l root → (i : Intake) (ms : List Message) (cursor : List (ℕ × ℕ)) → received_of a ≡ Ok ms → TakesIn (queue.TreePu tree) cursor ms (Ok i)
-    → (length i.deletions.ids ≤ d) × (length i.run.items ≤ d))
-    → Leads tree w a next → Below p (before_step p w d) next
-unfolding Below
-below_at p d tree work.TakingTree a next fits few e = below_by p _ next _ e (below_tree_taken p (given_of (lock.Tree tree) a))
-below_at p d tree (work.GettingTree l) a next fits few e = below_by p _ next _ e (below_tree_got p tree l (got_of a))
-below_at p d tree (work.Receiving l root) a next fits few h = on (received_of a) refl h where
-  on : (g : Result (List Message) Trouble) → received_of a ≡ g → ReceivedBy tree l root g next → Below p (14 + d * (8 * p + 16)) next
-  on (Ok ms) e r =
-      below_by p _ next _ r.2
-      (below_intake p d tree l root r.0
-      (λ i is. few l root refl i ms (tree_held root).cursor e (subst (TakesIn (queue.TreePu tree) (tree_held root).cursor ms) is r.1)))
-  on (Err t) e r = below_by p _ next _ r (below_stop p (14 + d * (8 * p + 16)) l t (omega arith))
-below_at p d tree (work.Descending k way) a next fits few e =
-    below_by p _ next _ e (below_descending p _ 1 k way.chart (descent_next way a) (descent_further way a) (λ nodes. omega (arith, nodes)) (omega arith))
-below_at p d tree (work.TakingPage k c) a next fits few e = below_by p _ next _ e (below_page_taken p k c (given_of (lock.Page c.chart.tree c.page) a))
-below_at p d tree (work.Folding k f) a next fits few e = below_by p _ next _ e (below_folded p k f a fits.1)
-below_at p d tree (work.ReleasingPage k l o) a next fits few e = below_by p _ next _ e (below_left p k l o fits)
-below_at p d tree (work.LeftPage k o) a next fits few e = below_by p _ next _ e (below_gone p k o fits)
-below_at p d tree (work.Rising k r) a next fits few e =
-    below_by p _ next _ e
-    (below_rising p _ (up_left p r.last r) k (rise.rising_next r a) (risen_up p r (done_of a) fits.1) (omega arith) (omega (arith, up_some p r.last r)))
-below_at p d tree (work.Deleting k applied) a next fits few e = below_by p _ next _ e (below_deleted p k applied (done_of a))
-below_at p d tree (work.Releasing held end) a next fits few e = below_by p _ next _ e (below_released p held.first held.second end)
-below_at p d tree work.Finished a next fits few e = below_by p _ next _ e tt
+-- a receive brings no more ids and records than this
+abbrev BringsFew : ℕ → ℕ → Work → Answer → Type 0
+BringsFew d tree w a =
+    (l : Claim) (root : Option (List ℕ)) → w ≡ work.Receiving l root → (i : Intake) (ms : List Message) (cursor : List (ℕ × ℕ)) → received_of a ≡ Ok ms → TakesIn (queue.TreePu tree) cursor ms (Ok i)
+    → (length i.deletions.ids ≤ d) × (length i.run.items ≤ d)
+
+module _ (p d tree : ℕ) where
+  -- where the next key is sought, so many are left for what is around the leaves and for all keys that are left
+  seeks_few : {w : Work} {a : Answer} {h : Held} {c : Chart} → Seeks tree w a h c → FitsWork p w → BringsFew d tree w a
+      → (length c.nodes ≤ p) × (around p h c + for_keys p (unhandled c) < before_step p w d)
+  seeks_few (step.with_run l root ms i takes some) fits few =
+      let most = few l root refl i ms (tree_held root).cursor refl takes in
+      let keys : from_on [] i.run.items ≤ length i.run.items = from_most [] i.run.items in
+      let within = all_within p d (from_on [] i.run.items) (omega (arith, keys, most.1)) (some_items i.run.items d some most.1) in
+      (omega arith, omega (arith, within, most.0))
+  seeks_few (step.from_leaf h l c a) fits few = (fits.nodes, omega arith)
+  seeks_few (step.alone h c a) fits few = (fits.nodes, omega arith)
+
+  way_below : {w : Work} {a : Answer} {h : Held} {next : Next Descent (Unit {0})} → Descends tree w a h next → FitsWork p w → BringsFew d tree w a → Below p (before_step p w d) (descending_on h next)
+  way_below {w = w} {h = h} (step.begins {c = c} key s e) fits few =
+      let room = seeks_few s fits few in
+      let to : Chart = record c { key = key } in
+      let fewer : for_keys p (behind_key to) + (3 * p + 8) ≤ for_keys p (unhandled c) = fewer_for p (behind_key to) (unhandled c) (fewer_keys c.from key c.run.items e) in
+      below_descending p (before_step p w d) 0 h to (down_from to (root_entry to)) (arrive_further (way.begun to (root_entry to).0 (root_entry to).1))
+      (λ nodes. omega (arith, room.1, fewer)) (omega (arith, room.1))
+  way_below (step.goes_on h way a) fits few = below_descending p _ 1 h way.chart (descent_next way a) (descent_further way a) (λ nodes. omega (arith, nodes)) (omega arith)
+
+  up_below : {w : Work} {a : Answer} {h : Held} {next : Next Rising (Unit {0})} → Ascends tree w a h next → FitsWork p w → BringsFew d tree w a → Below p (before_step p w d) (rising_then h next)
+  up_below {w = w} {h = h} (step.begins_up {c = c} s e) fits few =
+      let room = seeks_few s fits few in
+      below_rising p (before_step p w d) (2 * (length c.nodes - 0) + (p + 1 - next_of c) + 4) h (rise.rise (rise.begun c)) (rise_up p (rise.begun c) refl) (omega (arith, room.1, room.0))
+  up_below (step.goes_up h r a) fits few = below_rising p _ (up_left p r.last r) h (rise.rising_next r a) (risen_up p r (done_of a) fits.1) (omega arith)
+
+  -- an id fewer, where one is left
+  tried_fewer : (ids : List ℕ) (deleted left id : ℕ) (b : Bool) → next_id (tried (record { ids = ids; deleted = deleted; left = left }) b).ids ≡ Some id
+      → length (tried (record { ids = ids; deleted = deleted; left = left }) b).ids < length ids
+  tried_fewer [] deleted left id b e = absurd (cc (e))
+  tried_fewer (x ∷ ids) deleted left id true e = omega arith
+  tried_fewer (x ∷ ids) deleted left id false e = omega arith
+
+  deletes_below : {w : Work} {a : Answer} {h : Held} {applied : ℕ} → Clears tree w a h applied → (id : ℕ) → next_id h.deletions.ids ≡ Some id → FitsWork p w → BringsFew d tree w a
+      → Below p (before_step p w d) (Goes (work.Deleting h applied))
+  unfolding Below
+  deletes_below (step.no_run l root ms i takes none) id e fits few =
+      let most = few l root refl i ms (tree_held root).cursor refl takes in
+      let within = some_within p d in
+      λ room. omega (arith, within, most.0)
+  deletes_below (step.risen r x up) id e fits few = up_below up fits few
+  deletes_below (step.one_tried h applied a) id e fits few =
+      let fewer = tried_fewer h.deletions.ids h.deletions.deleted h.deletions.left id (went (done_of a)) e in
+      λ room. omega (arith, fewer)
+
+  rests_below : {w : Work} {a : Answer} {h : Held} {applied : ℕ} → Clears tree w a h applied → FitsWork p w → BringsFew d tree w a → 2 < before_step p w d
+  unfolding Below
+  rests_below (step.no_run l root ms i takes none) fits few = omega arith
+  rests_below (step.risen r x up) fits few = let more = up_below up fits few tt in omega (arith, more)
+  rests_below (step.one_tried h applied a) fits few = omega arith
+
+  fails_below : {w : Work} {a : Answer} {held : Leases} {t : Trouble} → Fails tree w a held t → FitsWork p w → BringsFew d tree w a → Below p (before_step p w d) (stopping held t)
+  unfolding Below
+  fails_below (step.no_tree l a t e) fits few = λ room. omega arith
+  fails_below (step.bad_tree l bytes e) fits few = λ room. omega arith
+  fails_below (step.no_messages l root a t e) fits few = λ room. omega arith
+  fails_below (step.bad_message l root ms t takes) fits few = λ room. omega arith
+  fails_below (step.no_lease h c a t e) fits few = λ room. omega arith
+  fails_below (step.no_way e t down) fits few = way_below down fits few
+  fails_below (step.no_leaf h f g a t e) fits few = folded_below p h f a (Stops g t) fits.1 e
+  fails_below (step.no_ascent r t up) fits few = up_below up fits few
+
+  gives_fewer : (first second : Option Claim) (l : Claim) → newest_lease (without_newest (record { first = first; second = second })) ≡ Some l
+      → length (claims_of (without_newest (record { first = first; second = second }))) < length (claims_of (record { first = first; second = second }))
+  gives_fewer (Some k) (Some r) l e = omega arith
+  gives_fewer (Some k) None l e = absurd (cc (e))
+  gives_fewer None (Some r) l e = absurd (cc (e))
+  gives_fewer None None l e = absurd (cc (e))
+
+  below : {w : Work} {a : Answer} {next : Step} → Comes tree w a next → FitsWork p w → BringsFew d tree w a → Below p (before_step p w d) next
+  unfolding Below
+  below (step.takes_tree l) fits few = λ room. omega arith
+  below (step.reads_tree l got is) fits few = λ room. omega arith
+  below (step.stops held t f) fits few = fails_below f fits few
+  below (step.descends h e down) fits few = way_below down fits few
+  below (step.arrives h e x down) fits few = way_below down fits few
+  below (step.takes_page h c l) fits few = λ room. omega arith
+  below (step.folds h f g a e) fits few = folded_below p h f a (Goes g) fits.1 e
+  below (step.leaves h f g out a e) fits few = folded_below p h f a (Ends g out) fits.1 e
+  below (step.turns h l c a) fits few = λ room. omega arith
+  below (step.turns_alone h c a) fits few = λ room. omega arith
+  below (step.ascends h r up) fits few = up_below up fits few
+  below (step.deletes h applied id c e) fits few = deletes_below c id e fits few
+  below (step.rests h applied c e) fits few = let more = rests_below c fits few in λ room. omega (arith, more)
+  below (step.gives_back held l end a e) fits few = let fewer = gives_fewer held.first held.second l e in λ room. omega (arith, fewer)
+  below c fits few = tt
 
 -- a step that goes on leaves fewer calls
 pub goes_fewer : (p d tree : ℕ) (w : Work) (a : Answer) (v : Work) → FitsWork p w → FitsWork p v
@@ -537,7 +493,7 @@ pub goes_fewer : (p d tree : ℕ) (w : Work) (a : Answer) (v : Work) → FitsWor
     → (length i.deletions.ids ≤ d) × (length i.run.items ≤ d))
     → Leads tree w a (Goes v) → calls_left p v < before_step p w d
 unfolding Below
-goes_fewer p d tree w a v fits after few leads = below_at p d tree w a (Goes v) fits few leads after
+goes_fewer p d tree w a v fits after few leads = below p d tree (comes tree w a (Goes v) leads) fits few after
 
 -- the call in hand is one that is left
 pub one_left : (p : ℕ) (w : Work) → 1 ≤ calls_left p w

@@ -220,12 +220,16 @@ impl<H: Hand> Session<H> {
             return Err(Refused::Rule(Refusal::NotWorking));
         }
         phase.drop_noted(&mut self.buffer);
-        let (shown, turn) = self
-            .work
-            .step(alloc, cloud, who, &mut self.cache, &self.buffer);
+        let turn = self.work.step(
+            alloc,
+            cloud,
+            who,
+            &mut self.cache,
+            &self.buffer,
+            &mut self.shown,
+        );
         let left = self.work.phase();
         left.drop_kept(&mut self.cache);
-        self.shown = shown;
         Ok(turn)
     }
 

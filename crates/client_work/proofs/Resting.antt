@@ -5,6 +5,7 @@ use Rattle.db_base.specs.declared.refusal.Refusal.TheVariants as rule
 use Rattle.recover_run.specs.declared.home.Home.{Home}
 use Rattle.commit_run.specs.Run.{Run}
 use Rattle.orphan_sweep.specs.Sweeping.{Sweeping as SweepingState}
+use Rattle.page_ckpt.specs.Paging.{Paging as Page}
 use Rattle.settle_run.specs.Settling.{Settling as SettlingState}
 use Rattle.tree_ckpt.specs.Making.{Making}
 use Rattle.client_work.specs.declared.work.Work.{Work}
@@ -30,20 +31,20 @@ only_idle (Settling m) e other = some_none rule.AtWork e
 only_idle (Sweeping m) e other = some_none rule.AtWork e
 only_idle (Broken lease) e other = some_none rule.Broken e
 
--- what is at work and neither a commit nor a tree checkpoint nor a settling nor a sweep
-pub other_work : (w : Work) → is_working w ≡ true → ((m : Run) → w ≢ Committing m) → ((home : Home) (m : Making) → w ≢ Folding home m) → ((m : SettlingState) → w ≢ Settling m)
-    → ((m : SweepingState) → w ≢ Sweeping m) → is_other w ≡ true
-other_work (Committing m) at_work commit fold settle sweep = absurd (commit m refl)
-other_work (Folding home m) at_work commit fold settle sweep = absurd (fold home m refl)
-other_work (Opening m) at_work commit fold settle sweep = refl
-other_work (Reading home m) at_work commit fold settle sweep = refl
-other_work (Scanning home m) at_work commit fold settle sweep = refl
-other_work (Looking home m) at_work commit fold settle sweep = refl
-other_work (Paging home m) at_work commit fold settle sweep = refl
-other_work (Closing lease) at_work commit fold settle sweep = refl
-other_work (Renewing home) at_work commit fold settle sweep = refl
-other_work (Settling m) at_work commit fold settle sweep = absurd (settle m refl)
-other_work (Sweeping m) at_work commit fold settle sweep = absurd (sweep m refl)
-other_work Closed at_work commit fold settle sweep = absurd cc
-other_work (Idle home) at_work commit fold settle sweep = absurd cc
-other_work (Broken lease) at_work commit fold settle sweep = absurd cc
+-- what is at work and neither a commit nor a checkpoint nor a settling nor a sweep
+pub other_work : (w : Work) → is_working w ≡ true → ((m : Run) → w ≢ Committing m) → ((home : Home) (m : Page) → w ≢ Paging home m) → ((home : Home) (m : Making) → w ≢ Folding home m)
+    → ((m : SettlingState) → w ≢ Settling m) → ((m : SweepingState) → w ≢ Sweeping m) → is_other w ≡ true
+other_work (Committing m) at_work commit page fold settle sweep = absurd (commit m refl)
+other_work (Paging home m) at_work commit page fold settle sweep = absurd (page home m refl)
+other_work (Folding home m) at_work commit page fold settle sweep = absurd (fold home m refl)
+other_work (Opening m) at_work commit page fold settle sweep = refl
+other_work (Reading home m) at_work commit page fold settle sweep = refl
+other_work (Scanning home m) at_work commit page fold settle sweep = refl
+other_work (Looking home m) at_work commit page fold settle sweep = refl
+other_work (Closing lease) at_work commit page fold settle sweep = refl
+other_work (Renewing home) at_work commit page fold settle sweep = refl
+other_work (Settling m) at_work commit page fold settle sweep = absurd (settle m refl)
+other_work (Sweeping m) at_work commit page fold settle sweep = absurd (sweep m refl)
+other_work Closed at_work commit page fold settle sweep = absurd cc
+other_work (Idle home) at_work commit page fold settle sweep = absurd cc
+other_work (Broken lease) at_work commit page fold settle sweep = absurd cc

@@ -383,6 +383,12 @@ behind_fold home m (Ended (answer.Done a)) = Idle home
 behind_fold home m (Ended (answer.Trouble k)) = stopped_work k home
 behind_fold home m turn = Folding home m
 
+-- the same of a page checkpoint beside an open client
+abbrev pub behind_paging : Home → Page → Turn Answer → Work
+behind_paging home m (Ended (answer.Done a)) = Idle home
+behind_paging home m (Ended (answer.Trouble k)) = stopped_work k home
+behind_paging home m turn = Paging home m
+
 -- the same of a settling
 abbrev pub behind_settling : SettlingState → Turn Answer → Work
 behind_settling m More = Settling m
@@ -396,6 +402,7 @@ behind_sweeping m turn = Closed
 -- the same of whatever is in hand: what is none of these stays
 abbrev pub ended_by : Work → Turn Answer → Work
 ended_by (Committing m) turn = behind_step m turn
+ended_by (Paging home m) turn = behind_paging home m turn
 ended_by (Folding home m) turn = behind_fold home m turn
 ended_by (Settling m) turn = behind_settling m turn
 ended_by (Sweeping m) turn = behind_sweeping m turn
@@ -546,14 +553,14 @@ is_working (Settling m) = true
 is_working (Sweeping m) = true
 is_working (Broken lease) = false
 
--- whether something is at work that is neither a commit nor a tree checkpoint nor a settling nor a sweep
+-- whether something is at work that is neither a commit nor a checkpoint nor a settling nor a sweep
 abbrev pub is_other : Work → Bool
 is_other (Opening m) = true
 is_other (Committing m) = false
 is_other (Reading home m) = true
 is_other (Scanning home m) = true
 is_other (Looking home m) = true
-is_other (Paging home m) = true
+is_other (Paging home m) = false
 is_other (Folding home m) = false
 is_other Closed = false
 is_other (Idle home) = false

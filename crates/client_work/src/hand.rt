@@ -96,7 +96,7 @@ pub trait Hand: Drop {
     fn break_off(self) -> Self
         ensures { work result ≡ broken_work (work self) };
 
-    /// Makes the call in hand of what is at work, where so much is noted: what that shows, and what it came to.
+    /// Makes the call in hand of what is at work, where so much is noted: what that shows from now on, and what it came to.
     fn step<C: Cloud>(
         &mut self,
         alloc: Global,
@@ -104,9 +104,10 @@ pub trait Hand: Drop {
         who: Who,
         cache: &mut PageCache,
         buffer: &TxnBuffer,
-    ) -> (Shown, Turn<Answer>)
+        shown: &mut Shown,
+    ) -> Turn<Answer>
         requires { is_working (work self.old) ≡ true }
-        ensures steps { StepsAt who (C.seen cloud.old) (C.seen cloud.new) (work self.old) (work self.new) result.1 }
-        ensures shows { ShowsAt who (C.seen cloud.old) (C.seen cloud.new) buffer.now (work self.old) cache.old cache.new (work self.new) result.0 result.1 }
-        ensures machine { MachineSteps who (C.seen cloud.old) (C.seen cloud.new) (work self.old) cache.old cache.new (work self.new) result.1 };
+        ensures steps { StepsAt who (C.seen cloud.old) (C.seen cloud.new) (work self.old) (work self.new) result }
+        ensures shows { ShowsAt who (C.seen cloud.old) (C.seen cloud.new) buffer.now (work self.old) cache.old cache.new (work self.new) shown.new result }
+        ensures machine { MachineSteps who (C.seen cloud.old) (C.seen cloud.new) (work self.old) cache.old cache.new (work self.new) result };
 }

@@ -1,7 +1,9 @@
+ghost use Rattle.std.specs.Prelude.{◌≡◌};
+ghost use Rattle.recover_run.specs.declared.home.Home.{Home as AnyHome};
 ghost use Rattle.page_ckpt.specs.Stepped.{Stepped as StepsPage};
 ghost use Rattle.client_work.specs.Causing.{PagingBy};
 ghost use Rattle.client_work.specs.Left.{behind_page};
-ghost use Rattle.client_work.specs.Session.{StepsPaging};
+ghost use Rattle.client_work.specs.Session.{StepsPaging, behind_paging};
 
 use crate::answer::Answer;
 use crate::left::{Left, Rest};
@@ -13,30 +15,40 @@ use page_ckpt::PageCkpt;
 use recover_run::home::Home;
 use std::alloc::Global;
 
-/// Makes the call in hand of a page checkpoint, beside the open client.
-pub(crate) fn step_paging<C: Cloud>(
+/// Makes the call in hand of a page checkpoint where it stands, beside any open client.
+pub(crate) fn page<C: Cloud>(
     alloc: Global,
     cloud: &mut C,
     who: Who,
-    home: Home,
-    mut machine: PageCkpt,
-) -> (Left<(Home, PageCkpt)>, Turn<Answer>)
-    ensures steps { StepsPaging home who (C.seen cloud.old) (C.seen cloud.new) machine (behind_page result.0) result.1 }
-    ensures machine { PagingBy home (StepsPage who (C.seen cloud.old) (C.seen cloud.new) machine) (behind_page result.0) result.1 }
+    machine: &mut PageCkpt,
+) -> Turn<Answer>
+    ensures steps { (home : AnyHome) → StepsPaging home who (C.seen cloud.old) (C.seen cloud.new) machine.old (behind_paging home machine.new result) result }
+    ensures machine { (home : AnyHome) → PagingBy home (StepsPage who (C.seen cloud.old) (C.seen cloud.new) machine.old) (behind_paging home machine.new result) result }
 {
     match machine.step(alloc, cloud, who) {
-        Turn::More => (Left::Goes((home, machine)), Turn::More),
-        Turn::Ended(answer) => {
+        Turn::More => Turn::More,
+        Turn::Ended(answer) => Turn::Ended(Answer::Done(answer)),
+        Turn::Stopped(trouble) => Turn::Ended(Answer::Trouble(trouble)),
+    }
+}
+
+/// What a page checkpoint leaves in hand whose newest step came to this.
+pub(crate) fn left_by_page(
+    home: Home,
+    machine: PageCkpt,
+    turn: &Turn<Answer>,
+) -> Left<(Home, PageCkpt)>
+    ensures { behind_page result ≡ behind_paging home machine turn.now }
+{
+    match turn {
+        Turn::Ended(Answer::Done(_)) => {
             drop_paging(machine);
-            (
-                Left::Rests(Rest::Idle(home)),
-                Turn::Ended(Answer::Done(answer)),
-            )
+            Left::Rests(Rest::Idle(home))
         }
-        Turn::Stopped(trouble) => {
+        Turn::Ended(Answer::Trouble(trouble)) => {
             drop_paging(machine);
-            let rest = stopped(&trouble, home);
-            (Left::Rests(rest), Turn::Ended(Answer::Trouble(trouble)))
+            Left::Rests(stopped(trouble, home))
         }
+        _ => Left::Goes((home, machine)),
     }
 }

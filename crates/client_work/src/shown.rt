@@ -1,3 +1,5 @@
+ghost use Rattle.std.specs.Prelude.{◌≡◌};
+
 use record_read::RecordRead;
 use report_types::pair_list::PairList;
 
@@ -20,4 +22,26 @@ impl Drop for Shown {
             Shown::Listed(_) => {}
         }
     }
+}
+
+impl Shown {
+    ghost use Rattle.client_work.specs.declared.shown.Shown.TheVariants.{Nothing};
+
+    /// Shows nothing from now on. Most steps show nothing, and follow one that did not: what stands is then left as it is.
+    pub(crate) fn clear(&mut self)
+        ensures { self.new ≡ Nothing }
+    {
+        match self {
+            Shown::Nothing => {}
+            Shown::Read(_) => put(self, Shown::Nothing),
+            Shown::Listed(_) => put(self, Shown::Nothing),
+        }
+    }
+}
+
+/// Shows this from now on.
+pub(crate) fn put(place: &mut Shown, shown: Shown)
+    ensures { place.new ≡ shown }
+{
+    *place = shown;
 }

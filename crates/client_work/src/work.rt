@@ -13,7 +13,7 @@ use crate::listing::Listing;
 use crate::looking::{begin_looking, step_looking};
 use crate::op::Op;
 use crate::opening::OpeningRun;
-use crate::paging::step_paging;
+use crate::paging::{left_by_page, page};
 use crate::phase::Phase;
 use crate::reading::{begin_reading, step_reading};
 use crate::renewing::step_renewal;
@@ -335,8 +335,9 @@ impl Hand for Work {
         }
     }
 
-    // Commits, tree checkpoints, settlings and sweeps go on where they stand: most steps are theirs, and to move one costs as much as a
-    // step of it. Here stands nothing that would need room for a whole machine, since that would be cleared at each step.
+    // Commits, checkpoints, settlings and sweeps go on where they stand: most steps are theirs, and to move one costs as much as a
+    // step of it. Here stands nothing that would need room for a whole machine or for what it shows, since that would be cleared at each
+    // step.
     fn step<C: Cloud>(
         &mut self,
         alloc: Global,
@@ -344,48 +345,58 @@ impl Hand for Work {
         who: Who,
         cache: &mut PageCache,
         buffer: &TxnBuffer,
-    ) -> (Shown, Turn<Answer>) {
+        shown: &mut Shown,
+    ) -> Turn<Answer> {
+        shown.clear();
         match self {
             Work::Committing(machine) => match advance(alloc, cloud, who, machine, cache) {
-                Turn::More => (Shown::Nothing, Turn::More),
+                Turn::More => Turn::More,
                 turn => {
                     self.end(&turn);
-                    (Shown::Nothing, turn)
+                    turn
+                }
+            },
+            Work::Paging(_, machine) => match page(alloc, cloud, who, machine) {
+                Turn::More => Turn::More,
+                turn => {
+                    self.end(&turn);
+                    turn
                 }
             },
             Work::Folding(_, machine) => match fold(alloc, cloud, who, machine) {
-                Turn::More => (Shown::Nothing, Turn::More),
+                Turn::More => Turn::More,
                 turn => {
                     self.end(&turn);
-                    (Shown::Nothing, turn)
+                    turn
                 }
             },
             Work::Settling(machine) => match machine.step(alloc, cloud, who) {
-                Turn::More => (Shown::Nothing, Turn::More),
+                Turn::More => Turn::More,
                 turn => {
                     self.end(&turn);
-                    (Shown::Nothing, turn)
+                    turn
                 }
             },
             Work::Sweeping(machine) => match machine.step(alloc, cloud, who) {
-                Turn::More => (Shown::Nothing, Turn::More),
+                Turn::More => Turn::More,
                 turn => {
                     self.end(&turn);
-                    (Shown::Nothing, turn)
+                    turn
                 }
             },
-            _ => self.step_apart(alloc, cloud, who, cache, buffer),
+            _ => self.step_apart(alloc, cloud, who, cache, buffer, shown),
         }
     }
 }
 
 impl Work {
-    /// What is in hand behind the last step of a commit, a tree checkpoint, a settling or a sweep.
+    /// What is in hand behind the last step of a commit, a checkpoint, a settling or a sweep.
     fn ended(self, turn: &Turn<Answer>) -> Work
         ensures { result ≡ ended_by self turn.now }
     {
         match self {
             Work::Committing(machine) => after_commit(left_by(machine, turn)),
+            Work::Paging(home, machine) => after_page(left_by_page(home, machine, turn)),
             Work::Folding(home, machine) => after_tree(left_by_fold(home, machine, turn)),
             Work::Settling(machine) => after_settling(machine, turn),
             Work::Sweeping(machine) => after_sweeping(machine, turn),
@@ -393,7 +404,7 @@ impl Work {
         }
     }
 
-    /// Has in hand what the last step of a commit, a tree checkpoint, a settling or a sweep leaves.
+    /// Has in hand what the last step of a commit, a checkpoint, a settling or a sweep leaves.
     fn end(&mut self, turn: &Turn<Answer>)
         ensures { self.new ≡ ended_by self.old turn.now }
     {
@@ -409,16 +420,18 @@ impl Work {
         who: Who,
         cache: &mut PageCache,
         buffer: &TxnBuffer,
-    ) -> (Shown, Turn<Answer>)
+        shown: &mut Shown,
+    ) -> Turn<Answer>
         requires { is_other self.old ≡ true }
-        ensures steps { StepsAt who (C.seen cloud.old) (C.seen cloud.new) self.old self.new result.1 }
-        ensures shows { ShowsAt who (C.seen cloud.old) (C.seen cloud.new) buffer.now self.old cache.old cache.new self.new result.0 result.1 }
-        ensures machine { MachineSteps who (C.seen cloud.old) (C.seen cloud.new) self.old cache.old cache.new self.new result.1 }
+        ensures steps { StepsAt who (C.seen cloud.old) (C.seen cloud.new) self.old self.new result }
+        ensures shows { ShowsAt who (C.seen cloud.old) (C.seen cloud.new) buffer.now self.old cache.old cache.new self.new shown.new result }
+        ensures machine { MachineSteps who (C.seen cloud.old) (C.seen cloud.new) self.old cache.old cache.new self.new result }
     {
         let work = mem::replace(self, Work::Closed);
-        let (work, shown, turn) = work.step_other(alloc, cloud, who, cache, buffer);
+        let (work, shows, turn) = work.step_other(alloc, cloud, who, cache, buffer);
         *self = work;
-        (shown, turn)
+        *shown = shows;
+        turn
     }
 
     /// The step of what is none of these.
@@ -456,10 +469,6 @@ impl Work {
                 let (left, turn) = machine.step(alloc, cloud, who);
                 (after_opening(left), Shown::Nothing, turn)
             }
-            Work::Paging(home, machine) => {
-                let (left, turn) = step_paging(alloc, cloud, who, home, machine);
-                (after_page(left), Shown::Nothing, turn)
-            }
             Work::Closing(lease) => {
                 let turn = step_close(cloud, who, lease);
                 (Work::Closed, Shown::Nothing, turn)
@@ -469,6 +478,7 @@ impl Work {
                 (resting(rest), Shown::Nothing, turn)
             }
             Work::Committing(_) => unreachable!(),
+            Work::Paging(_, _) => unreachable!(),
             Work::Folding(_, _) => unreachable!(),
             Work::Settling(_) => unreachable!(),
             Work::Sweeping(_) => unreachable!(),

@@ -4,9 +4,9 @@ use Rattle.client_session.proofs.session.Session.step.Goals as goal
 pub returns : goal.returns
 returns g c =
     stepped c.args.who _ _ (g.H.Hand.work c.self.inside.work) _ c.self.inside.buffer _ c.self.inside.cache _ _ c.self.inside.shown _ _ _ _ c.phase-phase.ensures c.phase-left.ensures
-    c.drop_noted.ensures c.drop_kept.ensures c.self.invariant c.step-shown.ensures.steps c.step-shown.ensures.shows c.step-shown.ensures.machine c.args.self.now c.self.view_is
+    c.drop_noted.ensures c.drop_kept.ensures c.self.invariant c.step-turn.ensures.steps c.step-turn.ensures.shows c.step-turn.ensures.machine c.args.self.now c.self.view_is
 
 pub invariant_of-self : goal.invariant_of-self
 invariant_of-self g c =
     known_on c.args.who _ _ (g.H.Hand.work c.self.inside.work) _ c.self.inside.buffer _ c.self.inside.cache _ _ c.self.inside.shown _ _ _ _ c.phase-phase.ensures c.phase-left.ensures
-    c.drop_noted.ensures c.drop_kept.ensures c.self.invariant c.step-shown.ensures.steps c.step-shown.ensures.shows c.step-shown.ensures.machine
+    c.drop_noted.ensures c.drop_kept.ensures c.self.invariant c.step-turn.ensures.steps c.step-turn.ensures.shows c.step-turn.ensures.machine

@@ -12,14 +12,14 @@ use Rattle.leaf_view.specs.Leaf.{Entry}
 use Rattle.leaf_view.specs.Lookup.{holds, value_of}
 use Rattle.txn_buffer.specs.Noted.{AreDistinct}
 use Rattle.route_plan.specs.Seen.{seen}
-use Rattle.range_scan.specs.Listing.{IsPast}
+use Rattle.range_scan.specs.Meaning.{IsPast}
 use Rattle.range_scan.specs.Pairs.{Sight, AreItems, is_listed, items_of}
 use Rattle.range_scan.proofs.Pairs.{items_are}
 use Rattle.attr_index.specs.declared.stage.Stage.{Stage}
 use Rattle.attr_index.specs.declared.stage.Stage.TheVariants.{Index}
 use Rattle.attr_index.specs.Prefix.{prefix_of, behind, record_key, joined, entry_keys}
 use Rattle.attr_index.specs.Look.{Query, Own, bound_of, index_sight, keys_in}
-use Rattle.attr_index.specs.Found.{Visit, IsVisit, IsOf, AreMeeting, EndsPast, listed_of}
+use Rattle.attr_index.specs.Meaning.{Visit, IsVisit, IsOfStage, AreMeeting, EndsPast, listed_of}
 use Rattle.attr_index.specs.Tagged.{HasEntry, ShowsAt, ShowsVisit}
 use Rattle.attr_index.proofs.Ascents.{below_least}
 use Rattle.attr_index.proofs.Listings.{HoldsKey}
@@ -121,7 +121,7 @@ past_below bytes None (Some high) below past = absurd (cc (past))
 past_below bytes (Some bound) (Some high) below past = ap is_lt (below_least bytes bound high below past)
 
 each_lists : (q : Query) (own : Own) (value index : List ℕ → Option Value) (key : List ℕ) → AreDistinct own.buffer → HasEntry q index key
-    → (vs : List Visit) → AllByRecursion (IsOf Index) vs → AllByRecursion (IsVisit q) vs → AllByRecursion (ShowsVisit q own value index) vs
+    → (vs : List Visit) → AllByRecursion (IsOfStage Index) vs → AllByRecursion (IsVisit q) vs → AllByRecursion (ShowsVisit q own value index) vs
     → AllByRecursion (Lists q own key) vs
 each_lists q own value index key apart has [] of_index visits shows = tt
 each_lists q own value index key apart has (v ∷ vs) of_index visits shows =
@@ -133,7 +133,7 @@ each_holds q (v ∷ vs) h = (h.0.holds_key, each_holds q vs h.1)
 
 -- leaves that meet and end behind the last entry list each record whose entry the index has
 pub covered : (q : Query) (own : Own) (value index : List ℕ → Option Value) (key : List ℕ) → AreDistinct own.buffer → HasEntry q index key
-    → (vs : List Visit) → AllByRecursion (IsOf Index) vs → AllByRecursion (IsVisit q) vs → AllByRecursion (ShowsVisit q own value index) vs
+    → (vs : List Visit) → AllByRecursion (IsOfStage Index) vs → AllByRecursion (IsVisit q) vs → AllByRecursion (ShowsVisit q own value index) vs
     → AreMeeting q vs → EndsPast q vs → IsIn key (listed_of q own vs)
 covered q own value index key apart has [] of_index visits shows meeting past = absurd past
 covered q own value index key apart has (v ∷ vs) of_index visits shows meeting past =

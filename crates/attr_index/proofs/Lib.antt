@@ -2,7 +2,7 @@ pub mod Firsts
 pub mod Prefixes
 pub mod Ranks
 pub mod Highs
-pub mod Ending
+pub mod End
 pub mod Ascents
 pub mod Entries
 pub mod Listings

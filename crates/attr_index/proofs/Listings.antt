@@ -14,7 +14,7 @@ use Rattle.route_plan.specs.Seen.{seen}
 use Rattle.range_scan.specs.Pairs.{Sight, is_listed, items_of}
 use Rattle.attr_index.specs.Prefix.{prefix_of}
 use Rattle.attr_index.specs.Look.{Query, Own, bound_of, index_sight, keys_in, has_attr, found_with, found_in_leaf}
-use Rattle.attr_index.specs.Found.{Visit, AreMeeting, listed_of, found_of, BelowFirst, AreAscending}
+use Rattle.attr_index.specs.Meaning.{Visit, AreMeeting, listed_of, found_of, BelowFirst, AreAscending}
 use Rattle.attr_index.proofs.Ascents.{less_of, below_trans, below_least, front_cmp, each_by, each_front, each_last, AreAbove, Ascends, ascends_joined, ascends_front}
 use Rattle.attr_index.proofs.Entries.{both_true, items_listed, keys_each, keys_ascend}
 

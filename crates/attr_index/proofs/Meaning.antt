@@ -23,13 +23,13 @@ use Rattle.tree_walk.specs.Walk.{Walk, IsWalk, IsAtLeaf, sought, new_walk, walk_
 use Rattle.tree_walk.specs.Walk.{KeepsServed as KeepsWalked}
 use Rattle.tree_walk.proofs.Leaves.{ends_at}
 use Rattle.tree_walk.proofs.Served.{IsServedBy, end_served}
-use Rattle.tree_walk.proofs.Walking.{WalksBeside, next_walks, ready_walks}
-use Rattle.range_scan.specs.Listing.{IsGot, IsPast}
+use Rattle.tree_walk.proofs.Stays.{WalksBeside, next_walks, ready_walks}
+use Rattle.range_scan.specs.Meaning.{IsGot, IsPast}
 use Rattle.range_scan.proofs.Meaning.{served_by}
 use Rattle.attr_index.specs.declared.stage.Stage.{Stage}
 use Rattle.attr_index.specs.declared.stage.Stage.TheVariants.{Index, Records}
 use Rattle.attr_index.specs.Look.{Query, Own, Look, look_asks, bound_of, set_out, walks, new_look, look_ready, to_first, keys_in, behind_leaf, with_keys, found_in_leaf, with_found, leaf_read_at, leaf_read, walked_by, walked, look_next}
-use Rattle.attr_index.specs.Found.{Visit, leaf_of, leaf_by, visited, Looked, tree_at, IsVisit, Continues, AreMeeting, EndsPast, IsOf, listed_of, found_of, AreAscending, IsFound}
+use Rattle.attr_index.specs.Meaning.{Visit, leaf_of, leaf_by, visited, Looked, tree_at, IsVisit, Continues, AreMeeting, EndsPast, IsOfStage, listed_of, found_of, AreAscending, IsFound}
 use Rattle.attr_index.specs.Stepped.{deed_of, Means}
 use Rattle.attr_index.proofs.Ascents.{each_by, each_back, Ascends}
 use Rattle.attr_index.proofs.Listings.{HoldsKey, listed_ascend, read_of, read_more, found_are_ascending}
@@ -38,7 +38,7 @@ use Rattle.attr_index.proofs.Listings.{HoldsKey, listed_ascend, read_of, read_mo
 
 -- the leaves are of the index and meet, and what they list is all that it has
 pub record IsListing (q : Query) (own : Own) (vs : List Visit) (keys : List (List ℕ)) (pairs : List Pair) : Type 0 where
-  pub of_index : AllByRecursion (IsOf Index) vs
+  pub of_index : AllByRecursion (IsOfStage Index) vs
   pub meeting : AreMeeting q vs
   pub listed : keys ≡ listed_of q own vs
   pub none_found : pairs ≡ []
@@ -48,8 +48,8 @@ pub record IsReading (q : Query) (own : Own) (vs : List Visit) (keys : List (Lis
   pub index : List Visit
   pub records : List Visit
   pub are : vs ≡ records ++ index
-  pub of_index : AllByRecursion (IsOf Index) index
-  pub of_records : AllByRecursion (IsOf Records) records
+  pub of_index : AllByRecursion (IsOfStage Index) index
+  pub of_records : AllByRecursion (IsOfStage Records) records
   pub meeting : AreMeeting q index
   pub past : EndsPast q index
   pub listed : read_of records ++ keys ≡ listed_of q own index

@@ -6,7 +6,7 @@ use Rattle.std.proofs.lemmas.Bool.{cases_order}
 use Rattle.byte_format.specs.Order.{bytes_below}
 use Rattle.byte_format.specs.Whole.{IsBytes}
 use Rattle.byte_format.proofs.Steps.{IsBytes-rest}
-use Rattle.attr_index.specs.Ending.{rank}
+use Rattle.attr_index.specs.End.{rank}
 use Rattle.attr_index.proofs.Firsts.{first_above, first_same, none_below}
 
 -- ---- a digit before others, in a base whose power behind it is n

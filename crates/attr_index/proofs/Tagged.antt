@@ -13,7 +13,7 @@ use Rattle.route_plan.specs.Seen.{seen}
 use Rattle.attr_index.specs.declared.stage.Stage.{Stage}
 use Rattle.attr_index.specs.declared.stage.Stage.TheVariants.{Records}
 use Rattle.attr_index.specs.Look.{Query, Own, has_attr, found_with, found_in_leaf}
-use Rattle.attr_index.specs.Found.{Visit, IsVisit, IsOf, listed_of, found_of, BelowFirst, AreAscending, IsFound}
+use Rattle.attr_index.specs.Meaning.{Visit, IsVisit, IsOfStage, listed_of, found_of, BelowFirst, AreAscending, IsFound}
 use Rattle.attr_index.specs.Tagged.{tagged, stored_value, AreRecords, HasEntry, ShowsAt, ShowsVisit, FindsTagged}
 use Rattle.attr_index.proofs.Ascents.{less_of, each_front, each_back, AreAbove, above_more, Ascends}
 use Rattle.attr_index.proofs.Covering.{covered}
@@ -115,7 +115,7 @@ one_is value attr key p (Some of) at k = on (has_attr attr of.attr) refl k where
   on true is (inr j) = absurd j
   on false is j = absurd j
 
-found_is : (q : Query) (own : Own) (value index : List ℕ → Option Value) (vs : List Visit) → AllByRecursion (IsOf Records) vs → AllByRecursion (IsVisit q) vs
+found_is : (q : Query) (own : Own) (value index : List ℕ → Option Value) (vs : List Visit) → AllByRecursion (IsOfStage Records) vs → AllByRecursion (IsVisit q) vs
     → AllByRecursion (ShowsVisit q own value index) vs → (p : Pair) → IsIn p (found_of q own vs) → IsTagged value q.attr p
 found_is q own value index [] of_records visits shows p k = absurd k
 found_is q own value index (v ∷ vs) of_records visits shows p k =
@@ -139,7 +139,7 @@ in_leaf q own value index v at visit shows p h same =
     subst (λ (o : Option Value). IsIn p (found_with q.attr v.key o)) (sym there)
     (subst (λ (key : List ℕ). IsIn p (found_with q.attr key (Some h.of))) same (in_one q.attr p h.of h.has h.payload))
 
-in_found : (q : Query) (own : Own) (value index : List ℕ → Option Value) (vs : List Visit) → AllByRecursion (IsOf Records) vs → AllByRecursion (IsVisit q) vs
+in_found : (q : Query) (own : Own) (value index : List ℕ → Option Value) (vs : List Visit) → AllByRecursion (IsOfStage Records) vs → AllByRecursion (IsVisit q) vs
     → AllByRecursion (ShowsVisit q own value index) vs → (p : Pair) → IsTagged value q.attr p → IsIn p.key (read_of vs) → IsIn p (found_of q own vs)
 in_found q own value index [] of_records visits shows p h k = absurd k
 in_found q own value index (v ∷ vs) of_records visits shows p h k =

@@ -20,12 +20,12 @@ use Rattle.tree_walk.specs.Walk.{KeepsServed as KeepsWalked}
 use Rattle.attr_index.specs.declared.stage.Stage.TheVariants.{Records}
 use Rattle.attr_index.specs.Prefix.{next_behind, next_of}
 use Rattle.attr_index.specs.Look.{Own, Look, record_walk, walks, to_record, walked, walked_by, look_next}
-use Rattle.attr_index.specs.Found.{leaf_by, visited}
+use Rattle.attr_index.specs.Meaning.{leaf_by, visited}
 use Rattle.attr_index.specs.Stepped.{deed_of, KeepsServed, Means, Stepped}
-use Rattle.attr_index.specs.Ending.{calls_left}
+use Rattle.attr_index.specs.End.{calls_left}
 use Rattle.attr_index.proofs.Meaning.{meant}
 use Rattle.attr_index.proofs.Tagged.{finds_tagged}
-use Rattle.attr_index.proofs.Ending.{fewer}
+use Rattle.attr_index.proofs.End.{fewer}
 
 -- ---- a bound
 

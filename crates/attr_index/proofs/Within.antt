@@ -10,45 +10,45 @@ use Rattle.page_cache.specs.Held.{leaf_at}
 use Rattle.tree_walk.specs.Walk.{Walk, object_of, sought, new_walk, walk_ready, walk_next, pages}
 use Rattle.tree_walk.specs.Within.{IsBegun, IsOnce}
 use Rattle.tree_walk.proofs.End.{more_pages}
-use Rattle.tree_walk.proofs.Onceness.{once_goes, once_begun}
+use Rattle.tree_walk.proofs.Within.{once_goes, once_begun}
 use Rattle.tree_walk.proofs.Served.{IsServedBy, end_served}
 use Rattle.attr_index.specs.declared.stage.Stage.{Stage}
 use Rattle.attr_index.specs.declared.stage.Stage.TheVariants.{Index, Records}
 use Rattle.attr_index.specs.Look.{Query, Own, Look, look_asks, bound_of, index_walk, set_out, walks, new_look, to_first, to_record, behind_leaf, with_keys, with_found, leaf_read_at, leaf_read, walked, look_next}
-use Rattle.attr_index.specs.Found.{Visit, leaf_of, leaf_by, visited, Looked, tree_at}
-use Rattle.attr_index.specs.Within.{IsOfWalk, AreOfWalks, IsWithin}
+use Rattle.attr_index.specs.Meaning.{Visit, leaf_of, leaf_by, visited, Looked, tree_at}
+use Rattle.attr_index.specs.Within.{IsOfWalk, AreOfWalks, LooksWithin}
 use Rattle.attr_index.proofs.Meaning.{Holds, looked_holds}
 
 -- ---- where it goes on behind a leaf, a new walk is in hand
 
-abbrev Begins : Next (Look × Cache) (Unit {0}) → Type 0
-Begins (Goes n) = IsBegun (n.0.walk, n.1)
-Begins (Ends n done) = Unit {0}
-Begins (Stops n t) = Unit {0}
+abbrev BeginsWalk : Next (Look × Cache) (Unit {0}) → Type 0
+BeginsWalk (Goes n) = IsBegun (n.0.walk, n.1)
+BeginsWalk (Ends n done) = Unit {0}
+BeginsWalk (Stops n t) = Unit {0}
 
-walks_begins : (l : Look) (tree : ℕ) (key : List ℕ) (c : Cache) → Begins (walks l (new_walk tree (Some key) false) c)
+walks_begins : (l : Look) (tree : ℕ) (key : List ℕ) (c : Cache) → BeginsWalk (walks l (new_walk tree (Some key) false) c)
 walks_begins l tree key c = on (walk_ready (new_walk tree (Some key) false, c)) refl where
-  on : (x : Next (Walk × Cache) ℕ) → walk_ready (new_walk tree (Some key) false, c) ≡ x → Begins (set_out l x)
+  on : (x : Next (Walk × Cache) ℕ) → walk_ready (new_walk tree (Some key) false, c) ≡ x → BeginsWalk (set_out l x)
   on (Goes m) is = (tree, Some key, false, c, is)
   on (Ends m page) is = tt
   on (Stops m t) is = tt
 
-first_begins : (l : Look) (keys : List (List ℕ)) (c : Cache) → Begins (to_first l keys c)
+first_begins : (l : Look) (keys : List (List ℕ)) (c : Cache) → BeginsWalk (to_first l keys c)
 first_begins l [] c = tt
 first_begins l (key ∷ keys) c = walks_begins (record l { stage = Records; listed = keys }) l.query.tree key c
 
-behind_begins : (l : Look) (high : Option (List ℕ)) (c : Cache) → Begins (behind_leaf l high c)
+behind_begins : (l : Look) (high : Option (List ℕ)) (c : Cache) → BeginsWalk (behind_leaf l high c)
 behind_begins l None c = first_begins l l.listed c
 behind_begins l (Some high) c = on (below_bound high (bound_of l.query)) where
-  on : (b : Bool) → Begins (if b then walks l (index_walk l.query high) c else to_record l c)
+  on : (b : Bool) → BeginsWalk (if b then walks l (index_walk l.query high) c else to_record l c)
   on true = walks_begins l (index_of l.query.tree) high c
   on false = first_begins l l.listed c
 
-leaf_begins : (stage : Stage) (l : Look) (own : Own) (leaf : Leaf) (c : Cache) → Begins (leaf_read_at stage l own leaf c)
+leaf_begins : (stage : Stage) (l : Look) (own : Own) (leaf : Leaf) (c : Cache) → BeginsWalk (leaf_read_at stage l own leaf c)
 leaf_begins Index l own leaf c = behind_begins (with_keys l own leaf) leaf.high c
 leaf_begins Records l own leaf c = first_begins (with_found l own leaf) l.listed c
 
-read_begins : (l : Look) (own : Own) (o : Option Leaf) (c : Cache) → Begins (leaf_read l own o c)
+read_begins : (l : Look) (own : Own) (o : Option Leaf) (c : Cache) → BeginsWalk (leaf_read l own o c)
 read_begins l own None c = tt
 read_begins l own (Some leaf) c = leaf_begins l.stage l own leaf c
 
@@ -108,7 +108,7 @@ next_made q own h vs m n d old new asked made up goes = on (walk_next (m.0.walk,
       }
   on (Ends k page) is now goes =
       let served : IsServedBy m.0.walk d.answer k page = end_served (m.0.walk, m.1) k d.answer page old.walk is in
-      let begun : IsBegun (n.0.walk, n.1) = subst Begins goes (read_begins (record m.0 { walk = k.0 }) own (leaf_at k.1 (object_of k.0)) k.1) in
+      let begun : IsBegun (n.0.walk, n.1) = subst BeginsWalk goes (read_begins (record m.0 { walk = k.0 }) own (leaf_at k.1 (object_of k.0)) k.1) in
       let calls : length (up.way ++ up.before) ≡ length up.way + length up.before = length-append up.way up.before in
       let few : length up.way ≤ pages m.0.walk = up.of_walk.bound in
       let few_before : length up.before ≤ up.others = up.few in
@@ -129,7 +129,7 @@ next_made q own h vs m n d old new asked made up goes = on (walk_next (m.0.walk,
 
 looked_made : (q : Query) (own : Own) (h : List Deed) (vs : List Visit) (m : Look × Cache) → Looked q own h vs m → IsMadeUp q h vs m
 looked_made q own [] vs m (c, none, ready) =
-    let begun : IsBegun (m.0.walk, m.1) = subst Begins ready (walks_begins (new_look q) _ _ c) in
+    let begun : IsBegun (m.0.walk, m.1) = subst BeginsWalk ready (walks_begins (new_look q) _ _ c) in
     record {
       way = [];
       before = [];
@@ -145,7 +145,7 @@ looked_made q own (d ∷ h) vs m (from, before, came, asked, made, goes, are) =
     subst (λ (xs : List Visit). IsMadeUp q (d ∷ h) xs m) (sym are)
     (next_made q own h before from m d (looked_holds q own h before from came) new asked made (looked_made q own h before from came) goes)
 
-pub looked_within : (q : Query) (own : Own) (h : List Deed) (vs : List Visit) (m : Look × Cache) → Looked q own h vs m → IsWithin q h vs m (length h + 1)
+pub looked_within : (q : Query) (own : Own) (h : List Deed) (vs : List Visit) (m : Look × Cache) → Looked q own h vs m → LooksWithin q h vs m (length h + 1)
 looked_within q own h vs m came =
     let up : IsMadeUp q h vs m = looked_made q own h vs m came in
     let calls : length (up.way ++ up.before) ≡ length up.way + length up.before = length-append up.way up.before in

@@ -1,7 +1,7 @@
 pub mod Prefix
 pub mod Look
-pub mod Ending
-pub mod Found
+pub mod End
+pub mod Meaning
 pub mod Tagged
 pub mod Stepped
 pub mod Within

@@ -11,7 +11,7 @@ use Rattle.tree_walk.specs.Moves.{Moves}
 use Rattle.tree_walk.specs.Stepped.{Stepped as StepsWalk}
 use Rattle.tree_walk.specs.Walk.{Walk, IsAtLeaf, ServesOn}
 use Rattle.attr_index.specs.Look.{Query, Own, Look, look_ask, look_next, walked_by}
-use Rattle.attr_index.specs.Found.{Visit, Looked, IsFound, leaf_by, visited}
+use Rattle.attr_index.specs.Meaning.{Visit, Looked, IsFound, leaf_by, visited}
 use Rattle.attr_index.specs.Tagged.{FindsTagged}
 
 -- want of memory keeps the versions that were served; a look-up has no lease to keep

@@ -13,7 +13,7 @@ use Rattle.attr_index.specs.declared.stage.Stage.{Stage}
 use Rattle.attr_index.specs.declared.stage.Stage.TheVariants.{Index, Records}
 use Rattle.attr_index.specs.Prefix.{prefix_of}
 use Rattle.attr_index.specs.Look.{Query, Own, has_attr}
-use Rattle.attr_index.specs.Found.{Visit, tree_at}
+use Rattle.attr_index.specs.Meaning.{Visit, tree_at}
 
 -- key and payload of each record of a list that has an attribute, in the list's order
 abbrev pub tagged : List Stored → List ℕ → List Pair

@@ -3,10 +3,10 @@ use Rattle.std.specs.Prelude.{ℕ, ◌≡◌, ◌+◌, ◌≤◌, List, [], ◌�
 use Rattle.cloud_trait.specs.Machine.{Deed}
 use Rattle.page_cache.specs.Cache.{Cache}
 use Rattle.tree_walk.specs.Walk.{Walk, sought, pages}
-use Rattle.tree_walk.specs.Led.{Walked}
+use Rattle.tree_walk.specs.Meaning.{Walked}
 use Rattle.tree_walk.specs.Within.{IsBegun, IsOnce}
 use Rattle.attr_index.specs.Look.{Query, Look}
-use Rattle.attr_index.specs.Found.{Visit, tree_at}
+use Rattle.attr_index.specs.Meaning.{Visit, tree_at}
 
 -- these are all calls of a walk of a tree to a key, from its begin to this state: no more than the pages that it came to, each once
 pub record IsOfWalk (tree : ℕ) (key : List ℕ) (calls : List Deed) (w : Walk × Cache) : Type 0 where
@@ -27,7 +27,7 @@ AreOfWalks q h most (v ∷ vs) =
     × IsOfWalk (tree_at q v.stage) v.key way w × AreOfWalks q before others vs
 
 -- the calls of a look-up are those of the walks that ended at these leaves and of the walk in hand, and with the next one no more than all these walks can make
-pub record IsWithin (q : Query) (h : List Deed) (vs : List Visit) (m : Look × Cache) (calls : ℕ) : Type 0 where
+pub record LooksWithin (q : Query) (h : List Deed) (vs : List Visit) (m : Look × Cache) (calls : ℕ) : Type 0 where
   pub way : List Deed
   pub before : List Deed
   pub others : ℕ

@@ -70,11 +70,11 @@ impl Model for Lookup {
 }
 
 impl Lookup {
-    ghost use Rattle.attr_index.specs.Ending.{calls_left};
-    ghost use Rattle.attr_index.specs.Found.{Visit, Looked};
+    ghost use Rattle.attr_index.specs.End.{calls_left};
+    ghost use Rattle.attr_index.specs.Meaning.{Visit, Looked};
     ghost use Rattle.attr_index.specs.Look.{Query, Look, behind_leaf, bound_of, has_attr, leaf_read, look_ask, look_ready, new_look, to_record, walked_by, walks, with_found, with_keys};
     ghost use Rattle.attr_index.specs.Stepped.{Stepped};
-    ghost use Rattle.attr_index.specs.Within.{IsWithin};
+    ghost use Rattle.attr_index.specs.Within.{LooksWithin};
 
     /// Begins the look-up of the records of a tree, of which the trees 1 to 8 have an index, that have an attribute: does the local work before
     /// the first call. Want of memory beside the troubles of a walk.
@@ -336,7 +336,7 @@ impl Lookup {
         // Each call comes to one more page of a walk, each walk to a key above those before it, or to one listed record less.
         ensures less { result ≡ Turn.More → calls_left self.new < calls_left self.old }
         // By the whole run its calls are those of one walk for each leaf that it came to and of the walk in hand, each of which comes to a page once.
-        ensures within { (q : Query) (h : List Deed) (vs : List Visit) → Looked q own.now h vs (self.old, cache.old) → IsWithin q h vs (self.old, cache.old) (length h + 1) }
+        ensures within { (q : Query) (h : List Deed) (vs : List Visit) → Looked q own.now h vs (self.old, cache.old) → LooksWithin q h vs (self.old, cache.old) (length h + 1) }
     {
         let moved = self.walk.step(alloc, cloud, who, cache);
         let turn = self.walked(alloc, cache, own, moved);

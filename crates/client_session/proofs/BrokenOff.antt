@@ -8,10 +8,10 @@ use Rattle.client_work.specs.declared.shown.Shown.TheVariants.{Nothing}
 use Rattle.client_work.specs.declared.work.Work.{Work}
 use Rattle.client_work.specs.declared.work.Work.TheVariants.{Closed, Idle, Opening, Committing, Reading, Scanning, Looking, Paging, Folding, Closing, Renewing, Settling, Sweeping, Broken}
 use Rattle.client_work.specs.BrokenOff.{broken_off, broken_work}
-use Rattle.client_work.specs.Causing.{HasCome}
+use Rattle.client_work.specs.Causes.{HasCome}
 use Rattle.client_work.specs.Phase.{kept_in, noted_in, phase_of}
 use Rattle.client_work.specs.Session.{Acting, noted_behind, shown_behind}
-use Rattle.client_work.specs.Showing.{IsKnown}
+use Rattle.client_work.specs.Shows.{IsKnown}
 use Rattle.client_session.proofs.Phases.{kept_by, noted_by}
 
 -- no scan and no look-up is in hand then, and nothing that calls led to

@@ -10,12 +10,12 @@ use Rattle.client_work.specs.declared.phase.Phase.{Phase}
 use Rattle.client_work.specs.declared.shown.Shown.{Shown}
 use Rattle.client_work.specs.declared.work.Work.{Work}
 use Rattle.client_work.specs.Phase.{kept_in, noted_in, phase_of}
-use Rattle.client_work.specs.Causing.{HasCome, CausesAt, MachineSteps}
+use Rattle.client_work.specs.Causes.{HasCome, CausesAt, MachineSteps}
 use Rattle.client_work.specs.Session.{Acting, StepsSession, StepsAt, ShowsAt, ShowsWhole, noted_behind, shown_behind}
-use Rattle.client_work.specs.Showing.{IsKnown}
-use Rattle.client_work.proofs.Causing.{step_causes}
-use Rattle.client_work.proofs.Coming.{steps_come}
-use Rattle.client_work.proofs.Showing.{step_known}
+use Rattle.client_work.specs.Shows.{IsKnown}
+use Rattle.client_work.proofs.Causes.{step_causes}
+use Rattle.client_work.proofs.Came.{steps_come}
+use Rattle.client_work.proofs.Shows.{step_known}
 use Rattle.client_session.proofs.Phases.{kept_by, noted_by}
 
 module _ (who : Caller) (before after : Seen) (work left : Work) (buffer noted : List Noted) (c d kept : Cache) (earlier shown : Shown) (turn : Turn Answer) (p q : Phase)

@@ -51,9 +51,9 @@ impl<H: Hand> Drop for Session<H> {
 }
 
 impl<H: Hand> Model for Session<H> {
-    ghost use Rattle.client_work.specs.Causing.{HasCome};
+    ghost use Rattle.client_work.specs.Causes.{HasCome};
     ghost use Rattle.client_work.specs.Session.{Acting};
-    ghost use Rattle.client_work.specs.Showing.{IsKnown};
+    ghost use Rattle.client_work.specs.Shows.{IsKnown};
 
     ghost Value = { Acting };
 

@@ -10,13 +10,13 @@ use Rattle.cloud_trait.specs.Caller.{Caller}
 use Rattle.cloud_trait.specs.Machine.{Next, Goes, Ends, Stops, LeadsBy, Took, Deed}
 use Rattle.cloud_trait.specs.Seen.{Seen}
 use Rattle.page_cache.specs.Cache.{Cache}
-use Rattle.tree_walk.specs.Led.{Walked}
-use Rattle.tree_walk.specs.Serving.{deed_of as walk_deed}
+use Rattle.tree_walk.specs.Meaning.{Walked}
+use Rattle.tree_walk.specs.Served.{deed_of as walk_deed}
 use Rattle.tree_walk.specs.Walk.{Walk, new_walk, walk_ready, walk_next, KeepsServed as KeepsServedInWalk}
 use Rattle.tree_walk.specs.Within.{IsBegun}
 use Rattle.attr_index.specs.declared.stage.Stage.{Stage}
 use Rattle.attr_index.specs.declared.stage.Stage.TheVariants.{Index, Records}
-use Rattle.attr_index.specs.Found.{Visit, Looked, leaf_by, visited}
+use Rattle.attr_index.specs.Meaning.{Visit, Looked, leaf_by, visited}
 use Rattle.attr_index.specs.Look.{Query, Own, Look, bound_of, index_walk, walks, set_out, new_look, look_ready, to_first, to_record, behind_leaf, with_keys, with_found, leaf_read_at, leaf_read, walked_on}
 use Rattle.attr_index.specs.Prefix.{prefix_of}
 use Rattle.attr_index.specs.Stepped.{Stepped, deed_of}

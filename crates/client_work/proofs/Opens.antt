@@ -29,69 +29,69 @@ use Rattle.recover_run.specs.Recovery.{Recovery, Step, recovery_next, next_at, t
 use Rattle.client_work.specs.Opening.{IsOpening, StopsAtMost}
 
 -- a step goes on with an opening, or ends as one
-abbrev Opens : Step → Type 0
-Opens (Goes m) = IsOpening m
-Opens (Ends m (Opened epoch)) = Unit {0}
-Opens (Ends m Nothing) = ⊥
-Opens (Stops m t) = Unit {0}
+abbrev StaysOpening : Step → Type 0
+StaysOpening (Goes m) = IsOpening m
+StaysOpening (Ends m (Opened epoch)) = Unit {0}
+StaysOpening (Ends m Nothing) = ⊥
+StaysOpening (Stops m t) = Unit {0}
 
-opens_taken : (r : Recovery) (g : Result Claim Trouble) → IsOpening r → Opens (taken_by r g)
+opens_taken : (r : Recovery) (g : Result Claim Trouble) → IsOpening r → StaysOpening (taken_by r g)
 opens_taken r (Ok l) is = is
 opens_taken r (Err t) is = tt
 
 -- ---- the head
 
-opens_phase : (r : Recovery) (p : Phase) → IsOpening r → Opens (phase_read p r)
+opens_phase : (r : Recovery) (p : Phase) → IsOpening r → StaysOpening (phase_read p r)
 opens_phase r Settled is = is
 opens_phase r (Open count) is = is
 
-opens_head : (r : Recovery) (h : Head) → IsOpening r → Opens (head_read r h)
+opens_head : (r : Recovery) (h : Head) → IsOpening r → StaysOpening (head_read r h)
 opens_head r h is = on (h.epoch == 2 ^ 64 - 1) where
-  on : (b : Bool) → Opens (cond b (stopping r (trouble.Exhausted counter.Epoch)) (phase_read h.phase (behind r h)))
+  on : (b : Bool) → StaysOpening (cond b (stopping r (trouble.Exhausted counter.Epoch)) (phase_read h.phase (behind r h)))
   on true = (is.0, tt)
   on false = opens_phase (behind r h) h.phase is
 
-opens_bytes : (r : Recovery) (bytes : List ℕ) (o : Option Head) → IsOpening r → Opens (bytes_read r bytes o)
+opens_bytes : (r : Recovery) (bytes : List ℕ) (o : Option Head) → IsOpening r → StaysOpening (bytes_read r bytes o)
 opens_bytes r bytes (Some h) is = opens_head r h is
 opens_bytes r bytes None is = (is.0, tt)
 
-opens_got : (r : Recovery) (g : Result (Option (List ℕ)) Trouble) → IsOpening r → Opens (got_by r g)
-opens_got r (Ok None) is = subst (λ aim. Opens (none_read aim r)) (sym is.0) (opens_head r empty_head is)
+opens_got : (r : Recovery) (g : Result (Option (List ℕ)) Trouble) → IsOpening r → StaysOpening (got_by r g)
+opens_got r (Ok None) is = subst (λ aim. StaysOpening (none_read aim r)) (sym is.0) (opens_head r empty_head is)
 opens_got r (Ok (Some bytes)) is = opens_bytes r bytes (head_of bytes) is
 opens_got r (Err t) is = (is.0, tt)
 
 -- ---- the records of an open head
 
-opens_send : (r : Recovery) (o : Option AtomicItem) → IsOpening r → Opens (send_or_put r o)
+opens_send : (r : Recovery) (o : Option AtomicItem) → IsOpening r → StaysOpening (send_or_put r o)
 opens_send r (Some x) is = is
 opens_send r None is = is
 
-opens_send_at : (r : Recovery) (place : ℕ) → IsOpening r → Opens (send_at r place)
+opens_send_at : (r : Recovery) (place : ℕ) → IsOpening r → StaysOpening (send_at r place)
 opens_send_at r place is = opens_send (record r { sent = place }) (slice_get r.gathered.kept place) is
 
-opens_decided : (r : Recovery) → IsOpening r → Opens (decided r)
+opens_decided : (r : Recovery) → IsOpening r → StaysOpening (decided r)
 opens_decided r is = on (length r.gathered.kept == r.wanted.count) r.gathered.fresh where
-  on : (all fresh : Bool) → Opens (cond all (send_at r 0) (cond fresh (goes_to Receiving r) (stopping r (trouble.Waiting (length r.gathered.kept) r.wanted.count))))
+  on : (all fresh : Bool) → StaysOpening (cond all (send_at r 0) (cond fresh (goes_to Receiving r) (stopping r (trouble.Waiting (length r.gathered.kept) r.wanted.count))))
   on true fresh = opens_send_at r 0 is
   on false true = is
   on false false = (is.0, tt)
 
-opens_deletion : (r : Recovery) (ids : List ℕ) → IsOpening r → Opens (next_deletion r ids)
+opens_deletion : (r : Recovery) (ids : List ℕ) → IsOpening r → StaysOpening (next_deletion r ids)
 opens_deletion r (id ∷ ids) is = is
 opens_deletion r [] is = opens_decided r is
 
-opens_deleting : (r : Recovery) (ids : List ℕ) → IsOpening r → Opens (deleting r ids)
+opens_deleting : (r : Recovery) (ids : List ℕ) → IsOpening r → StaysOpening (deleting r ids)
 opens_deleting r ids is = opens_deletion (record r { ids = ids }) ids is
 
-opens_gathered : (r : Recovery) (items : Result (List AtomicItem) Message) → IsOpening r → Opens (gathered_by r items)
+opens_gathered : (r : Recovery) (items : Result (List AtomicItem) Message) → IsOpening r → StaysOpening (gathered_by r items)
 opens_gathered r (Ok items) is = opens_deleting (record r { gathered = gathered_with r.wanted r.gathered items }) (lost_now r.wanted r.gathered items) is
 opens_gathered r (Err m) is = (is.0, tt)
 
-opens_received : (r : Recovery) (g : Result (List Message) Trouble) → IsOpening r → Opens (received_by r g)
+opens_received : (r : Recovery) (g : Result (List Message) Trouble) → IsOpening r → StaysOpening (received_by r g)
 opens_received r (Ok ms) is = opens_gathered r (items_of ms) is
 opens_received r (Err t) is = (is.0, tt)
 
-opens_deleted : (r : Recovery) (g : Result (Unit {0}) Trouble) → IsOpening r → Opens (deleted_by r g)
+opens_deleted : (r : Recovery) (g : Result (Unit {0}) Trouble) → IsOpening r → StaysOpening (deleted_by r g)
 opens_deleted r (Ok _) is = opens_deleting r (rest_of r.ids) is
 opens_deleted r (Err t) is = (is.0, tt)
 
@@ -99,40 +99,40 @@ pending_opens : (r : Recovery) (o : Option AtomicItem) → IsOpening r → IsOpe
 pending_opens r (Some x) is = is
 pending_opens r None is = is
 
-opens_sent : (r : Recovery) (g : Result ℕ Trouble) → IsOpening r → Opens (sent_by r g)
+opens_sent : (r : Recovery) (g : Result ℕ Trouble) → IsOpening r → StaysOpening (sent_by r g)
 opens_sent r (Ok _) is = opens_send_at (with_pending r (slice_get r.gathered.kept r.sent)) (r.sent + 1) (pending_opens r (slice_get r.gathered.kept r.sent) is)
 opens_sent r (Err t) is = (is.0, tt)
 
 -- ---- behind the put
 
-opens_clearing : (r : Recovery) (ids : List ℕ) → IsOpening r → Opens (clearing r ids)
+opens_clearing : (r : Recovery) (ids : List ℕ) → IsOpening r → StaysOpening (clearing r ids)
 opens_clearing r (id ∷ ids) is = is
 opens_clearing r [] is = is
 
-opens_put : (r : Recovery) (g : Result (Unit {0}) Trouble) → IsOpening r → Opens (put_by r g)
+opens_put : (r : Recovery) (g : Result (Unit {0}) Trouble) → IsOpening r → StaysOpening (put_by r g)
 opens_put r (Ok _) is = opens_clearing (record r { swept = kept_ids r }) (kept_ids r) is
 opens_put r (Err t) is = (is.0, tt)
 
-opens_sweeping : (r : Recovery) (ids : List ℕ) → IsOpening r → Opens (sweeping r ids)
+opens_sweeping : (r : Recovery) (ids : List ℕ) → IsOpening r → StaysOpening (sweeping r ids)
 opens_sweeping r (id ∷ ids) is = is
-opens_sweeping r [] is = subst (λ aim. Opens (opened aim (record r { swept = r.swept ++ []; ids = [] }))) (sym is.0) tt
+opens_sweeping r [] is = subst (λ aim. StaysOpening (opened aim (record r { swept = r.swept ++ []; ids = [] }))) (sym is.0) tt
 
-opens_swept_with : (r : Recovery) (items : Result (List AtomicItem) Message) → IsOpening r → Opens (swept_with r items)
+opens_swept_with : (r : Recovery) (items : Result (List AtomicItem) Message) → IsOpening r → StaysOpening (swept_with r items)
 opens_swept_with r (Ok items) is = opens_sweeping r (new_ids r.swept (past_ids r.wanted items)) is
 opens_swept_with r (Err m) is = (is.0, tt)
 
-opens_swept : (r : Recovery) (g : Result (List Message) Trouble) → IsOpening r → Opens (swept_by r g)
+opens_swept : (r : Recovery) (g : Result (List Message) Trouble) → IsOpening r → StaysOpening (swept_by r g)
 opens_swept r (Ok ms) is = opens_swept_with r (items_of ms) is
 opens_swept r (Err t) is = (is.0, tt)
 
-opens_ended : (r : Recovery) (ending : Option (Result RecoverAnswer Trouble)) → StopsAtMost ending → Opens (ended r ending)
+opens_ended : (r : Recovery) (ending : Option (Result RecoverAnswer Trouble)) → StopsAtMost ending → StaysOpening (ended r ending)
 opens_ended r (Some (Ok a)) never = absurd never
 opens_ended r (Some (Err t)) is = tt
 opens_ended r None is = tt
 
 -- ---- each step
 
-opens_at : (stage : Stage) (r : Recovery) (a : Answer) → IsOpening r → Opens (next_at stage r a)
+opens_at : (stage : Stage) (r : Recovery) (a : Answer) → IsOpening r → StaysOpening (next_at stage r a)
 opens_at ReleasingOld r a is = is
 opens_at Taking r a is = opens_taken r (given_of (lock.Client r.client) a) is
 opens_at Getting r a is = opens_got r (got_of a) is
@@ -149,10 +149,10 @@ opens_at Finished r a is = tt
 pub goes_on : (r m : Recovery) (a : Answer) (turn : Turn RecoverAnswer) → Took (LeadsBy recovery_next) KeepsLeases r a m turn → turn ≡ More → IsOpening r → IsOpening m
 goes_on r m a turn took more is =
     let At : Turn RecoverAnswer → Type 0 = Took (LeadsBy recovery_next) KeepsLeases r a m in
-    subst Opens (subst At more took) (opens_at r.stage r a is)
+    subst StaysOpening (subst At more took) (opens_at r.stage r a is)
 
 -- an opening has something to do
 pub never_nothing : (r m : Recovery) (a : Answer) (turn : Turn RecoverAnswer) → Took (LeadsBy recovery_next) KeepsLeases r a m turn → turn ≡ Ended Nothing → IsOpening r → ⊥
 never_nothing r m a turn took nothing is =
     let At : Turn RecoverAnswer → Type 0 = Took (LeadsBy recovery_next) KeepsLeases r a m in
-    subst Opens (subst At nothing took) (opens_at r.stage r a is)
+    subst StaysOpening (subst At nothing took) (opens_at r.stage r a is)

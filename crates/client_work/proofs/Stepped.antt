@@ -14,7 +14,7 @@ use Rattle.client_work.specs.declared.op.Op.TheVariants as op
 use Rattle.client_work.specs.declared.shown.Shown.{Shown}
 use Rattle.client_work.specs.declared.work.Work.{Work}
 use Rattle.client_work.specs.declared.work.Work.TheVariants.{Idle}
-use Rattle.client_work.specs.Causing.{MachineSteps}
+use Rattle.client_work.specs.Causes.{MachineSteps}
 use Rattle.client_work.specs.Phase.{BeginsAt}
 use Rattle.client_work.specs.Session.{StepsAt, ShowsAt, ReadsOf}
 

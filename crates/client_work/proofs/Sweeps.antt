@@ -7,7 +7,7 @@ use Rattle.cloud_trait.specs.Caller.{Caller}
 use Rattle.cloud_trait.specs.Machine.{Goes, Ends, Stops, LeadsBy, Deed, Came, Steps, Took}
 use Rattle.cloud_trait.specs.Seen.{Seen}
 use Rattle.orphan_sweep.specs.declared.swept.Swept.{Swept}
-use Rattle.orphan_sweep.specs.Standing.{fresh}
+use Rattle.orphan_sweep.specs.Leases.{fresh}
 use Rattle.orphan_sweep.specs.Sweeping.{Sweeping, Step, new_sweeping, sweep_ask, sweep_next, KeepsLease}
 use Rattle.orphan_sweep.proofs.Outcomes as outcome
 use Rattle.client_work.specs.Sweeping.{IsSweeping}

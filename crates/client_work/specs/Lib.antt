@@ -1,9 +1,9 @@
 pub mod BrokenOff
-pub mod Causing
+pub mod Causes
 pub mod Left
 pub mod Opening
 pub mod Phase
 pub mod Session
 pub mod Settling
-pub mod Showing
+pub mod Shows
 pub mod Sweeping

@@ -29,7 +29,7 @@ use Rattle.cloud_trait.specs.Weather.{Makes, RenewsLease}
 use Rattle.recover_run.specs.declared.home.Home.{Home}
 use Rattle.recover_run.specs.declared.stage.Aim.TheVariants as aim
 use Rattle.recover_run.specs.declared.stage.RecoverAnswer.TheVariants.{Opened}
-use Rattle.recover_run.specs.Bound.{calls_left as recovery_left}
+use Rattle.recover_run.specs.End.{calls_left as recovery_left}
 use Rattle.recover_run.specs.Recovery.{Recovery, new_recovery, recovery_ask, recovery_next, home_of, KeepsLeases, IsSound as IsSoundOpening}
 use Rattle.leaf_view.specs.Leaf.{Entry}
 use Rattle.page_cache.specs.Cache.{Cache, empty_cache}
@@ -37,27 +37,27 @@ use Rattle.page_cache.specs.Held.{leaf_at}
 use Rattle.tree_walk.specs.Moves.{Moves}
 use Rattle.tree_walk.specs.Stepped.{Stepped as StepsWalk}
 use Rattle.tree_walk.specs.Walk.{Walk, new_walk, walk_ask, walk_ready, calls_left as reading_left, IsAtLeaf}
-use Rattle.commit_run.specs.Ending.{calls_left as commit_left}
+use Rattle.commit_run.specs.End.{calls_left as commit_left}
 use Rattle.commit_run.specs.Run.{Run, new_run, home_of as home_of_run, run_ask, asks as run_asks, run_ready, run_next, run_opens, KeepsHome}
 use Rattle.commit_run.specs.Sound.{IsSoundRun}
 use Rattle.record_read.specs.Read.{read_value}
-use Rattle.range_scan.specs.Ending.{calls_left as scanning_left}
+use Rattle.range_scan.specs.End.{calls_left as scanning_left}
 use Rattle.range_scan.specs.Pairs.{AreItemsIn}
 use Rattle.range_scan.specs.Scan.{Scan, new_scan, scan_object, scan_ask, scan_ready, goes_on, moved_on}
 use Rattle.range_scan.specs.Stepped.{Stepped as StepsScan}
-use Rattle.attr_index.specs.Ending.{calls_left as looking_left}
+use Rattle.attr_index.specs.End.{calls_left as looking_left}
 use Rattle.attr_index.specs.Look.{Query, Look, look_ask, look_ready}
 use Rattle.attr_index.specs.Stepped.{Stepped as StepsLook}
-use Rattle.page_ckpt.specs.Ending.{calls_left as paging_left}
+use Rattle.page_ckpt.specs.End.{calls_left as paging_left}
 use Rattle.page_ckpt.specs.Paging.{new_paging, paging_ask, PagingLeads, KeepsLeases as KeepsPageLeases, Paging as Page}
 use Rattle.tree_moves.specs.Work.{applying_in}
-use Rattle.tree_ckpt.specs.Ending.{calls_in}
+use Rattle.tree_ckpt.specs.End.{calls_in}
 use Rattle.tree_ckpt.specs.Making.{Making, new_making, making_ask, MakingLeads, KeepsLeases as KeepsTreeLeases}
-use Rattle.settle_run.specs.Ending.{calls_left as settling_left}
+use Rattle.settle_run.specs.End.{calls_left as settling_left}
 use Rattle.settle_run.specs.Meaning.{Stepped as SettlingStepped}
 use Rattle.settle_run.specs.Parts.{part_applying, IsSoundPart}
 use Rattle.settle_run.specs.Settling.{Settling as SettlingState, new_settling, settle_ask}
-use Rattle.orphan_sweep.specs.Ending.{calls_left as sweeping_left}
+use Rattle.orphan_sweep.specs.End.{calls_left as sweeping_left}
 use Rattle.orphan_sweep.specs.Stepped.{Stepped as SweepStepped}
 use Rattle.orphan_sweep.specs.Sweeping.{Sweeping as SweepingState, new_sweeping, sweep_ask}
 use Rattle.client_work.specs.declared.listing.Listing.{Listing}
@@ -71,8 +71,8 @@ use Rattle.client_work.specs.declared.op.Op.{Op}
 use Rattle.client_work.specs.declared.op.Op.TheVariants as op
 use Rattle.client_work.specs.declared.work.Work.{Work}
 use Rattle.client_work.specs.declared.work.Work.TheVariants.{Closed, Idle, Opening, Committing, Reading, Scanning, Looking, Paging, Folding, Closing, Renewing, Settling, Sweeping, Broken}
-use Rattle.client_work.specs.Causing.{CausesAt}
-use Rattle.client_work.specs.Showing.{pair_of, own_of, ShowsValue, ShowsRecords, ShowsFound}
+use Rattle.client_work.specs.Causes.{CausesAt}
+use Rattle.client_work.specs.Shows.{pair_of, own_of, ShowsValue, ShowsRecords, ShowsFound}
 
 -- a session: the changes that it noted, what it has in hand, what it keeps of the cloud, and what its newest operation shows beside its
 -- answer

@@ -1,7 +1,7 @@
 -- What a sweep is.
 use Rattle.std.specs.Prelude.{List}
 use Rattle.cloud_trait.specs.Machine.{Deed}
-use Rattle.orphan_sweep.specs.Standing.{Went}
+use Rattle.orphan_sweep.specs.Leases.{Went}
 use Rattle.orphan_sweep.specs.Sweeping.{Sweeping}
 use Rattle.client_work.specs.Settling.{IsUntold}
 

@@ -3,7 +3,7 @@ ghost use Rattle.commit_run.specs.Run.{home_of as home_of_run};
 ghost use Rattle.commit_run.specs.Sound.{IsSoundRun};
 ghost use Rattle.commit_run.specs.Stepped.{Stepped as StepsRun};
 ghost use Rattle.client_work.specs.declared.work.Work.TheVariants as work;
-ghost use Rattle.client_work.specs.Causing.{CommitBy};
+ghost use Rattle.client_work.specs.Causes.{CommitBy};
 ghost use Rattle.client_work.specs.Left.{at_rest, behind_commit};
 ghost use Rattle.client_work.specs.Session.{CommitsNoted, StepsCommit, behind_step, committed_work};
 

@@ -1,7 +1,7 @@
 ghost use Rattle.std.specs.Prelude.{◌≡◌};
 ghost use Rattle.recover_run.specs.declared.home.Home.{Home as AnyHome};
 ghost use Rattle.tree_ckpt.specs.Stepped.{Stepped as StepsMaking};
-ghost use Rattle.client_work.specs.Causing.{FoldingBy};
+ghost use Rattle.client_work.specs.Causes.{FoldingBy};
 ghost use Rattle.client_work.specs.Left.{behind_tree};
 ghost use Rattle.client_work.specs.Session.{StepsFolding, behind_fold};
 

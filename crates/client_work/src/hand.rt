@@ -8,7 +8,7 @@ ghost use Rattle.settle_run.specs.Settling.{new_settling};
 ghost use Rattle.client_work.specs.declared.work.Work.{Work};
 ghost use Rattle.client_work.specs.declared.work.Work.TheVariants.{Closed, Settling, Sweeping};
 ghost use Rattle.client_work.specs.BrokenOff.{broken_work};
-ghost use Rattle.client_work.specs.Causing.{MachineSteps};
+ghost use Rattle.client_work.specs.Causes.{MachineSteps};
 ghost use Rattle.client_work.specs.Phase.{BeginsAt, bar_of, phase_of};
 ghost use Rattle.client_work.specs.Session.{ShowsAt, StepsAt, ask_of_work, committing_of, opens_of, applying_of, value_in, is_working, open_client};
 

@@ -1,5 +1,5 @@
 ghost use Rattle.std.specs.Prelude.{◌≡◌, ◌++◌, map, OnOk};
-ghost use Rattle.client_work.specs.Showing.{pair_of};
+ghost use Rattle.client_work.specs.Shows.{pair_of};
 
 use db_base::blob::Blob;
 use db_base::pair::Pair;

@@ -3,7 +3,7 @@ ghost use Rattle.cloud_trait.specs.Call.{ask_of};
 ghost use Rattle.recover_run.specs.declared.stage.Aim.TheVariants as aim;
 ghost use Rattle.recover_run.specs.Recovery.{home_of, new_recovery, recovery_ask, IsSound as IsSoundOpening};
 ghost use Rattle.recover_run.specs.Stepped.{Stepped as StepsRecovery};
-ghost use Rattle.client_work.specs.Causing.{OpeningBy};
+ghost use Rattle.client_work.specs.Causes.{OpeningBy};
 ghost use Rattle.client_work.specs.Left.{at_rest, behind_opening};
 ghost use Rattle.client_work.specs.Session.{StepsOpening, opened_work};
 

@@ -1,7 +1,7 @@
 ghost use Rattle.std.specs.Prelude.{◌≡◌};
 ghost use Rattle.recover_run.specs.declared.home.Home.{Home as AnyHome};
 ghost use Rattle.page_ckpt.specs.Stepped.{Stepped as StepsPage};
-ghost use Rattle.client_work.specs.Causing.{PagingBy};
+ghost use Rattle.client_work.specs.Causes.{PagingBy};
 ghost use Rattle.client_work.specs.Left.{behind_page};
 ghost use Rattle.client_work.specs.Session.{StepsPaging, behind_paging};
 

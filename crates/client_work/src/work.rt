@@ -1,5 +1,5 @@
 ghost use Rattle.std.specs.Prelude.{◌≡◌, true, None};
-ghost use Rattle.client_work.specs.Causing.{MachineSteps};
+ghost use Rattle.client_work.specs.Causes.{MachineSteps};
 ghost use Rattle.client_work.specs.Left.{at_rest, behind_opening, behind_commit, behind_read, behind_scan, behind_look, behind_page, behind_tree};
 ghost use Rattle.client_work.specs.Session.{ShowsAt, StepsAt, behind_settling, behind_sweeping, ended_by, is_other, old_lease, rule_of, stopped_work};
 

@@ -9,10 +9,10 @@ use Rattle.page_cache.specs.Cache.{IsCache}
 use Rattle.tree_walk.specs.Walk.{KeepsServed}
 use Rattle.tree_walk.proofs.Demands.{ready_meets}
 use Rattle.commit_writes.specs.Writing.{with_home, first_leaves}
-use Rattle.commit_run.specs.Demanding.{MeetsFirst, PassesFirst, DemandsReady, behind_stop, behind_turn, MeetsNext, PassesNext, DemandsNext}
+use Rattle.commit_run.specs.Demands.{MeetsFirst, PassesFirst, DemandsReady, behind_stop, behind_turn, MeetsNext, PassesNext, DemandsNext}
 use Rattle.commit_run.specs.Run.{long_walk, walk_to}
 use Rattle.commit_run.proofs.Words.{key_of, Trouble, CommitAnswer, NotCommitted, Pending, Noted, Answer, Turn, More, Stopped, Next, Stops, LeadsBy, Took, Home, Cache, Walk, new_walk, walk_ready, walk_next, seeks, pages_of, Writing, waiting, is_spent, with_attempt, routed_of, passes, not_committed, begun, Draft, new_draft, planned, pruned_behind, leaf_noted, paged, Run, Led, held, is_stale, stale_at, troubled, walk_turned, begin_walks, begun_turn, by_turn, long_target, new_run, plan_on, refused, run_ready, seek, target_of, wrote}
-use Rattle.commit_run.proofs.Exacting.{EndsBy, troubled_by, led_by}
+use Rattle.commit_run.proofs.CallDemands.{EndsBy, troubled_by, led_by}
 
 -- behind the pages that are known without a walk stands the first change that seeks a leaf
 first_sought : (pending : List Pending) (changes : List Noted) → slice_get changes (length (pages_of pending [] changes)) ≡ find (seeks pending) changes

@@ -6,13 +6,13 @@ use Rattle.db_base.specs.declared.trouble.Trouble.TheVariants as trouble
 use Rattle.cloud_trait.specs.declared.turn.Turn.TheVariants.{Ended}
 use Rattle.tree_walk.specs.Walk.{HasAim}
 use Rattle.tree_walk.specs.Walk.{calls_left as walk_left}
-use Rattle.commit_writes.specs.Ending.{calls_left as writes_left}
-use Rattle.commit_run.specs.Draft.{IsWithin}
+use Rattle.commit_writes.specs.End.{calls_left as writes_left}
+use Rattle.commit_run.specs.Draft.{KnowsNoMore}
 use Rattle.commit_run.specs.Run.{IsHeld, walk_stopped}
-use Rattle.commit_run.specs.Ending.{walk_calls, written_calls, unknown, walks_and_writes, left_at, calls_left, most_calls}
+use Rattle.commit_run.specs.End.{walk_calls, written_calls, unknown, walks_and_writes, left_at, calls_left, most_calls}
 use Rattle.commit_run.proofs.Words.{Trouble, CommitAnswer, AtomicRec, Noted, Turn, More, Stopped, Next, Goes, Ends, Stops, Home, Cache, Walk, IsAtLeaf, sought, Writing, begun, log_or_open, routed_length, Draft, pruned_behind, planned, leaf_noted, paged, Run, held, new_run, target_of, next_target, troubled, plan_on, is_stale, stale_at, walk_turned, run_ready, Led}
 use Rattle.commit_run.proofs.Planning.{planned_within}
-use Rattle.commit_run.proofs.Holding.{same_target, all_known, one_left}
+use Rattle.commit_run.proofs.Hands.{same_target, all_known, one_left}
 use Rattle.commit_run.proofs.Outcomes as step
 use Rattle.commit_run.proofs.Outcomes.{NextRun, Begins, Plans, Starts, HasKept, used_kept, records_of, plans_on, starts}
 use Rattle.commit_run.proofs.Pages.{known_then, IsBehind, noted_behind, paged_behind, pruned_past}
@@ -74,7 +74,7 @@ begun_few w records walks many = on (slice_get records 0) where
 
 -- ---- planning on: each change whose leaf is not known then has a walk
 
-plan_most : (d : Draft) (c : Cache) (x : NextRun) (walks : ℕ) → IsWithin d → unknown (planned d) ≤ walks → Plans d c x → AtMost (walks_and_writes walks d.writes) x
+plan_most : (d : Draft) (c : Cache) (x : NextRun) (walks : ℕ) → KnowsNoMore d → unknown (planned d) ≤ walks → Plans d c x → AtMost (walks_and_writes walks d.writes) x
 plan_most d c x walks within few (step.seeks n y is begins) =
     begun_most false (planned d) c (target_of n) x walks (λ change. absurd (cc (change))) (λ long. omega (arith, few, slice_get_within d.writes.changes (length (planned d).plan.pages) n is)) begins
 plan_most d c x walks within few (step.full none e) = tt
@@ -134,7 +134,7 @@ goes_below left first d w c less = on first where
       subst (λ (k : ℕ). (walk_left w + 1) + ((k - 1) * walk_calls + written_calls (pruned_behind d w c).writes) < with_walk left false d) (sym unknown_so)
       (less_walk (walk_left w) left ((unknown d - 1) * walk_calls) (written_calls (pruned_behind d w c).writes) (written_calls d.writes) less (same_written d.writes (pruned_behind d w c).writes same))
 
-stopped_below : (left : ℕ) (first : Bool) (d : Draft) (w : Walk) (c : Cache) (t : Trouble) → IsWithin d → (first ≡ false → length d.plan.pages < length d.writes.changes)
+stopped_below : (left : ℕ) (first : Bool) (d : Draft) (w : Walk) (c : Cache) (t : Trouble) → KnowsNoMore d → (first ≡ false → length d.plan.pages < length d.writes.changes)
     → IsBelow (with_walk left first d) (walk_stopped first (pruned_behind d w c) c t)
 stopped_below left first d w c t within room = on (is_stale t) where
   troubled_so : (u : Trouble) → IsBelow (with_walk left first d) (troubled (pruned_behind d w c) c u)
@@ -149,14 +149,14 @@ stopped_below left first d w c t within room = on (is_stale t) where
   on true = stale first room
   on false = troubled_so t
 
-turned_below : (left : ℕ) (first : Bool) (d : Draft) (w : Walk) (c : Cache) (turn : Turn ℕ) → IsWithin d → (first ≡ false → length d.plan.pages < length d.writes.changes) → (turn ≡ More → walk_left w < left)
+turned_below : (left : ℕ) (first : Bool) (d : Draft) (w : Walk) (c : Cache) (turn : Turn ℕ) → KnowsNoMore d → (first ≡ false → length d.plan.pages < length d.writes.changes) → (turn ≡ More → walk_left w < left)
     → ((page : ℕ) → turn ≡ Ended page → (first ≡ false → next_target d ≡ Some (w.tree, sought w)) × IsAtLeaf w c page) → IsBelow (with_walk left first d) (walk_turned first d w c turn)
 turned_below left first d w c More within room less ends = goes_below left first d w c (less refl)
 turned_below left first d w c (Ended page) within room less ends =
     plan_below left first d (leaf_noted (pruned_behind d w c) w c page) c (noted_behind first d w c page within (ends page refl).0 (ends page refl).1)
 turned_below left first d w c (Stopped t) within room less ends = stopped_below left first d w c t within room
 
-held_within : (first : Bool) (d : Draft) (w : Walk) → IsHeld d (held first w) → IsWithin d
+held_within : (first : Bool) (d : Draft) (w : Walk) → IsHeld d (held first w) → KnowsNoMore d
 held_within true d w is = is.1
 held_within false d w is = omega (arith, one_left d (w.tree, sought w) is.1)
 

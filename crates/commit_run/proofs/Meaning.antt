@@ -10,7 +10,7 @@ use Rattle.commit_writes.proofs.Meaning.{came_knows as writes_know}
 use Rattle.commit_run.specs.Run.{next_at}
 use Rattle.commit_run.specs.Meaning.{IsWriting, MeansReady}
 use Rattle.commit_run.proofs.Words.{Trouble, CommitAnswer, NotCommitted, Noted, Answer, Turn, More, Stopped, Ask, Next, Goes, Ends, Stops, LeadsBy, Took, Came, Deed, Home, Cache, Walk, walk_ask, Writing, waiting, is_spent, passes, writing_ask, writing_next, Calls, told, Hand, Writes, First, Change, Draft, new_draft, Run, held, new_run, home_of, asks, ask_at, written, wrote, refused, run_ready, run_next, Led, KeepsHome, uses_of, walked_home, MeansWalks, Went}
-use Rattle.commit_run.proofs.Knowing.{KnowsOver, KnowsHeld, KnowsWrites, KnowsHand, KnowsNext, KnowsAt}
+use Rattle.commit_run.proofs.Knows.{KnowsOver, KnowsHeld, KnowsWrites, KnowsHand, KnowsNext, KnowsAt}
 use Rattle.commit_run.proofs.Planning.{no_leaves}
 use Rattle.commit_run.proofs.Reading.{begins_read}
 use Rattle.commit_run.proofs.Outcomes as step

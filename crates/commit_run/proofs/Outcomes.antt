@@ -9,7 +9,7 @@ use Rattle.page_cache.specs.Held.{root_at}
 use Rattle.route_plan.proofs.Places.{past_none}
 use Rattle.tree_walk.proofs.Causes.{ready_shows}
 use Rattle.tree_walk.proofs.Outcomes.{unended_ready}
-use Rattle.tree_walk.proofs.Walking.{IsTo, WalksBeside, next_walks, ready_walks}
+use Rattle.tree_walk.proofs.Stays.{IsTo, WalksBeside, next_walks, ready_walks}
 use Rattle.commit_run.specs.Draft.{pruned_by_root, pruned_by_kept, pruned_with}
 use Rattle.commit_run.specs.Run.{walking, walk_to, long_walk}
 use Rattle.commit_run.proofs.Words.{ObjName, Trouble, CommitAnswer, Leaf, Tree, AtomicRec, Noted, Answer, Stopped, Next, Goes, Ends, Stops, Home, Cache, leaf_at, LinkShows, Walk, IsWalk, new_walk, walk_ready, walk_next, Writing, waiting, with_attempt, is_spent, routed_of, passes, begun, log_or_open, not_committed, Draft, new_draft, pruned_behind, planned, leaf_noted, paged, Run, new_run, target_of, long_target, written, wrote, refused, troubled, by_turn, begun_turn, seek, plan_on, is_stale, stale_at, walk_turned, walked, begin_walks, run_ready}

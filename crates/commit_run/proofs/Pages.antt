@@ -5,7 +5,7 @@ use Rattle.std.specs.Option.{option_map}
 use Rattle.leaf_view.specs.Lookup.{holds}
 use Rattle.commit_run.specs.Ended.{page_at as ended_page}
 use Rattle.commit_run.specs.Plan.{Plan}
-use Rattle.commit_run.specs.Draft.{IsWithin, with_kept}
+use Rattle.commit_run.specs.Draft.{KnowsNoMore, with_kept}
 use Rattle.commit_run.proofs.Words.{Leaf, Noted, Cache, leaf_at, Walk, IsAtLeaf, sought, object_of, ended_of, pages_of, Draft, pruned_behind, planned, leaf_noted, paged, target_of, next_target}
 use Rattle.commit_run.proofs.Outcomes.{HasKept, used_kept}
 use Rattle.commit_run.proofs.Finding.{held_spans, found_last, next_found}
@@ -39,10 +39,10 @@ known_then false d = length d.plan.pages + 1
 -- a draft behind the walk in hand: of the same changes, with as many known leaves
 pub record IsBehind (first : Bool) (d e : Draft) : Type 0 where
   pub same : HasKept d.writes e.writes
-  pub within : IsWithin e
+  pub within : KnowsNoMore e
   pub known : known_then first d ≤ length (planned e).plan.pages
 
-pub noted_behind : (first : Bool) (d : Draft) (w : Walk) (c : Cache) (page : ℕ) → IsWithin d → (first ≡ false → next_target d ≡ Some (w.tree, sought w)) → IsAtLeaf w c page
+pub noted_behind : (first : Bool) (d : Draft) (w : Walk) (c : Cache) (page : ℕ) → KnowsNoMore d → (first ≡ false → next_target d ≡ Some (w.tree, sought w)) → IsAtLeaf w c page
     → IsBehind first d (leaf_noted (pruned_behind d w c) w c page)
 noted_behind first d w c page within target at = record { same = same; within = omega (arith, within, pages, ap length same.changes); known = on first target } where
   e : Draft
@@ -65,7 +65,7 @@ paged_behind d w c room =
     let pages : length (d.plan.pages ++ 1 ∷ []) ≡ length d.plan.pages + 1 = length-append d.plan.pages (1 ∷ []) in
     record { same = same; within = omega (arith, room, pages, ap length same.changes); known = omega (arith, pages, planned_more (paged (pruned_behind d w c) 1) 0 (omega arith)) }
 
-pub pruned_past : (d : Draft) (w : Walk) (c : Cache) → IsWithin d → IsBehind true d (pruned_behind d w c)
+pub pruned_past : (d : Draft) (w : Walk) (c : Cache) → KnowsNoMore d → IsBehind true d (pruned_behind d w c)
 pruned_past d w c within =
     let same : HasKept d.writes (pruned_behind d w c).writes = used_kept d.writes c w.used in
     record { same = same; within = omega (arith, within, ap length same.changes); known = omega (arith, planned_more (pruned_behind d w c) 0 (omega arith)) }

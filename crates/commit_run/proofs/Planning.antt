@@ -11,7 +11,7 @@ use Rattle.db_base.specs.Change.{goes_to_leaf}
 use Rattle.commit_run.specs.Plan.{has_pending}
 use Rattle.commit_run.specs.Meaning.{IsHeldAt, IsLeafOf}
 use Rattle.commit_run.proofs.Words.{key_of, Pending, Noted, Got, Get, seeks, page_without, pages_of, Trip, AreLeaves}
-use Rattle.commit_run.proofs.Knowing.{IsGotAt}
+use Rattle.commit_run.proofs.Knows.{IsGotAt}
 
 -- ---- more walks
 

@@ -13,7 +13,7 @@ use Rattle.page_cache.proofs.NameLemmas.{same_name-is}
 use Rattle.tree_walk.specs.Walk.{is_leaf, goes_on, got_read, accepted_by, passed, left_by, beside, rested}
 use Rattle.commit_run.specs.Trips.{OfTree, OfLeaf, use_of_root, use_of_leaf, WasRead, IsRead}
 use Rattle.commit_run.proofs.Words.{ObjName, Trouble, Leaf, Tree, Answer, Get, Next, Goes, Ends, Stops, Cache, as_leaf, Walk, object_of, walk_ask, walk_ready, walk_next, Calls, Use, used_in, left_by_turn, used_by_turn}
-use Rattle.commit_run.proofs.Knowing.{Kept, IsKeptRead, KeepsRead}
+use Rattle.commit_run.proofs.Knows.{Kept, IsKeptRead, KeepsRead}
 use Rattle.commit_run.proofs.Planning.{get_more, get_last, all_map}
 
 -- ---- at the begin

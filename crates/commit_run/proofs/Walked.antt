@@ -13,14 +13,14 @@ use Rattle.commit_run.specs.Draft.{pruned_by_root, pruned_by_kept, pruned_with, 
 use Rattle.commit_run.specs.Trips.{OfTree, OfLeaf, use_of_root, use_of_leaf, IsAimed}
 use Rattle.commit_run.specs.Meaning.{pruned_once, pruned_by, IsLeafOf}
 use Rattle.commit_run.proofs.Words.{ObjName, Trouble, Leaf, Tree, Noted, Answer, Ask, Get, Next, Goes, Ends, Stops, Home, Cache, leaf_at, LinkShows, Walk, sought, object_of, new_walk, walk_ask, walk_next, ended_of, Writing, waiting, begun, routed_of, passes, Calls, Draft, pruned_behind, planned, leaf_noted, paged, held, target_of, next_target, is_stale, walked, Use, used_in, left_by_turn, used_by_turn, Trip, uses_of, AreWalks, walked_home, AreLeaves}
-use Rattle.commit_run.proofs.Knowing.{KeepsRead, IsGotAt, KnowsDraft, KnowsOver, KnowsHeld, KnowsHand, KnowsNext}
+use Rattle.commit_run.proofs.Knows.{KeepsRead, IsGotAt, KnowsDraft, KnowsOver, KnowsHeld, KnowsHand, KnowsNext}
 use Rattle.commit_run.proofs.Planning.{get_last, all_more, ended_more, leaves_more, leaves_append, pages_leaves, planned_within}
-use Rattle.commit_run.proofs.Holding.{one_left, all_known, same_target}
+use Rattle.commit_run.proofs.Hands.{one_left, all_known, same_target}
 use Rattle.commit_run.proofs.Outcomes as step
 use Rattle.commit_run.proofs.Outcomes.{NextRun, records_of, Begins, Plans, Behind, Comes, comes}
 use Rattle.tree_walk.proofs.Served.{IsServedBy as IsServed, end_served}
 use Rattle.commit_run.proofs.Reading.{LeavesRead, ready_read, next_read}
-use Rattle.commit_run.proofs.Tripping.{uses_last, behind_last, begun_trip, walks_begin, gone_on, uses_on, walks_on}
+use Rattle.commit_run.proofs.Trips.{uses_last, behind_last, begun_trip, walks_begin, gone_on, uses_on, walks_on}
 
 -- ---- pruning
 

@@ -31,6 +31,6 @@ pub use Rattle.node_codec.specs.Tree.{Tree}
 pub use Rattle.page_cache.specs.Cache.{Cache}
 pub use Rattle.page_cache.specs.Held.{as_leaf, leaf_at}
 pub use Rattle.recover_run.specs.declared.home.Home.{Home}
-pub use Rattle.tree_walk.specs.Causing.{LinkShows}
+pub use Rattle.tree_walk.specs.Causes.{LinkShows}
 pub use Rattle.tree_walk.specs.Walk.{IsAtLeaf, IsWalk, Walk, new_walk, object_of, sought, walk_ask, walk_next, walk_ready}
 pub use Rattle.txn_buffer.specs.Noted.{Noted}

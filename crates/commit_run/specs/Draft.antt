@@ -19,8 +19,8 @@ abbrev pub new_draft : Writing → Draft
 new_draft w = record { writes = w; plan = empty_plan }
 
 -- no more leaves are known than there are changes
-abbrev pub IsWithin : Draft → Type 0
-IsWithin d = length d.plan.pages ≤ length d.writes.changes
+abbrev pub KnowsNoMore : Draft → Type 0
+KnowsNoMore d = length d.plan.pages ≤ length d.writes.changes
 
 -- ---- pruning
 

@@ -21,7 +21,7 @@ use Rattle.tree_walk.specs.Walk.{Walk, sought, new_walk, walk_ask, walk_ready, w
 use Rattle.commit_writes.specs.Writing.{Writing, waiting, numbered, is_spent, routing, finished, writing_ask, writing_next, opens_at}
 use Rattle.commit_run.specs.declared.hand.Hand.{Hand}
 use Rattle.commit_run.specs.declared.hand.Hand.TheVariants.{Writes, First, Change}
-use Rattle.commit_run.specs.Draft.{Draft, IsWithin, new_draft, pruned_behind, planned, leaf_noted, paged}
+use Rattle.commit_run.specs.Draft.{Draft, KnowsNoMore, new_draft, pruned_behind, planned, leaf_noted, paged}
 
 -- the draft, and what is in hand: a walk, or what the commit writes
 pub record Run : Type 0 where
@@ -45,7 +45,7 @@ next_target d = option_map target_of (slice_get d.writes.changes (length d.plan.
 -- while a walk is in hand the home has taken its number, and a walk for a change is for the next one
 abbrev pub IsHeld : Draft → Hand → Type 0
 IsHeld d Writes = Unit {0}
-IsHeld d (First w) = (1 ≤ d.writes.home.attempt) × IsWithin d
+IsHeld d (First w) = (1 ≤ d.writes.home.attempt) × KnowsNoMore d
 IsHeld d (Change w) = (1 ≤ d.writes.home.attempt) × (next_target d ≡ Some (w.tree, sought w))
 
 -- ---- the call in hand

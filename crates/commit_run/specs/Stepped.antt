@@ -19,16 +19,16 @@ use Rattle.commit_writes.specs.Writing.{Writing}
 use Rattle.commit_writes.specs.Calls.{told}
 use Rattle.commit_writes.specs.Meaning.{MeansTurn}
 use Rattle.commit_writes.specs.Stepped.{deed_of}
-use Rattle.commit_writes.specs.Well.{AreMarked, RaisesNoFault, AreGone}
+use Rattle.commit_writes.specs.Calm.{AreMarked, RaisesNoFault, AreGone}
 use Rattle.commit_run.specs.declared.hand.Hand.{Hand}
 use Rattle.commit_run.specs.declared.hand.Hand.TheVariants.{Writes, First, Change}
-use Rattle.commit_run.specs.Causing.{Causes}
-use Rattle.commit_run.specs.Demanding.{DemandsNext}
-use Rattle.commit_run.specs.Exact.{Exact, IsRefusing, IsAmple}
+use Rattle.commit_run.specs.Causes.{Causes}
+use Rattle.commit_run.specs.Demands.{DemandsNext}
+use Rattle.commit_run.specs.CallDemands.{Exact, IsRefusing, IsAmple}
 use Rattle.commit_run.specs.Meaning.{IsWriting, home_in, MeansWalks}
 use Rattle.commit_run.specs.Plain.{IsPlain, GoesPlainly}
 use Rattle.commit_run.specs.Run.{Run, home_of, asks, run_next, KeepsHome}
-use Rattle.commit_run.specs.Well.{EndsWell}
+use Rattle.commit_run.specs.Calm.{EndsWell}
 use Rattle.commit_run.specs.Within.{Went}
 
 -- Behind the walks: what is written are the records of sticky routing, and the calls behind the walks mean what they mean of these. Where all

@@ -46,7 +46,7 @@ IsNoGet d = GetsNothing d.ask
 
 -- the calls of a commit of so many changes, the newest first: those of at most one walk for each change and of one more, and behind them
 -- at most three for each change and two, which get nothing
-pub record IsWithin (changes : ℕ) (h : List Deed) : Type 0 where
+pub record RunsWithin (changes : ℕ) (h : List Deed) : Type 0 where
   pub walks : List (List Deed)
   pub writes : List Deed
   pub are : h ≡ writes ++ joined walks
@@ -59,4 +59,4 @@ pub record IsWithin (changes : ℕ) (h : List Deed) : Type 0 where
 abbrev pub Within : Run × Cache → Type 0
 Within m =
     (home : Home) (changes : List Noted) (c : Cache) (h : List Deed) → 1 ≤ length changes → Went home changes c h m → (call : Deed) → call.ask ≡ asks m
-    → IsWithin (length changes) (call ∷ h)
+    → RunsWithin (length changes) (call ∷ h)

@@ -122,10 +122,10 @@ impl Draft {
     ghost use Rattle.commit_writes.specs.Writing.{with_head, routing};
     ghost use Rattle.page_cache.specs.Cache.{Cache};
     ghost use Rattle.db_base.specs.declared.trouble.Trouble.{Trouble as AnyTrouble};
-    ghost use Rattle.commit_run.specs.Draft.{IsWithin, new_draft, pruned_behind, planned, leaf_noted, paged};
+    ghost use Rattle.commit_run.specs.Draft.{KnowsNoMore, new_draft, pruned_behind, planned, leaf_noted, paged};
     ghost use Rattle.commit_run.specs.Run.{Led, IsHeld, held, wrote, troubled, begun_turn, walk_to, seek, next_target, plan_on, stale_at, walk_stopped, walk_turned, long_target, begin_walks, run_ready, Keeps};
     ghost use Rattle.commit_run.specs.Stepped.{Stepped};
-    ghost use Rattle.commit_run.specs.Ending.{left_at};
+    ghost use Rattle.commit_run.specs.End.{left_at};
     ghost use Rattle.commit_writes.specs.Sound.{IsSound};
 
     /// The commit of changes, of which no leaf is known. Takes no memory.
@@ -178,7 +178,7 @@ impl Draft {
     fn advance(&mut self, alloc: Global) -> Result<(), AllocError>
         ensures ok { OnOk result (self.new ≡ planned self.old) }
         ensures writes { self.new.writes ≡ self.old.writes }
-        ensures within { IsWithin self.old → IsWithin self.new }
+        ensures within { KnowsNoMore self.old → KnowsNoMore self.new }
     {
         let pending = self.writes.home().head.pending.as_slice();
         self.plan.advance(alloc, pending, self.writes.changes())
@@ -227,7 +227,7 @@ impl Draft {
         to: (TreeId, Key),
     ) -> (Hand, Turn<CommitAnswer>)
         requires attempt { 1 ≤ self.old.writes.home.attempt }
-        requires within { IsWithin self.old }
+        requires within { KnowsNoMore self.old }
         requires aimed { first ≡ false → next_target self.old ≡ Some to }
         ensures led { Led (walk_to first self.old cache.old to) (record { draft = self.new; hand = result.0 }, cache.new) result.1 }
         ensures home { self.new.writes.home ≡ with_head self.old.writes.home self.new.writes.home.head }
@@ -266,7 +266,7 @@ impl Draft {
         to: Option<(TreeId, Key)>,
     ) -> (Hand, Turn<CommitAnswer>)
         requires attempt { 1 ≤ self.old.writes.home.attempt }
-        requires within { IsWithin self.old }
+        requires within { KnowsNoMore self.old }
         requires is { to ≡ next_target self.old }
         ensures led { Led (seek self.old cache.old to) (record { draft = self.new; hand = result.0 }, cache.new) result.1 }
         ensures home { self.new.writes.home ≡ with_head self.old.writes.home self.new.writes.home.head }
@@ -285,7 +285,7 @@ impl Draft {
         cache: &mut PageCache,
     ) -> (Hand, Turn<CommitAnswer>)
         requires attempt { 1 ≤ self.old.writes.home.attempt }
-        requires within { IsWithin self.old }
+        requires within { KnowsNoMore self.old }
         ensures led { Led (plan_on self.old cache.old) (record { draft = self.new; hand = result.0 }, cache.new) result.1 }
         ensures home { self.new.writes.home ≡ with_head self.old.writes.home self.new.writes.home.head }
         ensures held { IsHeld self.new result.0 }
@@ -307,7 +307,7 @@ impl Draft {
         first: bool,
     ) -> (Hand, Turn<CommitAnswer>)
         requires attempt { 1 ≤ self.old.writes.home.attempt }
-        requires within { IsWithin self.old }
+        requires within { KnowsNoMore self.old }
         requires room { first ≡ false → length self.old.plan.pages < length self.old.writes.changes }
         ensures led { Led (stale_at first self.old cache.old) (record { draft = self.new; hand = result.0 }, cache.new) result.1 }
         ensures home { self.new.writes.home ≡ with_head self.old.writes.home self.new.writes.home.head }
@@ -331,7 +331,7 @@ impl Draft {
         trouble: Trouble,
     ) -> (Hand, Turn<CommitAnswer>)
         requires attempt { 1 ≤ self.old.writes.home.attempt }
-        requires within { IsWithin self.old }
+        requires within { KnowsNoMore self.old }
         requires room { first ≡ false → length self.old.plan.pages < length self.old.writes.changes }
         ensures led { Led (walk_stopped first self.old cache.old trouble) (record { draft = self.new; hand = result.0 }, cache.new) result.1 }
         ensures home { self.new.writes.home ≡ with_head self.old.writes.home self.new.writes.home.head }
@@ -353,7 +353,7 @@ impl Draft {
         page: PageId,
     ) -> (Hand, Turn<CommitAnswer>)
         requires attempt { 1 ≤ self.old.writes.home.attempt }
-        requires within { IsWithin self.old }
+        requires within { KnowsNoMore self.old }
         ensures led { Led (plan_on (leaf_noted self.old walk.now cache.old page) cache.old) (record { draft = self.new; hand = result.0 }, cache.new) result.1 }
         ensures home { self.new.writes.home ≡ with_head self.old.writes.home self.new.writes.home.head }
         ensures held { IsHeld self.new result.0 }
@@ -374,7 +374,7 @@ impl Draft {
         turn: Turn<PageId>,
     ) -> (Hand, Turn<CommitAnswer>)
         requires attempt { 1 ≤ self.old.writes.home.attempt }
-        requires within { IsWithin self.old }
+        requires within { KnowsNoMore self.old }
         requires room { first ≡ false → length self.old.plan.pages < length self.old.writes.changes }
         requires aimed { turn ≡ Turn.More → IsHeld self.old (held first walk) }
         ensures led { Led (walk_turned first self.old walk cache.old turn) (record { draft = self.new; hand = result.0 }, cache.new) result.1 }
@@ -450,7 +450,7 @@ impl Draft {
         cache: &mut PageCache,
     ) -> (Hand, Turn<CommitAnswer>)
         requires attempt { 1 ≤ self.old.writes.home.attempt }
-        requires within { IsWithin self.old }
+        requires within { KnowsNoMore self.old }
         ensures led { Led (begin_walks self.old cache.old) (record { draft = self.new; hand = result.0 }, cache.new) result.1 }
         ensures home { self.new.writes.home ≡ with_head self.old.writes.home self.new.writes.home.head }
         ensures held { IsHeld self.new result.0 }

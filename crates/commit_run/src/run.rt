@@ -44,13 +44,13 @@ impl Model for CommitRun {
 
 impl CommitRun {
     ghost use Rattle.commit_run.specs.Run.{new_run, run_ask, run_ready, run_opens, home_of, Led, Keeps};
-    ghost use Rattle.commit_run.specs.Causing.{CausesReady};
-    ghost use Rattle.commit_run.specs.Demanding.{DemandsReady};
-    ghost use Rattle.commit_run.specs.Exact.{ExactReady};
-    ghost use Rattle.commit_run.specs.Names.{Names};
+    ghost use Rattle.commit_run.specs.Causes.{CausesReady};
+    ghost use Rattle.commit_run.specs.Demands.{DemandsReady};
+    ghost use Rattle.commit_run.specs.CallDemands.{ExactReady};
+    ghost use Rattle.commit_run.specs.Leases.{Names};
     ghost use Rattle.commit_run.specs.Stepped.{Stepped};
     ghost use Rattle.commit_run.specs.Within.{Within};
-    ghost use Rattle.commit_run.specs.Ending.{calls_left, most_calls};
+    ghost use Rattle.commit_run.specs.End.{calls_left, most_calls};
     ghost use Rattle.commit_run.specs.Sound.{IsSoundRun};
     ghost use Rattle.commit_run.specs.Meaning.{MeansReady};
     ghost use Rattle.recover_run.specs.declared.home.Home.{Home};

@@ -28,14 +28,14 @@ use Rattle.cloud_trait.specs.Views.{sent_of, done_of}
 use Rattle.cloud_trait.specs.Weather.{Fits}
 use Rattle.txn_buffer.specs.Noted.{Noted}
 use Rattle.recover_run.specs.declared.home.Home.{Home}
-use Rattle.recover_run.proofs.Keeping.{take_more}
+use Rattle.recover_run.proofs.KeptRecords.{take_more}
 use Rattle.commit_writes.specs.declared.stage.Stage.{Stage}
 use Rattle.commit_writes.specs.declared.stage.Stage.TheVariants.{Waiting, Logging, Opening, Sending, Settling, Deleting, Finished}
 use Rattle.commit_writes.specs.Writing.{Writing, waiting, with_head, before_of, restored, begun, writing_ask, writing_next, ask_at, next_at, head_ask, log_ask, send_ask, delete_ask, logged_by, opened_by, sent_by, settled_by, deleted_by, log_or_open, send_or_settle, delete_or_end, KeepsHome}
 use Rattle.commit_writes.specs.Calls.{Calls, told, log_of, logged_calls, post_of, posted_calls, deleted_calls, put_of, opened_of, settled_of, all_logged, all_opened, all_posted, all_settled}
 use Rattle.commit_writes.specs.Meaning.{WasTried, IsOpenAnswered, IsSettleAnswered, MeansTurn, Meant}
 use Rattle.commit_writes.specs.Within.{Went}
-use Rattle.commit_writes.proofs.Knowing.{KnowsLogging, KnowsOpening, KnowsSending, KnowsSettling, KnowsDeleting, KnowsAt, Knows, KnowsNext}
+use Rattle.commit_writes.proofs.Knows.{KnowsLogging, KnowsOpening, KnowsSending, KnowsSettling, KnowsDeleting, KnowsAt, Knows, KnowsNext}
 
 -- ---- lists of calls with one more
 

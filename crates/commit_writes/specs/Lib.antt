@@ -1,10 +1,10 @@
 pub mod Calls
-pub mod Ending
-pub mod Exact
+pub mod End
+pub mod Demands
 pub mod Meaning
-pub mod Names
+pub mod Leases
 pub mod Sound
 pub mod Stepped
-pub mod Well
+pub mod Calm
 pub mod Within
 pub mod Writing

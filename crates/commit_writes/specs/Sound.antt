@@ -47,7 +47,7 @@ pub record IsBefore (b : Before) : Type 0 where
   pub counters : AreCounters None b.counters
 
 -- what a commit keeps: a change is there, what it sends and puts has spellings, and the bytes in hand are those of the call that they are for
-pub record IsKept (w : Writing) : Type 0 where
+pub record KeepsSound (w : Writing) : Type 0 where
   pub some : 1 ≤ length w.changes
   pub few : length w.records ≤ 200
   pub before : IsBefore w.before

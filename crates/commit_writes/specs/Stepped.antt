@@ -9,8 +9,8 @@ use Rattle.cloud_trait.specs.Weather.{Makes}
 use Rattle.cloud_trait.specs.Machine.{LeadsBy, Took, Deed}
 use Rattle.commit_writes.specs.Writing.{Writing, writing_ask, writing_next, KeepsHome}
 use Rattle.commit_writes.specs.Meaning.{Meant}
-use Rattle.commit_writes.specs.Exact.{Exact, IsAmple}
-use Rattle.commit_writes.specs.Well.{Well, Marks, Clears}
+use Rattle.commit_writes.specs.Demands.{Exact, IsAmple}
+use Rattle.commit_writes.specs.Calm.{Well, Marks, Clears}
 
 -- a call that a step made
 abbrev pub deed_of : Caller → Ask → Answer → Seen → Seen → Deed

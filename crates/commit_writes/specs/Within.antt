@@ -13,5 +13,5 @@ Went home records h w =
     × Came writing_ask (LeadsBy writing_next) start h w
 
 -- the next call is one of three for each record and of two more
-abbrev pub IsWithin : List AtomicRec → List Deed → Type 0
-IsWithin records h = length h + 1 ≤ 3 * length records + 2
+abbrev pub WritesWithin : List AtomicRec → List Deed → Type 0
+WritesWithin records h = length h + 1 ≤ 3 * length records + 2

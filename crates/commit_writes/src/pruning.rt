@@ -11,7 +11,7 @@ use recover_run::home::Home;
 use route_plan::prune::{prune_leaf, prune_tree};
 
 /// Removes the pending entries of the home's head that a leaf of a tree shows to be applied.
-#[tactic(auto, using(crate::proofs::Keeping::leaf_pruned_spelled))]
+#[tactic(auto, using(crate::proofs::Spelled::leaf_pruned_spelled))]
 pub(crate) fn prune_home_leaf(home: &mut Home, tree: TreeId, view: &LeafView<'_>)
     ensures { home.new ≡ with_head home.old (pruned_by_leaf home.old.head home.old.client tree view.now) }
 {
@@ -20,7 +20,7 @@ pub(crate) fn prune_home_leaf(home: &mut Home, tree: TreeId, view: &LeafView<'_>
 }
 
 /// Removes the pending entries of the home's head that a tree object shows to be applied.
-#[tactic(auto, using(crate::proofs::Keeping::tree_pruned_spelled))]
+#[tactic(auto, using(crate::proofs::Spelled::tree_pruned_spelled))]
 pub(crate) fn prune_home_tree(home: &mut Home, tree: TreeId, view: &TreeView<'_>)
     ensures { home.new ≡ with_head home.old (pruned_by_tree home.old.head home.old.client tree view.now) }
 {

@@ -60,7 +60,7 @@ pub(crate) fn what_changes(alloc: Global, head: &Head) -> Result<Saved, AllocErr
 }
 
 /// Makes the home's head the one that commits the records, and gives its bytes. After an `Err` the head may be either.
-#[tactic(auto, using(crate::proofs::Keeping::opened_spelled))]
+#[tactic(auto, using(crate::proofs::Spelled::opened_spelled))]
 pub(crate) fn open_home(
     alloc: Global,
     home: &mut Home,
@@ -90,7 +90,7 @@ pub(crate) fn copy_of(alloc: Global, bytes: &Blob) -> Option<Blob>
 
 /// Makes the home's head the one that settles the records, and gives its bytes; `before` are those of the head as it was, where they
 /// are kept. After an `Err` the head may be either.
-#[tactic(auto, using(crate::proofs::Keeping::settled_spelled, crate::proofs::Keeping::was_open))]
+#[tactic(auto, using(crate::proofs::Spelled::settled_spelled, crate::proofs::Spelled::was_open))]
 pub(crate) fn settle_home(
     alloc: Global,
     home: &mut Home,

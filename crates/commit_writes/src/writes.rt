@@ -65,23 +65,23 @@ impl Drop for CommitWrites {
 
 impl Model for CommitWrites {
     ghost use Rattle.commit_writes.specs.Writing.{Writing};
-    ghost use Rattle.commit_writes.specs.Sound.{IsKept, IsSpelled};
+    ghost use Rattle.commit_writes.specs.Sound.{KeepsSound, IsSpelled};
 
     ghost Value = { Writing };
 
     ghost view = { λ w. record { home = w.home; before = record { txn = w.before.txn; phase = w.before.phase; counters = w.before.counters.items }; changes = w.changes; stage = w.stage; records = w.records.items; place = w.place; ids = w.ids.items; out = w.out } };
 
-    ghost invariant = { λ w. IsKept (record { home = w.home; before = record { txn = w.before.txn; phase = w.before.phase; counters = w.before.counters.items }; changes = w.changes; stage = w.stage; records = w.records.items; place = w.place; ids = w.ids.items; out = w.out }) × IsSpelled w.home.head w.records.items w.spelled };
+    ghost invariant = { λ w. KeepsSound (record { home = w.home; before = record { txn = w.before.txn; phase = w.before.phase; counters = w.before.counters.items }; changes = w.changes; stage = w.stage; records = w.records.items; place = w.place; ids = w.ids.items; out = w.out }) × IsSpelled w.home.head w.records.items w.spelled };
 }
 
 impl CommitWrites {
     ghost use Rattle.commit_writes.specs.Writing.{Writing, waiting, routing, begun, writing_ask, writing_next, log_at, opening, send_at, settling, delete_at, logged_by, opened_by, sent_by, settled_by, deleted_by, not_committed, left_open, closed_again, finished, KeepsHome, is_spent, numbered, pruned, opens_at};
     ghost use Rattle.route_plan.specs.Prune.{pruned_by_leaf, pruned_by_tree};
-    ghost use Rattle.commit_writes.specs.Ending.{calls_left};
+    ghost use Rattle.commit_writes.specs.End.{calls_left};
     ghost use Rattle.commit_writes.specs.Sound.{IsSound};
-    ghost use Rattle.commit_writes.specs.Within.{Went, IsWithin};
-    ghost use Rattle.commit_writes.specs.Exact.{IsRefusal};
-    ghost use Rattle.commit_writes.specs.Names.{IsOwnCall};
+    ghost use Rattle.commit_writes.specs.Within.{Went, WritesWithin};
+    ghost use Rattle.commit_writes.specs.Demands.{IsRefusal};
+    ghost use Rattle.commit_writes.specs.Leases.{IsOwnCall};
     ghost use Rattle.commit_writes.specs.Stepped.{Stepped};
     ghost use Rattle.recover_run.specs.declared.home.Home.{Home as AnyHome};
     ghost use Rattle.log_codec.specs.declared.record.AtomicRec.{AtomicRec as AnyRecord};
@@ -497,7 +497,7 @@ impl CommitWrites {
         ensures stepped { Stepped who (C.seen cloud.old) (C.seen cloud.new) self.old self.new result }
         ensures sound { IsSound self.old }
         ensures less { result ≡ Turn.More → calls_left self.new < calls_left self.old }
-        ensures within { (home : AnyHome) (records : List AnyRecord) (h : List Deed) → Went home records h self.old → IsWithin records h }
+        ensures within { (home : AnyHome) (records : List AnyRecord) (h : List Deed) → Went home records h self.old → WritesWithin records h }
         ensures names { IsOwnCall self.old.home (writing_ask self.old) }
     {
         let answer = self.call(cloud, who);

@@ -72,7 +72,7 @@ each_tree tree ((s ∷ rest) ∷ contents) some most all = (
 -- ---- one tree further
 
 -- the contents of the trees up to a number, and that their chains are whole
-pub record Holds (s : CloudState) (n : ℕ) (contents : List (List Stored)) : Type 0 where
+pub record HoldsUpto (s : CloudState) (n : ℕ) (contents : List (List Stored)) : Type 0 where
   pub are : AreContents s 1 contents
   pub whole : (tree : ℕ) → IsTree tree → tree < n + 1 → ChainIsWhole s tree
 
@@ -82,7 +82,7 @@ pub record Collects (before : Seen) (n : ℕ) (trees : List DumpedTree) : Type 0
   pub all : length contents ≡ n
   pub records : AllByRecursion AreRecords contents
   pub is : trees ≡ dump_of contents
-  pub sees : Sees before (pages_to n) no_queue (λ s. Holds s n contents)
+  pub sees : Sees before (pages_to n) no_queue (λ s. HoldsUpto s n contents)
 
 pub collects_none : (before : Seen) → Collects before 0 []
 collects_none before = record {
@@ -90,7 +90,7 @@ collects_none before = record {
   all = refl;
   records = tt;
   is = refl;
-  sees = sees_always before (pages_to 0) no_queue (λ s. Holds s 0 []) (λ s. record { are = tt; whole = λ tree is less. absurd (omega (arith, is.some, less)) });
+  sees = sees_always before (pages_to 0) no_queue (λ s. HoldsUpto s 0 []) (λ s. record { are = tt; whole = λ tree is less. absurd (omega (arith, is.some, less)) });
 }
 
 pub contents_slip : (before : Seen) (trouble : Trouble) → (trouble ≡ Failed) ⊎ (trouble ≡ Memory) → Sees before (pages_to 16) no_queue (ContentsFound (Err trouble))
@@ -101,14 +101,14 @@ contents_slip before trouble slip = sees_always before (pages_to 16) no_queue (C
     on s (inr memory) = inr (inl memory)
 
 module _ (before : Seen) (n tree : ℕ) (is : tree ≡ n + 1) (less : n < 16) (trees : List DumpedTree) (here : Collects before n trees) where
-  tree_seen : (Next : CloudState → Type 0) → Shown before (object.Page tree) Next → Sees before (pages_to (n + 1)) no_queue (λ s. Holds s n here.contents × Next s)
-  tree_seen Next look = sees_both before (pages_to n) (pages_of tree) (pages_to (n + 1)) no_queue no_queue no_queue (λ s. Holds s n here.contents) Next
+  tree_seen : (Next : CloudState → Type 0) → Shown before (object.Page tree) Next → Sees before (pages_to (n + 1)) no_queue (λ s. HoldsUpto s n here.contents × Next s)
+  tree_seen Next look = sees_both before (pages_to n) (pages_of tree) (pages_to (n + 1)) no_queue no_queue no_queue (λ s. HoldsUpto s n here.contents) Next
       (pages_more n tree is) no_queues here.sees (sees_pages before tree Next look)
 
   at : 1 + length here.contents ≡ tree
   at = let all : length here.contents ≡ n = here.all in omega (arith, all, is)
 
-  chain_stops : (trouble : Trouble) (s : CloudState) → Holds s n here.contents × LeavesFound tree (Err trouble) s → SlipOr (ChainIsDamaged s trouble) trouble
+  chain_stops : (trouble : Trouble) (s : CloudState) → HoldsUpto s n here.contents × LeavesFound tree (Err trouble) s → SlipOr (ChainIsDamaged s trouble) trouble
   chain_stops trouble s h = on h.1
     where
       on : SlipOr (ChainStops s tree trouble) trouble → SlipOr (ChainIsDamaged s trouble) trouble
@@ -123,7 +123,7 @@ module _ (before : Seen) (n tree : ℕ) (is : tree ≡ n + 1) (less : n < 16) (t
 
   pub contents_stop : (trouble : Trouble) → Shown before (object.Page tree) (LeavesFound tree (Err trouble)) → Sees before (pages_to 16) no_queue (ContentsFound (Err trouble))
   contents_stop trouble look = sees_wider before (pages_to (n + 1)) (pages_to 16) no_queue no_queue (ContentsFound (Err trouble)) (pages_within (n + 1) 16 (omega (arith, less))) (λ q h. h)
-      (sees_so before (pages_to (n + 1)) no_queue (λ s. Holds s n here.contents × LeavesFound tree (Err trouble) s) (ContentsFound (Err trouble)) (chain_stops trouble)
+      (sees_so before (pages_to (n + 1)) no_queue (λ s. HoldsUpto s n here.contents × LeavesFound tree (Err trouble) s) (ContentsFound (Err trouble)) (chain_stops trouble)
       (tree_seen (LeavesFound tree (Err trouble)) look))
 
   module _ (records : List Stored) (look : Shown before (object.Page tree) (LeavesFound tree (Ok records))) where
@@ -131,7 +131,7 @@ module _ (before : Seen) (n tree : ℕ) (is : tree ≡ n + 1) (less : n < 16) (t
     records_are = let f = found before (pages_of tree) no_queue (LeavesFound tree (Ok records)) (sees_pages before tree (LeavesFound tree (Ok records)) look) in
         are_records f.state tree records f.holds.0 f.holds.1
 
-    holds_more : (s : CloudState) → Holds s n here.contents × LeavesFound tree (Ok records) s → Holds s (n + 1) (here.contents ++ records ∷ [])
+    holds_more : (s : CloudState) → HoldsUpto s n here.contents × LeavesFound tree (Ok records) s → HoldsUpto s (n + 1) (here.contents ++ records ∷ [])
     holds_more s h = record {
       are = contents_more s 1 here.contents records h.0.are (subst (λ (t : ℕ). Walked s t 0 records) (sym at) h.1.0);
       whole = λ t valid below. on t valid below (cases_lt t (n + 1));
@@ -148,13 +148,13 @@ module _ (before : Seen) (n tree : ℕ) (is : tree ≡ n + 1) (less : n < 16) (t
       records = all_more here.contents records here.records records_are;
       is = e ∙ (ap (λ (ts : List DumpedTree). ts ++ trees_from tree (records ∷ [])) here.is
           ∙ (ap (λ (t : ℕ). dump_of here.contents ++ trees_from t (records ∷ [])) (sym at) ∙ sym (trees_more 1 here.contents records)));
-      sees = sees_so before (pages_to (n + 1)) no_queue (λ s. Holds s n here.contents × LeavesFound tree (Ok records) s) (λ s. Holds s (n + 1) (here.contents ++ records ∷ [])) holds_more
+      sees = sees_so before (pages_to (n + 1)) no_queue (λ s. HoldsUpto s n here.contents × LeavesFound tree (Ok records) s) (λ s. HoldsUpto s (n + 1) (here.contents ++ records ∷ [])) holds_more
           (tree_seen (LeavesFound tree (Ok records)) look);
     }
 
 module _ (before : Seen) (trees : List DumpedTree) (h : Collects before 16 trees) where
   pub contents_end : Sees before (pages_to 16) no_queue (ContentsFound (Ok trees))
-  contents_end = sees_so before (pages_to 16) no_queue (λ s. Holds s 16 h.contents) (ContentsFound (Ok trees)) (λ s holds. record { contents = h.contents; all = h.all; are = holds.are; is = h.is }) h.sees
+  contents_end = sees_so before (pages_to 16) no_queue (λ s. HoldsUpto s 16 h.contents) (ContentsFound (Ok trees)) (λ s holds. record { contents = h.contents; all = h.all; are = holds.are; is = h.is }) h.sees
 
   pub dumpable : IsDumpable trees
   dumpable = subst IsDumpable (sym h.is) (record {

@@ -2,7 +2,7 @@
 use Rattle.std.proofs.Common.{◌≡◌, ℕ, List, sym, ap, subst}
 use Rattle.byte_format.proofs.Wholes.{whole_only}
 use Rattle.leaf_view.specs.Leaf.{Leaf, IsLeaf, leaf}
-use Rattle.leaf_view.proofs.Exactness.{leaf_exact}
+use Rattle.leaf_view.proofs.Exact.{leaf_exact}
 use Rattle.leaf_edit.specs.Buffer.{leaf_from, leaf_in, IsWritten}
 
 pub leaf_in_is : (bytes : List ℕ) (l : Leaf) → IsLeaf bytes l → leaf_in bytes ≡ l

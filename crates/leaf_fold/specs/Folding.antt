@@ -26,8 +26,8 @@ use Rattle.leaf_fold.specs.declared.folding.Left.TheVariants.{Right, Handled}
 use Rattle.leaf_fold.specs.declared.plan.LeafPlan.{LeafPlan}
 use Rattle.leaf_fold.specs.Plan.{leaf_plan}
 
-abbrev pub Step : Type 0
-Step = Next Folding Left
+abbrev pub FoldingStep : Type 0
+FoldingStep = Next Folding Left
 
 abbrev pub no_placing : Placing
 no_placing = record { reserved = None; puts = [] }
@@ -58,7 +58,7 @@ turned f high right = record f {
 }
 
 -- to the page on the right, which no way may come to twice
-abbrev pub to_right : Folding → List ℕ → ℕ → Step
+abbrev pub to_right : Folding → List ℕ → ℕ → FoldingStep
 to_right f high right = if (right == f.page) || is_seen f.visited right then Stops f (trouble.Loop right) else Ends (turned f high right) (Right high right)
 
 -- the keys below the high key are handled, all keys where there is none
@@ -73,34 +73,34 @@ put_planned f items p = record f {
   lacked = items;
 }
 
-abbrev pub planned : Folding → Option (List ℕ) → List PuItem → Result LeafPlan Trouble → Step
+abbrev pub planned : Folding → Option (List ℕ) → List PuItem → Result LeafPlan Trouble → FoldingStep
 planned f high items (Ok p) = Goes (put_planned (handled_to f high) items p)
 planned f high items (Err t) = Stops f t
 
 -- a leaf that lacks nothing of the run stays as it is
-abbrev pub handled_by : Folding → Leaf → List PuItem → Step
+abbrev pub handled_by : Folding → Leaf → List PuItem → FoldingStep
 handled_by f l [] = Ends (handled_to f l.high) Handled
 handled_by f l (x ∷ xs) = planned f l.high (x ∷ xs) (leaf_plan (tree_held f.chart.root) f.page l f.chart.run.items)
 
-abbrev pub handle : Folding → Leaf → Step
+abbrev pub handle : Folding → Leaf → FoldingStep
 handle f l = handled_by f l (lacked l 0 f.chart.run.items)
 
 -- to the right where there is a right page and the key is not below the high key
-abbrev pub leaf_side : Folding → Leaf → Option (List ℕ) → Option ℕ → Step
+abbrev pub leaf_side : Folding → Leaf → Option (List ℕ) → Option ℕ → FoldingStep
 leaf_side f l None right = handle f l
 leaf_side f l (Some high) None = handle f l
 leaf_side f l (Some high) (Some right) = if bytes_below f.chart.key high then handle f l else to_right f high right
 
 -- the leaf is checked against what led to it
-abbrev pub leaf_at : Folding → Leaf → Step
+abbrev pub leaf_at : Folding → Leaf → FoldingStep
 leaf_at f l = if bytes_same l.low f.low then leaf_side f l l.high (page_at l.right) else Stops f (bad_low f l.low)
 
-abbrev pub leaf_found : Folding → Result Leaf Trouble → Step
+abbrev pub leaf_found : Folding → Result Leaf Trouble → FoldingStep
 leaf_found f (Ok l) = leaf_at f l
 leaf_found f (Err t) = Stops f t
 
 -- after the held get of the leaf: an absent page 1 is the empty leaf
-abbrev pub leaf_got : Folding → Result (Option (List ℕ)) Trouble → Step
+abbrev pub leaf_got : Folding → Result (Option (List ℕ)) Trouble → FoldingStep
 leaf_got f (Ok (Some bytes)) = leaf_found f (leaf_read f.chart.tree f.page bytes)
 leaf_got f (Ok None) = if f.page == 1 then leaf_at f empty_leaf else Stops f (trouble.Absent f.page)
 leaf_got f (Err t) = Stops f t
@@ -115,14 +115,14 @@ abbrev pub counted : Folding → Folding
 counted f = record f { chart = record f.chart { applied = f.chart.applied + length f.lacked }; lacked = [] }
 
 -- with the last put the leaf's part of the run is handled
-abbrev pub placed : Folding → Step
+abbrev pub placed : Folding → FoldingStep
 placed f = if has_one_page f.placing then Ends (counted (landed f)) Handled else Goes (landed f)
 
-abbrev pub leaf_put : {A : Type 0} → Folding → Result A Trouble → Step
+abbrev pub leaf_put : {A : Type 0} → Folding → Result A Trouble → FoldingStep
 leaf_put f (Ok _) = placed f
 leaf_put f (Err t) = Stops f t
 
 -- ---- the machine
 
-abbrev pub folding_next : Folding → Answer → Step
+abbrev pub folding_next : Folding → Answer → FoldingStep
 folding_next f a = if has_nothing f.placing then leaf_got f (got_of a) else leaf_put f (done_of a)

@@ -1,4 +1,4 @@
-pub mod Exactness
+pub mod Exact
 pub mod Spelled
 pub mod Split
 pub mod Reading

@@ -16,7 +16,7 @@ use Rattle.leaf_view.specs.Fits.{IsWellFormed}
 use Rattle.leaf_view.specs.Lookup.{empty_leaf}
 use Rattle.leaf_view.specs.Sound.{leaf_with, IsSound}
 use Rattle.leaf_view.specs.Spelled.{records_spelling}
-use Rattle.leaf_view.proofs.Exactness.{head_exact, done_exact, record_exact, leaf_exact, plain_done_exact, plain_entry_exact}
+use Rattle.leaf_view.proofs.Exact.{head_exact, done_exact, record_exact, leaf_exact, plain_done_exact, plain_entry_exact}
 use Rattle.leaf_view.proofs.Spelled.{all-read}
 use Rattle.leaf_view.proofs.Split.{range_from, dones_split, leaf_fits}
 

@@ -10,7 +10,7 @@ use Rattle.byte_format.proofs.Lists.{more_takes, list_exact}
 use Rattle.byte_format.proofs.Plain.{listed_of, split_is}
 use Rattle.leaf_view.specs.Leaf.{Entry, plain_entry}
 use Rattle.leaf_view.specs.Spelled.{records_spelling, IsAll}
-use Rattle.leaf_view.proofs.Exactness.{plain_entry_exact}
+use Rattle.leaf_view.proofs.Exact.{plain_entry_exact}
 
 none : (rest : List ℕ) → length rest ≡ 0 → rest ≡ []
 none [] h = refl

@@ -26,13 +26,13 @@ use Rattle.recover_run.specs.declared.home.Home.{Home}
 use Rattle.replay_meaning.specs.Kinds.{IsOfKind, LandsOpen}
 use Rattle.replay_meaning.specs.Standing.{Line, Closed as Shut, Idle as Resting, Standing, standing}
 use Rattle.report_types.specs.declared.entry.Entry.{Entry}
-use Rattle.session_facts.proofs.CommittedLemmas.{slice_get-append_left}
-use Rattle.session_facts.proofs.Once.{at_place, lands_same}
-use Rattle.session_facts.specs.Facts.{IsPlaced, IsPlacedAt, WorksAs}
-use Rattle.session_facts.specs.Opened.{AddsApart, WorksFor, MayHaveOpened, with_rows}
-use Rattle.session_facts.specs.Sessions.Sessions.{Sessions}
+use Rattle.session_facts.proofs.Lines.Committed.{slice_get-append_left}
+use Rattle.session_facts.proofs.Rows.Once.{at_place, lands_same}
+use Rattle.session_facts.specs.Lines.Facts.{IsPlaced, IsPlacedAt, WorksAs}
+use Rattle.session_facts.specs.Rows.Opened.{AddsApart, WorksFor, MayHaveOpened, with_rows}
+use Rattle.session_facts.specs.Sessions.Knows.{Sessions}
 use Rattle.txn_buffer.specs.Noted.{Noted}
-use Rattle.load_facts.proofs.Lines.{CommitsParts, EndsAt}
+use Rattle.load_facts.proofs.Lines.{CommitsParts, EndsPart}
 use Rattle.load_facts.proofs.Messages.{SentAs, IsSent, AllBounded}
 use Rattle.load_facts.proofs.Numbered.{Numbered}
 use Rattle.load_facts.proofs.Rows.{row_counts, row_part}
@@ -147,7 +147,7 @@ rows_bounded Was t x f seen home most none told h rests client number place row 
     one : (a b : CloudState) → Some a ≡ Some b → a ≡ b
     one a b e = cc
 
-module _ (parts : List (List Noted)) (lines : List Line) (last : ℕ) (ends : EndsAt parts lines last) (commits : CommitsParts parts lines) (x u : CloudState)
+module _ (parts : List (List Noted)) (lines : List Line) (last : ℕ) (ends : EndsPart parts lines last) (commits : CommitsParts parts lines) (x u : CloudState)
     (kinds : All (IsOfKind lines u) u.trace) (agree : AgreeUpto last x u) (begins : (name : ObjName) → BeginsWith (x.versions name) (u.versions name))
     (placed : All (IsPlaced x.versions) x.trace) where
   -- so are all rows behind them, since no later one opens a transaction

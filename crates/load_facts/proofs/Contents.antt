@@ -18,10 +18,10 @@ use Rattle.report_types.specs.declared.stored.Stored.{Stored}
 use Rattle.replay_meaning.specs.Committed.{committed}
 use Rattle.replay_meaning.specs.Right.{HoldsAll, stored_below}
 use Rattle.replay_meaning.specs.Standing.{Line}
-use Rattle.session_facts.proofs.LeftLemmas.{nothing_left}
+use Rattle.session_facts.proofs.Reports.Left.{nothing_left}
 use Rattle.session_facts.proofs.Sessions.Laws.{reports, chains, decodes, gones, numbers}
-use Rattle.session_facts.specs.Facts.{Stands}
-use Rattle.session_facts.specs.Sessions.Sessions.{Sessions, SessionsStand}
+use Rattle.session_facts.specs.Lines.Facts.{Stands}
+use Rattle.session_facts.specs.Sessions.Knows.{Sessions, SessionsStand}
 use Rattle.replay_meaning.specs.Chain.{Walked, records_of}
 use Rattle.world_audit.specs.Counts.{heads_upto, AreWaiting}
 use Rattle.load_facts.specs.Inserts.{InsertAll}

@@ -43,14 +43,14 @@ abbrev pub changes_of : List Placed → List Noted
 changes_of part = map noted_of part
 
 -- a load went on to these lines, with these transactions, and goes on so
-record Went (parts : List (List Noted)) (buffer : List Noted) (events : List Event) (after : List Line) : Type 0 where
+record WentOn (parts : List (List Noted)) (buffer : List Noted) (events : List Event) (after : List Line) : Type 0 where
   mid : List Line
   loads : Loads parts mid buffer
   goes : Goes events mid after
 
 -- the inserts of a part
 inserts_go : (part : List Placed) (events : List Event) (parts : List (List Noted)) (buffer : List Noted) (lines after : List Line) → Goes (map insert_of part ++ events) lines after
-    → Loads parts lines buffer → Went parts (noted_all buffer (changes_of part)) events after
+    → Loads parts lines buffer → WentOn parts (noted_all buffer (changes_of part)) events after
 inserts_go [] events parts buffer lines after go h = record { mid = lines; loads = h; goes = go }
 inserts_go (p ∷ part) events parts buffer lines after (goes_alone _ _ r _ _ never good fair go) h =
     inserts_go part events parts _ (lines ++ record { event = insert_of p; reply = reply.Noted } ∷ []) after
@@ -60,7 +60,7 @@ inserts_go (p ∷ part) events parts buffer lines after (goes_run _ _ r _ _ good
 
 -- the commit
 commit_goes : (events : List Event) (parts : List (List Noted)) (buffer : List Noted) (lines after : List Line) → Goes (event.Commit 1 ∷ events) lines after → 1 ≤ length buffer
-    → Loads parts lines buffer → Went (parts ++ buffer ∷ []) [] events after
+    → Loads parts lines buffer → WentOn (parts ++ buffer ∷ []) [] events after
 commit_goes events parts buffer lines after (goes_alone _ _ r _ _ never good fair go) some h =
     let noted : length (standing lines 1).buffer ≡ length buffer = ap (λ (s : Standing). length s.buffer) h.is.own_is in
     absurd (fair refl (omega arith) good.0 good.1)
@@ -72,7 +72,7 @@ commit_goes events parts buffer lines after (goes_run _ _ r _ _ good fair go) so
 
 -- a renewal
 renew_goes : (events : List Event) (parts : List (List Noted)) (buffer : List Noted) (lines after : List Line) → Goes (event.Renew 1 ∷ events) lines after → Loads parts lines buffer
-    → Went parts buffer events after
+    → WentOn parts buffer events after
 renew_goes events parts buffer lines after (goes_alone _ _ r _ _ never good fair go) h =
     record { mid = _; loads = passes_alone parts lines buffer (event.Renew 1) Renewing r refl (λ q s. refl) (λ q n. refl) (λ q. refl) never h; goes = go }
 renew_goes events parts buffer lines after (goes_run _ _ r _ _ good fair go) h =
@@ -80,7 +80,7 @@ renew_goes events parts buffer lines after (goes_run _ _ r _ _ good fair go) h =
 
 -- a checkpoint
 checkpoint_goes : (tree : ℕ) (events : List Event) (parts : List (List Noted)) (buffer : List Noted) (lines after : List Line) → Goes (event.Tree 1 tree ∷ events) lines after
-    → Loads parts lines buffer → Went parts buffer events after
+    → Loads parts lines buffer → WentOn parts buffer events after
 checkpoint_goes tree events parts buffer lines after (goes_alone _ _ r _ _ never good fair go) h =
     record { mid = _; loads = passes_alone parts lines buffer (event.Tree 1 tree) (Folding tree) r refl (λ q s. refl) (λ q n. refl) (λ q. refl) never h; goes = go }
 checkpoint_goes tree events parts buffer lines after (goes_run _ _ r _ _ good fair go) h =
@@ -88,13 +88,13 @@ checkpoint_goes tree events parts buffer lines after (goes_run _ _ r _ _ good fa
 
 -- the checkpoints of a part
 checkpoints_go : (last : ℕ) (part : List Placed) (events : List Event) (parts : List (List Noted)) (buffer : List Noted) (lines after : List Line)
-    → Goes (checkpoints_from last part ++ events) lines after → Loads parts lines buffer → Went parts buffer events after
+    → Goes (checkpoints_from last part ++ events) lines after → Loads parts lines buffer → WentOn parts buffer events after
 checkpoints_go last [] events parts buffer lines after go h = record { mid = lines; loads = h; goes = go }
 checkpoints_go last (p ∷ part) events parts buffer lines after go h =
     on (λ mid next k. checkpoints_go p.tree part events parts buffer mid after next k) (p.tree == last) go
   where
-    on : ((mid : List Line) → Goes (checkpoints_from p.tree part ++ events) mid after → Loads parts mid buffer → Went parts buffer events after)
-        → (b : Bool) → Goes ((cond b [] (event.Tree 1 p.tree ∷ []) ++ checkpoints_from p.tree part) ++ events) lines after → Went parts buffer events after
+    on : ((mid : List Line) → Goes (checkpoints_from p.tree part ++ events) mid after → Loads parts mid buffer → WentOn parts buffer events after)
+        → (b : Bool) → Goes ((cond b [] (event.Tree 1 p.tree ∷ []) ++ checkpoints_from p.tree part) ++ events) lines after → WentOn parts buffer events after
     on further true go = further lines go h
     on further false go =
         let one = checkpoint_goes p.tree (checkpoints_from p.tree part ++ events) parts buffer lines after go h in
@@ -110,17 +110,17 @@ length_changes [] = refl
 length_changes (p ∷ part) = ap suc (length_changes part)
 
 part_goes : (part : List Placed) (events : List Event) (parts : List (List Noted)) (lines after : List Line) → IsPart part → Goes (part_events part ++ events) lines after
-    → Loads parts lines [] → Went (parts ++ changes_of part ∷ []) [] events after
+    → Loads parts lines [] → WentOn (parts ++ changes_of part ∷ []) [] events after
 part_goes part events parts lines after is go h =
     checkpoints_go 0 part events (parts ++ changes_of part ∷ []) [] committed.mid after committed.goes committed.loads
   where
     whole : Goes (map insert_of part ++ event.Commit 1 ∷ (checkpoints_of part ++ events)) lines after
     whole = subst (λ es. Goes es lines after) (append_assoc (map insert_of part) (event.Commit 1 ∷ checkpoints_of part) events) go
 
-    noted : Went parts (noted_all [] (changes_of part)) (event.Commit 1 ∷ (checkpoints_of part ++ events)) after
+    noted : WentOn parts (noted_all [] (changes_of part)) (event.Commit 1 ∷ (checkpoints_of part ++ events)) after
     noted = inserts_go part (event.Commit 1 ∷ (checkpoints_of part ++ events)) parts [] lines after whole h
 
-    committed : Went (parts ++ changes_of part ∷ []) [] (checkpoints_of part ++ events) after
+    committed : WentOn (parts ++ changes_of part ∷ []) [] (checkpoints_of part ++ events) after
     committed =
         let same : length (changes_of part) ≡ length part = length_changes part in
         let some : 1 ≤ length part = is.some in
@@ -136,22 +136,22 @@ abbrev pub all_changes : List (List Placed) → List (List Noted)
 all_changes parts = map changes_of parts
 
 later_go : (later : List (List Placed)) (events : List Event) (parts : List (List Noted)) (lines after : List Line) → AreAllParts later → Goes (later_events later ++ events) lines after
-    → Loads parts lines [] → Went (parts ++ all_changes later) [] events after
-later_go [] events parts lines after are go h = subst (λ ps. Went ps [] events after) (sym (append-nil parts)) (record { mid = lines; loads = h; goes = go })
+    → Loads parts lines [] → WentOn (parts ++ all_changes later) [] events after
+later_go [] events parts lines after are go h = subst (λ ps. WentOn ps [] events after) (sym (append-nil parts)) (record { mid = lines; loads = h; goes = go })
 later_go (part ∷ later) events parts lines after are go h =
-    subst (λ ps. Went ps [] events after) (append_assoc parts (changes_of part ∷ []) (all_changes later))
+    subst (λ ps. WentOn ps [] events after) (append_assoc parts (changes_of part ∷ []) (all_changes later))
     (later_go later events (parts ++ changes_of part ∷ []) one.mid after are.1 one.goes one.loads)
   where
-    renewed : Went parts [] ((part_events part ++ later_events later) ++ events) after
+    renewed : WentOn parts [] ((part_events part ++ later_events later) ++ events) after
     renewed = renew_goes ((part_events part ++ later_events later) ++ events) parts [] lines after go h
 
-    one : Went (parts ++ changes_of part ∷ []) [] (later_events later ++ events) after
+    one : WentOn (parts ++ changes_of part ∷ []) [] (later_events later ++ events) after
     one =
         part_goes part (later_events later ++ events) parts renewed.mid after are.0
         (subst (λ es. Goes es renewed.mid after) (append_assoc (part_events part) (later_events later) events) renewed.goes) renewed.loads
 
 parts_go : (all : List (List Placed)) (events : List Event) (lines after : List Line) → AreAllParts all → Goes (commit_events all ++ events) lines after → Loads [] lines []
-    → Went (all_changes all) [] events after
+    → WentOn (all_changes all) [] events after
 parts_go [] events lines after are go h = record { mid = lines; loads = h; goes = go }
 parts_go (part ∷ later) events lines after are go h =
     let one = part_goes part (later_events later ++ events) [] lines after are.0
@@ -172,7 +172,7 @@ pub record IsThrough (all : List (List Placed)) (after : List Line) : Type 0 whe
   pub calls : ℕ
   pub last : after ≡ before ++ record { event = event.Settle; reply = reply.Settled calls } ∷ []
 
-opens_so : (events : List Event) (after : List Line) → Goes (event.Open 1 1 ∷ events) [] after → Went [] [] events after
+opens_so : (events : List Event) (after : List Line) → Goes (event.Open 1 1 ∷ events) [] after → WentOn [] [] events after
 opens_so events after (goes_alone _ _ r _ _ never good fair go) = absurd (fair good.0 good.1)
 opens_so events after (goes_run _ _ r _ _ good fair go) = record {
   mid = with_run [] (event.Open 1 1) (reply.Opened good.0);
@@ -183,7 +183,7 @@ opens_so events after (goes_run _ _ r _ _ good fair go) = record {
 -- a load that has noted something is closed
 record Closes (parts : List (List Noted)) (events : List Event) (after : List Line) : Type 0 where
   left : List Noted
-  went : Went parts left events after
+  went : WentOn parts left events after
 
 closes_so : (parts : List (List Noted)) (buffer : List Noted) (events : List Event) (lines after : List Line) → Goes (event.Close 1 ∷ events) lines after → Loads parts lines buffer
     → Closes parts events after

@@ -22,9 +22,9 @@ use Rattle.recover_run.specs.declared.home.Home.{Home}
 use Rattle.replay_meaning.specs.Standing.{Standing}
 use Rattle.reply_text.specs.declared.reply.Reply.{Reply}
 use Rattle.reply_text.specs.declared.reply.Reply.TheVariants as reply
-use Rattle.session_facts.proofs.RunSteps.{RunsFor, IsRefusal, run_begins}
-use Rattle.session_facts.specs.Errands.{settles}
-use Rattle.session_facts.specs.Facts.{ActsAs, session_at}
+use Rattle.session_facts.proofs.Machines.CommitRuns.Stays.{RunsFor, IsRefusal, run_begins}
+use Rattle.session_facts.specs.Lines.Errands.{settles}
+use Rattle.session_facts.specs.Lines.Facts.{ActsAs, session_at}
 use Rattle.txn_buffer.specs.Noted.{Noted}
 use Rattle.load_facts.proofs.AtOnce.{IsFair}
 use Rattle.world_core.proofs.EveryLine.{does_own, asked_is}

@@ -8,7 +8,7 @@ use Rattle.replay_meaning.specs.Kinds.{IsOfKind}
 use Rattle.replay_meaning.specs.Standing.{Line, Working, Committing, Standing, standing, session_of}
 use Rattle.report_types.specs.declared.entry.Entry.{Entry}
 use Rattle.reply_text.specs.declared.reply.Reply.TheVariants as reply
-use Rattle.session_facts.specs.Acknowledged.{HasEntries, IsKeptReply}
+use Rattle.session_facts.specs.Lines.Acknowledged.{HasEntries, IsKeptReply}
 use Rattle.txn_buffer.specs.Noted.{Noted}
 use Rattle.load_facts.proofs.Lines.{WasCommitted, IsLoading}
 use Rattle.load_facts.proofs.Parts.{AreCommitted}

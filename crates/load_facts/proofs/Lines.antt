@@ -13,8 +13,8 @@ use Rattle.event_text.specs.declared.event.Event.TheVariants as event
 use Rattle.replay_meaning.specs.Standing.{Line, Task, Posture, Closed, Idle, Working, Opening, Closing, Committing, Standing, unnamed, begins, steps, task_answered, idle, after_own, session_of, standing}
 use Rattle.reply_text.specs.declared.reply.Reply.{Reply}
 use Rattle.reply_text.specs.declared.reply.Reply.TheVariants as reply
-use Rattle.session_facts.proofs.CommittedLemmas.{standing_line}
-use Rattle.session_facts.proofs.LineLemmas.{line_of}
+use Rattle.session_facts.proofs.Lines.Committed.{standing_line}
+use Rattle.session_facts.proofs.Lines.More.{line_of}
 use Rattle.txn_buffer.specs.Noted.{Noted, noted_in}
 use Rattle.cloud_facts.proofs.Chains.Names.{end_stands}
 
@@ -106,7 +106,7 @@ abbrev pub stood : Posture → List Noted → Standing
 stood p buffer = record { posture = p; client = 1; buffer = buffer }
 
 -- the lines up to the end of the last transaction: the client is idle there and has begun all of them, and no session is at a commit from there on
-pub record EndsAt (parts : List (List Noted)) (lines : List Line) (last : ℕ) : Type 0 where
+pub record EndsPart (parts : List (List Noted)) (lines : List Line) (last : ℕ) : Type 0 where
   pub within : last ≤ length lines
   pub past : (n session : ℕ) (changes : List Noted) → (standing (take n lines) session).posture ≡ Working (Committing changes) → n < last
   pub rests : 1 ≤ length parts → standing (take last lines) 1 ≡ stood Idle []
@@ -121,11 +121,11 @@ pub record IsLoading (parts : List (List Noted)) (lines : List Line) (own : Stan
   pub count : numbers lines ≡ length parts
   pub each : AllLoad lines
   pub last : ℕ
-  pub ends : EndsAt parts lines last
+  pub ends : EndsPart parts lines last
 
 -- a posture that is at no commit
-abbrev pub IsQuiet : Posture → Type 0
-IsQuiet p = (changes : List Noted) → p ≡ Working (Committing changes) → ⊥
+abbrev pub IsAtNoCommit : Posture → Type 0
+IsAtNoCommit p = (changes : List Noted) → p ≡ Working (Committing changes) → ⊥
 
 -- ---- one line more
 
@@ -151,8 +151,8 @@ commits_more parts lines line before last n session changes = on (cases_lt (leng
 
 -- a line behind which no session is at a commit
 ends_more : (parts : List (List Noted)) (lines : List Line) (line : Line) (last : ℕ)
-    → ((session : ℕ) (changes : List Noted) → (standing (lines ++ line ∷ []) session).posture ≡ Working (Committing changes) → ⊥) → EndsAt parts lines last
-    → EndsAt parts (lines ++ line ∷ []) last
+    → ((session : ℕ) (changes : List Noted) → (standing (lines ++ line ∷ []) session).posture ≡ Working (Committing changes) → ⊥) → EndsPart parts lines last
+    → EndsPart parts (lines ++ line ∷ []) last
 ends_more parts lines line last none h = record {
   within = let old = h.within in omega (arith, length-append lines (line ∷ []), old);
   past = past;
@@ -208,7 +208,7 @@ unnamed_quiet : (s : Standing) (changes : List Noted) → s ≡ unnamed → s.po
 unnamed_quiet s changes is works = let never : Closed ≡ Working (Committing changes) = sym (ap (λ (x : Standing). x.posture) is) ∙ works in cc
 
 -- a line of session 1 behind which it is at no commit
-pub loading_more : (parts : List (List Noted)) (lines : List Line) (own next : Standing) (e : Event) (r : Reply) → session_of e ≡ 1 → after_own e r own ≡ next → IsQuiet next.posture
+pub loading_more : (parts : List (List Noted)) (lines : List Line) (own next : Standing) (e : Event) (r : Reply) → session_of e ≡ 1 → after_own e r own ≡ next → IsAtNoCommit next.posture
     → ((n : ℕ) → number_by e r n ≡ n) → LoadLine e r → IsLoading parts lines own → IsLoading parts (lines ++ line_of e r ∷ []) next
 loading_more parts lines own next e r mine after quiet same load h = record {
   own_is = now;
@@ -243,16 +243,16 @@ loading_more parts lines own next e r mine after quiet same load h = record {
 -- session 1 of client 1 has noted this, and is at no commit
 pub record Loads (parts : List (List Noted)) (lines : List Line) (buffer : List Noted) : Type 0 where
   pub posture : Posture
-  pub quiet : IsQuiet posture
+  pub quiet : IsAtNoCommit posture
   pub is : IsLoading parts lines (stood posture buffer)
 
-working_quiet : (task : Task) → ((changes : List Noted) → task ≡ Committing changes → ⊥) → IsQuiet (Working task)
+working_quiet : (task : Task) → ((changes : List Noted) → task ≡ Committing changes → ⊥) → IsAtNoCommit (Working task)
 working_quiet task other changes e = other changes (cc)
 
-idle_quiet : IsQuiet Idle
+idle_quiet : IsAtNoCommit Idle
 idle_quiet changes e = cc
 
-closed_quiet : IsQuiet Closed
+closed_quiet : IsAtNoCommit Closed
 closed_quiet changes e = cc
 
 -- before any line
@@ -510,7 +510,7 @@ closes_run parts lines buffer r h = on (run_closes buffer r)
     mid : List Line
     mid = lines ++ line_of (event.Close 1) reply.Begun ∷ []
 
-    quiet : IsQuiet (Working Closing)
+    quiet : IsAtNoCommit (Working Closing)
     quiet = working_quiet Closing (λ changes e. cc)
 
     begun : IsLoading parts mid (stood (Working Closing) buffer)

@@ -8,7 +8,7 @@ use Rattle.history.specs.Fold.{of_tree}
 use Rattle.load_plan.specs.Events.{records_of, parts_of}
 use Rattle.replay_meaning.specs.Committed.{committed}
 use Rattle.replay_meaning.specs.Standing.{Line}
-use Rattle.session_facts.specs.Facts.{session_at}
+use Rattle.session_facts.specs.Lines.Facts.{session_at}
 use Rattle.world_core.specs.Settled.{LeavesNothing}
 use Rattle.world_core.specs.Stands.{WorldStands}
 use Rattle.world_core.specs.World.{World}

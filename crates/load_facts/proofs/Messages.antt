@@ -25,9 +25,9 @@ use Rattle.replay_meaning.specs.Committed.{changes_of_row, committed}
 use Rattle.replay_meaning.specs.Kinds.{LandsOpen}
 use Rattle.replay_meaning.specs.Standing.{Line}
 use Rattle.report_types.specs.declared.entry.Entry.{Entry}
-use Rattle.session_facts.proofs.Commits.Distinct.{distinct_places}
-use Rattle.session_facts.specs.Facts.{CloudStands}
-use Rattle.session_facts.specs.Sessions.Sessions.{Sessions, SessionsStand}
+use Rattle.session_facts.proofs.Machines.Commits.Distinct.{distinct_places}
+use Rattle.session_facts.specs.Lines.Facts.{CloudStands}
+use Rattle.session_facts.specs.Sessions.Knows.{Sessions, SessionsStand}
 use Rattle.txn_buffer.specs.Noted.{Noted, AreDistinct}
 use Rattle.load_facts.proofs.Course.{noted_of, changes_of, all_changes, AreAllParts}
 use Rattle.load_facts.proofs.Lines.{CommitsParts}
@@ -35,7 +35,7 @@ use Rattle.load_facts.proofs.Places.{part_place, in_part_at, place_tells}
 use Rattle.load_facts.proofs.Rows.{HasRow, row_of, entry_of_row, OfPart, row_part, OpenedBy, opened_by, was_opened}
 use Rattle.load_facts.specs.Loaded.{WasOpened, IsCommittedMessage, HasMessage, IsOfRecord, AreLogged}
 use Rattle.load_facts.proofs.Dumps.{parts_count}
-use Rattle.session_facts.proofs.Openings.Sends.{there_at}
+use Rattle.session_facts.proofs.Machines.Openings.Sends.{there_at}
 
 -- ---- what each transaction sent
 

@@ -34,9 +34,9 @@ use Rattle.recover_run.specs.declared.stage.Stage.{Stage}
 use Rattle.recover_run.specs.declared.stage.Stage.TheVariants as stage
 use Rattle.reply_text.specs.declared.reply.Reply.{Reply}
 use Rattle.reply_text.specs.declared.reply.Reply.TheVariants as reply
-use Rattle.session_facts.proofs.CommitNumbers.{BeginsAt, RunsAt, run_begins_at, run_ends_within, run_goes_at}
-use Rattle.session_facts.specs.Errands.{settles}
-use Rattle.session_facts.specs.Facts.{session_at}
+use Rattle.session_facts.proofs.Machines.CommitRuns.Numbers.{BeginsAt, RunsAt, run_begins_at, run_ends_within, run_goes_at}
+use Rattle.session_facts.specs.Lines.Errands.{settles}
+use Rattle.session_facts.specs.Lines.Facts.{session_at}
 use Rattle.world_core.proofs.EveryLine.{does_own, asked_is}
 use Rattle.world_core.proofs.StandsLemmas.{changed_at, changed_was, has_at, no_memory}
 use Rattle.world_core.proofs.Texts.{commit_is}

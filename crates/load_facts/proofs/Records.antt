@@ -32,10 +32,10 @@ use Rattle.db_base.specs.declared.trouble.Trouble.TheVariants as trouble
 use Rattle.log_codec.specs.declared.record.AtomicRec.{AtomicRec}
 use Rattle.page_cache.specs.Cache.{Cache}
 use Rattle.report_types.specs.declared.entry.Entry.{Entry}
-use Rattle.session_facts.proofs.RunSteps.{RunsFor, IsRefusal, turns}
-use Rattle.session_facts.specs.CommitRuns.Running.{KnowsHand, KnowsRun}
-use Rattle.session_facts.specs.Commits.Committing.{attempt_of, HasCommitted, KnowsCommitAt}
-use Rattle.session_facts.specs.Sessions.Sessions.{Sessions, SessionsStand, KnowsWork}
+use Rattle.session_facts.proofs.Machines.CommitRuns.Stays.{RunsFor, IsRefusal, turns}
+use Rattle.session_facts.specs.Machines.CommitRuns.Knows.{KnowsHand, KnowsRun}
+use Rattle.session_facts.specs.Machines.Commits.Knows.{attempt_of, HasCommitted, KnowsCommitAt}
+use Rattle.session_facts.specs.Sessions.Knows.{Sessions, SessionsStand, KnowsWork}
 use Rattle.tree_walk.specs.Walk.{Walk, walk_next}
 use Rattle.txn_buffer.specs.Noted.{Noted}
 

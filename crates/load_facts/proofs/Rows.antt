@@ -23,7 +23,7 @@ use Rattle.replay_meaning.specs.Committed.{changes_at, changes_of_row, entries_o
 use Rattle.replay_meaning.specs.Kinds.{CommitsCount, MayPutPhase, MayPutHead, MayPutBytes, IsOfKindAt, IsOfKind, LandsOpen}
 use Rattle.replay_meaning.specs.Standing.{Line, standing_of_row}
 use Rattle.report_types.specs.declared.entry.Entry.{Entry}
-use Rattle.session_facts.proofs.Once.{at_place}
+use Rattle.session_facts.proofs.Rows.Once.{at_place}
 use Rattle.txn_buffer.specs.Noted.{Noted}
 use Rattle.load_facts.proofs.Lines.{CommitsParts}
 use Rattle.load_facts.specs.Loaded.{WasOpened}
@@ -31,7 +31,7 @@ use Rattle.load_facts.specs.Loaded.{WasOpened}
 -- ---- from an entry to its row
 
 -- a row put an open head, and this change is one of those on which its session stood
-pub record Commits (lines : List Line) (t : CloudState) (row : Landing) (e : Entry) : Type 0 where
+pub record RowCommits (lines : List Line) (t : CloudState) (row : Landing) (e : Entry) : Type 0 where
   pub client : ℕ
   pub head : Head
   pub lands : LandsOpen t row client head
@@ -44,7 +44,7 @@ module _ (lines : List Line) (t : CloudState) (row : Landing) (e : Entry) where
   changes = changes_of_row lines row
 
   by_phase : (client : ℕ) (bytes : List ℕ) (head : Head) (p : Phase) → row.site ≡ Object (object.Head client) → version_at (t.versions (object.Head client)) row.position ≡ Some bytes
-      → head_of bytes ≡ Some head → head.phase ≡ p → IsIn (entries_of_phase p client head changes) e → Commits lines t row e
+      → head_of bytes ≡ Some head → head.phase ≡ p → IsIn (entries_of_phase p client head changes) e → RowCommits lines t row e
   by_phase client bytes head phase.Settled site put spells is there = absurd (cc (there.1))
   by_phase client bytes head (phase.Open count) site put spells is (place, at) =
       let m = map_there (committed_entry client head.epoch head.txn) changes place e at in
@@ -58,16 +58,16 @@ module _ (lines : List Line) (t : CloudState) (row : Landing) (e : Entry) where
       }
 
   by_head : (client : ℕ) (bytes : List ℕ) (h : Option Head) → row.site ≡ Object (object.Head client) → version_at (t.versions (object.Head client)) row.position ≡ Some bytes
-      → head_of bytes ≡ h → IsIn (entries_of_head client h changes) e → Commits lines t row e
+      → head_of bytes ≡ h → IsIn (entries_of_head client h changes) e → RowCommits lines t row e
   by_head client bytes (Some head) site put spells there = by_phase client bytes head head.phase site put spells refl there
   by_head client bytes None site put spells there = absurd (cc (there.1))
 
   by_bytes : (client : ℕ) (b : Option (List ℕ)) → row.site ≡ Object (object.Head client) → version_at (t.versions (object.Head client)) row.position ≡ b
-      → IsIn (entries_of_bytes client b changes) e → Commits lines t row e
+      → IsIn (entries_of_bytes client b changes) e → RowCommits lines t row e
   by_bytes client (Some bytes) site put there = by_head client bytes (head_of bytes) site put refl there
   by_bytes client None site put there = absurd (cc (there.1))
 
-  by_site : (site : Site) → row.site ≡ site → IsIn (site_entries changes t.versions row.position site) e → Commits lines t row e
+  by_site : (site : Site) → row.site ≡ site → IsIn (site_entries changes t.versions row.position site) e → RowCommits lines t row e
   by_site (Object (object.Head client)) is there = by_bytes client (version_at (t.versions (object.Head client)) row.position) is refl there
   by_site (Object (object.Tree tree)) is there = absurd (cc (there.1))
   by_site (Object (object.Page tree page)) is there = absurd (cc (there.1))
@@ -77,16 +77,16 @@ pub record HasRow (lines : List Line) (t : CloudState) (e : Entry) : Type 0 wher
   pub place : ℕ
   pub row : Landing
   pub there : slice_get t.trace place ≡ Some row
-  pub commits : Commits lines t row e
+  pub commits : RowCommits lines t row e
 
 in_rows : (lines : List Line) (t : CloudState) (e : Entry) (rows : List Landing) → IsIn (committed_by lines t.versions rows) e
-    → (place : ℕ) × (row : Landing) × (slice_get rows place ≡ Some row) × Commits lines t row e
+    → (place : ℕ) × (row : Landing) × (slice_get rows place ≡ Some row) × RowCommits lines t row e
 in_rows lines t e [] is = absurd (cc (is.1))
 in_rows lines t e (row ∷ rows) is = on (in_rows lines t e rows) (in_either (row_entries lines t.versions row) (committed_by lines t.versions rows) e is)
   where
-    on : (IsIn (committed_by lines t.versions rows) e → (place : ℕ) × (r : Landing) × (slice_get rows place ≡ Some r) × Commits lines t r e)
+    on : (IsIn (committed_by lines t.versions rows) e → (place : ℕ) × (r : Landing) × (slice_get rows place ≡ Some r) × RowCommits lines t r e)
         → IsIn (row_entries lines t.versions row) e ⊎ IsIn (committed_by lines t.versions rows) e
-        → (place : ℕ) × (r : Landing) × (slice_get (row ∷ rows) place ≡ Some r) × Commits lines t r e
+        → (place : ℕ) × (r : Landing) × (slice_get (row ∷ rows) place ≡ Some r) × RowCommits lines t r e
     on again (inl here) = (zero, row, refl, by_site lines t row e row.site refl here)
     on again (inr later) = let p = again later in (suc p.0, p.1, p.2, p.3)
 

@@ -35,12 +35,12 @@ use Rattle.replay_meaning.specs.Committed.{committed}
 use Rattle.replay_meaning.specs.Standing.{Line, Posture, Working, Committing as CommitTask, session_of, standing}
 use Rattle.reply_text.specs.declared.reply.Reply.TheVariants as reply
 use Rattle.report_types.specs.declared.entry.Entry.{Entry}
-use Rattle.session_facts.proofs.Acknowledged.{call_commits_on}
-use Rattle.session_facts.proofs.CommitNumbers.{RunsAt, run_goes_at}
-use Rattle.session_facts.proofs.CommittedLemmas.{committed_line}
-use Rattle.session_facts.proofs.LineLemmas.{line_of}
-use Rattle.session_facts.proofs.Steps.{CallLeaves, MadeCall, made_call, wish_holds}
-use Rattle.session_facts.specs.Facts.{session_at, CloudHolds, WorksAs}
+use Rattle.session_facts.proofs.Lines.Acknowledged.{call_commits_on}
+use Rattle.session_facts.proofs.Machines.CommitRuns.Numbers.{RunsAt, run_goes_at}
+use Rattle.session_facts.proofs.Lines.Committed.{committed_line}
+use Rattle.session_facts.proofs.Lines.More.{line_of}
+use Rattle.session_facts.proofs.Lines.Outcome.{CallLeaves, MadeCall, made_call, wish_holds}
+use Rattle.session_facts.specs.Lines.Facts.{session_at, CloudHolds, WorksAs}
 use Rattle.txn_buffer.specs.Noted.{Noted}
 use Rattle.world_core.proofs.CommitReplies.{SaysNothing, asked_keeps}
 use Rattle.world_core.proofs.StandsLemmas.{IsUnderWay, told_under, call, steps_own, changed_at}

@@ -27,7 +27,7 @@ use Rattle.page_cache.specs.Cache.{Cache}
 use Rattle.recover_run.specs.declared.home.Home.{Home}
 use Rattle.reply_text.specs.declared.reply.Reply.{Reply}
 use Rattle.reply_text.specs.declared.reply.Reply.TheVariants as reply
-use Rattle.session_facts.proofs.Attempts.{no_attempt, begins_spent, steps_unspent}
+use Rattle.session_facts.proofs.Machines.CommitRuns.Attempts.{no_attempt, begins_spent, steps_unspent}
 use Rattle.txn_buffer.specs.Noted.{Noted}
 use Rattle.world_core.proofs.EveryLine.{does_own, asked_is}
 use Rattle.world_core.proofs.StandsLemmas.{no_memory}

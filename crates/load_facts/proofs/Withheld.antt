@@ -12,8 +12,8 @@ use Rattle.db_base.specs.declared.wish.Wish.{Wish}
 use Rattle.event_text.specs.declared.event.Event.{Event}
 use Rattle.event_text.specs.declared.event.Event.TheVariants as event
 use Rattle.reply_text.specs.declared.reply.Reply.{Reply}
-use Rattle.session_facts.proofs.Steps.{made_call}
-use Rattle.session_facts.specs.Errands.{Errand, settles, sweeps}
+use Rattle.session_facts.proofs.Lines.Outcome.{made_call}
+use Rattle.session_facts.specs.Lines.Errands.{Errand, settles, sweeps}
 use Rattle.world_core.proofs.StandsLemmas.{no_memory}
 use Rattle.world_core.specs.Asked.{Asks}
 use Rattle.world_core.specs.EachStep.{EachWent, EachCome, EachSettlingOn, EachSettling, EachAsked, EachStep}

@@ -3,10 +3,10 @@ use Rattle.std.proofs.Common.{◌≡◌, ◌≢◌, ◌⊎◌, ℕ, List, [], �
 use Rattle.db_base.specs.declared.trouble.Trouble.TheVariants as trouble
 use Rattle.cloud_trait.specs.Calm.{GoesWell, AreCalm}
 use Rattle.cloud_trait.proofs.CalmLemmas.{goes_well}
-use Rattle.orphan_sweep.specs.Causing.{Shows, IsShown, Tells}
-use Rattle.orphan_sweep.specs.Standing.{Went}
+use Rattle.orphan_sweep.specs.Causes.{Shows, IsShown, Tells}
+use Rattle.orphan_sweep.specs.Leases.{Went}
 use Rattle.orphan_sweep.specs.Sweeping.{Sweeping, Step, new_sweeping, sweep_ask, sweep_next}
-use Rattle.orphan_sweep.specs.Well.{IsLeft, IsWell}
+use Rattle.orphan_sweep.specs.Calm.{IsLeft, IsWell}
 use Rattle.orphan_sweep.proofs.Causes.{NextTells, step_tells}
 use Rattle.orphan_sweep.proofs.Leases.{fits_of, came_stands}
 use Rattle.orphan_sweep.proofs.Outcomes.{Onward, Clears, Comes, came_by}

@@ -16,17 +16,17 @@ use Rattle.node_codec.specs.Tree.{tree_of}
 use Rattle.cloud_trait.specs.declared.answer.Answer.TheVariants as call
 use Rattle.cloud_trait.specs.Ask.{Ask, GetHeld, ListHeld, RemoveHeld, Take}
 use Rattle.tree_parts.specs.Read.{damaged, leaf_or, inner_or}
-use Rattle.orphan_sweep.specs.Causing.{Matters, Shows, IsShown, Tells, HasLow, LeadsTo}
+use Rattle.orphan_sweep.specs.Causes.{Matters, Shows, IsShown, Tells, HasLow, LeadsTo}
 use Rattle.orphan_sweep.specs.Pages.{root_damage, root_or, root_held, top_spot, leaf_paths, inner_paths, leaf_held, absent_inner, inner_held, fenced, leaf_at, inner_at, paths_of}
-use Rattle.orphan_sweep.specs.Standing.{HasOrphan, HoldsAt}
+use Rattle.orphan_sweep.specs.Leases.{HasOrphan, HoldsAt}
 use Rattle.orphan_sweep.specs.Sweeping.{Sweeping, Step, sweep_ask, remove_next, next_orphan, sweep_next, KeepsLease}
 use Rattle.orphan_sweep.proofs.Outcomes.{leased, Onward, Clears, Fails, Comes, came_by}
 use Rattle.orphan_sweep.proofs.Outcomes as step
 use Rattle.orphan_sweep.proofs.Words.{Trouble, Answer, Turn, More, Ended, Stopped, Claim, Goes, Ends, Stops, LeadsBy, Took, given_of, got_of, listed_of, done_of, Fits, Tree, Paths, Spot, GettingTree, Reading, Swept}
 
 -- the lease that the call needs is held
-abbrev pub IsHeld : Sweeping → Type 0
-IsHeld s = HoldsAt s.stage s s.held
+abbrev pub HoldsNeeded : Sweeping → Type 0
+HoldsNeeded s = HoldsAt s.stage s s.held
 
 -- ---- calls that brought nothing
 
@@ -184,7 +184,7 @@ onward_leads spot (step.from_page s held got paths e) is = inr (refl, (got, (pat
 
 -- ---- a step
 
-fails_shows : {s : Sweeping} {a : Answer} {t : Trouble} → IsHeld s → Fits (sweep_ask s) a → Fails s a t → Shows s a t
+fails_shows : {s : Sweeping} {a : Answer} {t : Trouble} → HoldsNeeded s → Fits (sweep_ask s) a → Fails s a t → Shows s a t
 fails_shows {s = from} own fits (step.no_root s (Some l) a t e) = get_missed from (object.Tree s.tree) l a t tt fits e
 fails_shows {s = from} own fits (step.no_page s (Some l) a t e) = get_missed from (object.Page s.tree s.at.page) l a t tt fits e
 fails_shows {s = from} own fits (step.no_list s (Some l) a t e) = list_missed from s.tree l a t tt fits e
@@ -208,7 +208,7 @@ clears_keeps : {s q : Sweeping} {a : Answer} → Clears s a q → s.trouble ≡ 
 clears_keeps (step.listed s held pages) = refl
 clears_keeps (step.removed s held) = refl
 
-tells : {s : Sweeping} {a : Answer} {next : Step} → IsHeld s → Fits (sweep_ask s) a → Comes s a next → NextTells s a next
+tells : {s : Sweeping} {a : Answer} {next : Step} → HoldsNeeded s → Fits (sweep_ask s) a → Comes s a next → NextTells s a next
 tells own fits (step.takes s held l) = λ t e. inl e
 tells {s = from} own fits (step.refused s held a t e) = λ k. inr (take_missed from (lock.Tree s.tree) a t refl tt fits e)
 tells {s = s} {a = a} own fits (step.stops t f) = λ u e. inr (subst (Shows s a) (some_is t u e) (fails_shows own fits f))
@@ -220,10 +220,10 @@ tells own fits (step.ends s held a none) = none
 tells own fits (step.stopped s held a t kept) = λ k. inl kept
 tells own fits (step.nothing s held a) = absurd own
 
-pub step_tells : (s : Sweeping) (a : Answer) (next : Step) → IsHeld s → Fits (sweep_ask s) a → sweep_next s a ≡ next → NextTells s a next
+pub step_tells : (s : Sweeping) (a : Answer) (next : Step) → HoldsNeeded s → Fits (sweep_ask s) a → sweep_next s a ≡ next → NextTells s a next
 step_tells s a next own fits leads = tells own fits (came_by s a next leads)
 
-pub took_tells : (old new : Sweeping) (a : Answer) (turn : Turn Swept) → IsHeld old → Fits (sweep_ask old) a
+pub took_tells : (old new : Sweeping) (a : Answer) (turn : Turn Swept) → HoldsNeeded old → Fits (sweep_ask old) a
     → Took (LeadsBy sweep_next) KeepsLease old a new turn → Tells old a new turn
 took_tells old new a More own fits took = step_tells old a (Goes new) own fits took
 took_tells old new a (Ended x) own fits took = step_tells old a (Ends new x) own fits took

@@ -17,12 +17,12 @@ use Rattle.node_codec.specs.Tree.{tree_of, tree_format}
 use Rattle.cloud_trait.specs.declared.answer.Answer.TheVariants as call
 use Rattle.cloud_trait.specs.Ask.{Take}
 use Rattle.tree_parts.specs.Read.{damaged, leaf_or, inner_or}
-use Rattle.orphan_sweep.specs.Causing.{BreaksLeaf, BreaksInner, BreaksLevel, HasLow, Shows, IsShown}
-use Rattle.orphan_sweep.specs.Owing.{Owes}
+use Rattle.orphan_sweep.specs.Causes.{BreaksLeaf, BreaksInner, BreaksLevel, HasLow, Shows, IsShown}
+use Rattle.orphan_sweep.specs.Demands.{Owes}
 use Rattle.orphan_sweep.specs.Pages.{root_or, root_held, top_spot, leaf_paths, inner_paths, leaf_held, inner_held, fenced, leaf_at, levelled, inner_at, paths_of, onward}
-use Rattle.orphan_sweep.specs.Standing.{HasOrphan, HoldsAt}
+use Rattle.orphan_sweep.specs.Leases.{HasOrphan, HoldsAt}
 use Rattle.orphan_sweep.specs.Sweeping.{Sweeping, Step, sweep_ask, ask_at, remove_next, next_orphan, stopping, is_among, to_page, goes_on, root_found, page_found, finished_by, sweep_next, KeepsLease}
-use Rattle.orphan_sweep.proofs.Causes.{IsHeld}
+use Rattle.orphan_sweep.proofs.Causes.{HoldsNeeded}
 use Rattle.orphan_sweep.proofs.Calm.{IsQuiet}
 use Rattle.orphan_sweep.proofs.Lists.{itself}
 use Rattle.orphan_sweep.proofs.Outcomes.{leased}
@@ -296,11 +296,11 @@ kept_owes s a t (inl stage) kept =
     (subst (λ (o : Option Trouble). NextOwes (finished_by (leased s Releasing None) o) t) (sym kept) refl)
 kept_owes s a t (inr none) kept = absurd (cc (none, kept))
 
-owes_next : (s : Sweeping) (a : Answer) (t : Trouble) → IsHeld s → IsQuiet s → Fits (sweep_ask s) a → t ≢ trouble.Memory → IsShown s a t → NextOwes (sweep_next s a) t
+owes_next : (s : Sweeping) (a : Answer) (t : Trouble) → HoldsNeeded s → IsQuiet s → Fits (sweep_ask s) a → t ≢ trouble.Memory → IsShown s a t → NextOwes (sweep_next s a) t
 owes_next s a t own quiet fits other (inl kept) = kept_owes s a t quiet kept
 owes_next s a t own quiet fits other (inr shown) = shown_owes s.stage s s.held a t other own fits shown
 
-pub took_owes : (old new : Sweeping) (a : Answer) (turn : Turn Swept) (t : Trouble) → IsHeld old → IsQuiet old → Fits (sweep_ask old) a
+pub took_owes : (old new : Sweeping) (a : Answer) (turn : Turn Swept) (t : Trouble) → HoldsNeeded old → IsQuiet old → Fits (sweep_ask old) a
     → Took (LeadsBy sweep_next) KeepsLease old a new turn → t ≢ trouble.Memory → IsShown old a t → Owes new turn t
 took_owes old new a More t own quiet fits took other shown = subst (λ (next : Step). NextOwes next t) took (owes_next old a t own quiet fits other shown)
 took_owes old new a (Ended x) t own quiet fits took other shown = subst (λ (next : Step). NextOwes next t) took (owes_next old a t own quiet fits other shown)

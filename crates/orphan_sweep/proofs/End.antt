@@ -1,7 +1,7 @@
 -- A sweep ends: each step that goes on leaves fewer calls.
 use Rattle.std.proofs.Common.{◌≡◌, ℕ, ◌<◌, ◌≤◌, ◌+◌, ◌-◌, ◌^◌, [], ◌∷◌, ◌++◌, length, length-append, Option, Some, subst, arith}
 use Rattle.std.proofs.lemmas.Option.{slice_get_within}
-use Rattle.orphan_sweep.specs.Ending.{calls_left}
+use Rattle.orphan_sweep.specs.End.{calls_left}
 use Rattle.orphan_sweep.specs.Sweeping.{Sweeping, Step, next_orphan, sweep_next, KeepsLease}
 use Rattle.orphan_sweep.proofs.Words.{Trouble, Answer, Turn, More, Goes, Ends, Stops, LeadsBy, Took, Spot, Swept}
 use Rattle.orphan_sweep.proofs.Outcomes.{Onward, Clears, Fails, Comes, came_by}

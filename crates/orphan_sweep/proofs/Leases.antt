@@ -6,7 +6,7 @@ use Rattle.cloud_trait.specs.declared.answer.Answer.TheVariants as call
 use Rattle.cloud_trait.specs.Ask.{Ask, Take}
 use Rattle.ckpt_parts.specs.Leasing.{outstanding, outstanding_after}
 use Rattle.orphan_sweep.specs.Sweeping.{Sweeping, Step, new_sweeping, ask_at, sweep_ask, remove_next, next_orphan, sweep_next, KeepsLease}
-use Rattle.orphan_sweep.specs.Standing.{Went, claims_of, HoldsTree, HasOrphan, HoldsAt, AreOnce, StandsAt, Stands, Names, GivesBack, AreReturned, AreFew}
+use Rattle.orphan_sweep.specs.Leases.{Went, claims_of, HoldsTree, HasOrphan, HoldsAt, AreOnce, StandsAt, Stands, Names, GivesBack, AreReturned, AreFew}
 use Rattle.orphan_sweep.proofs.Lists.{once_none, once_push, within}
 use Rattle.orphan_sweep.proofs.Outcomes.{leased, Onward, Clears, Fails, Comes, came_by}
 use Rattle.orphan_sweep.proofs.Outcomes as step
@@ -23,7 +23,7 @@ NextStands made claims (Ends n x) = (n.held ≡ None) × (claims ≡ [])
 NextStands made claims (Stops n t) = (n.held ≡ None) × (claims ≡ [])
 
 -- the tree's lease is held, after so many calls at most
-record IsKept (s : Sweeping) (made most : ℕ) (claims : List Claim) : Type 0 where
+record HoldsStill (s : Sweeping) (made most : ℕ) (claims : List Claim) : Type 0 where
   held : claims_of s.held ≡ claims
   own : HoldsTree s s.held
   few : made ≤ most
@@ -41,14 +41,14 @@ removing s l a claims (page, next) = ap (λ (o : Option ℕ). outstanding_after 
 -- ---- local work
 
 onward_kept : {s : Sweeping} {a : Answer} {o : Option Spot} {made : ℕ} {claims : List Claim} → StandsAt s made claims → Onward s a o
-    → IsKept s made (length s.visited + 1) (after s a claims)
+    → HoldsStill s made (length s.visited + 1) (after s a claims)
 onward_kept st (step.from_root s (Some l) got root e) = record { held = st.held; own = st.own; few = st.due; once = st.once }
 onward_kept st (step.from_page s (Some l) got paths e) = record { held = st.held; own = st.own; few = st.due; once = st.once }
 onward_kept st on = absurd st.own
 
 -- .. with so many orphans removed, which are no more than there are
 record IsCleared (s : Sweeping) (made : ℕ) (claims : List Claim) : Type 0 where
-  kept : IsKept s made (length s.visited + s.removed + 3) claims
+  kept : HoldsStill s made (length s.visited + s.removed + 3) claims
   few : s.removed ≤ length s.orphans
 
 clears_kept : {s q : Sweeping} {a : Answer} {made : ℕ} {claims : List Claim} → StandsAt s made claims → Clears s a q → IsCleared q (made + 1) (after s a claims)
@@ -67,7 +67,7 @@ clears_kept st (step.removed s None) = absurd st.own.0
 clears_kept st c = absurd st.own
 
 fails_kept : {s : Sweeping} {a : Answer} {t : Trouble} {made : ℕ} {claims : List Claim} → StandsAt s made claims → Fails s a t
-    → IsKept s (made + 1) (length s.visited + length s.orphans + 3) (after s a claims)
+    → HoldsStill s (made + 1) (length s.visited + length s.orphans + 3) (after s a claims)
 fails_kept st (step.no_root s (Some l) a t e) = record { held = st.held; own = st.own; few = omega (arith, st.due); once = st.once }
 fails_kept st (step.no_page s (Some l) a t e) = record { held = st.held; own = st.own; few = omega (arith, st.due); once = st.once }
 fails_kept st (step.no_list s (Some l) a t e) = record { held = st.held; own = st.own; few = omega (arith, st.due); once = st.once }

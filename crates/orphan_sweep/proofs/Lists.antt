@@ -8,7 +8,7 @@ use Rattle.std.proofs.lemmas.List.{take_more}
 use Rattle.std.proofs.lemmas.List.Folds.{list_any_at}
 use Rattle.std.proofs.lemmas.Option.{slice_get_within, slice_get_cases, get_or_from_slice_get}
 use Rattle.cloud_trait.specs.Listing.{AscendAbove}
-use Rattle.orphan_sweep.specs.Standing.{AreOnce}
+use Rattle.orphan_sweep.specs.Leases.{AreOnce}
 use Rattle.orphan_sweep.specs.Sweeping.{is_among, strays}
 
 -- ---- each page once

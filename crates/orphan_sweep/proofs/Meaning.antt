@@ -6,7 +6,7 @@ use Rattle.db_base.specs.declared.names.ObjName.TheVariants as object
 use Rattle.cloud_trait.specs.declared.answer.Answer.TheVariants as call
 use Rattle.cloud_trait.specs.Ask.{Ask, GetHeld, ListHeld, RemoveHeld, Take, Release}
 use Rattle.orphan_sweep.specs.Sweeping.{Sweeping, Step, new_sweeping, ask_at, sweep_ask, remove_next, next_orphan, is_among, sweep_next, KeepsLease}
-use Rattle.orphan_sweep.specs.Standing.{Went, HoldsAt}
+use Rattle.orphan_sweep.specs.Leases.{Went, HoldsAt}
 use Rattle.orphan_sweep.specs.Meaning.{Calls, pages_in, opening, visits_over, removals_over, HasRead, HasListed, KnowsAt, Knows, Removes, IsSwept, MeansSwept}
 use Rattle.orphan_sweep.proofs.Lists.{within, past, take_one_more, ascends, stray_at, kept_and_strays}
 use Rattle.orphan_sweep.proofs.Leases.{fits_of, came_stands}

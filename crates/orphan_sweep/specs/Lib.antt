@@ -1,9 +1,9 @@
-pub mod Causing
-pub mod Ending
+pub mod Causes
+pub mod End
 pub mod Meaning
-pub mod Owing
+pub mod Demands
 pub mod Pages
-pub mod Standing
+pub mod Leases
 pub mod Stepped
 pub mod Sweeping
-pub mod Well
+pub mod Calm

@@ -13,11 +13,11 @@ use Rattle.cloud_trait.specs.Seen.{Seen}
 use Rattle.ckpt_parts.specs.Leasing.{outstanding}
 use Rattle.orphan_sweep.specs.declared.swept.Swept.{Swept}
 use Rattle.orphan_sweep.specs.Sweeping.{Sweeping, sweep_ask, sweep_next, KeepsLease}
-use Rattle.orphan_sweep.specs.Standing.{Went, Stands, Names, AreReturned, AreFew}
-use Rattle.orphan_sweep.specs.Causing.{IsShown, Tells}
-use Rattle.orphan_sweep.specs.Owing.{Owes}
+use Rattle.orphan_sweep.specs.Leases.{Went, Stands, Names, AreReturned, AreFew}
+use Rattle.orphan_sweep.specs.Causes.{IsShown, Tells}
+use Rattle.orphan_sweep.specs.Demands.{Owes}
 use Rattle.orphan_sweep.specs.Meaning.{Knows, Removes, MeansSwept}
-use Rattle.orphan_sweep.specs.Well.{IsWell}
+use Rattle.orphan_sweep.specs.Calm.{IsWell}
 
 -- the call in hand and its answer, before others
 abbrev pub and_then : Caller → Seen → Seen → Sweeping → Answer → List Deed → List Deed

@@ -87,8 +87,8 @@ impl Model for Sweep {
 }
 
 impl Sweep {
-    ghost use Rattle.orphan_sweep.specs.Ending.{calls_left};
-    ghost use Rattle.orphan_sweep.specs.Standing.{Went, GivesBack};
+    ghost use Rattle.orphan_sweep.specs.End.{calls_left};
+    ghost use Rattle.orphan_sweep.specs.Leases.{Went, GivesBack};
     ghost use Rattle.orphan_sweep.specs.Stepped.{Stepped};
     ghost use Rattle.orphan_sweep.specs.Sweeping.{new_sweeping, is_among, sweep_ask, take_tree, remove_next, next_orphan, handed, stopping, taken_by, to_page, goes_on, root_found, root_got, page_found, page_got, listed_by, removes, removed_by, finished_by, absorbed, SameLease};
 

@@ -5,7 +5,7 @@ use Rattle.byte_format.specs.Format.{Format, mark_at}
 use Rattle.byte_format.specs.Whole.{whole, offset, IsSpelling, IsBytes, IsExact}
 use Rattle.byte_format.proofs.Wholes.{whole_only, whole_found}
 use Rattle.leaf_view.specs.Leaf.{Leaf, IsLeaf, leaf, leaf_head}
-use Rattle.leaf_view.proofs.Exactness.{leaf_exact}
+use Rattle.leaf_view.proofs.Exact.{leaf_exact}
 use Rattle.node_codec.specs.Inner.{Inner, IsInner, inner_format, inner_of}
 use Rattle.node_codec.specs.Tree.{Tree as Root, IsTree, tree_format, tree_of}
 use Rattle.node_codec.proofs.InnerLemmas.{inner_exact}

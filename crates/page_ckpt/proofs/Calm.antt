@@ -9,10 +9,10 @@ use Rattle.cloud_trait.specs.Plenty.{HadMemory}
 use Rattle.cloud_trait.proofs.CalmLemmas.{goes_well}
 use Rattle.page_ckpt.specs.declared.stage.Stage.TheVariants.{Releasing}
 use Rattle.page_ckpt.specs.Paging.{Paging, Step, new_paging, paging_ask, went, PagingLeads, KeepsLeases}
-use Rattle.page_ckpt.specs.Standing.{Went}
+use Rattle.page_ckpt.specs.Leases.{Went}
 use Rattle.page_ckpt.specs.Meaning.{Calls, Scene, Tried, scene, scene_queue, deletes_over, one_less, failed_count, main_calls, IsDone, MeansDone}
-use Rattle.page_ckpt.specs.Causing.{Reads, Shows, IsShown, Tells}
-use Rattle.page_ckpt.specs.Well.{IsLeft, IsWell}
+use Rattle.page_ckpt.specs.Causes.{Reads, Shows, IsShown, Tells}
+use Rattle.page_ckpt.specs.Calm.{IsLeft, IsWell}
 use Rattle.page_ckpt.proofs.Words.{Trouble, Answer, CkptAnswer, Turn, More, Ended, Stopped, Goes, Ends, Stops, Took, Deed, Came, calls_of, done_of, Fits, Link}
 use Rattle.page_ckpt.proofs.Outcomes.{Onward, Clears, Fails, Comes, comes}
 use Rattle.page_ckpt.proofs.Outcomes as step

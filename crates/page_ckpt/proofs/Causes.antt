@@ -17,16 +17,16 @@ use Rattle.ckpt_parts.specs.Intakes.{items_of, message_damage, TakesItems}
 use Rattle.ckpt_parts.specs.Leaves.{page_damage, absent_leaf, HoldsLeaf, bad_fence, fenced}
 use Rattle.page_ckpt.specs.declared.stage.Stage.TheVariants.{GettingHome, Receiving, GettingRight, Releasing}
 use Rattle.page_ckpt.specs.Paging.{Paging, Step, paging_ask, own_queue, home_name, right_name, HoldsNamed, is_visited, PagingLeads, KeepsLeases}
-use Rattle.page_ckpt.specs.Standing.{HoldsAt, Stands}
-use Rattle.page_ckpt.specs.Causing.{Matters, Shows, IsShown, Tells, LeadsOn}
+use Rattle.page_ckpt.specs.Leases.{HoldsAt, Stands}
+use Rattle.page_ckpt.specs.Causes.{Matters, Shows, IsShown, Tells, LeadsOn}
 use Rattle.page_ckpt.proofs.Words.{Trouble, PuItem, Answer, Message, CkptAnswer, Turn, More, Ended, Stopped, Claim, Goes, Ends, Stops, Took, Deed, given_of, got_of, received_of, done_of, Fits, Intake, Link}
 use Rattle.page_ckpt.proofs.Outcomes.{leased, noted, Onward, Clears, Fails, Comes, comes}
 use Rattle.page_ckpt.proofs.Outcomes as step
 use Rattle.page_ckpt.proofs.Links.{link_taken}
 
 -- the leases that the call needs are held
-abbrev pub IsHeld : Paging → Type 0
-IsHeld p = HoldsAt p.stage p p.held.first p.held.second
+abbrev pub HoldsNeeded : Paging → Type 0
+HoldsNeeded p = HoldsAt p.stage p p.held.first p.held.second
 
 -- ---- calls that brought nothing
 
@@ -158,7 +158,7 @@ clears_keeps (step.one_tried p first second a) = refl
 abbrev stopped : Paging → Trouble → Paging
 stopped q t = record q { stage = Releasing; trouble = Some t }
 
-fails_shows : {p q : Paging} {a : Answer} {t : Trouble} → IsHeld p → Fits (paging_ask p) a → Fails p a q t → Shows p a (stopped q t) t
+fails_shows : {p q : Paging} {a : Answer} {t : Trouble} → HoldsNeeded p → Fits (paging_ask p) a → Fails p a q t → Shows p a (stopped q t) t
 fails_shows {p = from} {q = q} own fits (step.no_home p (Some l) None a t e) = get_missed from (stopped q t) (home_name p) l a t tt fits e
 fails_shows {p = from} {q = q} own fits (step.no_right p (Some l) (Some r) a t e) = get_missed from (stopped q t) (right_name p) r a t tt fits e
 fails_shows {p = from} {q = q} own fits (step.no_messages p first second a t e) = receive_missed from (stopped q t) (own_queue p) a t tt fits e
@@ -184,7 +184,7 @@ NextTells p a (Stops n t) = t ≢ trouble.Memory → IsShown p a n t
 pub some_is : (t u : Trouble) → Some t ≡ Some u → t ≡ u
 some_is t u e = cc (e)
 
-tells : {p : Paging} {a : Answer} {next : Step} → IsHeld p → Fits (paging_ask p) a → Comes p a next → NextTells p a next
+tells : {p : Paging} {a : Answer} {next : Step} → HoldsNeeded p → Fits (paging_ask p) a → Comes p a next → NextTells p a next
 tells {p = from} own fits (step.refused p first second a t e) = λ k. inr (take_missed from from (lock.Page p.tree p.page) a t refl tt fits e)
 tells {p = p} {a = a} own fits (step.stops q t f) = λ u e. inr (subst (Shows p a (stopped q t)) (some_is t u e) (fails_shows own fits f))
 tells own fits (step.turns q link on new) = λ t e. inl (onward_keeps on ∙ e)

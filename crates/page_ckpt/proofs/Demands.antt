@@ -12,7 +12,7 @@ use Rattle.byte_format.specs.Whole.{offset}
 use Rattle.byte_format.proofs.Wholes.{one_value}
 use Rattle.leaf_view.specs.Leaf.{Leaf, leaf}
 use Rattle.leaf_view.specs.Lookup.{empty_leaf}
-use Rattle.leaf_view.proofs.Exactness.{leaf_exact}
+use Rattle.leaf_view.proofs.Exact.{leaf_exact}
 use Rattle.leaf_edit.specs.Lacked.{lacked}
 use Rattle.node_codec.specs.Inner.{Inner, IsInner}
 use Rattle.run_cursor.specs.Run.{Taken}
@@ -25,14 +25,14 @@ use Rattle.ckpt_parts.specs.Leaves.{absent_leaf, page_damage, IsNoLeaf, HoldsLea
 use Rattle.ckpt_parts.specs.Leasing.{newest_lease}
 use Rattle.page_ckpt.specs.declared.stage.Stage.TheVariants.{GettingHome, Receiving, GettingRight, ReleasingRight, PuttingHome, Deleting as DeletingNext, Releasing}
 use Rattle.page_ckpt.specs.Paging.{Paging, Step, paging_ask, own_queue, under, stopping, delete_next, HoldsNamed, link_of, is_visited, PagingLeads, KeepsLeases}
-use Rattle.page_ckpt.specs.Standing.{HoldsFirst, HasIds, Stands}
-use Rattle.page_ckpt.specs.Causing.{Matters, Reads, LeadsOn, Shows, IsShown, greatest_number}
-use Rattle.page_ckpt.specs.Exact.{Owes}
+use Rattle.page_ckpt.specs.Leases.{HoldsFirst, HasIds, Stands}
+use Rattle.page_ckpt.specs.Causes.{Matters, Reads, LeadsOn, Shows, IsShown, greatest_number}
+use Rattle.page_ckpt.specs.Demands.{Owes}
 use Rattle.page_ckpt.proofs.Words.{Trouble, PuItem, Answer, Message, CkptAnswer, Turn, More, Ended, Stopped, Claim, Goes, Ends, Stops, Took, Deed, Fits, Intake, Link, Stage}
 use Rattle.page_ckpt.proofs.Outcomes.{leased, IsLast, AreRead, Onward, Clears, Fails, Comes, comes}
 use Rattle.page_ckpt.proofs.Outcomes as step
 use Rattle.page_ckpt.proofs.Links.{one_link}
-use Rattle.page_ckpt.proofs.Causes.{IsHeld, err_is, some_is, onward_visited, onward_home}
+use Rattle.page_ckpt.proofs.Causes.{HoldsNeeded, err_is, some_is, onward_visited, onward_home}
 use Rattle.page_ckpt.proofs.Calm.{IsQuiet}
 
 -- ---- steps
@@ -93,7 +93,7 @@ done_refused : (a : Answer) (t : Trouble) → done_of a ≡ Err t → Some t ≡
 done_refused call.Done t e = absurd (cc (e))
 done_refused a t e = cc (e)
 
-onward_heeds : {p q : Paging} {a : Answer} {o : Option Link} (next : Step) → IsHeld p → IsRefusal a → Onward p a q o → Heeds (paging_ask p) a next
+onward_heeds : {p q : Paging} {a : Answer} {o : Option Link} (next : Step) → HoldsNeeded p → IsRefusal a → Onward p a q o → Heeds (paging_ask p) a next
 onward_heeds next own bad (step.with_run p first second ms i read some) = absurd bad
 onward_heeds next own bad (step.from_right p (Some l) (Some r) a) = tt
 onward_heeds next own bad on = absurd own
@@ -102,11 +102,11 @@ deletes_heeds : (p : Paging) (ids : List ℕ) (a : Answer) (next : Step) → Has
 deletes_heeds p [] a next has = absurd has
 deletes_heeds p (id ∷ ids) a next has = tt
 
-clears_heeds : {p q : Paging} {a : Answer} (next : Step) → IsHeld p → IsRefusal a → Clears p a q → Heeds (paging_ask p) a next
+clears_heeds : {p q : Paging} {a : Answer} (next : Step) → HoldsNeeded p → IsRefusal a → Clears p a q → Heeds (paging_ask p) a next
 clears_heeds {p = from} next own bad (step.one_tried p first second a) = deletes_heeds from p.deletions.ids a next own.1
 clears_heeds next own bad c = absurd bad
 
-fails_heeds : {p q : Paging} {a : Answer} {t : Trouble} → IsHeld p → IsRefusal a → Fails p a q t → Heeds (paging_ask p) a (stopping q t)
+fails_heeds : {p q : Paging} {a : Answer} {t : Trouble} → HoldsNeeded p → IsRefusal a → Fails p a q t → Heeds (paging_ask p) a (stopping q t)
 fails_heeds own bad (step.no_home p (Some l) None a t e) = got_refused a t e
 fails_heeds own bad (step.no_messages p first second a t e) = received_refused a t e
 fails_heeds own bad (step.no_lease p first second a t e) = λ u f. ap Some (err_is t u (sym e ∙ f))
@@ -127,7 +127,7 @@ last_heeds p (Some l) None a next last own = tt
 last_heeds p (Some l) (Some r) a next last own = absurd last
 last_heeds p None second a next last own = absurd own
 
-heeds : {p : Paging} {a : Answer} {next : Step} → IsHeld p → IsRefusal a → Comes p a next → Heeds (paging_ask p) a next
+heeds : {p : Paging} {a : Answer} {next : Step} → HoldsNeeded p → IsRefusal a → Comes p a next → Heeds (paging_ask p) a next
 heeds own bad (step.refused p first second a t e) = λ u f. err_is t u (sym e ∙ f)
 heeds own bad (step.stops q t f) = fails_heeds own bad f
 heeds own bad (step.turns q link on new) = onward_heeds _ own bad on
@@ -155,12 +155,12 @@ late_owes ask end now next fits h = h
 -- ---- pages
 
 -- a leaf is kept, and what is wrong with a page is kept as a trouble
-abbrev Keeps : Result Leaf Trouble → Step → Type 0
-Keeps (Ok l) next = Unit {0}
-Keeps (Err t) next = NextOwes next t
+abbrev KeepsLeaf : Result Leaf Trouble → Step → Type 0
+KeepsLeaf (Ok l) next = Unit {0}
+KeepsLeaf (Err t) next = NextOwes next t
 
 home_fails : {p q : Paging} {got : Option (List ℕ)} {t : Trouble} → p.stage ≡ GettingHome → Fails p (call.Got got) q t
-    → (found : Result Leaf Trouble) × HoldsNamed p.tree p.page got found × Keeps found (stopping q t)
+    → (found : Result Leaf Trouble) × HoldsNamed p.tree p.page got found × KeepsLeaf found (stopping q t)
 home_fails at (step.no_home p first second a t e) = absurd (cc (e))
 home_fails at (step.bad_home p first second got t holds) = (Err t, holds, refl)
 home_fails at (step.round link on seen) = absurd (subst Works at (onward_works on))
@@ -168,7 +168,7 @@ home_fails at (step.home_spent on spent) = absurd (subst Works at (onward_works 
 home_fails at f = absurd (cc (at))
 
 home_got : {p : Paging} {got : Option (List ℕ)} {next : Step} → p.stage ≡ GettingHome → Comes p (call.Got got) next
-    → (found : Result Leaf Trouble) × HoldsNamed p.tree p.page got found × Keeps found next
+    → (found : Result Leaf Trouble) × HoldsNamed p.tree p.page got found × KeepsLeaf found next
 home_got at (step.reads_home p first second got home holds) = (Ok home, holds, tt)
 home_got at (step.stops q t f) = home_fails at f
 home_got at (step.turns q link on new) = absurd (subst Works at (onward_works on))
@@ -180,7 +180,7 @@ home_got at c = absurd (cc (at))
 home_owes : (p : Paging) (a : Answer) (next : Step) (got : Option (List ℕ)) (t : Trouble) → p.stage ≡ GettingHome → a ≡ call.Got got → Comes p a next
     → ((found : Result Leaf Trouble) → HoldsNamed p.tree p.page got found → found ≡ Err t) → NextOwes next t
 home_owes p a next got t at e c wrong =
-    let h = home_got at (subst (λ (x : Answer). Comes p x next) e c) in subst (λ (found : Result Leaf Trouble). Keeps found next) (wrong h.0 h.1) h.2
+    let h = home_got at (subst (λ (x : Answer). Comes p x next) e c) in subst (λ (found : Result Leaf Trouble). KeepsLeaf found next) (wrong h.0 h.1) h.2
 
 -- .. and that a leaf which lacks something has the greatest version
 abbrev KeepsRight : Paging → Result Leaf Trouble → Step → Type 0
@@ -415,7 +415,7 @@ spent_owes p got l next at holds has old c =
 
 -- ---- all
 
-shown_owes : (p : Paging) (a : Answer) (next : Step) (t : Trouble) → IsHeld p → Fits (paging_ask p) a → Comes p a next → t ≢ trouble.Memory
+shown_owes : (p : Paging) (a : Answer) (next : Step) (t : Trouble) → HoldsNeeded p → Fits (paging_ask p) a → Comes p a next → t ≢ trouble.Memory
     → Shows p a (after_of next) t → NextOwes next t
 shown_owes p a next trouble.Failed own fits c other k = failed_owes (paging_ask p) next k.1 (heeds own tt (subst (λ (x : Answer). Comes p x next) k.0 c))
 shown_owes p a next (trouble.Late end now) own fits c other k =

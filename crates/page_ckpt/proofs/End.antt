@@ -11,7 +11,7 @@ use Rattle.ckpt_parts.specs.declared.leases.Leases.{Leases}
 use Rattle.ckpt_parts.specs.Deleting.{next_id, tried}
 use Rattle.ckpt_parts.specs.Intakes.{item_with, with_first, items_of, intake_of, TakesIn, TakesItems}
 use Rattle.page_ckpt.specs.Paging.{Paging, Step, paging_ask, own_queue, went, PagingLeads, KeepsLeases}
-use Rattle.page_ckpt.specs.Ending.{held_count, calls_left}
+use Rattle.page_ckpt.specs.End.{held_count, calls_left}
 use Rattle.page_ckpt.proofs.Words.{Trouble, PuItem, Answer, Message, CkptAnswer, Turn, More, Claim, Goes, Ends, Stops, Took, done_of, Fits, Intake, Link}
 use Rattle.page_ckpt.proofs.Outcomes.{Onward, Clears, Fails, Comes, comes, AreRead}
 use Rattle.page_ckpt.proofs.Outcomes as step

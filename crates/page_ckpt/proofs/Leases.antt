@@ -11,8 +11,8 @@ use Rattle.ckpt_parts.specs.Deleting.{next_id, tried}
 use Rattle.ckpt_parts.specs.Leasing.{claims_of, outstanding, outstanding_after}
 use Rattle.page_ckpt.specs.declared.stage.Stage.TheVariants.{TakingHome, GettingHome, Receiving, TakingRight, GettingRight, PuttingRight, ReleasingRight, PuttingHome, Deleting as DeletingNext, Releasing, Finished}
 use Rattle.page_ckpt.specs.Paging.{Paging, Step, new_paging, paging_ask, ask_at, delete_next, is_visited, went, PagingLeads, KeepsLeases}
-use Rattle.page_ckpt.specs.Ending.{held_count}
-use Rattle.page_ckpt.specs.Standing.{Went, HoldsNone, HoldsHome, HoldsBoth, HoldsFirst, HasIds, HoldsAt, DueAt, tries, StandsAt, Stands, Names, GivesBack, AreReturned, AreFew}
+use Rattle.page_ckpt.specs.End.{held_count}
+use Rattle.page_ckpt.specs.Leases.{Went, HoldsNone, HoldsHome, HoldsBoth, HoldsFirst, HasIds, HoldsAt, DueAt, tries, StandsAt, Stands, Names, GivesBack, AreReturned, AreFew}
 use Rattle.page_ckpt.proofs.Words.{Trouble, Answer, CkptAnswer, Turn, More, Ended, Stopped, Claim, Goes, Ends, Stops, Took, Deed, Came, given_of, done_of, Fits, Link, Stage}
 use Rattle.page_ckpt.proofs.Outcomes.{leased, Onward, Clears, Fails, Comes, comes}
 use Rattle.page_ckpt.proofs.Outcomes as step
@@ -28,7 +28,7 @@ abbrev after : Paging → Answer → List Claim → List Claim
 after p a claims = outstanding_after (paging_ask p) a claims
 
 -- after the call of a stage: these leases are held, the page's first, and so many calls were made at most
-record IsHeld (q : Paging) (made most : ℕ) (claims : List Claim) : Type 0 where
+record IsHeldAfter (q : Paging) (made most : ℕ) (claims : List Claim) : Type 0 where
   held : claims_of q.held ≡ claims
   own : HoldsFirst q.held.first
   few : made + held_count q.held ≤ most
@@ -88,7 +88,7 @@ clears_home s (step.one_tried p None second a) = absurd s.own.0
 clears_home s c = absurd s.own
 
 fails_held : {p q : Paging} {a : Answer} {t : Trouble} {made : ℕ} {claims : List Claim} → StandsAt p made claims → Fails p a q t
-    → IsHeld q (made + 1) (4 * length q.visited + 5 + tries q.deletions) (after p a claims)
+    → IsHeldAfter q (made + 1) (4 * length q.visited + 5 + tries q.deletions) (after p a claims)
 fails_held s (step.no_home p (Some l) None a t e) = record { held = s.held; own = tt; few = omega (arith, s.due) }
 fails_held s (step.bad_home p (Some l) None got t e) = record { held = s.held; own = tt; few = omega (arith, s.due) }
 fails_held s (step.no_messages p (Some l) None a t e) = record { held = s.held; own = tt; few = omega (arith, s.due) }

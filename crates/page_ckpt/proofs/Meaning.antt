@@ -11,9 +11,9 @@ use Rattle.ckpt_parts.specs.Intakes.{has_items, ids_of, items_of, intake_of, Tak
 use Rattle.ckpt_parts.specs.Leaves.{HoldsLinked}
 use Rattle.page_ckpt.specs.declared.stage.Stage.TheVariants.{TakingHome, GettingHome, Receiving, TakingRight, GettingRight, PuttingRight, ReleasingRight, PuttingHome, Deleting as DeletingNext, Releasing, Finished}
 use Rattle.page_ckpt.specs.Paging.{Paging, Step, new_paging, paging_ask, own_queue, delete_next, HoldsNamed, link_of, with_intake, went, answer_of, PagingLeads, KeepsLeases}
-use Rattle.page_ckpt.specs.Standing.{Went, HasIds}
+use Rattle.page_ckpt.specs.Leases.{Went, HasIds}
 use Rattle.page_ckpt.specs.Meaning.{Calls, Scene, scene, page_name, take_page, scene_queue, lacked_by, applied_to, Opening, opening_calls, IsOpened, Visit, put_over, right_put, home_put, visits_over, PutsLacked, LeadsOn, lacked_on, Works, applied_count, Tried, deletes_over, tried_before, one_more, one_less, went_count, failed_count, main_calls, IsDone, MeansDone}
-use Rattle.page_ckpt.specs.Exact.{WasGot, HomeWasGot, OnwardWasGot, WasBrought}
+use Rattle.page_ckpt.specs.Demands.{WasGot, HomeWasGot, OnwardWasGot, WasBrought}
 use Rattle.page_ckpt.proofs.Words.{Trouble, PuItem, Answer, Message, CkptAnswer, Turn, More, Ended, Stopped, Claim, Goes, Ends, Stops, Took, Deed, Came, calls_of, done_of, Intake, Link, Stage}
 use Rattle.page_ckpt.proofs.Outcomes.{leased, noted, IsLast, AreRead, Onward, Clears, Comes, comes}
 use Rattle.page_ckpt.proofs.Outcomes as step
@@ -156,13 +156,13 @@ takes q cursor ms (Ok items) i e h =
     subst (λ (j : Intake). Taking cursor ms j) (sym same) (record { items = items; read = e; run = h.1; ids = refl })
 
 -- the calls up to the receive
-record Opens (p : Paging) (l : Claim) (ms : List Message) (i : Intake) (cs : Calls) : Type 0 where
+record OpensPage (p : Paging) (l : Claim) (ms : List Message) (i : Intake) (cs : Calls) : Type 0 where
   opening : Opening
   opened : IsOpened (scene (with_intake (noted p ms) i)) (ids_of ms) opening
   calls : (Receive (scene_queue (scene p)) 256, call.Received ms) ∷ cs ≡ opening_calls (scene p) l opening
   ids : i.deletions ≡ to_delete (covered_ids i.run.top opening.items)
 
-opens : (p : Paging) (l : Claim) (ms : List Message) (i : Intake) (cs : Calls) → AreRead p ms (Ok i) → AtReceiving p cs l → Opens p l ms i cs
+opens : (p : Paging) (l : Claim) (ms : List Message) (i : Intake) (cs : Calls) → AreRead p ms (Ok i) → AtReceiving p cs l → OpensPage p l ms i cs
 opens p l ms i cs read k =
     let taking : Taking read.cursor ms i = takes (own_queue p) read.cursor ms (items_of ms) i refl read.takes in
     record {
@@ -202,7 +202,7 @@ released_knows p l r a cs (visits, (rest, (leaf, (before, (out, (n, mid, leads, 
 onward_knows : {p q : Paging} {a : Answer} {o : Option Link} (cs : Calls) → Knows p cs → Onward p a q o
     → WithHome (OnTheWay q o ((paging_ask p, a) ∷ cs)) q.held.first q.held.second
 onward_knows cs k (step.with_run p (Some l) None ms i read some) =
-    let opened : Opens p l ms i cs = opens p l ms i cs read k in
+    let opened : OpensPage p l ms i cs = opens p l ms i cs read k in
     ([], record { opening = opened.opening; opened = opened.opened; some = some; calls = opened.calls; count = k.3; ids = opened.ids }, link_taken p.home i.run.items, k.4)
 onward_knows cs k (step.from_right p (Some l) (Some r) a) = released_knows p l r a cs k
 onward_knows cs k on = absurd k
@@ -259,7 +259,7 @@ tried_late p l (id ∷ ids) deleted left a false cs has e late = record {
 clears_knows : {p q : Paging} {a : Answer} (cs : Calls) → Knows p cs → Clears p a q
     → WithHome (λ l. LateOf q ((paging_ask p, a) ∷ cs) l × Quiet q) q.held.first q.held.second
 clears_knows cs k (step.no_run p (Some l) None ms i read none) =
-    let opened : Opens p l ms i cs = opens p l ms i cs read k in (
+    let opened : OpensPage p l ms i cs = opens p l ms i cs read k in (
       record {
         opening = opened.opening;
         opened = opened.opened;

@@ -14,8 +14,8 @@ use Rattle.ckpt_parts.specs.Deleting.{next_id, tried}
 use Rattle.ckpt_parts.specs.Intakes.{has_items, ids_of, TakesIn}
 use Rattle.ckpt_parts.specs.Leaves.{HoldsLinked}
 use Rattle.page_ckpt.specs.declared.stage.Stage.TheVariants.{TakingHome, GettingHome, Receiving, TakingRight, GettingRight, PuttingRight, ReleasingRight, PuttingHome, Deleting as DeletingNext, Releasing, Finished}
-use Rattle.page_ckpt.specs.Paging.{Paging, Step, own_queue, handed, stopping, goes_to, deleting_by, home_taken_by, HoldsNamed, HomeGot, home_read, link_of, is_visited, without_onward, to_right, GoesOn, RunStarted, with_intake, IntakeTaken, ReceivedBy, right_taken_by, RightLacks, RightRead, RightGot, with_applied, without_applying, right_put_by, home_put_by, went, answer_of, finished_by, AbsorbsAt, PagingLeads}
-use Rattle.page_ckpt.specs.Causing.{greatest_number}
+use Rattle.page_ckpt.specs.Paging.{Paging, Step, own_queue, handed, stopping, goes_to, deleting_by, home_taken_by, HoldsNamed, HomeGot, home_read, link_of, is_visited, without_onward, to_right, GoesOnBy, RunStarted, with_intake, IntakeTaken, ReceivedBy, right_taken_by, RightLacks, RightRead, RightGot, with_applied, without_applying, right_put_by, home_put_by, went, answer_of, finished_by, AbsorbsAt, PagingLeads}
+use Rattle.page_ckpt.specs.Causes.{greatest_number}
 use Rattle.page_ckpt.proofs.Words.{Trouble, Answer, Message, Claim, Goes, Ends, Stops, given_of, got_of, done_of, received_of, Intake, Link, Stage}
 
 -- ---- local work between the call and where the step ends
@@ -146,7 +146,7 @@ goes_right : {p : Paging} {a : Answer} (q : Paging) (link : Link) (b : Bool) →
 goes_right q link true seen on = stops q (trouble.Loop link.page) (round link on seen)
 goes_right q link false new on = turns q link on new
 
-goes_on : {p : Paging} {a : Answer} (q : Paging) (o : Option Link) (next : Step) → Onward p a q o → GoesOn q o next → Comes p a next
+goes_on : {p : Paging} {a : Answer} (q : Paging) (o : Option Link) (next : Step) → Onward p a q o → GoesOnBy q o next → Comes p a next
 goes_on q (Some link) next on h = by_step next _ h (goes_right q link (is_visited q link.page) refl on)
 goes_on q None next on (inl spent) = by_step next _ spent.1 (stops q (trouble.Exhausted counter.Version) (home_spent on spent.0))
 goes_on q None next on (inr put) = by_step next _ put.1.2 (puts_home q put.1.0 on put.0 put.1.1)

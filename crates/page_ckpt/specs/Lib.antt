@@ -1,9 +1,9 @@
 pub mod Paging
-pub mod Ending
-pub mod Standing
+pub mod End
+pub mod Leases
 pub mod Links
 pub mod Meaning
-pub mod Causing
-pub mod Exact
-pub mod Well
+pub mod Causes
+pub mod Demands
+pub mod Calm
 pub mod Stepped

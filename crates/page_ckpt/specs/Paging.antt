@@ -251,13 +251,13 @@ to_right p l true = stopping p (trouble.Loop l.page)
 to_right p l false = Goes (record p { stage = TakingRight; at = l; visited = p.visited ++ l.page ∷ [] })
 
 -- the right page comes next where a link leads on, and else the home is put
-abbrev pub GoesOn : Paging → Option Link → Step → Type 0
-GoesOn p (Some l) next = next ≡ to_right p l (is_visited p l.page)
-GoesOn p None next = LeafPut p PuttingHome p.home next
+abbrev pub GoesOnBy : Paging → Option Link → Step → Type 0
+GoesOnBy p (Some l) next = next ≡ to_right p l (is_visited p l.page)
+GoesOnBy p None next = LeafPut p PuttingHome p.home next
 
 -- a run is applied; where it is empty, the deletions come at once
 abbrev pub RunStarted : Paging → Bool → Step → Type 0
-RunStarted p true next = GoesOn p (link_of p.home p.run.items) next
+RunStarted p true next = GoesOnBy p (link_of p.home p.run.items) next
 RunStarted p false next = next ≡ deleting p
 
 abbrev pub with_intake : Paging → Intake → Paging
@@ -343,7 +343,7 @@ AbsorbsAt Receiving p a next = ReceivedBy p (received_of a) next
 AbsorbsAt TakingRight p a next = next ≡ right_taken_by p (given_of (lock.Page p.tree p.at.page) a)
 AbsorbsAt GettingRight p a next = RightGot p (got_of a) next
 AbsorbsAt PuttingRight p a next = next ≡ right_put_by p (done_of a)
-AbsorbsAt ReleasingRight p a next = GoesOn (without_onward p) p.onward next
+AbsorbsAt ReleasingRight p a next = GoesOnBy (without_onward p) p.onward next
 AbsorbsAt PuttingHome p a next = next ≡ home_put_by p (done_of a)
 AbsorbsAt DeletingNext p a next = next ≡ deleted_by p (done_of a)
 AbsorbsAt Releasing p a next = next ≡ released_by p (newest_lease p.held)

@@ -14,11 +14,11 @@ use Rattle.cloud_trait.specs.Calm.{AreCalm}
 use Rattle.cloud_trait.specs.Plenty.{HadMemory}
 use Rattle.ckpt_parts.specs.Leasing.{outstanding}
 use Rattle.page_ckpt.specs.Paging.{Paging, paging_ask, PagingLeads, KeepsLeases}
-use Rattle.page_ckpt.specs.Standing.{Went, AreReturned}
+use Rattle.page_ckpt.specs.Leases.{Went, AreReturned}
 use Rattle.page_ckpt.specs.Meaning.{MeansDone}
-use Rattle.page_ckpt.specs.Causing.{IsShown, Tells}
-use Rattle.page_ckpt.specs.Exact.{WasBrought, Owes}
-use Rattle.page_ckpt.specs.Well.{IsWell}
+use Rattle.page_ckpt.specs.Causes.{IsShown, Tells}
+use Rattle.page_ckpt.specs.Demands.{WasBrought, Owes}
+use Rattle.page_ckpt.specs.Calm.{IsWell}
 
 -- the call in hand and its answer, before others
 abbrev pub and_then : Caller → Seen → Seen → Paging → Answer → List Deed → List Deed

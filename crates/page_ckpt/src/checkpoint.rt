@@ -110,11 +110,11 @@ impl PageCkpt {
     ghost use Rattle.ckpt_parts.specs.Intakes.{has_items};
     ghost use Rattle.ckpt_parts.specs.Leasing.{newest_lease, claims_of, outstanding};
     ghost use Rattle.page_ckpt.specs.Stepped.{Stepped};
-    ghost use Rattle.page_ckpt.specs.Standing.{Went, Names, GivesBack, AreFew};
+    ghost use Rattle.page_ckpt.specs.Leases.{Went, Names, GivesBack, AreFew};
     ghost use Rattle.leaf_view.specs.Lookup.{page_at};
     ghost use Rattle.log_codec.specs.Order.{IsOrdered};
-    ghost use Rattle.page_ckpt.specs.Ending.{calls_left};
-    ghost use Rattle.page_ckpt.specs.Paging.{new_paging, paging_ask, take_home, under, delete_next, handed, stopping, home_taken_by, HomeGot, ReceivedBy, MessagesRead, IntakeTaken, GoesOn, without_onward, to_right, is_visited, LeafPut, MakesLeaf, MadePut, right_taken_by, RightGot, RightRead, RightLacks, right_put_by, home_put_by, deleted_by, deleting, released_by, finished_by, Absorbs, SameLeases};
+    ghost use Rattle.page_ckpt.specs.End.{calls_left};
+    ghost use Rattle.page_ckpt.specs.Paging.{new_paging, paging_ask, take_home, under, delete_next, handed, stopping, home_taken_by, HomeGot, ReceivedBy, MessagesRead, IntakeTaken, GoesOnBy, without_onward, to_right, is_visited, LeafPut, MakesLeaf, MadePut, right_taken_by, RightGot, RightRead, RightLacks, right_put_by, home_put_by, deleted_by, deleting, released_by, finished_by, Absorbs, SameLeases};
 
     /// The checkpoint of a page of a tree. Takes no memory.
     pub fn new(alloc: Global, tree: TreeId, page: PageId) -> PageCkpt
@@ -385,7 +385,7 @@ impl PageCkpt {
 
     /// The right page to which the link leads is next, or the page itself where there is no link.
     fn go_on(&mut self, alloc: Global, link: Option<Link>) -> Turn<CkptAnswer>
-        ensures { Took (λ p _ next. GoesOn p link next) SameLeases self.old Answer.Failed self.new result }
+        ensures { Took (λ p _ next. GoesOnBy p link next) SameLeases self.old Answer.Failed self.new result }
     {
         match link {
             Some(link) => self.go_right(link),
@@ -549,7 +549,7 @@ impl PageCkpt {
     }
 
     fn right_released(&mut self, alloc: Global) -> Turn<CkptAnswer>
-        ensures { Took (λ p _ next. GoesOn (without_onward p) p.onward next) SameLeases self.old Answer.Failed self.new result }
+        ensures { Took (λ p _ next. GoesOnBy (without_onward p) p.onward next) SameLeases self.old Answer.Failed self.new result }
     {
         let onward = self.onward.take();
         self.go_on(alloc, onward)

@@ -16,15 +16,15 @@ use Rattle.cloud_trait.specs.Calm.{IsCalm}
 use Rattle.page_cache.specs.Cache.{Cache}
 use Rattle.page_cache.specs.Held.{leaf_at}
 use Rattle.tree_walk.specs.Walk.{Spot, Walk, IsWalk, object_of, walk_next}
-use Rattle.tree_walk.specs.Causing.{Shows as WalkShows}
+use Rattle.tree_walk.specs.Causes.{Shows as WalkShows}
 use Rattle.tree_walk.proofs.Calm.{shows_failed as walk_failed}
 use Rattle.tree_walk.proofs.Causes.{StopsBeside, nothing_got}
 use Rattle.tree_walk.proofs.Causes.{next_stops as walk_stops}
-use Rattle.tree_walk.proofs.Refusing.{refused_shows}
+use Rattle.tree_walk.proofs.Refusals.{refused_shows}
 use Rattle.tree_walk.proofs.Served.{end_served}
 use Rattle.range_scan.specs.Scan.{Scan, scan_object_at, scan_object, scan_asks, scan_next, KeepsServed}
-use Rattle.range_scan.specs.Listing.{Range, Move, Scanned}
-use Rattle.range_scan.specs.Causing.{ClosesLoop, ShowsAt, Shows, Causes, deed_of}
+use Rattle.range_scan.specs.Meaning.{Range, Move, Scanned}
+use Rattle.range_scan.specs.Causes.{ClosesLoop, ShowsAt, Shows, Causes, deed_of}
 use Rattle.range_scan.proofs.Meaning.{walk_of, scanned_stands}
 use Rattle.range_scan.proofs.Outcomes as step
 use Rattle.range_scan.proofs.Outcomes.{IsRead, Loops, StopsFor, Comes, comes, reached_kept}

@@ -13,7 +13,7 @@ use Rattle.page_cache.specs.Cache.{Cache}
 use Rattle.tree_walk.specs.Moves.{MovesBeside}
 use Rattle.tree_walk.specs.Walk.{Spot}
 use Rattle.range_scan.specs.Scan.{Scan, is_wanted, goes_on, moved_on, scan_beside, right_got, next_at, scan_next}
-use Rattle.range_scan.specs.Ending.{calls_left_at, calls_left}
+use Rattle.range_scan.specs.End.{calls_left_at, calls_left}
 use Rattle.range_scan.proofs.Outcomes as step
 use Rattle.range_scan.proofs.Outcomes.{Reaches, EndsAt, came_by}
 

@@ -4,7 +4,7 @@ pub mod Order
 pub mod Placing
 pub mod Pairs
 pub mod Whole
-pub mod ScanLemmas
+pub mod Turns
 pub mod End
 pub mod Meaning
 pub mod Walked

@@ -23,10 +23,10 @@ use Rattle.page_cache.proofs.CacheLemmas.{accept_kept}
 use Rattle.tree_walk.specs.Walk.{Spot, Walk, IsWalk, IsAtLeaf, object_of, walk_next}
 use Rattle.tree_walk.proofs.Leaves.{ends_at}
 use Rattle.tree_walk.proofs.Served.{IsServedBy as IsWalkServed, end_served, get_row, steady}
-use Rattle.tree_walk.proofs.Walking.{IsTo, WalksBeside, next_walks, ready_walks}
+use Rattle.tree_walk.proofs.Stays.{IsTo, WalksBeside, next_walks, ready_walks}
 use Rattle.range_scan.specs.Scan.{Scan, scan_object_at, scan_object, scan_asks, right_behind, is_wanted, goes_on, moved_on, scan_ready, scan_next, KeepsServed}
-use Rattle.range_scan.specs.Causing.{deed_of}
-use Rattle.range_scan.specs.Listing.{Range, scan_of, range_of, Move, LedTo, Scanned, IsGot, IsServed as IsServedBy, leaves_of, AreServed, BeginsAt, Continues, AreMeeting, IsPast, IsLed, Means}
+use Rattle.range_scan.specs.Causes.{deed_of}
+use Rattle.range_scan.specs.Meaning.{Range, scan_of, range_of, Move, LedTo, Scanned, IsGot, IsServed as IsServedBy, leaves_of, AreServed, BeginsAt, Continues, AreMeeting, IsPast, IsLed, Means}
 use Rattle.range_scan.proofs.Outcomes as step
 use Rattle.range_scan.proofs.Outcomes.{IsRead, Reaches, EndsAt, GoesOn, Comes, comes, came_by, reached_kept, Readies, scan_readies}
 

@@ -10,8 +10,8 @@ use Rattle.tree_walk.specs.Walk.{ServesOn}
 use Rattle.tree_walk.specs.Walk.{Spot}
 use Rattle.tree_walk.proofs.Meaning.{walked_led}
 use Rattle.range_scan.specs.Scan.{Scan, scan_asks, scan_object_at, scan_next, KeepsServed}
-use Rattle.range_scan.specs.Causing.{deed_of}
-use Rattle.range_scan.specs.Listing.{IsWalked, deeds_of}
+use Rattle.range_scan.specs.Causes.{deed_of}
+use Rattle.range_scan.specs.Meaning.{IsWalked, deeds_of}
 use Rattle.range_scan.specs.Stepped.{Stepped}
 use Rattle.range_scan.proofs.Causes.{next_causes, next_calm}
 use Rattle.range_scan.proofs.Demands.{next_exact}

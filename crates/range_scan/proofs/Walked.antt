@@ -7,7 +7,7 @@ use Rattle.cloud_trait.specs.Machine.{Goes}
 use Rattle.page_cache.specs.Cache.{Cache}
 use Rattle.tree_walk.specs.Walk.{Spot, asks}
 use Rattle.range_scan.specs.Scan.{Scan, scan_object_at, is_wanted, goes_on, moved_on}
-use Rattle.range_scan.specs.Listing.{Range, scan_of, Move, LedTo, Scanned, IsWalked}
+use Rattle.range_scan.specs.Meaning.{Range, scan_of, Move, LedTo, Scanned, IsWalked}
 use Rattle.range_scan.proofs.Outcomes.{GoesOn, came_by, Readies, scan_readies}
 
 -- behind a leaf a right page is in hand

@@ -11,9 +11,9 @@ use Rattle.leaf_view.specs.Lookup.{holds, value_of}
 use Rattle.leaf_view.proofs.Split.{leaf_fits}
 use Rattle.route_plan.specs.Seen.{seen}
 use Rattle.range_scan.specs.Pairs.{Sight, BelowFirst, IsAscending, item_at}
-use Rattle.range_scan.specs.Listing.{Range, AreMeeting}
+use Rattle.range_scan.specs.Meaning.{Range, AreMeeting}
 use Rattle.range_scan.proofs.Order.{bound_trans, below_least}
-use Rattle.range_scan.specs.Whole.{Listed, leaves_in, all_pairs, IsFenced, IsListed, IsOutside, IsAmong, IsWhole}
+use Rattle.range_scan.specs.Whole.{Listed, leaves_in, all_pairs, IsFenced, IsListed, IsOutside, IsPairAmong, IsWhole}
 
 -- ---- lists of pairs
 
@@ -110,23 +110,23 @@ before_next r key x (y ∷ ys) meeting listed e = behind_all r key y ys meeting.
 
 -- ---- the joined list
 
-outside_among : (pairs : List Entry) (key : List ℕ) (xs : List Listed) → AllByRecursion (IsOutside key) xs → AllByRecursion (IsAmong pairs key) xs
+outside_among : (pairs : List Entry) (key : List ℕ) (xs : List Listed) → AllByRecursion (IsOutside key) xs → AllByRecursion (IsPairAmong pairs key) xs
 outside_among pairs key [] out = tt
 outside_among pairs key (x ∷ xs) out = (λ held. absurd (cc (out.0, held)), outside_among pairs key xs out.1)
 
-among_same : (pairs more : List Entry) (key : List ℕ) (xs : List Listed) → value_of key more ≡ value_of key pairs → AllByRecursion (IsAmong pairs key) xs → AllByRecursion (IsAmong more key) xs
+among_same : (pairs more : List Entry) (key : List ℕ) (xs : List Listed) → value_of key more ≡ value_of key pairs → AllByRecursion (IsPairAmong pairs key) xs → AllByRecursion (IsPairAmong more key) xs
 among_same pairs more key [] same h = tt
 among_same pairs more key (x ∷ xs) same h = (λ held. same ∙ h.0 held, among_same pairs more key xs same h.1)
 
-each_among : (r : Range) (key : List ℕ) (xs : List Listed) → AreMeeting r (leaves_in xs) → AllByRecursion IsListed xs → AllByRecursion (IsAmong (all_pairs xs) key) xs
+each_among : (r : Range) (key : List ℕ) (xs : List Listed) → AreMeeting r (leaves_in xs) → AllByRecursion IsListed xs → AllByRecursion (IsPairAmong (all_pairs xs) key) xs
 each_among r key [] meeting listed = tt
 each_among r key (x ∷ xs) meeting listed = (newest, older (bytes_below key x.sight.leaf.low) refl (each_among r key xs meeting.1 listed.1)) where
-  newest : IsAmong (all_pairs (x ∷ xs)) key x
+  newest : IsPairAmong (all_pairs (x ∷ xs)) key x
   newest held =
       absent_then key (all_pairs xs) x.pairs (no_pair key xs listed.1 (before_next r key x xs meeting listed.1 (from_low x.sight.leaf key held)))
       ∙ listed.0.items.each key
 
-  older : (b : Bool) → bytes_below key x.sight.leaf.low ≡ b → AllByRecursion (IsAmong (all_pairs xs) key) xs → AllByRecursion (IsAmong (all_pairs (x ∷ xs)) key) xs
+  older : (b : Bool) → bytes_below key x.sight.leaf.low ≡ b → AllByRecursion (IsPairAmong (all_pairs xs) key) xs → AllByRecursion (IsPairAmong (all_pairs (x ∷ xs)) key) xs
   older false is h = outside_among (all_pairs (x ∷ xs)) key xs (before_next r key x xs meeting listed.1 is)
   older true is h =
       among_same (all_pairs xs) (all_pairs (x ∷ xs)) key xs

@@ -11,11 +11,11 @@ use Rattle.page_cache.specs.Cache.{Cache}
 use Rattle.tree_walk.specs.Walk.{Spot, Walk, is_page, is_among, came_to, use_of, rested, walk_next, pages, spots}
 use Rattle.tree_walk.specs.Within.{AreOnce, IsOnce}
 use Rattle.tree_walk.proofs.End.{more_pages}
-use Rattle.tree_walk.proofs.Onceness.{or_false, once_push, among_push, once_goes, once_begun}
+use Rattle.tree_walk.proofs.Within.{or_false, once_push, among_push, once_goes, once_begun}
 use Rattle.tree_walk.proofs.Served.{ended_as}
 use Rattle.range_scan.specs.Scan.{Scan, scan_came_to, is_wanted, goes_on, moved_on, scan_ready, scan_next}
-use Rattle.range_scan.specs.Listing.{Range, scan_of, Move, LedTo, Scanned}
-use Rattle.range_scan.specs.Within.{scan_pages, IsScannedOnce, IsWithin}
+use Rattle.range_scan.specs.Meaning.{Range, scan_of, Move, LedTo, Scanned}
+use Rattle.range_scan.specs.Within.{scan_pages, IsScannedOnce, ScansWithin}
 use Rattle.range_scan.proofs.Outcomes as step
 use Rattle.range_scan.proofs.Outcomes.{Leaves, Reaches, EndsAt, GoesOn, Comes, comes, Readies, scan_readies}
 
@@ -28,9 +28,9 @@ record IsPassed (w : Walk) (passed : List ℕ) : Type 0 where
   apart : (page : ℕ) → is_among passed page ≡ true → came_to w page ≡ false
 
 -- the page to the right, where it is one to go on to, is none of them
-abbrev IsNew : Scan → Option Spot → Type 0
-IsNew s None = Unit {0}
-IsNew s (Some next) = below_bound next.low s.to ≡ true → (came_to s.walk next.page || is_among s.passed next.page) ≡ false
+abbrev IsNewPage : Scan → Option Spot → Type 0
+IsNewPage s None = Unit {0}
+IsNewPage s (Some next) = below_bound next.low s.to ≡ true → (came_to s.walk next.page || is_among s.passed next.page) ≡ false
 
 -- it came to each of its pages once, and to so many at least; while its walk is in hand, it got no right page
 record IsCounted (n : ℕ) (s : Scan) : Type 0 where
@@ -40,14 +40,14 @@ record IsCounted (n : ℕ) (s : Scan) : Type 0 where
 
 record IsCountedAt (n : ℕ) (s : Scan) : Type 0 where
   passed : IsPassed s.walk s.passed
-  right : IsNew s s.next
+  right : IsNewPage s s.next
   few : n ≤ pages s.walk + length s.passed + 1
 
 -- where the scan goes on, and where it ended
-abbrev Leads : ℕ → Next (Scan × Cache) ℕ → Type 0
-Leads n (Goes m) = IsCounted n m.0
-Leads n (Ends m page) = IsCountedAt n m.0
-Leads n (Stops m t) = Unit {0}
+abbrev LeadsWithin : ℕ → Next (Scan × Cache) ℕ → Type 0
+LeadsWithin n (Goes m) = IsCounted n m.0
+LeadsWithin n (Ends m page) = IsCountedAt n m.0
+LeadsWithin n (Stops m t) = Unit {0}
 
 none_came : (a b c : Bool) → (a || (b || c)) ≡ false → (b || c) ≡ false
 none_came true b c e = absurd (cc (e))
@@ -121,15 +121,15 @@ reached n m a _ _ _ _ h (step.right spot c l read same) = right_reached n m.0 sp
 
 left_counted : (n : ℕ) (s k : Scan) (l : Leaf) (page p : ℕ) → IsReached n s → Leaves s l page k p → IsCountedAt (n + 1) k
 left_counted n s k l page p h leaves = subst (IsCountedAt (n + 1)) (sym leaves.is) (record { passed = h.passed; right = new _ leaves.new; few = omega (arith, h.few) }) where
-  new : (o : Option Spot) → ((next : Spot) → o ≡ Some next → below_bound next.low s.to ≡ true → scan_came_to s next.page ≡ false) → IsNew (record s { next = o }) o
+  new : (o : Option Spot) → ((next : Spot) → o ≡ Some next → below_bound next.low s.to ≡ true → scan_came_to s next.page ≡ false) → IsNewPage (record s { next = o }) o
   new None more = tt
   new (Some next) more = λ wanted. none_came (is_page next.page s.spot) (came_to s.walk next.page) (is_among s.passed next.page) (more next refl wanted)
 
 -- ---- turns
 
-next_leads : (n : ℕ) (m : Scan × Cache) (a : Answer) → IsCounted n m.0 → Leads (n + 1) (scan_next m a)
+next_leads : (n : ℕ) (m : Scan × Cache) (a : Answer) → IsCounted n m.0 → LeadsWithin (n + 1) (scan_next m a)
 next_leads n m a h = on (scan_next m a) (comes m a) where
-  on : (x : Next (Scan × Cache) ℕ) → Comes m a x → Leads (n + 1) x
+  on : (x : Next (Scan × Cache) ℕ) → Comes m a x → LeadsWithin (n + 1) x
   on (Goes k) o =
       let more : pages m.0.walk < pages k.0.walk = more_pages (m.0.walk, m.1) (k.0.walk, k.1) a o.walk in
       let empty : m.0.passed ≡ [] = h.first o.none in
@@ -155,15 +155,15 @@ moved_counted n s h going =
       few (Some spot) w = omega (arith, h.few)
 
       new : (spot : Spot) → s.next ≡ Some spot → (came_to s.walk spot.page || is_among s.passed spot.page) ≡ false
-      new spot e = let N : Option Spot → Type 0 = IsNew s in subst N e h.right (ap (is_wanted s.to) (sym e) ∙ going)
+      new spot e = let N : Option Spot → Type 0 = IsNewPage s in subst N e h.right (ap (is_wanted s.to) (sym e) ∙ going)
 
       once : IsScannedOnce (record s { spot = s.next; next = None })
       once = record { walk = h.passed.walk; passed = h.passed.pages_once; apart = h.passed.apart; in_hand = new }
 
 led_counted : (n : ℕ) (m k : Scan × Cache) (a : Answer) (o : Option Leaf) → IsCounted n m.0 → LedTo m a o k → IsCounted (n + 1) k.0
-led_counted n m k a None h e = subst (Leads (n + 1)) e (next_leads n m a h)
+led_counted n m k a None h e = subst (LeadsWithin (n + 1)) e (next_leads n m a h)
 led_counted n m k a (Some l) h (s, (page, e, kept, going, moved)) =
-    let at : IsCountedAt (n + 1) s = subst (Leads (n + 1)) e (next_leads n m a h) in
+    let at : IsCountedAt (n + 1) s = subst (LeadsWithin (n + 1)) e (next_leads n m a h) in
     subst (IsCounted (n + 1)) (sym moved) (moved_counted (n + 1) s at going)
 
 scanned_counted : (r : Range) (h : List Move) (m : Scan × Cache) → Scanned r h m → IsCounted (length h) m.0
@@ -178,7 +178,7 @@ scanned_counted r (x ∷ h) m (from, came, asked, made, led) =
     let after : IsCounted (length h + 1) m.0 = led_counted (length h) from m x.deed.answer x.behind before led in
     record { once = after.once; few = omega (arith, after.few); first = after.first }
 
-pub scanned_within : (r : Range) (h : List Move) (m : Scan × Cache) → Scanned r h m → IsWithin (length h + 1) m.0
+pub scanned_within : (r : Range) (h : List Move) (m : Scan × Cache) → Scanned r h m → ScansWithin (length h + 1) m.0
 scanned_within r h m came =
     let counted : IsCounted (length h) m.0 = scanned_counted r h m came in
     record { once = counted.once; bound = omega (arith, counted.few) }

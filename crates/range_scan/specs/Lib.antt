@@ -1,9 +1,9 @@
 pub mod Scan
-pub mod Ending
+pub mod End
 pub mod Pairs
 pub mod Bounds
-pub mod Listing
-pub mod Causing
+pub mod Meaning
+pub mod Causes
 pub mod Within
 pub mod Whole
 pub mod Stepped

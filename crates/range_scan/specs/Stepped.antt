@@ -12,15 +12,15 @@ use Rattle.cloud_trait.specs.Calm.{IsCalm}
 use Rattle.page_cache.specs.Cache.{Cache}
 use Rattle.tree_walk.specs.Walk.{ServesOn}
 use Rattle.range_scan.specs.Scan.{Scan, scan_asks, scan_next, KeepsServed}
-use Rattle.tree_walk.specs.Led.{LedBy, began_with}
-use Rattle.range_scan.specs.Listing.{Range, Move, Scanned, Means, IsLed, IsWalked, leaves_of, deeds_of}
-use Rattle.range_scan.specs.Causing.{Causes, Exact, deed_of}
-use Rattle.range_scan.specs.Within.{IsWithin}
+use Rattle.tree_walk.specs.Meaning.{LedBy, began_with}
+use Rattle.range_scan.specs.Meaning.{Range, Move, Scanned, Means, IsLed, IsWalked, leaves_of, deeds_of}
+use Rattle.range_scan.specs.Causes.{Causes, Exact, deed_of}
+use Rattle.range_scan.specs.Within.{ScansWithin}
 
 -- what a step is by the run that led to it
 pub record Meant (r : Range) (h : List Move) (who : Caller) (before after : Seen) (old new : Scan × Cache) (a : Answer) (turn : Turn ℕ) : Type 0 where
   -- it came to each page once, and one call more than these is all
-  pub within : IsWithin (length h + 1) old.0
+  pub within : ScansWithin (length h + 1) old.0
   -- where it ends, it is at a leaf that this call served; the ranges of its leaves meet, from the first key on
   pub means : Means r (deed_of who old a before after) new h turn
   -- what led to the page in hand is the link of the newest leaf; and while the walk is in hand, that of an object that the walk found in the

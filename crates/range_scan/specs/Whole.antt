@@ -34,11 +34,11 @@ abbrev pub IsOutside : List ℕ → Listed → Type 0
 IsOutside key x = holds x.sight.leaf key ≡ false
 
 -- a key of the leaf's range has its pair where the leaf's own list has it
-abbrev pub IsAmong : List Entry → List ℕ → Listed → Type 0
-IsAmong pairs key x = holds x.sight.leaf key ≡ true → value_of key pairs ≡ item_at x.sight key
+abbrev pub IsPairAmong : List Entry → List ℕ → Listed → Type 0
+IsPairAmong pairs key x = holds x.sight.leaf key ≡ true → value_of key pairs ≡ item_at x.sight key
 
 -- the pairs of a whole scan: in key order over all leaves, for each key those of the leaf whose range has it, and no other
 pub record IsWhole (xs : List Listed) : Type 0 where
   pub ascending : IsAscending (all_pairs xs)
-  pub each : (key : List ℕ) → AllByRecursion (IsAmong (all_pairs xs) key) xs
+  pub each : (key : List ℕ) → AllByRecursion (IsPairAmong (all_pairs xs) key) xs
   pub no_other : (key : List ℕ) → AllByRecursion (IsOutside key) xs → value_of key (all_pairs xs) ≡ None

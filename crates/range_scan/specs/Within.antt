@@ -16,6 +16,6 @@ pub record IsScannedOnce (s : Scan) : Type 0 where
   pub in_hand : (spot : Spot) → s.spot ≡ Some spot → (came_to s.walk spot.page || is_among s.passed spot.page) ≡ false
 
 -- these calls are one more at most than the pages that the scan has come to, each once
-pub record IsWithin (calls : ℕ) (s : Scan) : Type 0 where
+pub record ScansWithin (calls : ℕ) (s : Scan) : Type 0 where
   pub once : IsScannedOnce s
   pub bound : calls ≤ 1 + scan_pages s

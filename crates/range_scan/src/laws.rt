@@ -7,10 +7,10 @@ ghost use Rattle.leaf_view.specs.Leaf.{Leaf, IsLeaf};
 ghost use Rattle.db_base.specs.declared.trouble.Trouble.{Trouble};
 ghost use Rattle.page_cache.specs.Cache.{Cache, IsCache};
 ghost use Rattle.page_cache.specs.Held.{as_leaf};
-ghost use Rattle.tree_walk.specs.Causing.{IsStopped, Meets};
+ghost use Rattle.tree_walk.specs.Causes.{IsStopped, Meets};
 ghost use Rattle.tree_walk.specs.Moves.{Moves};
-ghost use Rattle.range_scan.specs.Causing.{CausesReady};
-ghost use Rattle.range_scan.specs.Listing.{Range, scan_of, AreMeeting};
+ghost use Rattle.range_scan.specs.Causes.{CausesReady};
+ghost use Rattle.range_scan.specs.Meaning.{Range, scan_of, AreMeeting};
 ghost use Rattle.range_scan.specs.Scan.{Scan, scan_ready};
 ghost use Rattle.range_scan.specs.Whole.{Listed, leaves_in, IsFenced, IsListed, IsWhole};
 

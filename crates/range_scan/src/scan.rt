@@ -64,7 +64,7 @@ impl Model for RangeScan {
 
 impl RangeScan {
     ghost use Rattle.range_scan.specs.Scan.{new_scan, scan_object, scan_ask, scan_asks, right_in, scan_came_to, leaf_ended, goes_on, moved_on, first_read, walked_on, right_read_in, right_read, right_got, scan_ready, scan_next, scan_beside, next_at, KeepsServed};
-    ghost use Rattle.range_scan.specs.Ending.{calls_left};
+    ghost use Rattle.range_scan.specs.End.{calls_left};
     ghost use Rattle.range_scan.specs.Pairs.{AreItemsIn};
     ghost use Rattle.range_scan.specs.Stepped.{Stepped};
 

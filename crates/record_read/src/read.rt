@@ -2,10 +2,10 @@ ghost use Rattle.std.specs.Prelude.{◌≡◌, ◌<◌, ◌+◌, ℕ, List, leng
 ghost use Rattle.cloud_trait.specs.Call.{ask_of};
 ghost use Rattle.cloud_trait.specs.Machine.{Deed};
 ghost use Rattle.tree_walk.specs.Moves.{Moves};
-ghost use Rattle.tree_walk.specs.Serving.{MustGet};
+ghost use Rattle.tree_walk.specs.Served.{MustGet};
 ghost use Rattle.tree_walk.specs.Stepped.{Stepped};
 ghost use Rattle.tree_walk.specs.Walk.{new_walk, walk_ask, walk_ready, ServesOn, calls_left, IsAtLeaf};
-ghost use Rattle.tree_walk.specs.Within.{Went, IsWithin};
+ghost use Rattle.tree_walk.specs.Within.{Went, WalksWithin};
 ghost use Rattle.record_read.specs.Read.{read_value};
 
 use cloud_trait::call::Call;
@@ -89,7 +89,7 @@ impl RecordRead {
         ensures less { result ≡ Turn.More → calls_left self.new < calls_left self.old }
         ensures ends { (page : ℕ) → result ≡ Turn.Ended page → IsAtLeaf self.new cache.new page }
         // It comes to each page once, and one call more than these is all.
-        ensures within { (h : List Deed) → Went h (self.old, cache.old) → IsWithin (length h + 1) self.old self.new result }
+        ensures within { (h : List Deed) → Went h (self.old, cache.old) → WalksWithin (length h + 1) self.old self.new result }
         // What it gets next is a leaf, or what the cache does not keep.
         ensures gets { result ≡ Turn.More → MustGet self.new cache.new }
     {

@@ -7,10 +7,10 @@ use Rattle.cloud_trait.specs.Seen.{Seen}
 use Rattle.cloud_trait.specs.Weather.{Makes}
 use Rattle.cloud_trait.specs.Calm.{GoesWell, AreCalm}
 use Rattle.cloud_trait.proofs.CalmLemmas.{goes_well}
-use Rattle.recover_run.specs.Causing.{Shows, IsShown}
+use Rattle.recover_run.specs.Causes.{Shows, IsShown}
 use Rattle.recover_run.specs.Emptying.{deed_of}
 use Rattle.recover_run.specs.Recovery.{new_recovery}
-use Rattle.recover_run.specs.Well.{MayStop, StopsWell}
+use Rattle.recover_run.specs.Calm.{MayStop, StopsWell}
 use Rattle.recover_run.proofs.Causes.{took_tells}
 use Rattle.recover_run.proofs.Words.{Trouble, Answer, Turn, More, Ended, Stopped, Claim, LeadsBy, Took, Deed, calls_of, Fits, Aim, RecoverAnswer, Calls, Recovery, recovery_ask, recovery_next, KeepsLeases, Went}
 

@@ -11,18 +11,18 @@ use Rattle.db_base.specs.declared.trouble.Trouble.TheVariants as trouble
 use Rattle.route_plan.specs.Queue.{queue_name}
 use Rattle.cloud_trait.specs.declared.answer.Answer.TheVariants as call
 use Rattle.recover_run.specs.Calls.{Brought, HoldsItem}
-use Rattle.recover_run.specs.Causing.{NothingNew, Counts, IsSifted, Shows, IsShown, Tells}
+use Rattle.recover_run.specs.Causes.{NothingNew, Counts, IsSifted, Shows, IsShown, Tells}
 use Rattle.recover_run.specs.Counting.{known_indices}
 use Rattle.recover_run.specs.Gathering.{kept_with}
 use Rattle.recover_run.specs.Items.{items_of}
 use Rattle.recover_run.specs.Recovery.{under, receive_next, delete_next, send_next, with_pending}
 use Rattle.recover_run.proofs.Heard.{FreshIs, HeardAt, AscendAt, loses_heard, went_heard, went_ascend}
-use Rattle.recover_run.proofs.Keeping.{all_so, all_held, kept_more, kept_all, kept_rising, rising_room}
-use Rattle.recover_run.proofs.Knowing.{KnowsAt, Gathering, KnowsTaken}
+use Rattle.recover_run.proofs.KeptRecords.{all_so, all_held, kept_more, kept_all, kept_rising, rising_room}
+use Rattle.recover_run.proofs.Knows.{KnowsAt, Gathering, KnowsTaken}
 use Rattle.recover_run.proofs.Meaning.{came_known}
 use Rattle.recover_run.proofs.Outcomes.{at, Reads, Loses, Readies, Clears, Fails, Comes, comes_to}
 use Rattle.recover_run.proofs.Outcomes as step
-use Rattle.recover_run.proofs.Leases.{EndsAt, stands_ends, went_stands}
+use Rattle.recover_run.proofs.Leases.{KeepsEnding, stands_ends, went_stands}
 use Rattle.recover_run.proofs.Words.{Trouble, Answer, Message, Turn, More, Ended, Stopped, Ask, GetHeld, PutHeld, Send, Receive, Delete, Take, Claim, Goes, Ends, Stops, LeadsBy, Took, Deed, calls_of, given_of, got_of, sent_of, received_of, done_of, Fits, AtomicItem, Aim, Taking, Getting, Receiving, Deleting, Sending, Putting, Sweeping, RecoverAnswer, Calls, Recovery, Step, recovery_ask, recovery_next, KeepsLeases, Went}
 
 -- ---- calls that brought nothing
@@ -174,7 +174,7 @@ clears_ending q ids (step.head_put r) = refl
 clears_ending q ids (step.one_tried r a) = refl
 
 tells_after : {r : Recovery} {a : Answer} {next : Step} (old : Option Claim) (cs : Calls) → KnowsAt r.stage old cs r → HeardAt r.stage cs r → AscendAt r.stage r
-    → EndsAt r.stage r.ending → Fits (recovery_ask r) a → Comes r a next → NextTells r a ((recovery_ask r, a) ∷ cs) next
+    → KeepsEnding r.stage r.ending → Fits (recovery_ask r) a → Comes r a next → NextTells r a ((recovery_ask r, a) ∷ cs) next
 tells_after old cs k heard up none fits (step.gives_old r a) = λ t e. inl e
 tells_after old cs k heard up none fits (step.takes r l) = λ t e. inl e
 tells_after old cs k heard up none fits (step.refused r a t e) = λ other. inr (take_missed r _ a t fits e)

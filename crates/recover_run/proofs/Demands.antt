@@ -30,17 +30,17 @@ use Rattle.recover_run.specs.declared.stage.Stage.TheVariants.{ReleasingOld, Tak
 use Rattle.recover_run.specs.declared.stage.RecoverAnswer.{RecoverAnswer}
 use Rattle.recover_run.specs.declared.stage.RecoverAnswer.TheVariants.{Nothing}
 use Rattle.recover_run.specs.Calls.{Calls, head_in}
-use Rattle.recover_run.specs.Causing.{NothingNew, Counts, BreaksHead, BreaksMessage, IsSifted, IsWaiting, Shows, Keeps, Answers, IsAbsent}
+use Rattle.recover_run.specs.Causes.{NothingNew, Counts, BreaksHead, BreaksMessage, IsSifted, IsWaiting, Shows, Keeps, AnswersKept, IsAbsent}
 use Rattle.recover_run.specs.declared.wanted.Wanted.{Wanted}
 use Rattle.recover_run.specs.Counting.{wanted_by, known_indices}
 use Rattle.recover_run.specs.Gathering.{lost_now}
 use Rattle.recover_run.specs.Ids.{rest_of}
 use Rattle.recover_run.specs.Recovery.{Recovery, Step, recovery_ask, recovery_next, ask_at, next_at, under, delete_next, send_next, atomic_queue, damaged_message, none_read, bytes_read, head_read, phase_read, behind, stopping, gathered_by, deleting, decided, send_at, swept_with, ended, KeepsLeases}
-use Rattle.recover_run.specs.Standing.{Went}
+use Rattle.recover_run.specs.Leases.{Went}
 use Rattle.recover_run.proofs.Heard.{FreshIs, HeardAt, AscendAt, IsHeard, loses_heard, went_heard, went_ascend}
 use Rattle.recover_run.proofs.Outcomes.{at, listed, gathered}
 use Rattle.recover_run.proofs.Outcomes as step
-use Rattle.recover_run.proofs.Leases.{EndsAt, stands_ends, went_stands}
+use Rattle.recover_run.proofs.Leases.{KeepsEnding, stands_ends, went_stands}
 
 -- the step keeps this ending, or stops so
 abbrev pub NextKeeps : Result RecoverAnswer Trouble → Step → Type 0
@@ -257,7 +257,7 @@ ended_answers n None ending e = absurd (cc (e))
 never_kept : (r : Recovery) (ending : Result RecoverAnswer Trouble) → r.ending ≡ None → r.ending ≡ Some ending → ⊥
 never_kept r ending none e = absurd (cc (none, e))
 
-answers_at : (st : Stage) (r : Recovery) (a : Answer) (ending : Result RecoverAnswer Trouble) → EndsAt st r.ending → r.ending ≡ Some ending → NextAnswers ending (next_at st r a)
+answers_at : (st : Stage) (r : Recovery) (a : Answer) (ending : Result RecoverAnswer Trouble) → KeepsEnding st r.ending → r.ending ≡ Some ending → NextAnswers ending (next_at st r a)
 answers_at ReleasingOld r a ending none e = absurd (never_kept r ending none e)
 answers_at Taking r a ending none e = absurd (never_kept r ending none e)
 answers_at Getting r a ending none e = absurd (never_kept r ending none e)
@@ -271,13 +271,13 @@ answers_at Releasing r a ending some e = ended_answers (record r { stage = Finis
 answers_at Finished r a ending none e = absurd none
 
 answers_so : (r n : Recovery) (a : Answer) (turn : Turn RecoverAnswer) (ending : Result RecoverAnswer Trouble) → Took (LeadsBy recovery_next) KeepsLeases r a n turn
-    → NextAnswers ending (recovery_next r a) → Answers turn ending
+    → NextAnswers ending (recovery_next r a) → AnswersKept turn ending
 answers_so r n a More ending took answers = subst (NextAnswers ending) took answers
 answers_so r n a (Ended x) ending took answers = subst (NextAnswers ending) took answers
 answers_so r n a (Stopped t) ending took answers = λ k. subst (NextAnswers ending) (took.0 k) answers
 
 pub took_answers : (client : ℕ) (aim : Aim) (old : Option Claim) (h : List Deed) (r n : Recovery) (a : Answer) (turn : Turn RecoverAnswer) → Went client aim old h r
-    → Took (LeadsBy recovery_next) KeepsLeases r a n turn → (ending : Result RecoverAnswer Trouble) → r.ending ≡ Some ending → Answers turn ending
+    → Took (LeadsBy recovery_next) KeepsLeases r a n turn → (ending : Result RecoverAnswer Trouble) → r.ending ≡ Some ending → AnswersKept turn ending
 took_answers client aim old h r n a turn went took ending e =
     answers_so r n a turn ending took
     (answers_at r.stage r a ending (stands_ends r.stage client aim old h r (went_stands client aim old h r went)) e)

@@ -32,8 +32,8 @@ use Rattle.recover_run.specs.Calls.{Calls}
 use Rattle.recover_run.specs.Emptying.{IsBeginning, HadMemory, HasNoLater, IsUptoEpoch, LeavesNone, deed_of}
 use Rattle.recover_run.specs.Ids.{rest_of}
 use Rattle.recover_run.specs.Recovery.{Recovery, new_recovery, recovery_ask, recovery_next, ask_at, next_at, under, delete_next, clearing, KeepsLeases}
-use Rattle.recover_run.proofs.Calmly.{Moves, Shrunk, along, row_of_move, move_shrinks, shrunk_all, unmarked_since}
-use Rattle.recover_run.proofs.Knowing.{KnowsAt, Put}
+use Rattle.recover_run.proofs.CalmCalls.{Moves, Shrunk, along, row_of_move, move_shrinks, shrunk_all, unmarked_since}
+use Rattle.recover_run.proofs.Knows.{KnowsAt, Put}
 use Rattle.recover_run.proofs.Meaning.{Knows, came_known}
 use Rattle.recover_run.proofs.Sweeping.{SweptAt, SweptNext, Delivers, Deletes, HeardAt, swept}
 use Rattle.recover_run.proofs.Outcomes.{comes}

@@ -3,7 +3,7 @@ use Rattle.std.proofs.Common.{◌≡◌, ◌<◌, ◌≤◌, ◌+◌, ◌-◌, �
 use Rattle.std.specs.Prelude.{slice_get}
 use Rattle.std.proofs.lemmas.List.{length-drop}
 use Rattle.std.proofs.lemmas.Option.{slice_get_within}
-use Rattle.recover_run.specs.Bound.{calls_left, left_at, gathers_left, sweeps_left, put_left, again, KnowsAtMost}
+use Rattle.recover_run.specs.End.{calls_left, left_at, gathers_left, sweeps_left, put_left, again, KnowsAtMost}
 use Rattle.recover_run.specs.Gathering.{lost_now}
 use Rattle.recover_run.specs.Ids.{new_ids, has_some}
 use Rattle.recover_run.specs.Items.{ids_of}

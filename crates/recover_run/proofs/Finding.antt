@@ -18,7 +18,7 @@ use Rattle.recover_run.specs.Gathering.{is_of, is_counted, kept_with}
 use Rattle.recover_run.specs.Items.{items_of, item_with, with_first}
 use Rattle.recover_run.specs.Kept.{with_item, placed}
 use Rattle.recover_run.specs.Missing.{is_indexed, is_indexed_some}
-use Rattle.recover_run.proofs.Knowing.{IsRising}
+use Rattle.recover_run.proofs.Knows.{IsRising}
 use Rattle.recover_run.proofs.Marks.{others}
 
 nat_same : (a b : ℕ) → (a == b) ≡ true → a ≡ b

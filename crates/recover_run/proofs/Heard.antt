@@ -11,15 +11,15 @@ use Rattle.log_codec.specs.Atomic.{atomic_of}
 use Rattle.cloud_trait.specs.declared.answer.Answer.TheVariants as call
 use Rattle.cloud_trait.specs.Ask.{Get, ListHeld, RemoveHeld, Renew}
 use Rattle.recover_run.specs.Calls.{head_in}
-use Rattle.recover_run.specs.Causing.{ids_in, known_ids, NothingNew}
+use Rattle.recover_run.specs.Causes.{ids_in, known_ids, NothingNew}
 use Rattle.recover_run.specs.Counting.{wanted_in, wanted_after, wanted_by, index_in, indices_of, indices_in, known_indices}
 use Rattle.recover_run.specs.Gathering.{Gathered, nothing_gathered, wanted_of, kept_with, is_counted}
 use Rattle.recover_run.specs.Ids.{has_id, new_ids, has_some}
 use Rattle.recover_run.specs.Items.{items_of, with_first, item_with, ids_of}
 use Rattle.recover_run.specs.Kept.{placed, with_item}
 use Rattle.recover_run.specs.Recovery.{new_recovery, under, delete_next, behind}
-use Rattle.recover_run.proofs.Keeping.{with_item_rising}
-use Rattle.recover_run.proofs.Knowing.{IsRising, KnowsAt}
+use Rattle.recover_run.proofs.KeptRecords.{with_item_rising}
+use Rattle.recover_run.proofs.Knows.{IsRising, KnowsAt}
 use Rattle.recover_run.proofs.Meaning.{came_known}
 use Rattle.recover_run.proofs.Words.{Head, Answer, Message, Ask, GetHeld, PutHeld, Send, Receive, Delete, Take, Release, Claim, Goes, Ends, Stops, Deed, calls_of, Fits, AtomicItem, Aim, Stage, ReleasingOld, Taking, Getting, Receiving, Deleting, Sending, Putting, Clearing, Sweeping, Releasing, Finished, Wanted, Calls, Recovery, Step, recovery_ask, Went}
 use Rattle.recover_run.proofs.Outcomes.{at, Reads, Loses, Comes, comes_to}

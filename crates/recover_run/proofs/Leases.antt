@@ -9,8 +9,8 @@ use Rattle.cloud_trait.specs.declared.answer.Answer.TheVariants as call
 use Rattle.cloud_trait.specs.Seen.{Seen}
 use Rattle.recover_run.specs.Meaning.{HandsNone}
 use Rattle.recover_run.specs.Recovery.{new_recovery, ask_at, under, delete_next, send_next, home_at, home_of}
-use Rattle.recover_run.specs.Standing.{leases_of, outstanding_after, outstanding, IsClients, Names, Leaves, GivesBack, LeavesOf, AreReturned}
-use Rattle.recover_run.proofs.Knowing.{KnowsAt}
+use Rattle.recover_run.specs.Leases.{leases_of, outstanding_after, outstanding, IsClients, Names, Leaves, GivesBack, LeavesOf, AreReturned}
+use Rattle.recover_run.proofs.Knows.{KnowsAt}
 use Rattle.recover_run.proofs.Meaning.{came_known}
 use Rattle.recover_run.proofs.Outcomes.{at}
 use Rattle.recover_run.proofs.Turns.{AtWork, Works, MayHalt, Turns, turns_to}
@@ -20,7 +20,7 @@ use Rattle.recover_run.proofs.Words.{Trouble, Answer, Turn, More, Ended, Stopped
 -- ---- what is held at a stage
 
 -- the client's lease is held, and no other
-pub record Holds (client : ℕ) (aim : Aim) (old : Option Claim) (h : List Deed) (own : ℕ) (aims : Aim) (former held : Option Claim) : Type 0 where
+pub record HoldsClient (client : ℕ) (aim : Aim) (old : Option Claim) (h : List Deed) (own : ℕ) (aims : Aim) (former held : Option Claim) : Type 0 where
   pub client_is : own ≡ client
   pub aim_is : aims ≡ aim
   pub former_is : former ≡ None
@@ -29,7 +29,7 @@ pub record Holds (client : ℕ) (aim : Aim) (old : Option Claim) (h : List Deed)
   pub clients : IsClients client old h lease
 
 abbrev pub Has : ℕ → Aim → Option Claim → List Deed → Recovery → Type 0
-Has client aim old h r = Holds client aim old h r.client r.aim r.former r.lease
+Has client aim old h r = HoldsClient client aim old h r.client r.aim r.former r.lease
 
 -- a settling alone gives the lease back before Opened
 abbrev pub EndsSo : Option (Result RecoverAnswer Trouble) → Aim → Type 0
@@ -39,7 +39,7 @@ EndsSo (Some (Err t)) aim = Unit {0}
 EndsSo None aim = ⊥
 
 -- the client's lease was not taken yet, and the one that was handed in is held or was not
-pub record Begins (client : ℕ) (aim : Aim) (former : Option Claim) (r : Recovery) : Type 0 where
+pub record IsAtBegin (client : ℕ) (aim : Aim) (former : Option Claim) (r : Recovery) : Type 0 where
   pub client_is : r.client ≡ client
   pub aim_is : r.aim ≡ aim
   pub former_is : r.former ≡ former
@@ -47,8 +47,8 @@ pub record Begins (client : ℕ) (aim : Aim) (former : Option Claim) (r : Recove
   pub ending_is : r.ending ≡ None
 
 abbrev pub StandsAt : Stage → ℕ → Aim → Option Claim → List Deed → Recovery → Type 0
-StandsAt ReleasingOld client aim old h r = (l : Claim) × Begins client aim (Some l) r × (h ≡ []) × (old ≡ Some l)
-StandsAt Taking client aim old h r = Begins client aim None r × (outstanding old h ≡ [])
+StandsAt ReleasingOld client aim old h r = (l : Claim) × IsAtBegin client aim (Some l) r × (h ≡ []) × (old ≡ Some l)
+StandsAt Taking client aim old h r = IsAtBegin client aim None r × (outstanding old h ≡ [])
 StandsAt Releasing client aim old h r = Has client aim old h r × EndsSo r.ending aim
 StandsAt Finished client aim old h r = ⊥
 StandsAt stage client aim old h r = Has client aim old h r × (r.ending ≡ None)
@@ -63,12 +63,12 @@ NextStands client aim old d h (Ends n x) = Leaves client aim h n x × LeavesOf c
 NextStands client aim old d h (Stops n t) = (leases_of n ≡ []) × (outstanding old (d ∷ h) ≡ []) × (home_of n ≡ None)
 
 -- an ending is kept while the lease is given back, and there alone
-abbrev pub EndsAt : Stage → Option (Result RecoverAnswer Trouble) → Type 0
-EndsAt Releasing ending = ending ≢ None
-EndsAt Finished ending = ⊥
-EndsAt stage ending = ending ≡ None
+abbrev pub KeepsEnding : Stage → Option (Result RecoverAnswer Trouble) → Type 0
+KeepsEnding Releasing ending = ending ≢ None
+KeepsEnding Finished ending = ⊥
+KeepsEnding stage ending = ending ≡ None
 
-pub stands_ends : (st : Stage) (client : ℕ) (aim : Aim) (old : Option Claim) (h : List Deed) (r : Recovery) → StandsAt st client aim old h r → EndsAt st r.ending
+pub stands_ends : (st : Stage) (client : ℕ) (aim : Aim) (old : Option Claim) (h : List Deed) (r : Recovery) → StandsAt st client aim old h r → KeepsEnding st r.ending
 stands_ends ReleasingOld client aim old h r s = s.1.ending_is
 stands_ends Taking client aim old h r s = s.0.ending_is
 stands_ends Getting client aim old h r s = s.1

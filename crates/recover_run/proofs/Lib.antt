@@ -4,13 +4,13 @@ pub mod Turns
 pub mod Causes
 pub mod End
 pub mod Demands
-pub mod Calmly
+pub mod CalmCalls
 pub mod Emptying
 pub mod Finding
 pub mod Calm
 pub mod Handing
-pub mod Keeping
-pub mod Knowing
+pub mod KeptRecords
+pub mod Knows
 pub mod Marks
 pub mod Meaning
 pub mod Missing

@@ -41,11 +41,11 @@ use Rattle.recover_run.specs.Calls.{Calls, Brought, IsStart, Reading, head_in, A
 use Rattle.recover_run.specs.Gathering.{is_lost, is_past, wanted_of, count_of, gathered_with, kept_with, lost_now, lost_ids, past_ids}
 use Rattle.recover_run.specs.Ids.{new_ids}
 use Rattle.recover_run.specs.Items.{items_of, ids_of}
-use Rattle.recover_run.specs.Meaning.{home_opened, IsKept, IsOpened, IsClosing, Means, MeansTurn, head_behind, put_of}
+use Rattle.recover_run.specs.Meaning.{home_opened, IsKeptRecord, IsOpened, IsClosing, Means, MeansTurn, head_behind, put_of}
 use Rattle.recover_run.specs.Recovery.{Recovery, Step, new_recovery, recovery_ask, recovery_next, ask_at, next_at, under, receive_next, delete_next, send_next, taken_by, got_by, none_read, bytes_read, head_read, phase_read, behind, stopping, gathered_by, deleting, decided, deleted_by, send_at, send_or_put, sent_by, with_pending, kept_ids, clearing, swept_with, sweeping, opened, ended, home_of, home_with, KeepsLeases}
 use Rattle.recover_run.specs.Sending.{pending_with}
-use Rattle.recover_run.proofs.Keeping.{all_so, all_new, all_held, kept_more, named_more, named_ids, kept_all, kept_rising, kept_named, kept_numbered, take_more, pending_more, pending_none}
-use Rattle.recover_run.proofs.Knowing.{IsRising, IsNamed, Known, Gathering, SentSome, SentAll, Put, getting, KnowsTaken, KnowsSending, KnowsEnding, KnowsDeleting, KnowsClearing, KnowsAt, KnowsNext}
+use Rattle.recover_run.proofs.KeptRecords.{all_so, all_new, all_held, kept_more, named_more, named_ids, kept_all, kept_rising, kept_named, kept_numbered, take_more, pending_more, pending_none}
+use Rattle.recover_run.proofs.Knows.{IsRising, IsNamed, Known, Gathering, SentSome, SentAll, Put, getting, KnowsTaken, KnowsSending, KnowsEnding, KnowsDeleting, KnowsClearing, KnowsAt, KnowsNext}
 
 -- ---- the head
 
@@ -260,7 +260,7 @@ deleting_known r old cs (id ∷ ids) k named = (refl, refl, record { so_far = k;
 
 -- with a call of gathering more
 abbrev gathers_more : (old : Option Claim) (client : ℕ) (lease : Option Claim) (w : Wanted) (kept more : List AtomicItem) (c : Ask × Answer) (k : Known old client lease w kept)
-    → Gathers client w k.gathers c → AllByRecursion (IsKept w (c ∷ k.gathers)) more → IsRising 1 more
+    → Gathers client w k.gathers c → AllByRecursion (IsKeptRecord w (c ∷ k.gathers)) more → IsRising 1 more
     → Known old client lease w more
 gathers_more old client lease w kept more c k is brought rising = record {
   front = k.front;
@@ -381,7 +381,7 @@ opened_means r old cs closing all k closes are left same home = record {
   gathers = k.known.gathers;
   gathered = subst (λ w. AreGathers r.client w k.known.gathers) k.known.wanted_is k.known.gathered;
   kept = r.gathered.kept;
-  brought = subst (λ w. AllByRecursion (IsKept w k.known.gathers) r.gathered.kept) k.known.wanted_is k.known.brought;
+  brought = subst (λ w. AllByRecursion (IsKeptRecord w k.known.gathers) r.gathered.kept) k.known.wanted_is k.known.brought;
   numbered = kept_numbered r.wanted k.known.gathers r.gathered.kept k.known.rising k.known.brought k.whole;
   whole = k.whole ∙ ap (λ (w : Wanted). w.count) k.known.wanted_is;
   sends = k.sends;

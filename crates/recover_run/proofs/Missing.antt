@@ -34,15 +34,15 @@ use Rattle.recover_run.specs.Calls.{Calls, head_in}
 use Rattle.recover_run.specs.Emptying.{IsBeginning, deed_of}
 use Rattle.recover_run.specs.Gathering.{nothing_gathered, lost_now, wanted_of}
 use Rattle.recover_run.specs.Ids.{has_some, rest_of}
-use Rattle.recover_run.specs.Meaning.{IsKept}
+use Rattle.recover_run.specs.Meaning.{IsKeptRecord}
 use Rattle.recover_run.specs.Missing.{IsComplete, NoneMissing, IsNoWaiting, WaitsForNone}
 use Rattle.recover_run.specs.Recovery.{Recovery, Step, new_recovery, recovery_ask, recovery_next, ask_at, under, delete_next, receive_next, KeepsLeases}
 use Rattle.recover_run.proofs.Outcomes.{gathered, Loses, Fails, Comes, comes}
 use Rattle.recover_run.proofs.Outcomes as step
-use Rattle.recover_run.proofs.Calmly.{Moves, along}
+use Rattle.recover_run.proofs.CalmCalls.{Moves, along}
 use Rattle.recover_run.proofs.Emptying.{delete_marks, row_at, receive_delivers}
 use Rattle.recover_run.proofs.Calm.{memory_or}
-use Rattle.recover_run.proofs.Knowing.{KnowsAt, IsRising}
+use Rattle.recover_run.proofs.Knows.{KnowsAt, IsRising}
 use Rattle.recover_run.proofs.Meaning.{Knows, came_known}
 use Rattle.recover_run.proofs.Sifting.{HasSeen, deleted_complete, deleted_seen, received_seen, seen_whole}
 use Rattle.recover_run.proofs.Sweeping.{Deletes, Delivers}
@@ -85,7 +85,7 @@ abbrev HeardAt : Stage → Recovery → Answer → Option (List ℕ) → Option 
 HeardAt ReleasingOld r a v u ms ns = (u ≡ v) × (ns ≡ ms)
 HeardAt Taking r a v u ms ns = (u ≡ v) × (ns ≡ ms)
 HeardAt Getting r a v u ms ns = (ns ≡ ms) × Reads a v
-HeardAt Receiving r a v u ms ns = (ns ≡ ms) × Delivers a ms × ((cs : Calls) × AllByRecursion (IsKept r.wanted cs) r.gathered.kept × IsRising 1 r.gathered.kept)
+HeardAt Receiving r a v u ms ns = (ns ≡ ms) × Delivers a ms × ((cs : Calls) × AllByRecursion (IsKeptRecord r.wanted cs) r.gathered.kept × IsRising 1 r.gathered.kept)
 HeardAt Deleting r a v u ms ns = DeletesDone a r.ids ms ns
 HeardAt st r a v u ms ns = Unit {0}
 

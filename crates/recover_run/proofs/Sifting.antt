@@ -22,11 +22,11 @@ use Rattle.recover_run.specs.Emptying.{IsUptoEpoch}
 use Rattle.recover_run.specs.Gathering.{Gathered, gathered_with, is_of, is_past, is_lost, kept_with, lost_ids, lost_now}
 use Rattle.recover_run.specs.Ids.{has_id, new_ids}
 use Rattle.recover_run.specs.Items.{items_of, item_with, ids_of}
-use Rattle.recover_run.specs.Meaning.{IsKept}
+use Rattle.recover_run.specs.Meaning.{IsKeptRecord}
 use Rattle.recover_run.specs.Missing.{IsComplete, is_of_head, is_of_some, is_indexed, is_indexed_some}
 use Rattle.recover_run.proofs.Finding.{marked_message, unmarked_sent, items_all, messages_all, indexed_items, kept_with_has, rising_full, many_pass, others_any, others_fewer}
-use Rattle.recover_run.proofs.Keeping.{all_so, all_new, all_held, kept_more, kept_all, kept_rising, rising_room}
-use Rattle.recover_run.proofs.Knowing.{IsRising}
+use Rattle.recover_run.proofs.KeptRecords.{all_so, all_new, all_held, kept_more, kept_all, kept_rising, rising_room}
+use Rattle.recover_run.proofs.Knows.{IsRising}
 use Rattle.recover_run.proofs.Marks.{IsGone, marked_leaves, marked_all, none_gone, brought_all}
 use Rattle.recover_run.proofs.Sweeping.{IsHandled, all_has, none_new, each_has, deletes_first, handled_ids}
 
@@ -211,7 +211,7 @@ short w ms c all = on (nat_le 256 (length (unmarked ms))) refl where
 
 -- so it brings all messages, and every record that the head counts is kept
 pub seen_whole : (w : Wanted) (ms : List Posted) (g : Gathered) (answer : List Message) (items : List AtomicItem) (cs : Calls) (ask : Ask) → items_of answer ≡ Ok items
-    → IsDelivering ms 256 answer → IsComplete w ms → HasSeen w ms [] g → AllByRecursion (IsKept w cs) g.kept → IsRising 1 g.kept
+    → IsDelivering ms 256 answer → IsComplete w ms → HasSeen w ms [] g → AllByRecursion (IsKeptRecord w cs) g.kept → IsRising 1 g.kept
     → new_ids g.seen (ids_of items) ≡ [] → length (kept_with w g.kept items) ≡ w.count
 seen_whole w ms g answer items cs ask e is c k kept up none =
     let seen : AllByRecursion (λ id. has_id g.seen id ≡ true) (ids_of items) = none_new g.seen (ids_of items) none in
@@ -227,7 +227,7 @@ seen_whole w ms g answer items cs ask e is c k kept up none =
     let now : Calls = (ask, Received answer) ∷ cs in
     let brought : AllByRecursion (λ (x : AtomicItem). Brought x now) items =
     all_so (λ (x : AtomicItem). HoldsItem x answer) (λ (x : AtomicItem). Brought x now) (λ x h. inl (answer, refl, h)) items (all_held answer items e) in
-    let more : AllByRecursion (IsKept w now) (kept_with w g.kept items) = kept_all w now g.kept items (kept_more w (ask, Received answer) cs g.kept kept) brought in
+    let more : AllByRecursion (IsKeptRecord w now) (kept_with w g.kept items) = kept_all w now g.kept items (kept_more w (ask, Received answer) cs g.kept kept) brought in
     let rising : IsRising 1 (kept_with w g.kept items) = kept_rising w now g.kept items up brought in
     let room : 1 + length (kept_with w g.kept items) ≤ w.count + 1 = rising_room w now 1 (kept_with w g.kept items) rising more (omega arith) in
     let full : w.count + 1 ≤ 1 + length (kept_with w g.kept items) =

@@ -32,20 +32,20 @@ use Rattle.recover_run.specs.declared.stage.Stage.{Stage}
 use Rattle.recover_run.specs.declared.stage.Stage.TheVariants.{ReleasingOld, Taking, Getting, Receiving, Deleting, Sending, Putting, Clearing, Sweeping, Releasing, Finished}
 use Rattle.recover_run.specs.declared.stage.RecoverAnswer.{RecoverAnswer}
 use Rattle.recover_run.specs.declared.wanted.Wanted.{Wanted}
-use Rattle.recover_run.specs.Bound.{calls_left, left_at, KnowsAtMost}
+use Rattle.recover_run.specs.End.{calls_left, left_at, KnowsAtMost}
 use Rattle.recover_run.specs.Calls.{Calls, IsStart}
-use Rattle.recover_run.specs.Causing.{ids_in, known_ids}
+use Rattle.recover_run.specs.Causes.{ids_in, known_ids}
 use Rattle.recover_run.specs.Gathering.{Gathered, gathered_with, kept_with, is_counted, is_lost, is_past, lost_now, lost_ids, past_ids, wanted_of, count_of}
 use Rattle.recover_run.specs.Ids.{has_id, new_ids, rest_of}
 use Rattle.recover_run.specs.Items.{items_of, ids_of}
 use Rattle.recover_run.specs.Kept.{with_item}
 use Rattle.log_codec.specs.declared.record.AtomicRec.{AtomicRec}
 use Rattle.recover_run.specs.Recovery.{Recovery, Step, new_recovery, recovery_ask, ask_at, next_at, under, delete_next, send_next, taken_by, got_by, none_read, bytes_read, head_read, phase_read, behind, stopping, received_by, gathered_by, deleting, decided, deleted_by, send_at, send_or_put, sent_by, with_pending, put_by, kept_ids, clearing, swept_by, swept_with, sweeping, opened, ended}
-use Rattle.recover_run.specs.Standing.{Went}
+use Rattle.recover_run.specs.Leases.{Went}
 use Rattle.recover_run.specs.Within.{counted, counted_after, count_in, AreFew}
 use Rattle.recover_run.proofs.End.{ReadyAt, less_ready}
-use Rattle.recover_run.proofs.Keeping.{all_so, all_new, with_item_all}
-use Rattle.recover_run.proofs.Knowing.{KnowsAt}
+use Rattle.recover_run.proofs.KeptRecords.{all_so, all_new, with_item_all}
+use Rattle.recover_run.proofs.Knows.{KnowsAt}
 use Rattle.recover_run.proofs.Meaning.{came_known}
 use Rattle.recover_run.proofs.Heard.{HeardAt, items_ids, received_seen, went_heard}
 use Rattle.recover_run.proofs.Leases.{StandsAt, went_stands}
@@ -174,22 +174,22 @@ part_new set ids more k all = record {
   within = within_append set ids (new_ids ids more) k.within (all_new (λ (id : ℕ). has_id set id ≡ true) ids more all);
 }
 
-abbrev Holds : List ℕ → List AtomicItem → Type 0
-Holds set items = AllByRecursion (λ (x : AtomicItem). has_id set x.id ≡ true) items
+abbrev HasIds : List ℕ → List AtomicItem → Type 0
+HasIds set items = AllByRecursion (λ (x : AtomicItem). has_id set x.id ≡ true) items
 
-holds_more : (set more : List ℕ) (items : List AtomicItem) → Holds set items → Holds (set ++ more) items
+holds_more : (set more : List ℕ) (items : List AtomicItem) → HasIds set items → HasIds (set ++ more) items
 holds_more set more items all =
     all_so (λ (x : AtomicItem). has_id set x.id ≡ true) (λ (x : AtomicItem). has_id (set ++ more) x.id ≡ true) (λ x e. has_more set more x.id e) items all
 
-holds_ids : (set : List ℕ) (items : List AtomicItem) → Holds set items → Within set (ids_of items)
+holds_ids : (set : List ℕ) (items : List AtomicItem) → HasIds set items → Within set (ids_of items)
 holds_ids set [] all = tt
 holds_ids set (x ∷ items) all = (all.0, holds_ids set items all.1)
 
-ids_hold : (set : List ℕ) (items : List AtomicItem) → Within set (ids_of items) → Holds set items
+ids_hold : (set : List ℕ) (items : List AtomicItem) → Within set (ids_of items) → HasIds set items
 ids_hold set [] all = tt
 ids_hold set (x ∷ items) all = (all.0, ids_hold set items all.1)
 
-some_within : (set : List ℕ) (test : AtomicRec → Bool) (items : List AtomicItem) → Holds set items
+some_within : (set : List ℕ) (test : AtomicRec → Bool) (items : List AtomicItem) → HasIds set items
     → Within set (ids_of (filter (λ (x : AtomicItem). test x.rec) items))
 some_within set test [] all = tt
 some_within set test (x ∷ items) all = on (test x.rec) (some_within set test items all.1) where
@@ -198,15 +198,15 @@ some_within set test (x ∷ items) all = on (test x.rec) (some_within set test i
   on true rest = (all.0, rest)
   on false rest = rest
 
-kept_holds : (set : List ℕ) (w : Wanted) (kept items : List AtomicItem) → Holds set kept → Holds set items → Holds set (kept_with w kept items)
+kept_holds : (set : List ℕ) (w : Wanted) (kept items : List AtomicItem) → HasIds set kept → HasIds set items → HasIds set (kept_with w kept items)
 kept_holds set w kept [] all more = all
 kept_holds set w kept (x ∷ items) all more =
     on (is_counted w x.rec)
     (kept_holds set w (with_item kept x) items (with_item_all (λ (y : AtomicItem). has_id set y.id ≡ true) kept x all more.0) more.1)
     (kept_holds set w kept items all more.1)
   where
-    on : (b : Bool) → Holds set (kept_with w (with_item kept x) items) → Holds set (kept_with w kept items)
-        → Holds set (kept_with w (cond b (with_item kept x) kept) items)
+    on : (b : Bool) → HasIds set (kept_with w (with_item kept x) items) → HasIds set (kept_with w kept items)
+        → HasIds set (kept_with w (cond b (with_item kept x) kept) items)
     on true one none = one
     on false one none = none
 
@@ -214,7 +214,7 @@ kept_holds set w kept (x ∷ items) all more =
 pub record Reached (set : List ℕ) (n : ℕ) (g : Gathered) (swept : List ℕ) (w : Wanted) : Type 0 where
   pub seen : length g.seen ≤ length set
   pub lost : IsPart set g.lost
-  pub kept : Holds set g.kept
+  pub kept : HasIds set g.kept
   pub swept_are : IsPart set swept
   pub count : w.count ≤ n
 
@@ -292,7 +292,7 @@ reach_deleting r cs [] k = reach_decided (record r { ids = [] }) cs k
 reach_deleting r cs (id ∷ ids) k = k
 
 -- the items of a receive are of what its call received
-items_hold : (cs : Calls) (q : Ask) (ms : List Message) (items : List AtomicItem) → items_of ms ≡ Ok items → Holds (known_ids ((q, call.Received ms) ∷ cs)) items
+items_hold : (cs : Calls) (q : Ask) (ms : List Message) (items : List AtomicItem) → items_of ms ≡ Ok items → HasIds (known_ids ((q, call.Received ms) ∷ cs)) items
 items_hold cs q ms items e =
     ids_hold (known_ids ((q, call.Received ms) ∷ cs)) items
     (subst (Within (known_ids ((q, call.Received ms) ∷ cs))) (sym (items_ids ms items e)) (within_new (known_ids cs) (ids_in (call.Received ms))))
@@ -303,7 +303,7 @@ reach_gathered : (r : Recovery) (cs : Calls) (q : Ask) (ms : List Message) (o : 
 reach_gathered r cs q ms (Err m) e k seen = k
 reach_gathered r cs q ms (Ok items) e k seen =
     let set : List ℕ = known_ids ((q, call.Received ms) ∷ cs) in
-    let held : Holds set items = items_hold cs q ms items e in
+    let held : HasIds set items = items_hold cs q ms items e in
     reach_deleting (record r { gathered = gathered_with r.wanted r.gathered items }) ((q, call.Received ms) ∷ cs) (lost_now r.wanted r.gathered items)
     (record {
       seen = omega (arith, ap (λ (l : List ℕ). length l) (received_seen r.gathered.seen cs q ms items e seen));

@@ -20,4 +20,4 @@ pub use Rattle.recover_run.specs.declared.stage.RecoverAnswer.TheVariants.{Opene
 pub use Rattle.recover_run.specs.declared.wanted.Wanted.{Wanted}
 pub use Rattle.recover_run.specs.Calls.{Calls}
 pub use Rattle.recover_run.specs.Recovery.{Recovery, Step, recovery_ask, recovery_next, KeepsLeases}
-pub use Rattle.recover_run.specs.Standing.{Went}
+pub use Rattle.recover_run.specs.Leases.{Went}

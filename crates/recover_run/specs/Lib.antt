@@ -1,4 +1,4 @@
-pub mod Bound
+pub mod End
 pub mod Calls
 pub mod Counting
 pub mod Emptying
@@ -11,8 +11,8 @@ pub mod Meaning
 pub mod Missing
 pub mod Recovery
 pub mod Sending
-pub mod Causing
-pub mod Standing
+pub mod Causes
+pub mod Leases
 pub mod Stepped
-pub mod Well
+pub mod Calm
 pub mod Within

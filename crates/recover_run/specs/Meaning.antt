@@ -30,8 +30,8 @@ AreNumbered n [] = Unit {0}
 AreNumbered n (x ∷ xs) = (x.rec.index ≡ n) × AreNumbered (n + 1) xs
 
 -- one of the records that the head counts, which the calls brought
-abbrev pub IsKept : Wanted → Calls → AtomicItem → Type 0
-IsKept w cs x = (is_counted w x.rec ≡ true) × Brought x cs
+abbrev pub IsKeptRecord : Wanted → Calls → AtomicItem → Type 0
+IsKeptRecord w cs x = (is_counted w x.rec ≡ true) × Brought x cs
 
 -- the head of the next epoch, with the records pending behind what was
 abbrev pub head_behind : Head → List AtomicItem → Head
@@ -58,7 +58,7 @@ pub record IsOpened (client : ℕ) (aim : Aim) (old : Option Claim) (calls : Cal
   pub gathers : Calls
   pub gathered : AreGathers client (wanted_of reading.head) gathers
   pub kept : List AtomicItem
-  pub brought : AllByRecursion (IsKept (wanted_of reading.head) gathers) kept
+  pub brought : AllByRecursion (IsKeptRecord (wanted_of reading.head) gathers) kept
   pub numbered : AreNumbered 1 kept
   pub whole : length kept ≡ (wanted_of reading.head).count
   pub sends : Calls

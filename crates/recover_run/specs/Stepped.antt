@@ -15,13 +15,13 @@ use Rattle.cloud_trait.specs.Calm.{AreCalm, AreAlone}
 use Rattle.recover_run.specs.declared.stage.Aim.{Aim}
 use Rattle.recover_run.specs.declared.stage.RecoverAnswer.{RecoverAnswer}
 use Rattle.recover_run.specs.declared.stage.RecoverAnswer.TheVariants.{Nothing}
-use Rattle.recover_run.specs.Causing.{Shows, Tells, Keeps, Answers, IsAbsent}
+use Rattle.recover_run.specs.Causes.{Shows, Tells, Keeps, AnswersKept, IsAbsent}
 use Rattle.recover_run.specs.Emptying.{IsBeginning, HadMemory, LeavesNone, deed_of}
 use Rattle.recover_run.specs.Meaning.{MeansTurn, HandsNone}
 use Rattle.recover_run.specs.Missing.{NoneMissing, WaitsForNone}
 use Rattle.recover_run.specs.Recovery.{Recovery, recovery_ask, recovery_next, KeepsLeases}
-use Rattle.recover_run.specs.Standing.{Went, AreReturned}
-use Rattle.recover_run.specs.Well.{StopsWell}
+use Rattle.recover_run.specs.Leases.{Went, AreReturned}
+use Rattle.recover_run.specs.Calm.{StopsWell}
 
 -- What this answer came to behind the calls of a client's recovery, which is that client's (`own`) and for that (`aims`). It keeps or answers a
 -- trouble only where it is shown (`tells`), and wherever one is (`owes`); it is to answer that there is nothing wherever a settling reads no head
@@ -36,7 +36,7 @@ pub record Means (who : Caller) (before after : Seen) (client : ℕ) (aim : Aim)
   pub tells : Tells old answer ((recovery_ask old, answer) ∷ calls_of h) new turn
   pub owes : (t : Trouble) → t ≢ trouble.Memory → Shows old answer ((recovery_ask old, answer) ∷ calls_of h) t → Keeps new turn (Err t)
   pub absent : IsAbsent old answer → Keeps new turn (Ok Nothing)
-  pub answers : (ending : Result RecoverAnswer Trouble) → old.ending ≡ Some ending → Answers turn ending
+  pub answers : (ending : Result RecoverAnswer Trouble) → old.ending ≡ Some ending → AnswersKept turn ending
   pub done : MeansTurn client aim former ((recovery_ask old, answer) ∷ calls_of h) new turn
   pub hands : HandsNone new turn
   pub returned : AreReturned client aim former (deed_of who old answer before after ∷ h) turn

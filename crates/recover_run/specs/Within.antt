@@ -5,7 +5,7 @@ use Rattle.cloud_trait.specs.declared.answer.Answer.{Answer}
 use Rattle.cloud_trait.specs.declared.answer.Answer.TheVariants.{Got}
 use Rattle.cloud_trait.specs.Ask.{Ask, GetHeld}
 use Rattle.recover_run.specs.Calls.{Calls, head_in}
-use Rattle.recover_run.specs.Causing.{known_ids}
+use Rattle.recover_run.specs.Causes.{known_ids}
 use Rattle.recover_run.specs.Gathering.{count_of}
 
 abbrev pub count_in : Option Head → ℕ

@@ -120,9 +120,9 @@ impl Model for RecoverRun {
 
 impl RecoverRun {
     ghost use Rattle.recover_run.specs.Recovery.{Recovery, new_recovery, recovery_ask, recovery_next, handed_over, SameLeases, KeepsLeases, IsSound, home_of, releasing, stopping, old_released, taken_by, got_by, head_read, bytes_read, none_read, phase_read, putting, send_at, decided, next_deletion, gathered_by, received_by, deleted_by, sent_by, next_clearing, put_by, clearing_kept, cleared, opened, swept_by, swept_with, released, damaged_message, next_sweep, with_pending, delete_next, send_next, take_lease};
-    ghost use Rattle.recover_run.specs.Bound.{calls_left, KnowsAtMost};
+    ghost use Rattle.recover_run.specs.End.{calls_left, KnowsAtMost};
     ghost use Rattle.recover_run.specs.Within.{AreFew};
-    ghost use Rattle.recover_run.specs.Standing.{Went, leases_of, outstanding, Names, GivesBack};
+    ghost use Rattle.recover_run.specs.Leases.{Went, leases_of, outstanding, Names, GivesBack};
     ghost use Rattle.recover_run.specs.Stepped.{Stepped};
     ghost use Rattle.recover_run.specs.Items.{items_of};
 

@@ -9,7 +9,7 @@ use Rattle.cloud_trait.specs.State.{CloudState}
 use Rattle.leaf_view.specs.Leaf.{Leaf, leaf}
 use Rattle.leaf_view.specs.Fits.{Ascend, entry_below, IsHigh}
 use Rattle.leaf_view.specs.Lookup.{page_at}
-use Rattle.leaf_view.proofs.Exactness.{leaf_exact}
+use Rattle.leaf_view.proofs.Exact.{leaf_exact}
 use Rattle.leaf_view.proofs.Split.{leaf_fits}
 use Rattle.replay_meaning.specs.Chain.{IsReadAs, IsNewestLeaf, Leads, Walked, records_of, stored_of}
 

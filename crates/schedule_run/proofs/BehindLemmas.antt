@@ -13,14 +13,14 @@ use Rattle.replay_meaning.specs.Standing.{Line, Posture, standing}
 use Rattle.reply_text.specs.declared.reply.Reply.{Reply}
 use Rattle.reply_text.specs.declared.reply.Reply.TheVariants as reply
 use Rattle.report_types.specs.declared.entry.Entry.{Entry}
-use Rattle.session_facts.proofs.BookLemmas.{was_left, empty_left}
-use Rattle.session_facts.proofs.StartLemmas.{closed_at}
-use Rattle.session_facts.specs.Acknowledged.{IsKeptReply}
+use Rattle.session_facts.proofs.Lines.Books.{was_left, empty_left}
+use Rattle.session_facts.proofs.Lines.Start.{closed_at}
+use Rattle.session_facts.specs.Lines.Acknowledged.{IsKeptReply}
 use Rattle.client_work.specs.declared.work.Work.{Work}
-use Rattle.session_facts.specs.Errands.{settles}
-use Rattle.session_facts.specs.Facts.{session_at, SomeBookStands, WasLeft}
-use Rattle.session_facts.specs.LeftNone.{IsLeftReply}
-use Rattle.session_facts.specs.Sessions.Sessions.{Sessions}
+use Rattle.session_facts.specs.Lines.Errands.{settles}
+use Rattle.session_facts.specs.Lines.Facts.{session_at, SomeBookStands, WasLeft}
+use Rattle.session_facts.specs.Lines.LeftNone.{IsLeftReply}
+use Rattle.session_facts.specs.Sessions.Knows.{Sessions}
 use Rattle.world_core.proofs.Keeping.{keeps_book}
 use Rattle.world_core.proofs.Shown.{shown}
 use Rattle.world_core.proofs.ShownByLines.{settled_by}

@@ -27,7 +27,7 @@ use Rattle.schedule_run.specs.Shell.{AreShellLines, HasBadShellLine, ShellWent, 
 use Rattle.schedule_run.specs.declared.status.Status.{Status}
 use Rattle.schedule_run.specs.declared.status.Status.TheVariants as status
 use Rattle.schedule_run.specs.Status.{ended_as, status_of_input, status_of_line, status_of_settle, status_of_shell, status_of_dump, status_of_load}
-use Rattle.schedule_run.specs.Run.{IsOf, limit_of, Replays, replay_unread, replay_went, RunsShell, shell_unread, shell_went, RunsDump, dump_unasked, dump_went, RunsLoad, load_unread, load_went, Ran, WasBad, WasTooLong}
+use Rattle.schedule_run.specs.Run.{IsOfShape, limit_of, Replays, replay_unread, replay_went, RunsShell, shell_unread, shell_went, RunsDump, dump_unasked, dump_went, RunsLoad, load_unread, load_went, Ran, WasBad, WasTooLong}
 use Rattle.schedule_run.specs.Loading.{SpellsNoDump, FillEnded, fill_went, fill_bad, fill_unread}
 use Rattle.schedule_run.specs.declared.loading.LoadingFault.{LoadingFault}
 use Rattle.schedule_run.specs.declared.loading.LoadingFault.TheVariants as load
@@ -134,7 +134,7 @@ all_good (Load dir) left rest w u s t known ran bad = load_good left rest w u s 
 
 -- the causes of the statuses
 pub record Caused (asked : Option Shape) (result : Status) (left rest : Told) (written now_written : Written) : Type 0 where
-  pub only : IsOf asked result
+  pub only : IsOfShape asked result
   pub read_fault : result ≡ status.ReadFault → left.faults < rest.faults
   pub too_long : result ≡ status.TooLong → WasTooLong (limit_of asked) left rest
   pub bad_line : result ≡ status.BadLine → ReadBadLine asked left rest
@@ -183,7 +183,7 @@ stopped (Err settle.NotSettled) w u s t e so = so
 stopped (Err settle.WriteFault) w u s t e so = absurd (cc)
 stopped (Err settle.Memory) w u s t e so = absurd (cc)
 
-unsettled : (wanted : Status) (shape : Shape) (left rest : Told) (w u : Written) (s t : Seen) → Fit wanted shape left rest → IsOf (Some shape) status.NotSettled → Ran (Some shape) status.NotSettled left rest w u s t
+unsettled : (wanted : Status) (shape : Shape) (left rest : Told) (w u : Written) (s t : Seen) → Fit wanted shape left rest → IsOfShape (Some shape) status.NotSettled → Ran (Some shape) status.NotSettled left rest w u s t
     → EndsWith wanted (Some shape) status.NotSettled w u s t
 unsettled wanted Replay left rest w u s t fit asks ran = absurd asks
 unsettled wanted (Gen number count) left rest w u s t fit asks ran = absurd asks
@@ -210,7 +210,7 @@ not_opened : (client : ℕ) (left rest : Told) (w u : Written) (s t : Seen) → 
 not_opened client left rest w u s t (shell_unread fault e nothing) = absurd (unread_not_opened fault e)
 not_opened client left rest w u s t (shell_went read ended e went) = closed client ended read.bytes w u s t e went
 
-unopened : (wanted : Status) (shape : Shape) (left rest : Told) (w u : Written) (s t : Seen) → Fit wanted shape left rest → IsOf (Some shape) status.NotOpened → Ran (Some shape) status.NotOpened left rest w u s t
+unopened : (wanted : Status) (shape : Shape) (left rest : Told) (w u : Written) (s t : Seen) → Fit wanted shape left rest → IsOfShape (Some shape) status.NotOpened → Ran (Some shape) status.NotOpened left rest w u s t
     → EndsWith wanted (Some shape) status.NotOpened w u s t
 unopened wanted Replay left rest w u s t fit asks ran = absurd asks
 unopened wanted (Gen number count) left rest w u s t fit asks ran = absurd asks
@@ -244,7 +244,7 @@ dump_stopped : (w u : Written) (s t : Seen) → RunsDump status.Stopped w u s t 
 dump_stopped w u s t (dump_unasked e nothing) = absurd (cc)
 dump_stopped w u s t (dump_went ended e went) = looks_stopped ended w u s t e went
 
-unquiet : (wanted : Status) (shape : Shape) (left rest : Told) (w u : Written) (s t : Seen) → IsOf (Some shape) status.NotQuiet → Ran (Some shape) status.NotQuiet left rest w u s t
+unquiet : (wanted : Status) (shape : Shape) (left rest : Told) (w u : Written) (s t : Seen) → IsOfShape (Some shape) status.NotQuiet → Ran (Some shape) status.NotQuiet left rest w u s t
     → EndsWith wanted (Some shape) status.NotQuiet w u s t
 unquiet wanted Replay left rest w u s t asks ran = absurd asks
 unquiet wanted (Gen number count) left rest w u s t asks ran = absurd asks
@@ -253,7 +253,7 @@ unquiet wanted (Settle dir) left rest w u s t asks ran = absurd asks
 unquiet wanted (Dump dir) left rest w u s t asks ran = inr (inl (refl, dump_not_quiet w u s t ran.1))
 unquiet wanted (Load dir) left rest w u s t asks ran = absurd asks
 
-looked : (wanted : Status) (shape : Shape) (left rest : Told) (w u : Written) (s t : Seen) → Fit wanted shape left rest → IsOf (Some shape) status.Stopped → Ran (Some shape) status.Stopped left rest w u s t
+looked : (wanted : Status) (shape : Shape) (left rest : Told) (w u : Written) (s t : Seen) → Fit wanted shape left rest → IsOfShape (Some shape) status.Stopped → Ran (Some shape) status.Stopped left rest w u s t
     → EndsWith wanted (Some shape) status.Stopped w u s t
 looked wanted Replay left rest w u s t fit asks ran = absurd asks
 looked wanted (Gen number count) left rest w u s t fit asks ran = absurd asks
@@ -266,7 +266,7 @@ abbrev IsLoad : Shape → Type 0
 IsLoad (Load dir) = Unit {0}
 IsLoad shape = ⊥
 
-empty_loads : (shape : Shape) → IsOf (Some shape) status.NotEmpty → IsLoad shape
+empty_loads : (shape : Shape) → IsOfShape (Some shape) status.NotEmpty → IsLoad shape
 empty_loads Replay none = none
 empty_loads (Gen number count) none = none
 empty_loads (Shell client dir) none = none
@@ -274,7 +274,7 @@ empty_loads (Settle dir) none = none
 empty_loads (Dump dir) none = none
 empty_loads (Load dir) is = tt
 
-commit_loads : (shape : Shape) → IsOf (Some shape) status.NotLoaded → IsLoad shape
+commit_loads : (shape : Shape) → IsOfShape (Some shape) status.NotLoaded → IsLoad shape
 commit_loads Replay none = none
 commit_loads (Gen number count) none = none
 commit_loads (Shell client dir) none = none
@@ -292,7 +292,7 @@ unloaded wanted result (Settle dir) left rest w u s t f fit asks ran = absurd as
 unloaded wanted result (Dump dir) left rest w u s t f fit asks ran = absurd asks
 unloaded wanted result (Load dir) left rest w u s t f fit asks ran = load_stops wanted result dir left rest w u s t f fit ran
 
-pub of_words : (shape : Shape) → IsOf (Some shape) status.BadWords → ⊥
+pub of_words : (shape : Shape) → IsOfShape (Some shape) status.BadWords → ⊥
 of_words Replay none = none
 of_words (Gen number count) none = none
 of_words (Shell client dir) none = none
@@ -301,7 +301,7 @@ of_words (Dump dir) none = none
 of_words (Load dir) none = none
 
 -- memory may run out whatever is asked
-pub memory_of : (asked : Option Shape) → IsOf asked status.Memory
+pub memory_of : (asked : Option Shape) → IsOfShape asked status.Memory
 memory_of (Some Replay) = tt
 memory_of (Some (Gen number count)) = tt
 memory_of (Some (Shell client dir)) = tt

@@ -15,7 +15,7 @@ use Rattle.replay_meaning.specs.Standing.{Line}
 use Rattle.schedule_run.specs.InPlay.{Play}
 use Rattle.schedule_run.specs.Play.{IsFresh, IsNext, RanOut}
 use Rattle.schedule_run.specs.Answered.{events_of, OpensNoneTwice}
-use Rattle.schedule_run.specs.Generated.{Handles, StopsAmong, HandlesAll, IsAmong, GenEnded, out_before, out_handling, out_writing}
+use Rattle.schedule_run.specs.Generated.{Handles, StopsAmong, HandlesAll, HandlesFirst, GenEnded, out_before, out_handling, out_writing}
 use Rattle.run_text.specs.Summary.{summary}
 use Rattle.sched_gen.specs.Schedule.{next_state, drawn, key_of, change_event, checkpoint_events, round_events, state_after, rounds, openings, closings, schedule}
 use Rattle.schedule_run.specs.Run.{Generates}
@@ -31,7 +31,7 @@ use Rattle.schedule_run.proofs.PlayLemmas.{played_nothing, played_more, stopped_
 sees : {P : Type 0} → false ≡ true → P
 sees e = absurd (cc)
 
-pub among_none : (events : List Event) (s : Seen) (play : Play) → IsFresh false play → IsAmong events events s s play
+pub among_none : (events : List Event) (s : Seen) (play : Play) → IsFresh false play → HandlesFirst events events s s play
 among_none events s play fresh = record { done = []; at = refl; handles = record { lines = []; asked = refl; played = played_nothing s play fresh } }
 
 handles_more : (events : List Event) (event : Event) (reply : Reply) (s t z : Seen) (old new : Play)
@@ -43,20 +43,20 @@ handles_more events event reply s t z old new h next = record {
 }
 
 pub among_more : (events left rest : List Event) (event : Event) (reply : Reply) (s t z : Seen) (old new : Play)
-    → IsAmong events left s t old → left ≡ event ∷ rest → IsNext event reply t z old new → IsAmong events rest s z new
+    → HandlesFirst events left s t old → left ≡ event ∷ rest → IsNext event reply t z old new → HandlesFirst events rest s z new
 among_more events left rest event reply s t z old new is split next = record {
   done = is.done ++ event ∷ [];
   at = is.at ∙ ap (λ es. is.done ++ es) split ∙ sym (append_assoc is.done (event ∷ []) rest);
   handles = handles_more is.done event reply s t z old new is.handles next;
 }
 
-pub among_all : (events left : List Event) (s t : Seen) (play : Play) → IsAmong events left s t play → left ≡ [] → Handles events s t play
+pub among_all : (events left : List Event) (s t : Seen) (play : Play) → HandlesFirst events left s t play → left ≡ [] → Handles events s t play
 among_all events left s t play is none =
     let all : events ≡ is.done = is.at ∙ ap (λ es. is.done ++ es) none ∙ append-nil is.done in
     subst (λ es. Handles es s t play) (sym all) is.handles
 
 pub among_stop : (events left rest : List Event) (event : Event) (s t z : Seen) (old new : Play)
-    → IsAmong events left s t old → left ≡ event ∷ rest → RanOut event t z old new → StopsAmong events s z
+    → HandlesFirst events left s t old → left ≡ event ∷ rest → RanOut event t z old new → StopsAmong events s z
 among_stop events left rest event s t z old new is split out = record {
   lines = is.handles.lines;
   event = event;

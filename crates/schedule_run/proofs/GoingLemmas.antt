@@ -21,7 +21,7 @@ use Rattle.reply_text.specs.declared.reply.Reply.{Reply}
 use Rattle.reply_text.specs.declared.reply.Reply.TheVariants as reply
 use Rattle.replay_meaning.specs.Standing.{Line}
 use Rattle.replay_meaning.specs.Right.{ReportIsRight}
-use Rattle.session_facts.proofs.UptoRight.{HoldTheSame, right_same, kinds_upto}
+use Rattle.session_facts.proofs.Reports.Upto.{HoldTheSame, right_same, kinds_upto}
 use Rattle.world_core.specs.World.{World}
 use Rattle.world_core.specs.declared.world.WorldFault.{WorldFault}
 use Rattle.world_core.specs.declared.world.WorldFault.TheVariants as world
@@ -40,7 +40,7 @@ use Rattle.schedule_run.proofs.CausedLemmas.{lines_caused}
 use Rattle.schedule_run.proofs.OnceLemmas.{went_adds, lines_once, unanswered_short, unanswered_kinds, unanswered_once}
 use Rattle.schedule_run.proofs.StayLemmas.{stay_upto, went_stay}
 use Rattle.run_text.specs.Written.{reply_line, replies_from, replies, bad_line}
-use Rattle.schedule_run.specs.Replayed.{AreSpelled, WroteFront, reply_cut, refusal_cut, EndedBy, between, writing, handling, Ended, WentThrough, Handles, IsAt, IsAnswered, LineWent, event_handled, refused, unread}
+use Rattle.schedule_run.specs.Replayed.{AreSpelled, WroteFront, reply_cut, refusal_cut, EndedBy, between, writing, handling, Ended, WentThrough, Handles, HasHandledLines, IsAnswered, LineWent, event_handled, refused, unread}
 
 -- ---- lines and their texts
 
@@ -173,7 +173,7 @@ acknowledged_stay lines s t first world x u went fresh told empty seen = went_st
 
 -- ---- the lines of a text
 
-pub at_start : (text : List ℕ) (w : Written) (s : Seen) (world : World) → IsNew false world → IsAt text text 0 w w s s world world
+pub at_start : (text : List ℕ) (w : Written) (s : Seen) (world : World) → IsNew false world → HasHandledLines text text 0 w w s s world world
 at_start text w s world fresh = record {
   earlier = [];
   at = refl;
@@ -194,8 +194,8 @@ at_start text w s world fresh = record {
 }
 
 pub at_more : (text rest behind line : List ℕ) (n m : ℕ) (w v u : Written) (s t z : Seen) (first old new : World)
-    → IsAt text rest n w v s t first old → lines_of rest ≡ line ∷ lines_of behind → m ≡ n + 1 → LineWent (Ok tt) m line v u t z old new → Grows m t z
-    → IsAt text behind m w u s z first new
+    → HasHandledLines text rest n w v s t first old → lines_of rest ≡ line ∷ lines_of behind → m ≡ n + 1 → LineWent (Ok tt) m line v u t z old new → Grows m t z
+    → HasHandledLines text behind m w u s z first new
 at_more text rest behind line n m w v u s t z first old new is split next (event_handled event spells p) grows =
     let c : length is.earlier ≡ n = is.count in
     record {
@@ -239,7 +239,7 @@ answered texts w v s t first world fresh h = record {
 }
 
 pub at_end : (text rest : List ℕ) (n : ℕ) (w v : Written) (s t : Seen) (first world : World) → IsNew false first
-    → IsAt text rest n w v s t first world → length rest ≡ 0 → WentThrough text (Ok tt) w v s t
+    → HasHandledLines text rest n w v s t first world → length rest ≡ 0 → WentThrough text (Ok tt) w v s t
 at_end text rest n w v s t first world fresh is none = record {
   lines = is.handles.lines;
   earlier = is.earlier;
@@ -252,7 +252,7 @@ at_end text rest n w v s t first world fresh is none = record {
 
 -- where a run stops between two lines for want of memory
 pub at_stop : (text rest : List ℕ) (n : ℕ) (w v : Written) (s t : Seen) (first world : World) → IsNew false first
-    → IsAt text rest n w v s t first world → WentThrough text (Err Memory) w v s t
+    → HasHandledLines text rest n w v s t first world → WentThrough text (Err Memory) w v s t
 at_stop text rest n w v s t first world fresh is = record {
   lines = is.handles.lines;
   earlier = is.earlier;
@@ -268,7 +268,7 @@ at_stop text rest n w v s t first world fresh is = record {
 -- a text of the lines was met, and calls were made at it
 pub record IsMet (text rest behind line : List ℕ) (n m : ℕ) (w v : Written) (s t z : Seen) (first old : World) : Type 0 where
   pub fresh : IsNew false first
-  pub is : IsAt text rest n w v s t first old
+  pub is : HasHandledLines text rest n w v s t first old
   pub split : lines_of rest ≡ line ∷ lines_of behind
   pub next : m ≡ n + 1
   pub grows : Grows m t z
@@ -433,7 +433,7 @@ by_fault {text} {rest} {behind} {line} {n} {m} {w} {v} {s} {t} {z} {first} {old}
     ends_before (Err Memory) u met (between (before_unmoved met f) (subst (λ x. AddsEach w x (replies h.lines)) (sym same) h.wrote))
 
 pub at_fault : (text rest behind line : List ℕ) (n m : ℕ) (w v u : Written) (s t z : Seen) (first old new : World) (fault : LineFault)
-    → IsNew false first → IsAt text rest n w v s t first old → lines_of rest ≡ line ∷ lines_of behind → m ≡ n + 1
+    → IsNew false first → HasHandledLines text rest n w v s t first old → lines_of rest ≡ line ∷ lines_of behind → m ≡ n + 1
     → LineWent (Err fault) m line v u t z old new → Grows m t z → WentThrough text (Err fault) w u s z
 at_fault text rest behind line n m w v u s t z first old new fault fresh is split next went grows =
     let met : IsMet text rest behind line n m w v s t z first old = record { fresh = fresh; is = is; split = split; next = next; grows = grows } in

@@ -15,7 +15,7 @@ use Rattle.load_plan.specs.declared.first_look.LookStop.{LookStop}
 use Rattle.load_plan.specs.declared.first_look.LookStop.TheVariants as look
 use Rattle.load_plan.proofs.EventLemmas.{Each, each_both, each_first, each_last, before_settling, load_split, load_each}
 use Rattle.reply_text.specs.declared.reply.Reply.{Reply}
-use Rattle.session_facts.specs.Errands.{settles}
+use Rattle.session_facts.specs.Lines.Errands.{settles}
 use Rattle.world_core.specs.Asked.{Asks}
 use Rattle.world_core.specs.Handled.{IsNewestCall, Went, start, further, StopsShort, FallsShort, ComesTo, Runs, RunsTo, Settles, SettlesOn, Does, Serves, Answers, Handled}
 use Rattle.world_core.specs.World.{World}

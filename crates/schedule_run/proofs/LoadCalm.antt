@@ -21,12 +21,12 @@ use Rattle.reply_text.specs.declared.reply.Reply.TheVariants as reply
 use Rattle.replay_meaning.specs.Standing.{Line, Standing, Posture, session_of, standing, after_line, after_own}
 use Rattle.load_facts.proofs.Numbered.{AtMost, IsLoadEvent, own_work, line_at_most}
 use Rattle.load_facts.proofs.Unspent.{commit_spent, run_unspent}
-use Rattle.session_facts.proofs.Attempts.{no_attempt}
-use Rattle.session_facts.proofs.CommittedLemmas.{standing_line}
-use Rattle.session_facts.proofs.StartLemmas.{closed_at}
-use Rattle.session_facts.proofs.SpentRows.{spends_late}
-use Rattle.session_facts.specs.Facts.{session_at}
-use Rattle.session_facts.specs.Late.{SpendsLate}
+use Rattle.session_facts.proofs.Machines.CommitRuns.Attempts.{no_attempt}
+use Rattle.session_facts.proofs.Lines.Committed.{standing_line}
+use Rattle.session_facts.proofs.Lines.Start.{closed_at}
+use Rattle.session_facts.proofs.Rows.Late.{spends_late}
+use Rattle.session_facts.specs.Lines.Facts.{session_at}
+use Rattle.session_facts.specs.Rows.Late.{SpendsLate}
 use Rattle.session_facts.specs.Sessions.Spent.{IsSpentToOpen, IsSpentToCommit, IsSpentToSettle, IsSpentInTree}
 use Rattle.session_facts.specs.Sessions.Untroubled.{IsUntroubled, IsSpent}
 use Rattle.world_core.specs.Calm.{StepIsCalm, RepliesWell, RunsWell, work_at}

@@ -29,12 +29,12 @@ use Rattle.replay_meaning.specs.Standing.{Line, Posture, Working, Committing, St
 use Rattle.report_types.specs.declared.entry.Entry.{Entry}
 use Rattle.reply_text.specs.declared.reply.Reply.{Reply}
 use Rattle.reply_text.specs.declared.reply.Reply.TheVariants as reply
-use Rattle.session_facts.proofs.LineLemmas.{line_of}
-use Rattle.session_facts.specs.Facts.{session_at}
+use Rattle.session_facts.proofs.Lines.More.{line_of}
+use Rattle.session_facts.specs.Lines.Facts.{session_at}
 use Rattle.txn_buffer.specs.Noted.{Noted}
 use Rattle.world_core.proofs.OpenedLines.{once_before}
 use Rattle.world_core.specs.Handled.{Handled}
-use Rattle.world_core.specs.Opened.{Opens, IsOpenedIn, OpenEachOnce}
+use Rattle.world_core.specs.Opened.{AsksToOpen, IsOpenedIn, OpenEachOnce}
 use Rattle.world_core.specs.Stands.{WorldStands}
 use Rattle.world_core.specs.World.{World}
 use Rattle.schedule_run.specs.Answered.{IsNew, WentOn, start, further, events_of}
@@ -64,7 +64,7 @@ checkpoints_none last [] = λ client h. h
 checkpoints_none last (p ∷ part) = none_more (checkpoint_at last p.tree) (checkpoints_from p.tree part) (checkpoint_none last p.tree) (checkpoints_none p.tree part)
 
 -- one event more in front
-front_none : (e : Event) (events : List Event) → ((client : ℕ) → Opens e client → ⊥) → OpenNone events → OpenNone (e ∷ events)
+front_none : (e : Event) (events : List Event) → ((client : ℕ) → AsksToOpen e client → ⊥) → OpenNone events → OpenNone (e ∷ events)
 front_none e events one none client (inl h) = one client h
 front_none e events one none client (inr h) = none client h
 

@@ -16,14 +16,14 @@ use Rattle.schedule_run.specs.declared.loading.LoadingFault.TheVariants.{BadLine
 use Rattle.schedule_run.specs.Load.{LoadEnded}
 use Rattle.schedule_run.specs.LoadLeft.{LeavesLoaded}
 use Rattle.schedule_run.specs.PlainCalls.{CallsPlainly}
-use Rattle.schedule_run.specs.Loading.{load_text, load_end, Tells, FillWent, end_of}
+use Rattle.schedule_run.specs.Loading.{load_text, load_end, TellsLoad, FillWent, end_of}
 
 -- the whole of a text is a first part of it
 as_part : (w u : Written) (text : List ℕ) → AddsOne w u text → AddsPart w u text
 as_part w u text one = λ all e. inr (text, [], sym (append-nil text), one all e)
 
 -- a text that was written whole tells its end
-tells_whole : (text : List ℕ) (end : Result (Unit {0}) LoadingFault) (w u : Written) → AddsOne w u text → Tells text end end w u
+tells_whole : (text : List ℕ) (end : Result (Unit {0}) LoadingFault) (w u : Written) → AddsOne w u text → TellsLoad text end end w u
 tells_whole text (Ok done) w u one = (refl, one)
 tells_whole text (Err BadLine) w u one = (refl, one)
 tells_whole text (Err NotEmpty) w u one = (refl, one)
@@ -36,13 +36,13 @@ tells_whole text (Err Memory) w u one = as_part w u text one
 
 -- and so does one that was written so
 pub tells : (text : List ℕ) (end : Result (Unit {0}) LoadingFault) (written : Result (Unit {0}) OutputFault) (w u : Written) → WasWritten w u text written
-    → Tells text end (end_of written end) w u
+    → TellsLoad text end (end_of written end) w u
 tells text end (Ok done) w u p = tells_whole text end w u p.0
 tells text end (Err output.WriteFault) w u p = p.0
 tells text end (Err output.Memory) w u p = p.0
 
 -- nothing was written of it, for want of memory
-pub tells_nothing : (text : List ℕ) (end : Result (Unit {0}) LoadingFault) (w : Written) → Tells text end (Err Memory) w w
+pub tells_nothing : (text : List ℕ) (end : Result (Unit {0}) LoadingFault) (w : Written) → TellsLoad text end (Err Memory) w w
 tells_nothing text end w = λ all e. inl e
 
 -- the writing of a text ends a load by a failed write exactly where one failed
@@ -60,7 +60,7 @@ load_writes (Err output.Memory) end text w u p = inr p.1
 
 -- a load that ended, and told so
 pub load_went : (trees : List DumpedTree) (loaded : Result Loaded LoadStop) (result : Result (Unit {0}) LoadingFault) (w u : Written) (s t : Seen) → LoadEnded loaded trees s t
-    → CallsPlainly s t → IfOk loaded (λ l. LeavesLoaded trees s t) → Tells (load_text loaded) (load_end loaded) result w u → FillWent trees result w u s t
+    → CallsPlainly s t → IfOk loaded (λ l. LeavesLoaded trees s t) → TellsLoad (load_text loaded) (load_end loaded) result w u → FillWent trees result w u s t
 load_went trees loaded result w u s t went calls leaves told = record { loaded = loaded; went = went; calls = calls; leaves = leaves; told = told }
 
 -- it does not end by a bad line

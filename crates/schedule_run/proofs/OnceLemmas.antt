@@ -6,18 +6,18 @@ use Rattle.client_work.specs.Session.{Acting, closed_session}
 use Rattle.event_text.specs.declared.event.Event.{Event}
 use Rattle.reply_text.specs.declared.reply.Reply.{Reply}
 use Rattle.replay_meaning.specs.Standing.{Line, unnamed}
-use Rattle.session_facts.specs.Added.{AddsTo}
-use Rattle.session_facts.specs.Facts.{session_at, ActsAs}
-use Rattle.session_facts.specs.Opened.{AddsNoneTwice}
-use Rattle.session_facts.proofs.AddedRows.{adds_nothing as nothing_added}
-use Rattle.session_facts.proofs.OpenedCalls.{apart_nothing}
-use Rattle.session_facts.proofs.StartLemmas.{closed_at}
+use Rattle.session_facts.specs.Rows.Added.{AddsTo}
+use Rattle.session_facts.specs.Lines.Facts.{session_at, ActsAs}
+use Rattle.session_facts.specs.Rows.Opened.{AddsNoneTwice}
+use Rattle.session_facts.proofs.Rows.Added.{adds_nothing as nothing_added}
+use Rattle.session_facts.proofs.Rows.Opened.{apart_nothing}
+use Rattle.session_facts.proofs.Lines.Start.{closed_at}
 use Rattle.world_core.specs.World.{World}
 use Rattle.world_core.specs.declared.world.WorldFault.{WorldFault}
 use Rattle.world_core.specs.Added.{WorldAdds}
 use Rattle.world_core.specs.Handled.{Handled}
 use Rattle.world_core.specs.LeftShort.{LeavesShort}
-use Rattle.world_core.specs.Opened.{Opens, IsOpenedIn, OpenEachOnce, WorldApart}
+use Rattle.world_core.specs.Opened.{AsksToOpen, IsOpenedIn, OpenEachOnce, WorldApart}
 use Rattle.world_core.proofs.AddedLines.{handled_adds}
 use Rattle.world_core.proofs.AddedShort.{handled_rows}
 use Rattle.world_core.proofs.LeftShort.{left_short}
@@ -51,7 +51,7 @@ none_more events more none also client h = on (opened_either events more client 
     on (inl k) = none client k
     on (inr k) = also client k
 
-pub one_none : (e : Event) → ((client : ℕ) → Opens e client → ⊥) → OpenNone (e ∷ [])
+pub one_none : (e : Event) → ((client : ℕ) → AsksToOpen e client → ⊥) → OpenNone (e ∷ [])
 one_none e none client (inl h) = none client h
 one_none e none client (inr h) = absurd h
 
@@ -60,12 +60,12 @@ none_once [] none = tt
 none_once (e ∷ events) none = (λ client opens h. none client (inl opens), none_once events (λ client h. none client (inr h)))
 
 -- an event behind others opens none of their clients
-pub once_push : (events : List Event) (e : Event) → OpenEachOnce events → ((client : ℕ) → Opens e client → IsOpenedIn events client → ⊥) → OpenEachOnce (events ++ e ∷ [])
+pub once_push : (events : List Event) (e : Event) → OpenEachOnce events → ((client : ℕ) → AsksToOpen e client → IsOpenedIn events client → ⊥) → OpenEachOnce (events ++ e ∷ [])
 once_push [] e once new = (λ client opens h. h, tt)
 once_push (x ∷ events) e once new =
     (λ client opens h. on client opens (opened_either events (e ∷ []) client h), once_push events e once.1 (λ client opens h. new client opens (inr h)))
   where
-    on : (client : ℕ) → Opens x client → IsOpenedIn events client ⊎ IsOpenedIn (e ∷ []) client → ⊥
+    on : (client : ℕ) → AsksToOpen x client → IsOpenedIn events client ⊎ IsOpenedIn (e ∷ []) client → ⊥
     on client opens (inl h) = once.0 client opens h
     on client opens (inr (inl h)) = new client h (inl opens)
     on client opens (inr (inr h)) = absurd h

@@ -15,8 +15,8 @@ use Rattle.db_io.specs.declared.output.OutputFault.TheVariants as output
 use Rattle.db_io.specs.Output.{WasWritten}
 use Rattle.replay_meaning.specs.Kinds.{CommitsCount, MayPutPhase, MayPutHead, MayPutBytes, IsOfKindAt, IsOfKind, LandsOpen}
 use Rattle.replay_meaning.specs.Standing.{Line, Closed, Working, Committing, standing, standing_of_row}
-use Rattle.session_facts.specs.Added.{AddsKinds, AddsTo}
-use Rattle.session_facts.proofs.Once.{at_place}
+use Rattle.session_facts.specs.Rows.Added.{AddsKinds, AddsTo}
+use Rattle.session_facts.proofs.Rows.Once.{at_place}
 use Rattle.reply_text.specs.declared.reply.Reply.{Reply}
 use Rattle.schedule_run.proofs.BehindLemmas.{new_on_book, settles_so}
 use Rattle.schedule_run.specs.InPlay.{Play}

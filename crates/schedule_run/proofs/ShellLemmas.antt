@@ -20,7 +20,7 @@ use Rattle.schedule_run.specs.declared.shell.ShellFault.{ShellFault}
 use Rattle.schedule_run.specs.declared.shell.ShellFault.TheVariants.{NotOpened, BadLine, WriteFault, Memory}
 use Rattle.schedule_run.specs.Play.{IsFresh, IsRun, answered, answered_run, StopsRun, stops_event, stops_run, Played}
 use Rattle.run_text.specs.Written.{AddsFront, NothingRan, reply_line, shown_from, bad_line}
-use Rattle.schedule_run.specs.Shell.{AreShellLines, IsBad, alone, with_run, no_events, more_events, WereRun, in_event, in_run, WereStopped, Opens, WasCut, cut_opening, cut_line, cut_closing, cut_refusal, ShellRanOut, out_before, out_writing, out_between, out_opening, out_next, ShellEnded, ShellWent, IsAt, RanOutAt, out_reply, out_event, EventRan, shown_by, ended, is_opened, opened_by, OpeningRan, ClosingRan, LineRefused, LineRan, event_run, refused, unread}
+use Rattle.schedule_run.specs.Shell.{AreShellLines, IsBad, alone, with_run, no_events, more_events, WereRun, in_event, in_run, WereStopped, OpensFirst, WasCut, cut_opening, cut_line, cut_closing, cut_refusal, ShellRanOut, out_before, out_writing, out_between, out_opening, out_next, ShellEnded, ShellWent, HasRunLines, RanOutAt, out_reply, out_event, EventRan, shown_by, ended, is_opened, opened_by, OpeningRan, ClosingRan, LineRefused, LineRan, event_run, refused, unread}
 use Rattle.schedule_run.specs.Answered.{IsNoReport, OpensNoneTwice}
 use Rattle.schedule_run.proofs.OnceLemmas.{OpenNone, none_more, one_none, once_nothing}
 use Rattle.schedule_run.proofs.ShellOnce.{no_report_shells, all_shells, next_shells, shell_once, once_whole, stopped_in_once}
@@ -108,7 +108,7 @@ cut_behind : (w v u : Written) (replies : List Reply) (text : ℕ → List ℕ) 
     → AddsFront w u (shown_from 0 replies) (text (length replies))
 cut_behind w v u replies text m e all front = record { between = v; each = all; front = subst (λ j. AddsPart v u (text j)) e front }
 
-opens_more : (replies more : List Reply) → Opens replies → Opens (replies ++ more)
+opens_more : (replies more : List Reply) → OpensFirst replies → OpensFirst (replies ++ more)
 opens_more [] more opens = absurd opens
 opens_more (reply ∷ replies) more opens = opens
 
@@ -195,7 +195,7 @@ opening_shown client reply w u s t old new ran = on (is_opened reply) refl where
 -- ---- the opening
 
 pub at_open : (client : ℕ) (text : List ℕ) (w u : Written) (s t : Seen) (old new : Play) → IsFresh true old
-    → OpeningRan (Ok tt) client w u s t old new → IsAt client text text 0 w u s t new
+    → OpeningRan (Ok tt) client w u s t old new → HasRunLines client text text 0 w u s t new
 at_open client text w u s t old new fresh p = record {
   events = [];
   earlier = [];
@@ -242,15 +242,15 @@ out_first client text w u s t nothing = shell_went [] [] (lines_of text) refl tt
 -- ---- one line more
 
 replies_count : (client : ℕ) (text rest : List ℕ) (n m : ℕ) (w v : Written) (s t : Seen) (play : Play)
-    → (is : IsAt client text rest n w v s t play) → m ≡ n + 1 → m ≡ length is.replies
+    → (is : HasRunLines client text rest n w v s t play) → m ≡ n + 1 → m ≡ length is.replies
 replies_count client text rest n m w v s t play is next =
     let c : length is.events ≡ n = is.count in
     let d : length is.replies ≡ length (Open 1 client ∷ is.events) = is.run.count in
     omega arith
 
 pub at_more : (client : ℕ) (text rest behind line : List ℕ) (n m : ℕ) (w v u : Written) (s t z : Seen) (old new : Play)
-    → IsAt client text rest n w v s t old → lines_of rest ≡ line ∷ lines_of behind → m ≡ n + 1 → LineRan (Ok tt) m line v u t z old new
-    → IsAt client text behind m w u s z new
+    → HasRunLines client text rest n w v s t old → lines_of rest ≡ line ∷ lines_of behind → m ≡ n + 1 → LineRan (Ok tt) m line v u t z old new
+    → HasRunLines client text behind m w u s z new
 at_more client text rest behind line n m w v u s t z old new is split next (event_run event (Ok reply) spells e ran) = record {
   events = is.events ++ event ∷ [];
   earlier = is.earlier ++ line ∷ [];
@@ -268,14 +268,14 @@ at_more client text rest behind line n m w v u s t z old new is split next (unre
 
 -- where a shell stops between two lines for want of memory
 pub at_stop : (client : ℕ) (text rest : List ℕ) (n : ℕ) (w v : Written) (s t : Seen) (play : Play)
-    → IsAt client text rest n w v s t play → ShellWent client text (Err Memory) w v s t
+    → HasRunLines client text rest n w v s t play → ShellWent client text (Err Memory) w v s t
 at_stop client text rest n w v s t play is = shell_went is.events is.earlier (lines_of rest) is.at is.spelled
     (out_between is.replies play is.run is.opened is.wrote)
 
 -- ---- the end
 
 close_out : (client : ℕ) (text rest : List ℕ) (n m : ℕ) (w v u : Written) (s t z : Seen) (old new : Play)
-    → (is : IsAt client text rest n w v s t old) → m ≡ n + 1 → RanOutAt m (Close 1) v u t z old new → ShellEnded (Err Memory) client is.events [] w u s z
+    → (is : HasRunLines client text rest n w v s t old) → m ≡ n + 1 → RanOutAt m (Close 1) v u t z old new → ShellEnded (Err Memory) client is.events [] w u s z
 close_out client text rest n m w v u s t z old new is next (out_reply reply ran front) =
     out_writing
     (cut_closing is.replies reply new refl (run_more (Open 1 client ∷ is.events) is.replies (Close 1) reply s t z old new is.run no_report_closes ran) is.opened
@@ -285,7 +285,7 @@ close_out client text rest n m w v u s t z old new is next (out_event stops same
     (subst (λ x. AddsEach w x (shown_from 0 is.replies)) (sym same) is.wrote)
 
 close_ended : (client : ℕ) (text rest : List ℕ) (n m : ℕ) (w v u : Written) (s t z : Seen) (old new : Play)
-    → (is : IsAt client text rest n w v s t old) → m ≡ n + 1 → (answer : Result Reply ShellFault) → EventRan answer m (Close 1) v u t z old new
+    → (is : HasRunLines client text rest n w v s t old) → m ≡ n + 1 → (answer : Result Reply ShellFault) → EventRan answer m (Close 1) v u t z old new
     → ShellEnded (ended answer) client is.events [] w u s z
 close_ended client text rest n m w v u s t z old new is next (Ok reply) ran = (
   refl,
@@ -305,7 +305,7 @@ close_ended client text rest n m w v u s t z old new is next (Err WriteFault) ra
 close_ended client text rest n m w v u s t z old new is next (Err Memory) ran = close_out client text rest n m w v u s t z old new is next ran
 
 pub at_end : (client : ℕ) (text rest : List ℕ) (n m : ℕ) (w v u : Written) (s t z : Seen) (old new : Play) (result : Result (Unit {0}) ShellFault)
-    → IsAt client text rest n w v s t old → rest ≡ [] → m ≡ n + 1 → ClosingRan result m v u t z old new → ShellWent client text result w u s z
+    → HasRunLines client text rest n w v s t old → rest ≡ [] → m ≡ n + 1 → ClosingRan result m v u t z old new → ShellWent client text result w u s z
 at_end client text rest n m w v u s t z old new result is none next closing = shell_went is.events is.earlier [] (is.at ∙ ap (λ r. is.earlier ++ lines_of r) none) is.spelled
     (subst (λ r. ShellEnded r client is.events [] w u s z) (sym closing.ends) (close_ended client text rest n m w v u s t z old new is next closing.answer closing.ran))
 
@@ -313,7 +313,7 @@ at_end client text rest n m w v u s t z old new result is none next closing = sh
 
 -- a line was met
 pub record IsMet (client : ℕ) (text rest behind line : List ℕ) (n m : ℕ) (w v : Written) (s t : Seen) (old : Play) : Type 0 where
-  pub is : IsAt client text rest n w v s t old
+  pub is : HasRunLines client text rest n w v s t old
   pub split : lines_of rest ≡ line ∷ lines_of behind
   pub next : m ≡ n + 1
 
@@ -414,7 +414,7 @@ by_fault {client} {text} {rest} {behind} {line} {n} {m} {w} {v} {s} {t} {old} me
     subst (λ r. ShellWent client text r w u s z) (sym e) (line_unread met u z same told)
 
 pub at_fault : (client : ℕ) (text rest behind line : List ℕ) (n m : ℕ) (w v u : Written) (s t z : Seen) (old new : Play) (fault : ShellFault)
-    → IsAt client text rest n w v s t old → lines_of rest ≡ line ∷ lines_of behind → m ≡ n + 1 → LineRan (Err fault) m line v u t z old new
+    → HasRunLines client text rest n w v s t old → lines_of rest ≡ line ∷ lines_of behind → m ≡ n + 1 → LineRan (Err fault) m line v u t z old new
     → ShellWent client text (Err fault) w u s z
 at_fault client text rest behind line n m w v u s t z old new fault is split next ran =
     let met : IsMet client text rest behind line n m w v s t old = record { is = is; split = split; next = next } in

@@ -10,7 +10,7 @@ use Rattle.event_text.specs.Event.{IsShellLine}
 use Rattle.reply_text.specs.declared.reply.Reply.{Reply}
 use Rattle.reply_text.specs.declared.reply.Reply.TheVariants.{Begun}
 use Rattle.replay_meaning.specs.Standing.{Line}
-use Rattle.world_core.specs.Opened.{Opens, IsOpenedIn, OpenEachOnce}
+use Rattle.world_core.specs.Opened.{AsksToOpen, IsOpenedIn, OpenEachOnce}
 use Rattle.world_core.proofs.OpenedLines.{once_before, opened_new, opened_more, opened_last}
 use Rattle.schedule_run.specs.Answered.{IsNoReport, events_of, OpensNoneTwice}
 use Rattle.schedule_run.specs.Shell.{AreShellLines, IsWhole, alone, with_run, AreWhole, no_events, more_events, StoppedIn, in_event, in_run, IsNextOf}
@@ -34,7 +34,7 @@ never_first own keyword other e shell =
     let never : false ≡ true = sym other ∙ ap is_shell same ∙ shell in
     absurd (cc)
 
-pub of_shell : (text : List ℕ) (e : Event) → IsShellLine text e → (client : ℕ) → Opens e client → ⊥
+pub of_shell : (text : List ℕ) (e : Event) → IsShellLine text e → (client : ℕ) → AsksToOpen e client → ⊥
 unfolding first_word
 of_shell text (event.Open session own) line client opens = never_first word.Open line.keyword refl (ap first_word line.words) line.shell
 of_shell text e line client opens = absurd opens
@@ -55,8 +55,8 @@ all_shells (t ∷ texts) (e ∷ events) spelled client (inl h) = of_shell t e sp
 all_shells (t ∷ texts) (e ∷ events) spelled client (inr h) = all_shells texts events spelled.1 client h
 
 -- what a shell runs next
-pub next_shells : (later : List (List ℕ)) (e : Event) → IsNextOf later e → (client : ℕ) → Opens e client → ⊥
-next_shells [] e is client opens = subst (λ (x : Event). Opens x client) is opens
+pub next_shells : (later : List (List ℕ)) (e : Event) → IsNextOf later e → (client : ℕ) → AsksToOpen e client → ⊥
+next_shells [] e is client opens = subst (λ (x : Event). AsksToOpen x client) is opens
 next_shells (text ∷ texts) e is client opens = of_shell text e is client opens
 
 -- behind its opening
@@ -66,7 +66,7 @@ shell_once client later none = (λ other opens h. none other h, none_once later 
 -- ---- events that are run whole
 
 -- what is handled of one opens what it opens
-in_it : (e : Event) (of_it : List Line) (reply : Reply) → IsWhole e of_it reply → (client : ℕ) → IsOpenedIn (events_of of_it) client → Opens e client
+in_it : (e : Event) (of_it : List Line) (reply : Reply) → IsWhole e of_it reply → (client : ℕ) → IsOpenedIn (events_of of_it) client → AsksToOpen e client
 in_it e _ reply (alone _ other) client (inl h) = h
 in_it e _ reply (alone _ other) client (inr h) = absurd h
 in_it e _ reply (with_run _) client (inl h) = h

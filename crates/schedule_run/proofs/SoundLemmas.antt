@@ -16,8 +16,8 @@ use Rattle.event_text.specs.declared.event.Event.TheVariants as event
 use Rattle.replay_meaning.specs.Standing.{Line, session_of, standing}
 use Rattle.reply_text.specs.declared.reply.Reply.{Reply}
 use Rattle.reply_text.specs.declared.reply.Reply.TheVariants as reply
-use Rattle.session_facts.proofs.BookLemmas.{book_of}
-use Rattle.session_facts.specs.Facts.{session_at, SomeBookStands}
+use Rattle.session_facts.proofs.Lines.Books.{book_of}
+use Rattle.session_facts.specs.Lines.Facts.{session_at, SomeBookStands}
 use Rattle.session_facts.specs.Sessions.Untroubled.{IsUntroubled}
 use Rattle.world_core.specs.Calm.{RepliesWell, work_at}
 use Rattle.world_core.specs.World.{World}

@@ -32,12 +32,12 @@ use Rattle.report_types.specs.declared.entry.Entry.{Entry}
 use Rattle.reply_text.specs.declared.reply.Reply.{Reply}
 use Rattle.reply_text.specs.declared.reply.Reply.TheVariants as reply
 use Rattle.txn_buffer.specs.Noted.{Noted}
-use Rattle.session_facts.specs.Acknowledged.{IsKeptAt, IsKeptReply}
-use Rattle.session_facts.specs.Errands.{Errand, settles, sweeps}
-use Rattle.session_facts.specs.Facts.{IsPlaced, IsPlacedAt}
-use Rattle.session_facts.proofs.Acknowledged.{kept_on}
-use Rattle.session_facts.proofs.CommittedLemmas.{committed_same, committed_line, slice_get-append_left}
-use Rattle.session_facts.proofs.Steps.{made_call}
+use Rattle.session_facts.specs.Lines.Acknowledged.{IsKeptAt, IsKeptReply}
+use Rattle.session_facts.specs.Lines.Errands.{Errand, settles, sweeps}
+use Rattle.session_facts.specs.Lines.Facts.{IsPlaced, IsPlacedAt}
+use Rattle.session_facts.proofs.Lines.Acknowledged.{kept_on}
+use Rattle.session_facts.proofs.Lines.Committed.{committed_same, committed_line, slice_get-append_left}
+use Rattle.session_facts.proofs.Lines.Outcome.{made_call}
 use Rattle.db_base.specs.declared.names.QueueName.{QueueName}
 use Rattle.ckpt_policy.specs.declared.role.Role.{Role}
 use Rattle.world_core.specs.World.{World}

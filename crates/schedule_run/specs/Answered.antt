@@ -16,11 +16,11 @@ use Rattle.replay_meaning.specs.Kinds.{KeepsKinds}
 use Rattle.replay_meaning.specs.Right.{ReportIsRight}
 use Rattle.report_types.specs.declared.entry.Entry.{Entry}
 use Rattle.report_types.specs.declared.report.Report.{Report}
-use Rattle.session_facts.specs.Acknowledged.{IsKeptReply}
-use Rattle.session_facts.specs.Added.{AddsTo}
-use Rattle.session_facts.specs.Facts.{session_at, WasLeft}
-use Rattle.session_facts.specs.LeftNone.{IsLeftReply}
-use Rattle.session_facts.specs.Opened.{AddsNoneTwice}
+use Rattle.session_facts.specs.Lines.Acknowledged.{IsKeptReply}
+use Rattle.session_facts.specs.Rows.Added.{AddsTo}
+use Rattle.session_facts.specs.Lines.Facts.{session_at, WasLeft}
+use Rattle.session_facts.specs.Lines.LeftNone.{IsLeftReply}
+use Rattle.session_facts.specs.Rows.Opened.{AddsNoneTwice}
 use Rattle.session_facts.specs.Sessions.Untroubled.{IsUntroubled}
 use Rattle.session_notes.specs.Notebook.{blank}
 use Rattle.world_core.specs.World.{World}

@@ -30,7 +30,7 @@ pub record StopsAmong (events : List Event) (start now : Seen) : Type 0 where
   pub stopped : StoppedAt false event lines start now
 
 -- the first of these events were handled from a new world on, and these are left
-pub record IsAmong (events left : List Event) (start now : Seen) (play : Play) : Type 0 where
+pub record HandlesFirst (events left : List Event) (start now : Seen) (play : Play) : Type 0 where
   pub done : List Event
   pub at : events ≡ done ++ left
   pub handles : Handles done start now play

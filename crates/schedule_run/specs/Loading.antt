@@ -45,11 +45,11 @@ abbrev pub SpellsNoDump : List ℕ → Type 0
 SpellsNoDump text = (trees : List DumpedTree) → IsDump text trees → ⊥
 
 -- this text was written in one write, and the end is that to which it leads; or at a failed write and want of memory a first part of it was
-abbrev pub Tells : List ℕ → Result (Unit {0}) LoadingFault → Result (Unit {0}) LoadingFault → Written → Written → Type 0
-Tells text end (Ok done) written now_written = (end ≡ Ok done) × AddsOne written now_written text
-Tells text end (Err WriteFault) written now_written = AddsPart written now_written text
-Tells text end (Err Memory) written now_written = AddsPart written now_written text
-Tells text end (Err fault) written now_written = (end ≡ Err fault) × AddsOne written now_written text
+abbrev pub TellsLoad : List ℕ → Result (Unit {0}) LoadingFault → Result (Unit {0}) LoadingFault → Written → Written → Type 0
+TellsLoad text end (Ok done) written now_written = (end ≡ Ok done) × AddsOne written now_written text
+TellsLoad text end (Err WriteFault) written now_written = AddsPart written now_written text
+TellsLoad text end (Err Memory) written now_written = AddsPart written now_written text
+TellsLoad text end (Err fault) written now_written = (end ≡ Err fault) × AddsOne written now_written text
 
 -- a load of these trees ended, by plain calls of its session and its settling alone, and that was told; where it was done, over a cloud that was empty and
 -- told its state, that has what these trees hold
@@ -58,14 +58,14 @@ pub record FillWent (trees : List DumpedTree) (result : Result (Unit {0}) Loadin
   pub went : LoadEnded loaded trees start now
   pub calls : CallsPlainly start now
   pub leaves : IfOk loaded (λ l. LeavesLoaded trees start now)
-  pub told : Tells (load_text loaded) (load_end loaded) result written now_written
+  pub told : TellsLoad (load_text loaded) (load_end loaded) result written now_written
 
 -- the text spells a dump, which was loaded up to this end; or it spells none, and its first bad line was told; or there was no memory to read it.
 -- A call was made only in the first case
 pub data FillEnded (text : List ℕ) (result : Result (Unit {0}) LoadingFault) (written now_written : Written) (start now : Seen) : Type 0 where
   fill_went : (trees : List DumpedTree) → IsDump text trees → FillWent trees result written now_written start now
       → FillEnded text result written now_written start now
-  fill_bad : (number : ℕ) → IsBadLine text number → Tells (bad_line number) (Err BadLine) result written now_written → now ≡ start
+  fill_bad : (number : ℕ) → IsBadLine text number → TellsLoad (bad_line number) (Err BadLine) result written now_written → now ≡ start
       → FillEnded text result written now_written start now
   fill_unread : result ≡ Err Memory → NothingRan written now_written start now → FillEnded text result written now_written start now
 

@@ -29,9 +29,9 @@ AreSpelled (text ∷ texts) (line ∷ lines) = IsEvent text line.event × AreSpe
 -- ---- how the lines ended
 
 -- the first of these texts spells this event
-abbrev pub Begins : List (List ℕ) → Event → Type 0
-Begins [] event = ⊥
-Begins (text ∷ texts) event = IsEvent text event
+abbrev pub BeginsEvent : List (List ℕ) → Event → Type 0
+BeginsEvent [] event = ⊥
+BeginsEvent (text ∷ texts) event = IsEvent text event
 
 -- the first of these texts is in no grammar
 abbrev pub BeginsBad : List (List ℕ) → Type 0
@@ -47,7 +47,7 @@ pub data WroteFront (lines : List Line) (later : List (List ℕ)) (written now_w
 -- the lines were handled and their replies are written, and the next one was handled, has no reply by this fault, and wrote nothing
 pub record EndedBy (fault : WorldFault) (lines : List Line) (later : List (List ℕ)) (written now_written : Written) (start now : Seen) : Type 0 where
   pub event : Event
-  pub spelled : Begins later event
+  pub spelled : BeginsEvent later event
   pub handled : IsUnanswered false lines event fault start now
   pub wrote : AddsEach written now_written (replies lines)
 
@@ -88,7 +88,7 @@ pub record Handles (texts : List (List ℕ)) (written now_written : Written) (st
       → (u : CloudState) × (now.state ≡ Some u) × WorldStands lines world u × ReportsAreRight lines u × IsTraced u
 
 -- so many lines of the text stand before the rest, and were handled
-pub record IsAt (text rest : List ℕ) (n : ℕ) (written now_written : Written) (start now : Seen) (first world : World) : Type 0 where
+pub record HasHandledLines (text rest : List ℕ) (n : ℕ) (written now_written : Written) (start now : Seen) (first world : World) : Type 0 where
   pub earlier : List (List ℕ)
   pub at : lines_of text ≡ earlier ++ lines_of rest
   pub count : length earlier ≡ n

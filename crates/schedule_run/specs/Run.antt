@@ -143,14 +143,14 @@ IsOfNone status.Memory = Unit {0}
 IsOfNone result = ⊥
 
 -- a status that words of this shape lead to
-abbrev pub IsOf : Option Shape → Status → Type 0
-IsOf (Some Replay) = IsOfReplay
-IsOf (Some (Gen number count)) = IsOfSchedule
-IsOf (Some (Shell client dir)) = IsOfShell
-IsOf (Some (Settle dir)) = IsOfSettling
-IsOf (Some (Dump dir)) = IsOfDump
-IsOf (Some (Load dir)) = IsOfLoad
-IsOf None = IsOfNone
+abbrev pub IsOfShape : Option Shape → Status → Type 0
+IsOfShape (Some Replay) = IsOfReplay
+IsOfShape (Some (Gen number count)) = IsOfSchedule
+IsOfShape (Some (Shell client dir)) = IsOfShell
+IsOfShape (Some (Settle dir)) = IsOfSettling
+IsOfShape (Some (Dump dir)) = IsOfDump
+IsOfShape (Some (Load dir)) = IsOfLoad
+IsOfShape None = IsOfNone
 
 -- ---- what each command reads, writes and leaves
 

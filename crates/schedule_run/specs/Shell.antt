@@ -83,16 +83,16 @@ is_opened (Opened epoch) = true
 is_opened reply = false
 
 -- the first reply says so
-abbrev pub Opens : List Reply → Type 0
-Opens [] = ⊥
-Opens (reply ∷ replies) = is_opened reply ≡ true
+abbrev pub OpensFirst : List Reply → Type 0
+OpensFirst [] = ⊥
+OpensFirst (reply ∷ replies) = is_opened reply ≡ true
 
 -- these events were run, the first of them opened the session, and the last replies are written, the first under 0
 pub record Showed (events : List Event) (written now_written : Written) (start now : Seen) : Type 0 where
   pub replies : List Reply
   pub play : Play
   pub run : WereRun events replies start now play
-  pub opened : Opens replies
+  pub opened : OpensFirst replies
   pub wrote : AddsEach written now_written (shown_from 0 replies)
 
 -- the opening was run and did not open the session, and its reply is written
@@ -108,7 +108,7 @@ pub record ShowedBadLine (events : List Event) (written now_written : Written) (
   pub replies : List Reply
   pub play : Play
   pub run : WereRun events replies start now play
-  pub opened : Opens replies
+  pub opened : OpensFirst replies
   pub wrote : AddsEach written now_written (shown_from 0 replies ++ bad_line (length replies) ∷ [])
 
 -- a text was cut short, the last: the opening's reply, that of the last of these lines, that of the closing behind them all, or the refusal of the
@@ -116,12 +116,12 @@ pub record ShowedBadLine (events : List Event) (written now_written : Written) (
 pub data WasCut (client : ℕ) (events : List Event) (later : List (List ℕ)) (written now_written : Written) (start now : Seen) : Type 0 where
   cut_opening : (reply : Reply) (play : Play) → events ≡ [] → WereRun (Open 1 client ∷ []) (reply ∷ []) start now play
       → AddsPart written now_written (reply_line 0 reply) → WasCut client events later written now_written start now
-  cut_line : (replies : List Reply) (reply : Reply) (play : Play) → WereRun (Open 1 client ∷ events) (replies ++ reply ∷ []) start now play → Opens replies
+  cut_line : (replies : List Reply) (reply : Reply) (play : Play) → WereRun (Open 1 client ∷ events) (replies ++ reply ∷ []) start now play → OpensFirst replies
       → AddsFront written now_written (shown_from 0 replies) (reply_line (length replies) reply) → WasCut client events later written now_written start now
   cut_closing : (replies : List Reply) (reply : Reply) (play : Play) → later ≡ []
-      → WereRun (Open 1 client ∷ (events ++ Close 1 ∷ [])) (replies ++ reply ∷ []) start now play → Opens replies
+      → WereRun (Open 1 client ∷ (events ++ Close 1 ∷ [])) (replies ++ reply ∷ []) start now play → OpensFirst replies
       → AddsFront written now_written (shown_from 0 replies) (reply_line (length replies) reply) → WasCut client events later written now_written start now
-  cut_refusal : (replies : List Reply) (play : Play) → BeginsBad later → WereRun (Open 1 client ∷ events) replies start now play → Opens replies
+  cut_refusal : (replies : List Reply) (play : Play) → BeginsBad later → WereRun (Open 1 client ∷ events) replies start now play → OpensFirst replies
       → AddsFront written now_written (shown_from 0 replies) (bad_line (length replies)) → WasCut client events later written now_written start now
 
 -- what a shell runs next, before these lines: the event of the first or, before none, the closing
@@ -133,10 +133,10 @@ IsNextOf (text ∷ texts) event = IsShellLine text event
 pub data ShellRanOut (client : ℕ) (events : List Event) (later : List (List ℕ)) (written now_written : Written) (start now : Seen) : Type 0 where
   out_before : NothingRan written now_written start now → ShellRanOut client events later written now_written start now
   out_writing : WasCut client events later written now_written start now → ShellRanOut client events later written now_written start now
-  out_between : (replies : List Reply) (play : Play) → WereRun (Open 1 client ∷ events) replies start now play → Opens replies
+  out_between : (replies : List Reply) (play : Play) → WereRun (Open 1 client ∷ events) replies start now play → OpensFirst replies
       → AddsEach written now_written (shown_from 0 replies) → ShellRanOut client events later written now_written start now
   out_opening : WereStopped [] [] (Open 1 client) start now → now_written ≡ written → ShellRanOut client events later written now_written start now
-  out_next : (replies : List Reply) (event : Event) → IsNextOf later event → WereStopped (Open 1 client ∷ events) replies event start now → Opens replies
+  out_next : (replies : List Reply) (event : Event) → IsNextOf later event → WereStopped (Open 1 client ∷ events) replies event start now → OpensFirst replies
       → AddsEach written now_written (shown_from 0 replies) → ShellRanOut client events later written now_written start now
 
 -- how a shell ended behind these lines and before those
@@ -163,7 +163,7 @@ pub record ShellWent (client : ℕ) (text : List ℕ) (ended : Result (Unit {0})
 -- ---- between two lines
 
 -- so many lines of the text stand before the rest, and were run behind the opening
-pub record IsAt (client : ℕ) (text rest : List ℕ) (n : ℕ) (written now_written : Written) (start now : Seen) (play : Play) : Type 0 where
+pub record HasRunLines (client : ℕ) (text rest : List ℕ) (n : ℕ) (written now_written : Written) (start now : Seen) (play : Play) : Type 0 where
   pub events : List Event
   pub earlier : List (List ℕ)
   pub at : lines_of text ≡ earlier ++ lines_of rest
@@ -171,7 +171,7 @@ pub record IsAt (client : ℕ) (text rest : List ℕ) (n : ℕ) (written now_wri
   pub count : length events ≡ n
   pub replies : List Reply
   pub run : WereRun (Open 1 client ∷ events) replies start now play
-  pub opened : Opens replies
+  pub opened : OpensFirst replies
   pub wrote : AddsEach written now_written (shown_from 0 replies)
 
 -- ---- one event

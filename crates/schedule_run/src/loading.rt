@@ -2,7 +2,7 @@ ghost use Rattle.std.specs.Prelude.{◌≡◌, ◌<◌, ◌⊎◌, Ok, Err};
 ghost use Rattle.dump_text.specs.Dump.{IsDumpable};
 ghost use Rattle.db_io.specs.Output.{WasWritten};
 ghost use Rattle.run_text.specs.Written.{bad_line, plain_line};
-ghost use Rattle.schedule_run.specs.Loading.{FillEnded, FillWent, SpellsNoDump, Tells, end_of, load_end, load_text};
+ghost use Rattle.schedule_run.specs.Loading.{FillEnded, FillWent, SpellsNoDump, TellsLoad, end_of, load_end, load_text};
 
 use crate::load::{LoadStop, Loaded, MOST_CALLS, load};
 use cloud_trait::cloud::Bench;
@@ -77,7 +77,7 @@ fn write_bad_line<O: Sink>(alloc: Global, sink: &mut O, number: u64) -> Result<(
         → (O.told sink.old).faults < (O.told sink.new).faults }
     ensures writes { (result ≡ Err LoadingFault.WriteFault)
         ⊎ ((O.told sink.new).faults ≡ (O.told sink.old).faults) }
-    ensures told { Tells (bad_line number) (Err LoadingFault.BadLine) result (O.told sink.old) (O.told sink.new) }
+    ensures told { TellsLoad (bad_line number) (Err LoadingFault.BadLine) result (O.told sink.old) (O.told sink.new) }
 {
     end_of(refuse(alloc, sink, number), Err(LoadingFault::BadLine))
 }
@@ -109,7 +109,7 @@ fn write_loaded<O: Sink>(alloc: Global, sink: &mut O, loaded: Loaded) -> Result<
         → (O.told sink.old).faults < (O.told sink.new).faults }
     ensures writes { (result ≡ Err LoadingFault.WriteFault)
         ⊎ ((O.told sink.new).faults ≡ (O.told sink.old).faults) }
-    ensures told { Tells (load_text (Ok loaded)) (Ok tt) result (O.told sink.old) (O.told sink.new) }
+    ensures told { TellsLoad (load_text (Ok loaded)) (Ok tt) result (O.told sink.old) (O.told sink.new) }
 {
     let records = loaded.records;
     let calls = loaded.calls;
@@ -125,7 +125,7 @@ fn write_stop<O: Sink>(alloc: Global, sink: &mut O, stop: LoadStop) -> Result<()
         → (O.told sink.old).faults < (O.told sink.new).faults }
     ensures writes { (result ≡ Err LoadingFault.WriteFault)
         ⊎ ((O.told sink.new).faults ≡ (O.told sink.old).faults) }
-    ensures told { Tells (load_text (Err stop)) (load_end (Err stop)) result (O.told sink.old) (O.told sink.new) }
+    ensures told { TellsLoad (load_text (Err stop)) (load_end (Err stop)) result (O.told sink.old) (O.told sink.new) }
 {
     match stop {
         LoadStop::NotEmpty(name) => end_of(

@@ -5,7 +5,7 @@ ghost use Rattle.schedule_run.specs.Loading.{SpellsNoDump};
 ghost use Rattle.schedule_run.specs.Replayed.{HasBadLine};
 ghost use Rattle.schedule_run.specs.Shell.{HasBadShellLine};
 ghost use Rattle.schedule_run.specs.Complete.{IsComplete, LoadCompletes, StopsAtBadLine};
-ghost use Rattle.schedule_run.specs.Run.{AsksWithin, Generates, HasBad, IsOf, IsOfDump, IsOfLoad, IsOfReplay, IsOfSchedule, IsOfSettling, IsOfShell, Ran, Replays, RunsDump, RunsLoad, RunsSettling, RunsShell, WasBad, WasTooLong, WasWithin, limit_of};
+ghost use Rattle.schedule_run.specs.Run.{AsksWithin, Generates, HasBad, IsOfShape, IsOfDump, IsOfLoad, IsOfReplay, IsOfSchedule, IsOfSettling, IsOfShell, Ran, Replays, RunsDump, RunsLoad, RunsSettling, RunsShell, WasBad, WasTooLong, WasWithin, limit_of};
 
 use crate::dumping::{DumpingFault, dump};
 use crate::generated::generate;
@@ -34,7 +34,7 @@ pub fn run<I: Source, O: Sink, C: Bench>(
     sink: &mut O,
     cloud: &mut C,
 ) -> Status
-    ensures only { IsOf (shape_of (map string_bytes words.now)) result }
+    ensures only { IsOfShape (shape_of (map string_bytes words.now)) result }
     ensures unread { result ≡ Status.BadWords → I.told source.new ≡ I.told source.old }
     ensures read_fault { result ≡ Status.ReadFault
         → (I.told source.old).faults < (I.told source.new).faults }
@@ -83,7 +83,7 @@ fn run_asked<I: Source, O: Sink, C: Bench>(
     cloud: &mut C,
 ) -> Status
     requires { AsksWithin asked }
-    ensures only { IsOf (Some asked) result }
+    ensures only { IsOfShape (Some asked) result }
     ensures read_fault { result ≡ Status.ReadFault
         → (I.told source.old).faults < (I.told source.new).faults }
     ensures reads { (result ≡ Status.ReadFault)

@@ -1,10 +1,10 @@
 -- Sessions: what many of them know of one cloud, whatever calls fail, and that each call, crash and wait keeps it.
-pub mod Noting
-pub mod Sessions
-pub mod Puts
+pub mod Audited
+pub mod Knows
+pub mod HeadPuts
 pub mod Spent
-pub mod Answering
-pub mod Explaining
+pub mod Stops
+pub mod Explains
 pub mod Calls
 pub mod Untroubled
 pub mod Alone

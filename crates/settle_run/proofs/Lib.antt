@@ -1,7 +1,7 @@
-pub mod Causing
-pub mod Ending
-pub mod Holding
+pub mod Causes
+pub mod End
+pub mod Leases
 pub mod Outcomes
 pub mod Wholes
-pub mod Ranging
-pub mod Stepping
+pub mod Meaning
+pub mod Stepped

@@ -6,7 +6,7 @@ use Rattle.leaf_view.specs.Lookup.{page_at}
 use Rattle.db_base.specs.Ids.{IsClient, IsTree}
 use Rattle.cloud_trait.specs.Machine.{Goes, Ends, Stops}
 use Rattle.page_ckpt.specs.Paging.{Paging}
-use Rattle.recover_run.proofs.Keeping.{all_new}
+use Rattle.recover_run.proofs.KeptRecords.{all_new}
 use Rattle.recover_run.proofs.Sweeping.{all_has, none_new, each_has}
 use Rattle.recover_run.specs.Ids.{has_id, new_ids}
 use Rattle.recover_run.specs.Recovery.{Recovery}
@@ -62,18 +62,18 @@ abbrev TreesBelow : List Run → ℕ → Type 0
 TreesBelow runs upto = (tree : ℕ) → IsTree tree → tree < upto → EmptiesTree runs tree
 
 -- what is known of a queue was received from it
-abbrev Knows : List Run → Part → List ℕ → Type 0
-Knows runs queue known = AllByRecursion (Received runs queue) known
+abbrev KnowsReceived : List Run → Part → List ℕ → Type 0
+KnowsReceived runs queue known = AllByRecursion (Received runs queue) known
 
 abbrev OwnEmptied : List Run → ℕ → Type 0
 OwnEmptied runs tree = (m : Making) × Empties runs (Tree tree m)
 
 abbrev At : List Run → Part → List ℕ → Type 0
 At runs (Client client m) known = ClientsBelow runs client
-At runs (Tree tree m) known = ClientsBelow runs 65 × (TreesBelow runs tree × Knows runs (part_of_tree tree) known)
+At runs (Tree tree m) known = ClientsBelow runs 65 × (TreesBelow runs tree × KnowsReceived runs (part_of_tree tree) known)
 At runs (Page tree page m) known =
     ClientsBelow runs 65
-    × (TreesBelow runs tree × (OwnEmptied runs tree × (((pages : List ℕ) × EmptiesPages runs tree 1 pages page) × Knows runs (part_of_page tree page) known)))
+    × (TreesBelow runs tree × (OwnEmptied runs tree × (((pages : List ℕ) × EmptiesPages runs tree 1 pages page) × KnowsReceived runs (part_of_page tree page) known)))
 
 again_at : (runs : List Run) (p : Part) (known : List ℕ) → At runs (part_again p) known → At runs p known
 again_at runs (Client client m) known at = at
@@ -93,7 +93,7 @@ module _ (r : Run) (rs : List Run) where
   trees_more : (upto : ℕ) → TreesBelow rs upto → TreesBelow (r ∷ rs) upto
   trees_more upto below tree is less = tree_more r rs tree (below tree is less)
 
-  knows_more : (queue : Part) (known : List ℕ) → Knows rs queue known → Knows (r ∷ rs) queue known
+  knows_more : (queue : Part) (known : List ℕ) → KnowsReceived rs queue known → KnowsReceived (r ∷ rs) queue known
   knows_more queue known all = all_ids (Received rs queue) (Received (r ∷ rs) queue) (received_more r rs queue) known all
 
   -- the ids of this run were received
@@ -102,7 +102,7 @@ module _ (r : Run) (rs : List Run) where
       all_ids (λ id. has_id (part_received p) id ≡ true) (Received (r ∷ rs) (part_again p)) (λ id has. (p, (inl e, (refl, has)))) (part_received p) (each_has (part_received p))
 
   -- it received nothing new
-  own_empties : (p : Part) (known : List ℕ) → r.part ≡ p → Knows rs (part_again p) known → new_ids known (part_received p) ≡ [] → Empties (r ∷ rs) p
+  own_empties : (p : Part) (known : List ℕ) → r.part ≡ p → KnowsReceived rs (part_again p) known → new_ids known (part_received p) ≡ [] → Empties (r ∷ rs) p
   own_empties p known e knows none =
       inl (
         e,
@@ -114,7 +114,7 @@ module _ (r : Run) (rs : List Run) where
   at_again : (p : Part) (known ids : List ℕ) → r.part ≡ p → new_ids known (part_received p) ≡ ids → At rs p known → At (r ∷ rs) (part_again p) (known ++ ids)
   at_again p known ids e news at = on p e news at
     where
-      more : (q : Part) → r.part ≡ q → new_ids known (part_received q) ≡ ids → Knows rs (part_again q) known → Knows (r ∷ rs) (part_again q) (known ++ ids)
+      more : (q : Part) → r.part ≡ q → new_ids known (part_received q) ≡ ids → KnowsReceived rs (part_again q) known → KnowsReceived (r ∷ rs) (part_again q) (known ++ ids)
       more q f n knows =
           all_both (Received (r ∷ rs) (part_again q)) known ids (knows_more (part_again q) known knows)
           (subst (AllByRecursion (Received (r ∷ rs) (part_again q))) n (all_new (Received (r ∷ rs) (part_again q)) known (part_received q) (own_received q f)))

@@ -1,6 +1,6 @@
 pub mod Parts
 pub mod Stepped
 pub mod Settling
-pub mod Ending
-pub mod Standing
+pub mod End
+pub mod Leases
 pub mod Meaning

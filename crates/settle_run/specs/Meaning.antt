@@ -19,7 +19,7 @@ use Rattle.settle_run.specs.declared.part.Part.TheVariants.{Client, Tree, Page}
 use Rattle.settle_run.specs.declared.settled.Settled.{Settled}
 use Rattle.settle_run.specs.Parts.{part_ask, part_again, part_received, PartLeads, PartWent}
 use Rattle.settle_run.specs.Settling.{Settling, new_settling, settle_ask, SettleLeads, KeepsSettling, passed, is_visited}
-use Rattle.settle_run.specs.Standing.{AreReturned}
+use Rattle.settle_run.specs.Leases.{AreReturned}
 use Rattle.settle_run.specs.Stepped.{PartStepped}
 use Rattle.tree_ckpt.specs.Making.{Making}
 

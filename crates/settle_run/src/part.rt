@@ -41,7 +41,7 @@ impl Drop for Part {
 impl Part {
     ghost use Rattle.settle_run.specs.Parts.{part_ask, part_applying, part_received, part_again, IsSoundPart, PartWent};
     ghost use Rattle.settle_run.specs.Stepped.{PartSteps};
-    ghost use Rattle.settle_run.specs.Ending.{part_left};
+    ghost use Rattle.settle_run.specs.End.{part_left};
 
     /// The recovery of a client, before its first call.
     pub(crate) fn client(alloc: Global, client: ClientId) -> Part

@@ -51,9 +51,9 @@ impl Model for SettleRun {
 
 impl SettleRun {
     ghost use Rattle.settle_run.specs.Parts.{part_applying, IsSoundPart};
-    ghost use Rattle.settle_run.specs.Ending.{calls_left};
+    ghost use Rattle.settle_run.specs.End.{calls_left};
     ghost use Rattle.settle_run.specs.Meaning.{Went, Stepped};
-    ghost use Rattle.settle_run.specs.Standing.{Holds, GivesBack};
+    ghost use Rattle.settle_run.specs.Leases.{Holds, GivesBack};
     ghost use Rattle.settle_run.specs.Settling.{Settling, new_settling, settle_ask, SamePart, after_turn, ended_by, passed, goes_on, to_page, goes_right, behind_tree, is_visited};
 
     /// A settling before its first call. Takes no memory.

@@ -14,18 +14,18 @@ use Rattle.tree_parts.specs.Read.{damaged, tree_held}
 use Rattle.tree_descent.specs.Descent.{forked}
 use Rattle.tree_descent.specs.Fork.{bad_fence, forked_on}
 use Rattle.tree_ckpt.specs.Working.{HasLevel}
-use Rattle.tree_ckpt.specs.Causing.{Calls, WasGot, WasRoot, WasNode, WasLeaf, WasRead, IsLink}
+use Rattle.tree_ckpt.specs.Causes.{Calls, WasGot, WasRoot, WasNode, WasLeaf, WasRead, IsLink}
 use Rattle.tree_ckpt.proofs.Words.{Answer, Ask, Chart, KeptNode, Descent, Fork}
 
 -- ---- what is known
 
 -- a node that was kept was got, and it is an inner node of its level
-abbrev pub IsKept : ℕ → KeptNode → Calls → Type 0
-IsKept tree k cs = WasGot (object.Page tree k.page) (Some k.bytes) cs × HasLevel k
+abbrev pub IsKeptNode : ℕ → KeptNode → Calls → Type 0
+IsKeptNode tree k cs = WasGot (object.Page tree k.page) (Some k.bytes) cs × HasLevel k
 
 abbrev pub AreKept : ℕ → List KeptNode → Calls → Type 0
 AreKept tree [] cs = Unit {0}
-AreKept tree (k ∷ ks) cs = IsKept tree k cs × AreKept tree ks cs
+AreKept tree (k ∷ ks) cs = IsKeptNode tree k cs × AreKept tree ks cs
 
 -- what is known of the tree
 pub record Charted (tree : ℕ) (c : Chart) (cs : Calls) : Type 0 where
@@ -97,7 +97,7 @@ kept_both : (tree : ℕ) (xs ys : List KeptNode) (cs : Calls) → AreKept tree x
 kept_both tree [] ys cs h k = k
 kept_both tree (x ∷ xs) ys cs h k = (h.0, kept_both tree xs ys cs h.1 k)
 
-pub kept_with : (tree : ℕ) (k : KeptNode) (ks : List KeptNode) (cs : Calls) → IsKept tree k cs → AreKept tree ks cs → AreKept tree (with_kept k ks) cs
+pub kept_with : (tree : ℕ) (k : KeptNode) (ks : List KeptNode) (cs : Calls) → IsKeptNode tree k cs → AreKept tree ks cs → AreKept tree (with_kept k ks) cs
 kept_with tree k ks cs new old =
     let front : List KeptNode = take (place_of k ks) ks in
     let back : List KeptNode = drop (place_of k ks) ks in
@@ -106,14 +106,14 @@ kept_with tree k ks cs new old =
     kept_both tree front (k ∷ back) cs parts.0 (new, parts.1)
 
 pub kept_found : (tree page : ℕ) (ks : List KeptNode) (k : KeptNode) (cs : Calls) → AreKept tree ks cs → find (λ (n : KeptNode). n.page == page) ks ≡ Some k
-    → IsKept tree k cs × (k.page ≡ page)
+    → IsKeptNode tree k cs × (k.page ≡ page)
 kept_found tree page [] k cs h e = absurd (cc (e))
 kept_found tree page (x ∷ xs) k cs h e = on (x.page == page) refl (kept_found tree page xs k cs h.1) e where
-  on : (b : Bool) → (x.page == page) ≡ b → (find (λ (n : KeptNode). n.page == page) xs ≡ Some k → IsKept tree k cs × (k.page ≡ page))
-      → cond b (Some x) (find (λ (n : KeptNode). n.page == page) xs) ≡ Some k → IsKept tree k cs × (k.page ≡ page)
+  on : (b : Bool) → (x.page == page) ≡ b → (find (λ (n : KeptNode). n.page == page) xs ≡ Some k → IsKeptNode tree k cs × (k.page ≡ page))
+      → cond b (Some x) (find (λ (n : KeptNode). n.page == page) xs) ≡ Some k → IsKeptNode tree k cs × (k.page ≡ page)
   on true same rest f =
       let is : x ≡ k = cc (f) in
-      subst (λ (n : KeptNode). IsKept tree n cs × (n.page ≡ page)) is (h.0, eqb-true x.page page same)
+      subst (λ (n : KeptNode). IsKeptNode tree n cs × (n.page ≡ page)) is (h.0, eqb-true x.page page same)
   on false same rest f = rest f
 
 -- a node that leads on has the level of the link to it

@@ -10,10 +10,10 @@ use Rattle.cloud_trait.specs.Plenty.{HadMemory}
 use Rattle.cloud_trait.proofs.CalmLemmas.{goes_well}
 use Rattle.tree_moves.specs.Moves.{went}
 use Rattle.tree_ckpt.specs.Making.{Making, new_making, making_ask, MakingLeads}
-use Rattle.tree_ckpt.specs.Standing.{Went}
-use Rattle.tree_ckpt.specs.Causing.{Calls, Shows, kept_trouble}
+use Rattle.tree_ckpt.specs.Leases.{Went}
+use Rattle.tree_ckpt.specs.Causes.{Calls, Shows, kept_trouble}
 use Rattle.tree_ckpt.specs.Meaning.{Tried, deletes_over, one_less, failed_count, IsDone, MeansDone}
-use Rattle.tree_ckpt.specs.Well.{IsLeft, IsWell}
+use Rattle.tree_ckpt.specs.Calm.{IsLeft, IsWell}
 use Rattle.tree_ckpt.specs.Stepped.{IsCaused, Tells}
 use Rattle.tree_ckpt.proofs.Words.{Trouble, QueueName, Answer, CkptAnswer, Turn, More, Ended, Stopped, Deed, Came, calls_of, done_of, Fits, Ask}
 use Rattle.tree_ckpt.proofs.Brought.{link_more}

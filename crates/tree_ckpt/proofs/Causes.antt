@@ -27,8 +27,8 @@ use Rattle.tree_moves.specs.declared.work.Work.TheVariants as work
 use Rattle.tree_moves.specs.Work.{work_ask, take_tree}
 use Rattle.tree_moves.specs.Moves.{Step, leaf_of, root_entry, down_from, key_from, next_key, onward_from, chart_of, Leads}
 use Rattle.tree_ckpt.specs.Making.{Making, new_making, making_ask, MakingLeads, KeepsLeases}
-use Rattle.tree_ckpt.specs.Standing.{Went}
-use Rattle.tree_ckpt.specs.Causing.{Calls, Brings, WasPut, WasRoot, Shows, BreaksMessage, ticks_of, kept_trouble}
+use Rattle.tree_ckpt.specs.Leases.{Went}
+use Rattle.tree_ckpt.specs.Causes.{Calls, Brings, WasPut, WasRoot, Shows, BreaksMessage, ticks_of, kept_trouble}
 use Rattle.tree_ckpt.specs.Way.{WasKept, behind, ComesOver, BreaksAt, BreaksFrom, from_root}
 use Rattle.tree_ckpt.specs.Due.{Due, LeafDue, NodeDue, RootDue, IsUp, IsDue, Spends}
 use Rattle.tree_ckpt.specs.Demands.{Refuses, BreaksLeaf, Demands}
@@ -41,7 +41,7 @@ use Rattle.tree_ckpt.proofs.Folds.{not_empty}
 use Rattle.tree_ckpt.proofs.Plots.{KnowsLeaf, LeafSpends, LeafTells, PlacedTells, HasPut, leaf_got_tells, leaf_put_tells}
 use Rattle.tree_ckpt.proofs.RiseOutcomes.{IsRising}
 use Rattle.tree_ckpt.proofs.Rises.{KnowsSpent, UpSpends, RiseTells, PutStops, PutTells, rise_tells, rise_put_tells}
-use Rattle.tree_ckpt.proofs.Spending.{IsSpentFor}
+use Rattle.tree_ckpt.proofs.Spent.{IsSpentFor}
 use Rattle.tree_ckpt.proofs.Ways.{KnowsWay, WayTells, NodeBreaks, GotTells, down_tells, node_got_tells}
 
 -- ---- what is known where it stands
@@ -462,14 +462,14 @@ fails_told {tree = tree} cs k fits (step.no_leaf h f g a t e) =
 -- ---- a step
 
 -- a trouble was kept before, or it is told
-abbrev IsKept : ℕ → Work → Calls → Answer → Trouble → Type 0
-IsKept tree w cs a t = (kept_trouble w ≡ Some t) ⊎ IsTold tree w cs a t
+abbrev IsKeptOrTold : ℕ → Work → Calls → Answer → Trouble → Type 0
+IsKeptOrTold tree w cs a t = (kept_trouble w ≡ Some t) ⊎ IsTold tree w cs a t
 
 -- where a step goes on it is known where it stands, and a trouble that is kept is told; so is one with which it stops
 abbrev NextTells : ℕ → Work → Calls → Answer → Step → Type 0
-NextTells tree w cs a (Goes n) = KnowsAt tree n (now (work_ask tree w) a cs) × ((t : Trouble) → kept_trouble n ≡ Some t → IsKept tree w cs a t)
+NextTells tree w cs a (Goes n) = KnowsAt tree n (now (work_ask tree w) a cs) × ((t : Trouble) → kept_trouble n ≡ Some t → IsKeptOrTold tree w cs a t)
 NextTells tree w cs a (Ends n x) = kept_trouble w ≡ None
-NextTells tree w cs a (Stops n t) = t ≢ trouble.Memory → IsKept tree w cs a t
+NextTells tree w cs a (Stops n t) = t ≢ trouble.Memory → IsKeptOrTold tree w cs a t
 
 some_is : (t u : Trouble) → Some t ≡ Some u → t ≡ u
 some_is t u e = cc (e)

@@ -37,15 +37,15 @@ use Rattle.tree_moves.specs.declared.work.Work.TheVariants as work
 use Rattle.tree_moves.specs.Work.{work_ask, delete_ask, release_ask}
 use Rattle.tree_moves.specs.Moves.{Step, released_by, rising_on, descending_on, going_by, page_taken, folding_on, tree_taken, tree_damage, tree_read, tree_got, intake_taken, ReceivedBy, Leads}
 use Rattle.tree_ckpt.specs.Making.{Making, making_ask, MakingLeads, KeepsLeases}
-use Rattle.tree_ckpt.specs.Standing.{HasIds, HoldsOne, HoldsAt, Stands}
-use Rattle.tree_ckpt.specs.Causing.{Calls, GoesRight, ticks_of, kept_trouble}
+use Rattle.tree_ckpt.specs.Leases.{HasIds, HoldsOne, HoldsAt, Stands}
+use Rattle.tree_ckpt.specs.Causes.{Calls, GoesRight, ticks_of, kept_trouble}
 use Rattle.tree_ckpt.specs.Way.{behind, BreaksFrom, from_root, BreaksWay}
 use Rattle.tree_ckpt.specs.Due.{Due, LeafDue, NodeDue, RootDue, IsSpent, HasNoPages, GetsLeaf, IsUp, IsDue, IsCutShort, Spends}
 use Rattle.tree_ckpt.specs.Demands.{Refuses, BreaksRoot, BreaksRecord, BreaksNode, BreaksLeaf, Demands}
 use Rattle.tree_ckpt.specs.Stepped.{Owes}
 use Rattle.tree_ckpt.proofs.Words.{Trouble, Lock, ObjName, QueueName, PuItem, Answer, Message, CkptAnswer, Turn, More, Ended, Stopped, Claim, Next, Goes, Ends, Stops, Took, Deed, calls_of, given_of, got_of, received_of, done_of, Fits, Ask, PagePut, Intake, Leases, Chart, KeptNode, Link, Descent, Fork, Folding, Left, LeafPlan, Rising, Held, Work}
 use Rattle.tree_ckpt.proofs.Causes.{KnowsAt}
-use Rattle.tree_ckpt.proofs.Spending.{leaf_plan_spent, leaf_plan_full, node_plan_spent, node_plan_full, last_plan_spent, last_plan_full}
+use Rattle.tree_ckpt.proofs.Spent.{leaf_plan_spent, leaf_plan_full, node_plan_spent, node_plan_full, last_plan_spent, last_plan_full}
 use Rattle.tree_ckpt.proofs.Walking.{page_same, damage_same, fence_same, fork_none, fork_some, fork_level, fork_fence, fork_promised, behind_keeps, root_upto, way_stops}
 
 abbrev Rise : Type 0

@@ -10,11 +10,11 @@ use Rattle.tree_rising.specs.Rising.{rising_ask, landed, next_touched}
 use Rattle.tree_moves.specs.declared.work.Work.TheVariants as work
 use Rattle.tree_moves.specs.Work.{work_ask}
 use Rattle.tree_ckpt.specs.Making.{Making, making_ask}
-use Rattle.tree_ckpt.specs.Causing.{Calls, WasGot, WasRoot, WasLeaf}
+use Rattle.tree_ckpt.specs.Causes.{Calls, WasGot, WasRoot, WasLeaf}
 use Rattle.tree_ckpt.specs.Due.{Due, LeafDue, NodeDue, RootDue, GetsLeaf, IsUp, IsDue, IsCutShort, WasBrought, WasLastButOne}
 use Rattle.tree_ckpt.specs.Stepped.{calls_with}
 use Rattle.tree_ckpt.proofs.Words.{Answer, Claim, Deed, calls_of, Ask, PagePut, Folding, Rising, Work}
-use Rattle.tree_ckpt.proofs.Brought.{Charted, IsKept, root_more, chart_more}
+use Rattle.tree_ckpt.proofs.Brought.{Charted, IsKeptNode, root_more, chart_more}
 use Rattle.tree_ckpt.proofs.Causes.{KnowsAt, root_put}
 use Rattle.tree_ckpt.proofs.Folds.{not_empty}
 use Rattle.tree_ckpt.proofs.Plots.{HasPut, chart_landed}
@@ -78,7 +78,7 @@ module _ (tree : ℕ) (cs : Calls) (a : Answer) where
       )
   brought_at w k (NodeDue root n links) is =
       let charted : Charted tree is.up.chart (after w) = up_charted w is.up k is.is_up in
-      let kept : IsKept tree is.kept (after w) = kept_at tree is.up.chart.nodes (next_touched is.up) is.kept (after w) charted.nodes is.next in
+      let kept : IsKeptNode tree is.kept (after w) = kept_at tree is.up.chart.nodes (next_touched is.up) is.kept (after w) charted.nodes is.next in
       (subst (λ (t : _). WasRoot tree t (after w)) (sym is.root_is) charted.root, (is.kept.page, (is.kept.bytes, is.reads, kept.0)))
   brought_at w k (RootDue root links top) is =
       let charted : Charted tree is.up.chart (after w) = up_charted w is.up k is.is_up in

@@ -18,13 +18,13 @@ use Rattle.tree_moves.specs.declared.work.Onward.TheVariants as onward
 use Rattle.tree_moves.specs.declared.work.Work.TheVariants as work
 use Rattle.tree_moves.specs.Work.{work_ask, one_lease}
 use Rattle.tree_moves.specs.Moves.{Step, stopping, finished, released_by, deleting, deleting_by, deleted_by, went, rising_on, descending_on, root_entry, down_from, key_from_or_none, next_key, going, going_by, page_taken, folding_on, page_left, tree_taken, tree_read, tree_got, chart_of, started, intake_taken, ReceivedBy, Leads}
-use Rattle.tree_ckpt.specs.Ending.{most, above, unhandled, behind_key, from_on_or_none, a_key, puts_left, up_by, up_left, the_end, ids_in, on_the_way, calls_in, IsShort}
+use Rattle.tree_ckpt.specs.End.{most, above, unhandled, behind_key, from_on_or_none, a_key, puts_left, up_by, up_left, the_end, ids_in, on_the_way, calls_in, IsShort}
 use Rattle.tree_ckpt.specs.Making.{Making, making_ask, MakingLeads, KeepsLeases}
 use Rattle.tree_ckpt.proofs.Words.{Trouble, PuItem, Answer, Message, CkptAnswer, Turn, More, Claim, Next, Goes, Ends, Stops, Took, given_of, got_of, received_of, done_of, Fits, PagePut, Intake, Chart, KeptNode, Placing, Descent, Folding, Left, Rising, Coming, Held, Onward, Work}
 use Rattle.tree_ckpt.proofs.Charts.{GoesFurther, arrive_further, descent_further}
 use Rattle.tree_ckpt.proofs.Folds.{not_empty, GetLeaves, PutLeaves, got_leaves, put_leaves}
 use Rattle.tree_ckpt.proofs.Keys.{next_fewer, above_most}
-use Rattle.tree_ckpt.proofs.Receiving.{takes_length, received_most}
+use Rattle.tree_ckpt.proofs.Received.{takes_length, received_most}
 use Rattle.tree_ckpt.proofs.RiseOutcomes.{Rises, Lands, lands}
 use Rattle.tree_ckpt.proofs.RiseOutcomes as step
 

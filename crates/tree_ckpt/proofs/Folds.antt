@@ -17,9 +17,9 @@ use Rattle.tree_parts.specs.Read.{tree_held}
 use Rattle.tree_parts.specs.Reserve.{reservation, version_spent}
 use Rattle.leaf_fold.specs.declared.folding.Left.TheVariants.{Right, Handled}
 use Rattle.leaf_fold.specs.Plan as plan
-use Rattle.leaf_fold.specs.Folding.{Step, leaf_got, landed, counted, leaf_put, folding_next}
-use Rattle.tree_ckpt.specs.Ending.{unhandled, behind_key, puts_left, from_on_or_none}
-use Rattle.tree_ckpt.specs.Standing.{IsPlanned}
+use Rattle.leaf_fold.specs.Folding.{FoldingStep, leaf_got, landed, counted, leaf_put, folding_next}
+use Rattle.tree_ckpt.specs.End.{unhandled, behind_key, puts_left, from_on_or_none}
+use Rattle.tree_ckpt.specs.Leases.{IsPlanned}
 use Rattle.tree_ckpt.proofs.Words.{Trouble, PuItem, Answer, Goes, Ends, Stops, got_of, done_of, PagePut, Chart, Reserved, Folding, LeafPlan}
 use Rattle.tree_ckpt.proofs.LeafOutcomes.{Reads, reads}
 use Rattle.tree_ckpt.proofs.LeafOutcomes as step
@@ -39,7 +39,7 @@ pub record IsTurned (c d : Chart) : Type 0 where
   pub links : length d.links ≡ length c.links + 1
 
 -- after the held get of a leaf
-abbrev pub GetLeaves : Folding → Step → Type 0
+abbrev pub GetLeaves : Folding → FoldingStep → Type 0
 GetLeaves f (Goes g) = IsHandled f g.chart × (0 < length g.placing.puts)
 GetLeaves f (Ends g (Right low page)) = IsTurned f.chart g.chart
 GetLeaves f (Ends g Handled) = IsHandled f g.chart
@@ -87,7 +87,7 @@ handled_left : (f : Folding) (high : Option (List ℕ)) → below_bound f.chart.
 handled_left f None below = omega arith
 handled_left f (Some high) below = from_above f.chart.key high f.chart.run.items below
 
-reads_leave : {f : Folding} {g : Result (Option (List ℕ)) Trouble} {next : Step} → Reads f g next → GetLeaves f next
+reads_leave : {f : Folding} {g : Result (Option (List ℕ)) Trouble} {next : FoldingStep} → Reads f g next → GetLeaves f next
 reads_leave {f = f} (step.passes got l high right behind new) =
     record { run = refl; key = refl; nodes = refl; links = length-append f.chart.links (record { level = 1; low = high; page = right } ∷ []) }
 reads_leave {f = f} (step.spares got l here none) = record { left = handled_left f l.high here.below; nodes = omega arith; links = omega arith }
@@ -102,7 +102,7 @@ got_leaves f got = reads_leave (reads f got)
 -- ---- a put
 
 -- after a put of a leaf one fewer is left
-abbrev pub PutLeaves : Folding → Step → Type 0
+abbrev pub PutLeaves : Folding → FoldingStep → Type 0
 PutLeaves f (Goes g) =
     (g.chart.run ≡ f.chart.run) × (g.chart.from ≡ f.chart.from) × (g.chart.nodes ≡ f.chart.nodes) × (g.chart.links ≡ f.chart.links)
     × (puts_left g.placing + 1 ≤ puts_left f.placing) × (has_nothing g.placing ≡ false) × (0 < length g.placing.puts)
@@ -131,17 +131,17 @@ put_leaves f (Err t) some = tt
 
 -- ---- what is planned has a page
 
-abbrev pub PlansAfter : Step → Type 0
+abbrev pub PlansAfter : FoldingStep → Type 0
 PlansAfter (Goes g) = IsPlanned g
 PlansAfter (Ends g out) = Unit {0}
 PlansAfter (Stops g t) = Unit {0}
 
-get_plans : (f : Folding) (next : Step) → GetLeaves f next → PlansAfter next
+get_plans : (f : Folding) (next : FoldingStep) → GetLeaves f next → PlansAfter next
 get_plans f (Goes g) h = λ e. h.1
 get_plans f (Ends g out) h = tt
 get_plans f (Stops g t) h = tt
 
-put_plans : (f : Folding) (next : Step) → PutLeaves f next → PlansAfter next
+put_plans : (f : Folding) (next : FoldingStep) → PutLeaves f next → PlansAfter next
 put_plans f (Goes g) h = λ e. h.6
 put_plans f (Ends g out) h = tt
 put_plans f (Stops g t) h = tt

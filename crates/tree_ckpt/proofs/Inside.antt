@@ -33,7 +33,7 @@ use Rattle.tree_ckpt.proofs.Fits.{ReadsFit, maybe_fits, only_where_fits, text_fi
 use Rattle.tree_ckpt.proofs.Entries.{among_front, among_back, entry_at, with_from}
 use Rattle.tree_ckpt.proofs.Nodes.{and_both}
 use Rattle.tree_ckpt.proofs.Roots.{entries_short}
-use Rattle.tree_ckpt.proofs.Sound.{IsSound, node_sound}
+use Rattle.tree_ckpt.proofs.Sound.{IsSoundNode, node_sound}
 
 -- ---- no piece is empty
 
@@ -107,7 +107,7 @@ among_all P x [] all h = absurd h
 among_all P x (y ∷ ys) all (inl e) = subst P e all.0
 among_all P x (y ∷ ys) all (inr h) = among_all P x ys all.1 h
 
-own_holds : (n : Inner) (e : Entry) → IsSound n → IsAmong e n.entries → HoldsLow n e.0
+own_holds : (n : Inner) (e : Entry) → IsSoundNode n → IsAmong e n.entries → HoldsLow n e.0
 own_holds n e k h = record {
   short = among_all (λ (x : Entry). length x.0 ≤ 64) e n.entries (entries_short n.low n.high greatest false None n.entries k.fits) h;
   from = among_all (λ (x : Entry). bytes_below x.0 n.low ≡ false) e n.entries k.entries h;
@@ -150,14 +150,14 @@ node_piece_holds root page bytes n ls placing entries level l spelt put h =
 -- ---- a leaf
 
 -- a record's key is from a low key on and below a bound
-abbrev IsWithin : List ℕ → Option (List ℕ) → List ℕ → Type 0
-IsWithin low high key = (bytes_below key low ≡ false) × (below_bound key high ≡ true)
+abbrev IsKeyWithin : List ℕ → Option (List ℕ) → List ℕ → Type 0
+IsKeyWithin low high key = (bytes_below key low ≡ false) × (below_bound key high ≡ true)
 
 abbrev KeyWithin : List ℕ → Option (List ℕ) → Rec → Type 0
-KeyWithin low high e = IsWithin low high e.key
+KeyWithin low high e = IsKeyWithin low high e.key
 
 abbrev SetsWithin : List ℕ → Option (List ℕ) → PuItem → Type 0
-SetsWithin low high x = IsWithin low high (key_of x.rec.change)
+SetsWithin low high x = IsKeyWithin low high (key_of x.rec.change)
 
 turned_false : (b : Bool) → not b ≡ true → b ≡ false
 turned_false true e = absurd (cc (e))
@@ -224,6 +224,6 @@ leaf_piece_holds root page l got run p level m holding put h =
     let e = low_of level m p.entries h in
     let x = new_low record_key put.first (part_of_leaf (applied l 0 run)) page e.0 put.pieces put.cut (subst (λ (es : List NewEntry). IsAmong e.0 es) put.entries e.1) in
     let all : AllByRecursion (KeyWithin l.low l.high) (applied l 0 run).records =
-    edited_by-keys (IsWithin l.low l.high) l.records (lacked l 0 run) (lacked_within l run) (held_within page l got holding) in
+    edited_by-keys (IsKeyWithin l.low l.high) l.records (lacked l 0 run) (lacked_within l run) (held_within page l got holding) in
     let within : KeyWithin l.low l.high x.0 = among_all (KeyWithin l.low l.high) x.0 (applied l 0 run).records all x.1 in
     ap (holds l) (e.2 ∙ x.2) ∙ (ap (λ (b : Bool). not b && below_bound x.0.key l.high) within.0 ∙ within.1)

@@ -8,7 +8,7 @@ use Rattle.leaf_edit.proofs.Ascends.{below_trans}
 use Rattle.leaf_edit.proofs.InOrder.{below_upto}
 use Rattle.log_codec.specs.declared.record.PuItem.{PuItem}
 use Rattle.tree_moves.specs.Moves.{key_from}
-use Rattle.tree_ckpt.specs.Ending.{above, from_on}
+use Rattle.tree_ckpt.specs.End.{above, from_on}
 
 abbrev key : PuItem → List ℕ
 key x = key_of x.rec.change

@@ -9,7 +9,7 @@ use Rattle.tree_parts.specs.Read.{tree_held}
 use Rattle.tree_parts.specs.Reserve.{version_spent, pages_spent, reservation}
 use Rattle.tree_rising.specs.Root.{is_named, with_named, new_pages, lowered, cut_at, cut_by, cut_behind, root_cut, root_plan, uncut}
 use Rattle.tree_rising.specs.Root as root
-use Rattle.tree_rising.specs.Rising.{Step, plan_of, last_plan, rise, landed, risen_by}
+use Rattle.tree_rising.specs.Rising.{RisingStep, plan_of, last_plan, rise, landed, risen_by}
 use Rattle.tree_ckpt.proofs.Words.{Trouble, Taken, Goes, Ends, Stops, Link, Reserved, Rising, RootPlan}
 use Rattle.tree_ckpt.proofs.RiseOutcomes.{Rises, Lands, rises, lands}
 use Rattle.tree_ckpt.proofs.RiseOutcomes as step
@@ -82,12 +82,12 @@ last_lasts r = on ((tree_held r.chart.root).version == 18446744073709551615) whe
 -- ---- the way up
 
 -- where it goes on the run stays, and the last put is as it is to be
-abbrev pub UpKeeps : Rising → Step → Type 0
+abbrev pub UpKeeps : Rising → RisingStep → Type 0
 UpKeeps r (Goes e) = (e.chart.run ≡ r.chart.run) × LastIs e
 UpKeeps r (Ends e x) = Unit {0}
 UpKeeps r (Stops e t) = Unit {0}
 
-rises_keep : {r : Rising} {next : Step} → LastIs r → Rises r next → UpKeeps r next
+rises_keep : {r : Rising} {next : RisingStep} → LastIs r → Rises r next → UpKeeps r next
 rises_keep last (step.node_due k p at e) = (refl, last)
 rises_keep {r = r} last (step.root_due p none e) =
     (refl, λ bytes f. let same : p.last ≡ bytes = cc (f) in subst (IsLastRoot r.chart.run) same (subst (PlanLasts r.chart.run) e (last_lasts r)))
@@ -97,12 +97,12 @@ pub rise_keeps : (r : Rising) → LastIs r → UpKeeps r (rise r)
 rise_keeps r last = rises_keep last (rises r)
 
 -- the same from where a put landed
-from_landed : (r : Rising) (next : Step) → UpKeeps (landed r) next → UpKeeps r next
+from_landed : (r : Rising) (next : RisingStep) → UpKeeps (landed r) next → UpKeeps r next
 from_landed r (Goes e) h = h
 from_landed r (Ends e x) h = tt
 from_landed r (Stops e t) h = tt
 
-lands_keep : {r : Rising} {done : Result (Unit {0}) Trouble} {next : Step} → LastIs r → Lands r done next → UpKeeps r next
+lands_keep : {r : Rising} {done : Result (Unit {0}) Trouble} {next : RisingStep} → LastIs r → Lands r done next → UpKeeps r next
 lands_keep last (step.more x some up) = (refl, last)
 lands_keep {r = r} {next = next} last (step.goes_on x some nothing between up) = from_landed r next (rises_keep last up)
 lands_keep last c = tt

@@ -13,8 +13,8 @@ use Rattle.tree_parts.specs.Placing.{has_one_page}
 use Rattle.tree_parts.specs.Read.{damaged, leaf_or, tree_held}
 use Rattle.leaf_fold.specs.declared.folding.Left.TheVariants.{Right, Handled}
 use Rattle.leaf_fold.specs.Plan.{leaf_plan}
-use Rattle.leaf_fold.specs.Folding.{Step, turned, handled_to, put_planned, planned, handled_by, handle, to_right, leaf_side, leaf_at, leaf_found, leaf_got, bad_low, landed, counted, leaf_put}
-use Rattle.tree_ckpt.specs.Causing.{GoesRight}
+use Rattle.leaf_fold.specs.Folding.{FoldingStep, turned, handled_to, put_planned, planned, handled_by, handle, to_right, leaf_side, leaf_at, leaf_found, leaf_got, bad_low, landed, counted, leaf_put}
+use Rattle.tree_ckpt.specs.Causes.{GoesRight}
 use Rattle.tree_ckpt.specs.Working.{HoldsLeaf}
 use Rattle.tree_ckpt.proofs.Words.{Trouble, PuItem, Goes, Ends, Stops, Folding, LeafPlan}
 use Rattle.tree_ckpt.proofs.Fences.{HasSides, read_sides}
@@ -37,7 +37,7 @@ abbrev pub came_to : Folding → ℕ → Bool
 came_to f right = (right == f.page) || is_seen f.visited right
 
 -- behind the get of the leaf
-pub data Reads (f : Folding) : Result (Option (List ℕ)) Trouble → Step → Type 0 where
+pub data Reads (f : Folding) : Result (Option (List ℕ)) Trouble → FoldingStep → Type 0 where
   refused : (t : Trouble) → Reads f (Err t) (Stops f t)
   absent : (f.page == 1) ≡ false → Reads f (Ok None) (Stops f (trouble.Absent f.page))
   wrong : (bytes : List ℕ) (left : ℕ) → whole leaf bytes ≡ Err left → Reads f (Ok (Some bytes)) (Stops f (damaged f.chart.tree f.page (offset leaf bytes)))
@@ -53,7 +53,7 @@ pub data Reads (f : Folding) : Result (Option (List ℕ)) Trouble → Step → T
       → leaf_plan (tree_held f.chart.root) f.page l f.chart.run.items ≡ Err t → Reads f (Ok got) (Stops f t)
 
 -- behind a put
-pub data Lands (f : Folding) : Result (Unit {0}) Trouble → Step → Type 0 where
+pub data Lands (f : Folding) : Result (Unit {0}) Trouble → FoldingStep → Type 0 where
   not_put : (t : Trouble) → Lands f (Err t) (Stops f t)
   lands : (x : Unit {0}) → has_one_page f.placing ≡ false → Lands f (Ok x) (Goes (landed f))
   is_put : (x : Unit {0}) → has_one_page f.placing ≡ true → Lands f (Ok x) (Ends (counted (landed f)) Handled)

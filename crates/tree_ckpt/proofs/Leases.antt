@@ -14,7 +14,7 @@ use Rattle.tree_moves.specs.declared.work.Work.TheVariants as work
 use Rattle.tree_moves.specs.Work.{work_ask, delete_ask, release_ask, claims_in}
 use Rattle.tree_moves.specs.Moves.{Step, Leads}
 use Rattle.tree_ckpt.specs.Making.{Making, new_making, making_ask, MakingLeads, KeepsLeases}
-use Rattle.tree_ckpt.specs.Standing.{Went, OfTree, OfLeaf, HasIds, HoldsOne, HoldsAt, StandsAt, Stands, Names, GivesBack, AreReturned}
+use Rattle.tree_ckpt.specs.Leases.{Went, OfTree, OfLeaf, HasIds, HoldsOne, HoldsAt, StandsAt, Stands, Names, GivesBack, AreReturned}
 use Rattle.tree_ckpt.proofs.Words.{Trouble, Lock, Answer, CkptAnswer, Turn, More, Ended, Stopped, Claim, Next, Goes, Ends, Stops, Took, Deed, Came, given_of, Fits, Ask, PagePut, Leases, Chart, Placing, Descent, Folding, Left, Rising, Held, Work}
 use Rattle.tree_ckpt.proofs.Outcomes.{Seeks, Descends, Ascends, Clears, Fails, Comes, comes, has_ids}
 use Rattle.tree_ckpt.proofs.Outcomes as step

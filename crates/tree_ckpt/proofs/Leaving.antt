@@ -1,7 +1,7 @@
 -- The lease and the page of a leaf stay while the leaf is worked on.
 use Rattle.std.proofs.Common.{◌≡◌, ℕ, Bool, true, false, cond, List, Option, Result, refl}
 use Rattle.tree_parts.specs.Placing.{has_nothing}
-use Rattle.leaf_fold.specs.Folding.{Step, leaf_got, leaf_put, folding_next}
+use Rattle.leaf_fold.specs.Folding.{FoldingStep, leaf_got, leaf_put, folding_next}
 use Rattle.tree_ckpt.proofs.Words.{Trouble, Answer, Goes, Ends, Stops, got_of, done_of, Folding}
 use Rattle.tree_ckpt.proofs.LeafOutcomes.{Reads, Lands, reads, put_lands}
 use Rattle.tree_ckpt.proofs.LeafOutcomes as step
@@ -13,16 +13,16 @@ pub record SameLeaf (f g : Folding) : Type 0 where
   pub tree : g.chart.tree ≡ f.chart.tree
   pub run : g.chart.run ≡ f.chart.run
 
-abbrev pub LeavesLeaf : Folding → Step → Type 0
+abbrev pub LeavesLeaf : Folding → FoldingStep → Type 0
 LeavesLeaf f (Goes g) = SameLeaf f g
 LeavesLeaf f (Ends g out) = SameLeaf f g
 LeavesLeaf f (Stops g t) = SameLeaf f g
 
-reads_leave : {f : Folding} {g : Result (Option (List ℕ)) Trouble} {next : Step} → Reads f g next → LeavesLeaf f next
+reads_leave : {f : Folding} {g : Result (Option (List ℕ)) Trouble} {next : FoldingStep} → Reads f g next → LeavesLeaf f next
 reads_leave (step.refused t) = record { lease = refl; page = refl; tree = refl; run = refl }
 reads_leave c = record { lease = refl; page = refl; tree = refl; run = refl }
 
-lands_leave : {f : Folding} {done : Result (Unit {0}) Trouble} {next : Step} → Lands f done next → LeavesLeaf f next
+lands_leave : {f : Folding} {done : Result (Unit {0}) Trouble} {next : FoldingStep} → Lands f done next → LeavesLeaf f next
 lands_leave (step.not_put t) = record { lease = refl; page = refl; tree = refl; run = refl }
 lands_leave c = record { lease = refl; page = refl; tree = refl; run = refl }
 

@@ -23,8 +23,8 @@ use Rattle.tree_moves.specs.declared.work.Work.TheVariants as work
 use Rattle.tree_moves.specs.Work.{work_ask, take_tree, one_lease, delete_ask, release_ask}
 use Rattle.tree_moves.specs.Moves.{Step, answer_of, went, leaf_of, root_entry, down_from, onward_from, chart_of, Leads}
 use Rattle.tree_ckpt.specs.Making.{Making, new_making, making_ask, MakingLeads, KeepsLeases}
-use Rattle.tree_ckpt.specs.Standing.{Went, HasIds}
-use Rattle.tree_ckpt.specs.Causing.{Calls}
+use Rattle.tree_ckpt.specs.Leases.{Went, HasIds}
+use Rattle.tree_ckpt.specs.Causes.{Calls}
 use Rattle.tree_ckpt.specs.Working.{Visit, Worked, WorksBy, leaf_place, below_root, IsLeftFor, applied_count}
 use Rattle.tree_ckpt.specs.Meaning.{Opening, opening_calls, IsOpened, IsAtWork, AreAtWork, IsRootPut, Works, Tried, deletes_over, tried_before, one_more, one_less, went_count, failed_count, IsDone, MeansDone}
 use Rattle.leaf_fold.specs.declared.folding.Left.TheVariants.{Right, Handled}
@@ -40,7 +40,7 @@ use Rattle.tree_ckpt.proofs.Causes.{KnowsAt, came_brought}
 use Rattle.tree_ckpt.proofs.Climbs.{kept_at_work, Climbs, UpClimbs, RiseClimbs, Risen, begun_climbs, rising_climbs}
 use Rattle.tree_ckpt.proofs.Covers.{IsLeast, least_is}
 use Rattle.tree_ckpt.proofs.Lows.{IsUpto, ComesUpto, begun_upto}
-use Rattle.tree_ckpt.proofs.Telling.{went_told}
+use Rattle.tree_ckpt.proofs.ReceivedIds.{went_told}
 use Rattle.tree_ckpt.proofs.Turns.{place_of, begun_turned}
 use Rattle.tree_ckpt.proofs.Tours.{RestsAt, ToursAt, WayTours, AtLeaf, VisitsAt, LeavesUpto, LeafTours, rests_tours, first_rests, way_tours, descent_tours, leaf_tours, taken_tours, left_rests}
 use Rattle.tree_ckpt.proofs.Folds.{not_empty}
@@ -330,14 +330,14 @@ last_at_work r l None = tt
 -- ---- the opening
 
 -- a run that was taken in, with what was read for it
-record Opens (root : Option (List ℕ)) (ms : List Message) (i : Intake) : Type 0 where
+record OpensRun (root : Option (List ℕ)) (ms : List Message) (i : Intake) : Type 0 where
   items : List PuItem
   run : Taken
   opened : IsOpened (record { got = root; messages = ms; items = items; run = run })
   is : i ≡ intake_of items run
 
 opens : (q : QueueName) (root : Option (List ℕ)) (ms : List Message) (i : Intake) (read : Result (List PuItem) Message) → items_of ms ≡ read
-    → TakesItems q (tree_held root).cursor read (Ok i) → Opens root ms i
+    → TakesItems q (tree_held root).cursor read (Ok i) → OpensRun root ms i
 opens q root ms i (Err m) e h = absurd (cc (h))
 opens q root ms i (Ok items) e h = record { items = items; run = h.0; opened = record { read = e; run = h.1 }; is = cc (h.2) }
 
@@ -351,7 +351,7 @@ record IsSought (tree : ℕ) (h : Held) (c : Chart) (cs : Calls) : Type 0 where
 seeks_done : {tree : ℕ} {w : Work} {a : Answer} {h : Held} {c : Chart} (cs : Calls) → KnowsAt tree w cs → DoneAt tree w cs → Seeks tree w a h c
     → IsSought tree h c ((work_ask tree w, a) ∷ cs)
 seeks_done {tree = tree} cs k d (step.with_run l root ms i takes some) =
-    let o : Opens root ms i = opens (queue.TreePu tree) root ms i (items_of ms) refl takes in
+    let o : OpensRun root ms i = opens (queue.TreePu tree) root ms i (items_of ms) refl takes in
     let opening : Opening = record { got = root; messages = ms; items = o.items; run = o.run } in
     let same : o.run ≡ i.run = sym (ap (λ (j : Intake). j.run) o.is) in record {
       got = tt;
@@ -407,7 +407,7 @@ ascends_done {tree = tree} cs k d (step.goes_up h r a) =
 clears_done : {tree : ℕ} {w : Work} {a : Answer} {h : Held} {applied : ℕ} (cs : Calls) → KnowsAt tree w cs → DoneAt tree w cs → Clears tree w a h applied
     → Late tree h.lease h.deletions applied ((work_ask tree w, a) ∷ cs)
 clears_done {tree = tree} cs k d (step.no_run l root ms i takes none) =
-    let o : Opens root ms i = opens (queue.TreePu tree) root ms i (items_of ms) refl takes in
+    let o : OpensRun root ms i = opens (queue.TreePu tree) root ms i (items_of ms) refl takes in
     let empty : has_items o.run.items ≡ false = sym (ap (λ (j : Intake). has_items j.run.items) o.is) ∙ none in record {
       opening = record { got = root; messages = ms; items = o.items; run = o.run };
       opened = o.opened;

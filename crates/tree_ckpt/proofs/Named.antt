@@ -9,7 +9,7 @@ use Rattle.tree_parts.specs.declared.link.Link.{Link}
 use Rattle.tree_parts.specs.Kept.{links_at}
 use Rattle.tree_parts.specs.Read.{tree_held}
 use Rattle.tree_rising.specs.Nodes.{goes_to, is_touched}
-use Rattle.tree_ckpt.specs.Causing.{Calls}
+use Rattle.tree_ckpt.specs.Causes.{Calls}
 use Rattle.tree_ckpt.specs.Working.{Climb, AreClimbs, IsPut, PutsNode, IsAmong, PutsEntry, HasClimbed, IsNamed, IsInRange, links_above, root_above}
 use Rattle.tree_ckpt.proofs.Entries.{among_front, among_either, goes, node_names}
 

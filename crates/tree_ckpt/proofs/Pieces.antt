@@ -25,7 +25,7 @@ use Rattle.tree_rising.specs.Rising.{plan_of}
 use Rattle.tree_rising.specs.Root.{raised_root as planned_root, risen_by, lowered, cut_at, cut_behind, cut_by as cut_by_count, root_cut, root_plan, uncut}
 use Rattle.tree_ckpt.specs.Working.{Reserves, PutsPieces, PutsLeaf, PutsNode, linked_node, raised_root, PutsWhole, PutsBelow, PutsRoot}
 use Rattle.tree_ckpt.proofs.Words.{Trouble, PuItem, KeptNode, Link, Reserved, LeafPlan, NodePlan, RootPlan}
-use Rattle.tree_ckpt.proofs.Spending.{named_numbered}
+use Rattle.tree_ckpt.proofs.Spent.{named_numbered}
 
 -- ---- no piece is long
 

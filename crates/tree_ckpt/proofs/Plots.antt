@@ -15,8 +15,8 @@ use Rattle.ckpt_parts.specs.Intakes.{has_items}
 use Rattle.tree_parts.specs.Placing.{root_after, landed_root, has_one_page}
 use Rattle.tree_parts.specs.Read.{tree_held}
 use Rattle.leaf_fold.specs.declared.folding.Left.TheVariants.{Right, Handled}
-use Rattle.leaf_fold.specs.Folding.{Step, leaf_got, landed, counted, placed}
-use Rattle.tree_ckpt.specs.Causing.{Calls, Brings, WasGot, WasPut, WasRoot, WasLeaf, WasRead, IsLink, Shows}
+use Rattle.leaf_fold.specs.Folding.{FoldingStep, leaf_got, landed, counted, placed}
+use Rattle.tree_ckpt.specs.Causes.{Calls, Brings, WasGot, WasPut, WasRoot, WasLeaf, WasRead, IsLink, Shows}
 use Rattle.tree_ckpt.specs.Working.{HoldsLeaf}
 use Rattle.tree_ckpt.specs.Due.{Due, LeafDue, GetsLeaf}
 use Rattle.tree_ckpt.specs.Demands.{BreaksLeaf}
@@ -24,7 +24,7 @@ use Rattle.tree_ckpt.proofs.Words.{Trouble, Answer, Goes, Ends, Stops, Ask, Char
 use Rattle.tree_ckpt.proofs.Brought.{Charted, AreRead, OnWay, read_behind, seen_read}
 use Rattle.tree_ckpt.proofs.LeafOutcomes.{IsBehind, Reads, reads}
 use Rattle.tree_ckpt.proofs.LeafOutcomes as step
-use Rattle.tree_ckpt.proofs.Spending.{IsSpentFor, PlanTells, leaf_plan_tells}
+use Rattle.tree_ckpt.proofs.Spent.{IsSpentFor, PlanTells, leaf_plan_tells}
 
 -- at a leaf under its lease
 pub record KnowsLeaf (tree : ℕ) (f : Folding) (cs : Calls) : Type 0 where
@@ -55,7 +55,7 @@ module _ (tree : ℕ) (cs : Calls) (ask : Ask) (a : Answer) where
   LeafBreaks f t = BreaksLeaf tree f a t ⊎ LeafSpends f a t
 
   -- where the work at a leaf leads, the tree is known; what it stops for is shown
-  abbrev pub LeafTells : Folding → Step → Type 0
+  abbrev pub LeafTells : Folding → FoldingStep → Type 0
   LeafTells f (Goes g) = KnowsLeaf tree g cs
   LeafTells f (Ends g (Right low page)) = Charted tree g.chart cs × OnWay tree 0 low page g.visited cs
   LeafTells f (Ends g Handled) = Charted tree g.chart cs
@@ -95,7 +95,7 @@ module _ (tree : ℕ) (cs : Calls) (ask : Ask) (a : Answer) where
       let w : WasLeaf tree f.page l cs = was_leaf f.page l got behind.holds g in
       (inr (inr (f.page, l, w, refl, behind.goes)), leaf_read_from f.page l high w behind.goes.0)
 
-  reads_tell : {f : Folding} {next : Step} (got : Option (List ℕ)) → KnowsLeaf tree f cs → WasGot (object.Page tree f.page) got cs → Brings (object.Page tree f.page) got (ask, a)
+  reads_tell : {f : Folding} {next : FoldingStep} (got : Option (List ℕ)) → KnowsLeaf tree f cs → WasGot (object.Page tree f.page) got cs → Brings (object.Page tree f.page) got (ask, a)
       → a ≡ call.Got got → Reads f (Ok got) next → LeafTells f next
   reads_tell {f = f} got k g new brought (step.absent other) = ((eqb-false f.page 1 other, new, (0, f.low, k.way.link)), inl (refl, eqb-false f.page 1 other, brought))
   reads_tell {f = f} got k g new brought (step.wrong bytes left e) = (
@@ -151,7 +151,7 @@ module _ (tree : ℕ) (cs : Calls) (ask : Ask) (a : Answer) where
   chart_landed c p k put = record { same = k.same; root = landed_known p.reserved c.root put k.root; nodes = k.nodes }
 
   -- once a put landed the tree is known
-  abbrev pub PlacedTells : Step → Type 0
+  abbrev pub PlacedTells : FoldingStep → Type 0
   PlacedTells (Goes g) = KnowsLeaf tree g cs
   PlacedTells (Ends g (Right low page)) = ⊥
   PlacedTells (Ends g Handled) = Charted tree g.chart cs

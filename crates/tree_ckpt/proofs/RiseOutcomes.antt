@@ -5,7 +5,7 @@ use Rattle.tree_parts.specs.Placing.{has_nothing}
 use Rattle.tree_parts.specs.Read.{tree_held}
 use Rattle.tree_parts.specs.Reserve.{version_spent}
 use Rattle.tree_rising.specs.Nodes.{node_plan}
-use Rattle.tree_rising.specs.Rising.{Step, next_touched, touched_node, put_node, put_root, last_plan, rise_at, rise, landed, after_put, risen_by}
+use Rattle.tree_rising.specs.Rising.{RisingStep, next_touched, touched_node, put_node, put_root, last_plan, rise_at, rise, landed, after_put, risen_by}
 use Rattle.tree_ckpt.proofs.Words.{Trouble, Goes, Ends, Stops, KeptNode, Rising, NodePlan, RootPlan}
 
 -- something is to be put on the way up
@@ -13,7 +13,7 @@ abbrev pub IsRising : Rising → Type 0
 IsRising r = (not (has_nothing r.placing) || (is_some r.last && not r.is_spent)) ≡ true
 
 -- the next node that a link goes to is put, or the tree object where there is none
-pub data Rises (r : Rising) : Step → Type 0 where
+pub data Rises (r : Rising) : RisingStep → Type 0 where
   node_due : (k : KeptNode) (p : NodePlan) → touched_node r ≡ Some k → node_plan (tree_held r.chart.root) r.chart.tree k r.chart.links ≡ Ok p
       → Rises r (put_node r (next_touched r + 1) (k.level + 1) (Ok p))
   no_node : (k : KeptNode) (t : Trouble) → touched_node r ≡ Some k → node_plan (tree_held r.chart.root) r.chart.tree k r.chart.links ≡ Err t → Rises r (Stops r t)
@@ -21,13 +21,13 @@ pub data Rises (r : Rising) : Step → Type 0 where
   no_root : (t : Trouble) → touched_node r ≡ None → last_plan r ≡ Err t → Rises r (Stops r t)
 
 -- behind a put: more of it follows, the way up goes on, it has ended, or its last version is spent
-pub data Lands (r : Rising) : Result (Unit {0}) Trouble → Step → Type 0 where
+pub data Lands (r : Rising) : Result (Unit {0}) Trouble → RisingStep → Type 0 where
   not_put : (t : Trouble) → Lands r (Err t) (Stops r t)
   is_last : (x : Unit {0}) → has_nothing r.placing ≡ true → Lands r (Ok x) (Ends r tt)
   more : (x : Unit {0}) → has_nothing r.placing ≡ false → IsRising (landed r) → Lands r (Ok x) (Goes (landed r))
   cut_short : (x : Unit {0}) → has_nothing r.placing ≡ false → has_nothing (landed r).placing ≡ true → is_some r.last ≡ true → r.is_spent ≡ true
       → Lands r (Ok x) (Stops (landed r) version_spent)
-  goes_on : {next : Step} (x : Unit {0}) → has_nothing r.placing ≡ false → has_nothing (landed r).placing ≡ true → r.last ≡ None → Rises (landed r) next
+  goes_on : {next : RisingStep} (x : Unit {0}) → has_nothing r.placing ≡ false → has_nothing (landed r).placing ≡ true → r.last ≡ None → Rises (landed r) next
       → Lands r (Ok x) next
 
 -- ---- the way up, taken apart

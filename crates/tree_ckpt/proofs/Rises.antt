@@ -12,20 +12,20 @@ use Rattle.tree_parts.specs.Placing.{has_nothing}
 use Rattle.tree_parts.specs.Read.{inner_read, tree_held}
 use Rattle.tree_parts.specs.Reserve.{version_spent, reservation}
 use Rattle.tree_rising.specs.Nodes as nodes
-use Rattle.tree_rising.specs.Rising.{Step, next_touched, touched_node, rise, landed, put_landed}
-use Rattle.tree_ckpt.specs.Causing.{Calls, Shows}
+use Rattle.tree_rising.specs.Rising.{RisingStep, next_touched, touched_node, rise, landed, put_landed}
+use Rattle.tree_ckpt.specs.Causes.{Calls, Shows}
 use Rattle.tree_ckpt.specs.Due.{NodeDue, RootDue, WasLastButOne}
 use Rattle.tree_ckpt.proofs.Words.{Trouble, Answer, Goes, Ends, Stops, Ask, KeptNode, Placing, Reserved, Rising, NodePlan, RootPlan}
-use Rattle.tree_ckpt.proofs.Brought.{IsKept, AreKept, Charted}
+use Rattle.tree_ckpt.proofs.Brought.{IsKeptNode, AreKept, Charted}
 use Rattle.tree_ckpt.proofs.Folds.{not_empty}
 use Rattle.tree_ckpt.proofs.Plots.{HasPut, spent_shows, chart_landed}
 use Rattle.tree_ckpt.proofs.RiseOutcomes.{IsRising, Rises, Lands, rises, lands}
 use Rattle.tree_ckpt.proofs.RiseOutcomes as step
-use Rattle.tree_ckpt.proofs.Spending.{IsSpentFor, PlanTells, CutsShort, node_plan_tells, last_plan_tells, last_plan_short}
+use Rattle.tree_ckpt.proofs.Spent.{IsSpentFor, PlanTells, CutsShort, node_plan_tells, last_plan_tells, last_plan_short}
 
-pub kept_at : (tree : ℕ) (ks : List KeptNode) (at : ℕ) (k : KeptNode) (cs : Calls) → AreKept tree ks cs → slice_get ks at ≡ Some k → IsKept tree k cs
+pub kept_at : (tree : ℕ) (ks : List KeptNode) (at : ℕ) (k : KeptNode) (cs : Calls) → AreKept tree ks cs → slice_get ks at ≡ Some k → IsKeptNode tree k cs
 kept_at tree [] at k cs h e = absurd (cc (e))
-kept_at tree (x ∷ xs) zero k cs h e = let same : x ≡ k = cc (e) in subst (λ (n : KeptNode). IsKept tree n cs) same h.0
+kept_at tree (x ∷ xs) zero k cs h e = let same : x ≡ k = cc (e) in subst (λ (n : KeptNode). IsKeptNode tree n cs) same h.0
 kept_at tree (x ∷ xs) (suc at) k cs h e = kept_at tree xs at k cs h.1 e
 
 -- where the last version is reserved, the tree object stood at the last version but one
@@ -84,7 +84,7 @@ UpSpends up t =
 module _ (tree : ℕ) (cs : Calls) (ask : Ask) (a : Answer) where
   -- ---- the way
 
-  abbrev pub RiseTells : Rising → Step → Type 0
+  abbrev pub RiseTells : Rising → RisingStep → Type 0
   RiseTells up (Goes r) = Charted tree r.chart cs × IsRising r × KnowsSpent tree r cs
   RiseTells up (Ends r x) = Unit {0}
   RiseTells up (Stops r t) = Shows tree cs ask a t × UpSpends up t
@@ -99,7 +99,7 @@ module _ (tree : ℕ) (cs : Calls) (ask : Ask) (a : Answer) where
   root_rises p false e some = ap (λ (b : Bool). not (has_nothing p.placing) || not b) e ∙ either_true (not (has_nothing p.placing))
   root_rises p true e some = ap (λ (b : Bool). not b || not p.is_spent) (page_is p.placing (some e))
 
-  rises_tell : {r : Rising} {next : Step} → Charted tree r.chart cs → KnowsSpent tree r cs → Rises r next → RiseTells r next
+  rises_tell : {r : Rising} {next : RisingStep} → Charted tree r.chart cs → KnowsSpent tree r cs → Rises r next → RiseTells r next
   rises_tell {r = r} c spent (step.node_due k p at e) = (
     record { same = c.same; root = c.root; nodes = c.nodes },
     ap (λ (b : Bool). not b || (is_some r.last && not r.is_spent))
@@ -107,7 +107,7 @@ module _ (tree : ℕ) (cs : Calls) (ask : Ask) (a : Answer) where
     spent,
   )
   rises_tell {r = r} c spent (step.no_node k t at e) =
-      let kept : IsKept tree k cs = kept_at tree r.chart.nodes (next_touched r) k cs c.nodes at in
+      let kept : IsKeptNode tree k cs = kept_at tree r.chart.nodes (next_touched r) k cs c.nodes at in
       let h : IsSpentFor (NodeDue (tree_held r.chart.root) kept.1.0 r.chart.links) t =
       subst (PlanTells (NodeDue (tree_held r.chart.root) kept.1.0 r.chart.links)) e (node_plan_tells (tree_held r.chart.root) r.chart.tree k kept.1.0 r.chart.links kept.1.1) in
       (spent_shows tree cs ask a (NodeDue (tree_held r.chart.root) kept.1.0 r.chart.links) t h, inl (k, kept.1.0, at, kept.1.1, h))
@@ -131,17 +131,17 @@ module _ (tree : ℕ) (cs : Calls) (ask : Ask) (a : Answer) where
       (has_nothing r.placing ≡ false) × (has_nothing (landed r).placing ≡ true)
       × (((r.last ≡ None) × UpSpends (landed r) t) ⊎ ((is_some r.last ≡ true) × (r.is_spent ≡ true) × (t ≡ version_spent)))
 
-  abbrev pub PutTells : Rising → Step → Type 0
+  abbrev pub PutTells : Rising → RisingStep → Type 0
   PutTells r (Goes n) = Charted tree n.chart cs × IsRising n × KnowsSpent tree n cs
   PutTells r (Ends n x) = Unit {0}
   PutTells r (Stops n t) = Shows tree cs ask a t × PutStops r t
 
-  put_tells : (r : Rising) (next : Step) → has_nothing r.placing ≡ false → has_nothing (landed r).placing ≡ true → r.last ≡ None → RiseTells (landed r) next → PutTells r next
+  put_tells : (r : Rising) (next : RisingStep) → has_nothing r.placing ≡ false → has_nothing (landed r).placing ≡ true → r.last ≡ None → RiseTells (landed r) next → PutTells r next
   put_tells r (Goes n) some nothing between h = h
   put_tells r (Ends n x) some nothing between h = h
   put_tells r (Stops n t) some nothing between h = (h.0, (some, nothing, inl (between, h.1)))
 
-  lands_tell : {r : Rising} {next : Step} (done : Result (Unit {0}) Trouble) → done ≡ Ok tt → Charted tree (landed r).chart cs → KnowsSpent tree r cs → Lands r done next → PutTells r next
+  lands_tell : {r : Rising} {next : RisingStep} (done : Result (Unit {0}) Trouble) → done ≡ Ok tt → Charted tree (landed r).chart cs → KnowsSpent tree r cs → Lands r done next → PutTells r next
   lands_tell done e after spent (step.not_put t) = absurd (cc (e))
   lands_tell done e after spent (step.is_last x nothing) = tt
   lands_tell done e after spent (step.more x some up) = (after, up, spent)

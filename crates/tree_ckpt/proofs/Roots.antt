@@ -17,14 +17,14 @@ use Rattle.tree_ckpt.proofs.Fits.{tree_read_fits}
 use Rattle.tree_ckpt.proofs.Nodes.{and_both}
 
 -- a tree object that was read, or that of an empty tree
-pub record IsHeld (t : Tree) : Type 0 where
+pub record IsHeldRoot (t : Tree) : Type 0 where
   pub fits : TreeFits (record t { version = 1 })
   pub version : t.version ≤ greatest
 
-empty_held : IsHeld empty_tree
+empty_held : IsHeldRoot empty_tree
 empty_held = record { fits = record { version = refl; next = refl; level = refl; cursor = refl; entries = refl }; version = omega arith }
 
-read_held : (t : Tree) → HasTreeSpelling t → IsHeld t
+read_held : (t : Tree) → HasTreeSpelling t → IsHeldRoot t
 read_held t h =
     let f : TreeFits t = tree_fits t h in
     record {
@@ -32,10 +32,10 @@ read_held t h =
       version = (in_range_parts 1 greatest t.version f.version).1;
     }
 
-pub is_held : (root : Option (List ℕ)) → IsHeld (tree_held root)
+pub is_held : (root : Option (List ℕ)) → IsHeldRoot (tree_held root)
 is_held None = empty_held
 is_held (Some bytes) = on (tree_of bytes) refl where
-  on : (o : Option Tree) → tree_of bytes ≡ o → IsHeld (unwrap_or o empty_tree)
+  on : (o : Option Tree) → tree_of bytes ≡ o → IsHeldRoot (unwrap_or o empty_tree)
   on (Some t) e = read_held t (tree_read_fits bytes t e)
   on None e = empty_held
 
@@ -43,7 +43,7 @@ is_held (Some bytes) = on (tree_of bytes) refl where
 abbrev pub reserving : Tree → ℕ → Tree
 reserving t count = record t { version = t.version + 1; next = t.next + count }
 
-next_fits : (t : Tree) (count : ℕ) → IsHeld t → t.version ≢ greatest → t.next + count ≤ greatest → HasTreeSpelling (reserving t count)
+next_fits : (t : Tree) (count : ℕ) → IsHeldRoot t → t.version ≢ greatest → t.next + count ≤ greatest → HasTreeSpelling (reserving t count)
 next_fits t count k spare within =
     let next = in_range_parts 2 greatest t.next k.fits.next in
     let more : t.version < greatest = omega (arith, k.version, spare) in

@@ -31,7 +31,7 @@ no_page right e = on (right == 0) refl e where
   on true f g = ap page_at (eqb-true right 0 f)
   on false f g = absurd (cc (g))
 
-pub record IsSound (n : Inner) : Type 0 where
+pub record IsSoundNode (n : Inner) : Type 0 where
   pub level : 1 ≤ n.level
   pub sides : HasSides n.right n.high
   pub high : IsAbove n.low n.high
@@ -53,7 +53,7 @@ from_level = number w8 1 255 then λ level. from_low
 abbrev from_version : Format InnerFields
 from_version = number w64 1 greatest then λ version. from_level
 
-whole_sound : (bytes : List ℕ) (n : Inner) → whole inner_format bytes ≡ Ok n → IsSound n
+whole_sound : (bytes : List ℕ) (n : Inner) → whole inner_format bytes ≡ Ok n → IsSoundNode n
 unfolding list_at
 whole_sound bytes n e =
     let w = whole_read inner_format bytes n e in
@@ -68,24 +68,24 @@ whole_sound bytes n e =
     let right : ℕ = s.0.0.1.1.1.0 in
     let h = then_read (high_key low right) (from_high low) r.0 (s.0.0.1.1.1.1, s.0.1) r.2 in
     let high : Option (List ℕ) = s.0.0.1.1.1.1.0 in
-    let made : IsSound (inner_of_fields s.0.0) = record {
+    let made : IsSoundNode (inner_of_fields s.0.0) = record {
       level = (number_read w8 1 255 v.0 (s.0.0.1.0, k.0) k.1).0;
       sides = option_read (key_above low) r.0 right (high, h.0) h.1;
       high = above_read low right r.0 (high, h.0) h.1;
       entries = list_from_low (suc (length h.0)) false low high greatest None h.0 (s.0.0.1.1.1.1.1, s.0.1) h.2 tt;
       fits = entries_fit low high greatest h.0 (s.0.0.1.1.1.1.1, s.0.1) h.2;
     } in
-    subst IsSound (s.2 ∙ w.2) made
+    subst IsSoundNode (s.2 ∙ w.2) made
 
-pub node_sound : (bytes : List ℕ) (n : Inner) → inner_of bytes ≡ Some n → IsSound n
+pub node_sound : (bytes : List ℕ) (n : Inner) → inner_of bytes ≡ Some n → IsSoundNode n
 unfolding inner_of
 node_sound bytes n e = on (whole inner_format bytes) refl e where
-  on : (r : Result Inner ℕ) → whole inner_format bytes ≡ r → result_ok r ≡ Some n → IsSound n
-  on (Ok m) f g = let same : m ≡ n = cc (g) in subst IsSound same (whole_sound bytes m f)
+  on : (r : Result Inner ℕ) → whole inner_format bytes ≡ r → result_ok r ≡ Some n → IsSoundNode n
+  on (Ok m) f g = let same : m ≡ n = cc (g) in subst IsSoundNode same (whole_sound bytes m f)
   on (Err left) f g = absurd (cc (g))
 
 -- the child for a key that is not below the low key has a low key from that on, and a short one
-pub child_sound : (n : Inner) (key : List ℕ) → IsSound n → bytes_below key n.low ≡ false
+pub child_sound : (n : Inner) (key : List ℕ) → IsSoundNode n → bytes_below key n.low ≡ false
     → (bytes_below (entry_or (child_of key n.entries)).0 n.low ≡ false) × (length (entry_or (child_of key n.entries)).0 ≤ 64)
 child_sound n key k from = on (child_of key n.entries) refl (has_child key n.low n.high greatest n.entries k.fits from) where
   on : (o : Option Entry) → child_of key n.entries ≡ o → IsSome o → (bytes_below (entry_or o).0 n.low ≡ false) × (length (entry_or o).0 ≤ 64)

@@ -11,10 +11,10 @@ use Rattle.node_codec.specs.Tree.{Tree}
 use Rattle.split_plan.specs.Part.{Part}
 use Rattle.split_plan.specs.Plan.{put_of, entry_of, on_pages}
 use Rattle.tree_parts.specs.Kept.{links_at}
-use Rattle.tree_ckpt.specs.Causing.{Calls, WasGot}
+use Rattle.tree_ckpt.specs.Causes.{Calls, WasGot}
 use Rattle.tree_ckpt.specs.Working.{IsAmong, done_over, page_puts, reserved_before, puts_of, PutsPieces, Outcome, Planned, Spared, Passed, Visit, placing_of, held_over, visits_over, IsTurn, AreTurns, IsLeft, AreVisits, links_from, links_behind, Climb, climbs_over, links_above, AreClimbs}
 use Rattle.tree_ckpt.proofs.Words.{Answer, Ask, Claim, NewEntry, PagePut, Placing, Link, Taken}
-use Rattle.tree_ckpt.proofs.Adding.{AreWithin}
+use Rattle.tree_ckpt.proofs.Added.{AreWithin}
 use Rattle.tree_ckpt.proofs.Entries.{among_front, among_back, among_either}
 
 -- the low keys of links are among a few, at most two for each of so many calls

@@ -23,7 +23,7 @@ use Rattle.tree_descent.specs.Descent.{descent_ask, descent_got, descent_next, g
 use Rattle.leaf_fold.specs.declared.folding.Left.TheVariants.{Right, Handled}
 use Rattle.leaf_fold.specs.Plan.{leaf_plan}
 use Rattle.leaf_fold.specs.Folding as fold
-use Rattle.tree_ckpt.specs.Causing.{Calls, WasGot, GoesRight}
+use Rattle.tree_ckpt.specs.Causes.{Calls, WasGot, GoesRight}
 use Rattle.tree_ckpt.specs.Meaning.{Opening}
 use Rattle.tree_ckpt.specs.Working.{done_over, puts_of, Visit, held_over, visits_over, AreLooks, HoldsLeaf, IsLeft, IsFor, IsVisit, Place, leaf_place, IsLeftFor, IsStart, IsCome, IsWay, IsOver, IsAmong, root_behind, links_behind, looks_of, AreVisits, lacked_on, IsSettled, PutsLeaf, AreTurns, Outcome, Planned, Spared, Passed}
 use Rattle.tree_ckpt.proofs.Words.{Trouble, PuItem, Taken, Answer, Claim, Next, Goes, Ends, Stops, got_of, done_of, Ask, PagePut, Chart, KeptNode, Placing, Link, Descent, Fork, Folding, Left, LeafPlan}
@@ -298,7 +298,7 @@ more_left p some e = on p.reserved p.puts some e where
 -- ---- at a leaf
 
 -- it is taken, and was not got yet
-pub record Begins (lease : Claim) (f : Folding) (o : Opening) (work : Calls) : Type 0 where
+pub record BeginsLeaf (lease : Claim) (f : Folding) (o : Opening) (work : Calls) : Type 0 where
   pub before : Calls
   pub tours : ToursAt lease f.chart (leaf_place f.low f.page) o before
   pub empty : f.placing ≡ fold.no_placing
@@ -321,7 +321,7 @@ pub record Puts (lease : Claim) (f : Folding) (o : Opening) (work : Calls) : Typ
   pub some : 0 < length f.placing.puts
 
 abbrev pub AtLeaf : Claim → Folding → Opening → Calls → Type 0
-AtLeaf lease f o work = Begins lease f o work ⊎ Puts lease f o work
+AtLeaf lease f o work = BeginsLeaf lease f o work ⊎ Puts lease f o work
 
 -- it is done, and was not given back yet
 pub record Visits (lease l : Claim) (tree : ℕ) (run : Taken) (stood : Option (List ℕ)) (count : ℕ) (from : Option (List ℕ)) (found : List Link) (nodes : List KeptNode) (o : Opening) (work : Calls) : Type 0 where
@@ -490,12 +490,12 @@ module _ (lease : Claim) (f : Folding) (got : Option (List ℕ)) (l : Leaf) (o :
 abbrev get_of : Folding → Ask
 get_of f = GetHeld (object.Page f.chart.tree f.page) f.lease
 
-got_now : (lease : Claim) (f : Folding) (got : Option (List ℕ)) (l : Leaf) (o : Opening) (work : Calls) → Begins lease f o work → HoldsLeaf f.page l got
+got_now : (lease : Claim) (f : Folding) (got : Option (List ℕ)) (l : Leaf) (o : Opening) (work : Calls) → BeginsLeaf lease f o work → HoldsLeaf f.page l got
     → IsGot lease f got l o ((get_of f, call.Got got) ∷ work)
 got_now lease f got l o work k e =
     record { before = k.before; tours = k.tours; upto = k.upto; holds = e; calls = ap (λ (cs : Calls). (get_of f, call.Got got) ∷ cs) k.calls }
 
-reads_tour : {f : Folding} {next : Next Folding Left} (lease : Claim) (got : Option (List ℕ)) (o : Opening) (work : Calls) → Begins lease f o work → Reads f (Ok got) next
+reads_tour : {f : Folding} {next : Next Folding Left} (lease : Claim) (got : Option (List ℕ)) (o : Opening) (work : Calls) → BeginsLeaf lease f o work → Reads f (Ok got) next
     → LeafTours lease next o ((get_of f, call.Got got) ∷ work)
 reads_tour {f = f} lease got o work k (step.passes same l high right behind new) =
     let now : IsGot lease f got l o ((get_of f, call.Got got) ∷ work) = got_now lease f got l o work k behind.holds in
@@ -517,7 +517,7 @@ reads_tour {f = f} lease got o work k (step.plans same l x xs p here some e) =
     (in_range lease f got l o ((get_of f, call.Got got) ∷ work) now promised low here.below) (x ∷ xs) some refl p e
 reads_tour lease got o work k c = tt
 
-got_tours : (lease : Claim) (f : Folding) (a : Answer) (o : Opening) (work : Calls) → Begins lease f o work → (g : Result (Option (List ℕ)) Trouble) → got_of a ≡ g
+got_tours : (lease : Claim) (f : Folding) (a : Answer) (o : Opening) (work : Calls) → BeginsLeaf lease f o work → (g : Result (Option (List ℕ)) Trouble) → got_of a ≡ g
     → LeafTours lease (fold.leaf_got f g) o ((get_of f, a) ∷ work)
 got_tours lease f a o work k (Ok got) e =
     subst (λ (x : Answer). LeafTours lease (fold.leaf_got f (Ok got)) o ((get_of f, x) ∷ work)) (sym (got_of-ok a got e)) (reads_tour lease got o work k (reads f (Ok got)))

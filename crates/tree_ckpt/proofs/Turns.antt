@@ -16,12 +16,12 @@ use Rattle.tree_descent.specs.Fork.{bad_fence, down_to, fork_at, forked_on}
 use Rattle.tree_descent.specs.Fork as fork
 use Rattle.tree_descent.specs.Descent.{begun, forked, forked_by, passed, fork_of, kept_at, arrive, with_node, got_node}
 use Rattle.tree_moves.specs.Moves.{entry_or, root_entry}
-use Rattle.tree_ckpt.specs.Causing.{Calls, WasGot, WasNode, GoesRight}
+use Rattle.tree_ckpt.specs.Causes.{Calls, WasGot, WasNode, GoesRight}
 use Rattle.tree_ckpt.specs.Working.{IsAmong, AreTurns, Place, below_root, link_to, LeadsOn, IsWay}
 use Rattle.tree_ckpt.proofs.Words.{Trouble, Answer, Next, Ask, Chart, KeptNode, Link, Descent, Fork}
 use Rattle.tree_ckpt.proofs.Fences.{HasSides}
 use Rattle.tree_ckpt.proofs.Sound.{no_page, node_sound}
-use Rattle.tree_ckpt.proofs.Brought.{IsKept, AreKept, kept_found, kept_with, forked_level}
+use Rattle.tree_ckpt.proofs.Brought.{IsKeptNode, AreKept, kept_found, kept_with, forked_level}
 use Rattle.tree_ckpt.proofs.WayKeeps.{Arrives, arrive_keeps}
 
 -- ---- lists of turns
@@ -181,7 +181,7 @@ module _ (tree : ℕ) (cs : Calls) (links : List Link) (nodes : List KeptNode) (
 
   over_turned : (d : Descent) (n : KeptNode) (f : Fork) → Turned d → kept_at d ≡ Some n → fork_of d n.bytes ≡ Ok f → Turned (passed d f)
   over_turned d n f k e is =
-      let found : IsKept tree n cs × (n.page ≡ d.page) = kept_found tree d.page d.chart.nodes n cs k.kept e in
+      let found : IsKeptNode tree n cs × (n.page ≡ d.page) = kept_found tree d.page d.chart.nodes n cs k.kept e in
       let turns : FoundTurns d (Ok f) =
       subst (FoundTurns d) is (found_turns d n.bytes (subst (λ (page : ℕ). WasGot (object.Page tree page) (Some n.bytes) cs) found.1 found.0.0)) in
       passed_turned d turns.0 f k turns.1

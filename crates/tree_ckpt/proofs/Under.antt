@@ -12,15 +12,15 @@ use Rattle.cloud_trait.specs.declared.answer.Answer.TheVariants as call
 use Rattle.cloud_trait.specs.Ask.{GetHeld, PutHeld, Take, Release}
 use Rattle.tree_moves.specs.Moves.{entry_or}
 use Rattle.tree_parts.specs.Read.{tree_held}
-use Rattle.tree_ckpt.specs.Causing.{Calls, WasGot, WasNode}
+use Rattle.tree_ckpt.specs.Causes.{Calls, WasGot, WasNode}
 use Rattle.tree_ckpt.specs.Working.{Place, child_place, below_root, leaf_place, link_to, LeadsOn, IsWay, IsLeftFor, IsStart, IsCome, Visit, Outcome, Planned, Spared, Passed, IsVisit, AreVisits, IsAmong, IsOver, node_place, IsUnder, IsFollowed, HoldsLeaf, IsLeft, IsFor, placing_of, root_behind, looks_of, visits_over, done_over, page_puts, reserved_before, Climb, AreClimbs, root_above}
 use Rattle.tree_ckpt.proofs.Words.{ObjName, Taken, Answer, Claim, Ask, PagePut, Link}
 use Rattle.tree_ckpt.proofs.Entries.{among_either}
 use Rattle.tree_ckpt.proofs.Named.{same_node}
 use Rattle.tree_ckpt.proofs.Lows.{IsUpto, child_upto, entry_upto}
 use Rattle.tree_ckpt.proofs.Nodes.{IsAbove, not_under}
-use Rattle.tree_ckpt.proofs.Roots.{IsHeld, is_held, held_after, child_all, entries_short}
-use Rattle.tree_ckpt.proofs.Sound.{IsSound, node_sound, child_sound, leaf_above, leaf_no_node}
+use Rattle.tree_ckpt.proofs.Roots.{IsHeldRoot, is_held, held_after, child_all, entries_short}
+use Rattle.tree_ckpt.proofs.Sound.{IsSoundNode, node_sound, child_sound, leaf_above, leaf_no_node}
 
 -- what is not above a key that is below a bound is below it
 in_bound : (low key : List ℕ) (high : Option (List ℕ)) → IsUpto low key → below_bound key high ≡ true → below_bound low high ≡ true
@@ -58,7 +58,7 @@ module _ (tree : ℕ) (key : List ℕ) (cs : Calls) (root : Tree) where
     on (inl e) = inl (ap (λ (m : ℕ). m + 1) level ∙ e)
     on (inr a) = inr (a.0, a.1, a.2, a.3 ∙ ap (λ (m : ℕ). m + 1) (sym level), not_under p.low q.low a.1.low more a.4, a.5)
 
-  lies_on : (n : Inner) (p q : Place) (before turns : List Link) → Lies p → IsSound n → WasNode tree p.page n cs → n.level ≡ p.level → n.low ≡ p.low
+  lies_on : (n : Inner) (p q : Place) (before turns : List Link) → Lies p → IsSoundNode n → WasNode tree p.page n cs → n.level ≡ p.level → n.low ≡ p.low
       → LeadsOn key n p.level before q turns → Lies q
   lies_on n p q before turns k sound was level low (inl h) =
       let above : IsAbove n.low (Some q.low) = subst (IsAbove n.low) h.0.0 sound.high in
@@ -124,7 +124,7 @@ over_under tree key cs root start (m ∷ ns) q turns page n k h (inl same) =
 root_lies : (tree : ℕ) (key : List ℕ) (cs : Calls) (root : Tree) (held : Option (List ℕ)) → (tree_held held).level ≡ root.level → Lies tree key cs root (below_root key held)
 root_lies tree key cs root held same =
     let t : Tree = tree_held held in
-    let is : IsHeld t = is_held held in
+    let is : IsHeldRoot t = is_held held in
     let some : 1 ≤ t.level = (in_range_parts 1 255 t.level is.fits.level).0 in
     record {
       upto = entry_upto key (child_of key t.entries) (child_upto key t.entries);

@@ -63,10 +63,10 @@ fork_fence d n level fence =
     ∙ ap (λ (b : Bool). fork_by d n true (b && not (bytes_below d.chart.key n.low))) fence
 
 -- the low key that led there is not above the key in hand
-abbrev pub IsUpto : Descent → Type 0
-IsUpto d = bytes_below d.chart.key d.low ≡ false
+abbrev pub IsUptoKey : Descent → Type 0
+IsUptoKey d = bytes_below d.chart.key d.low ≡ false
 
-pub fork_promised : (d : Descent) (n : Inner) → IsUpto d → IsPromised d n → forked d n ≡ Ok (forked_on d.chart.key n)
+pub fork_promised : (d : Descent) (n : Inner) → IsUptoKey d → IsPromised d n → forked d n ≡ Ok (forked_on d.chart.key n)
 fork_promised d n upto is =
     ap (λ (b : Bool). fork_by d n b (bytes_same n.low d.low && not (bytes_below d.chart.key n.low))) (eq-eqb n.level d.level is.0)
     ∙ (ap (λ (b : Bool). fork_by d n true (b && not (bytes_below d.chart.key n.low))) is.1
@@ -78,7 +78,7 @@ fork_promised d n upto is =
 pub record KeepsWay (d e : Descent) : Type 0 where
   pub tree : e.chart.tree ≡ d.chart.tree
   pub nodes : e.chart.nodes ≡ d.chart.nodes
-  pub upto : IsUpto e
+  pub upto : IsUptoKey e
 
 down_keeps : (d : Descent) (n : Inner) (o : Option Entry) → child_of d.chart.key n.entries ≡ o → KeepsWay d (passed d (down_to o))
 down_keeps d n (Some e) found = record { tree = refl; nodes = refl; upto = child_at_most d.chart.key n.entries e found }
@@ -96,7 +96,7 @@ pub behind_keeps : (d : Descent) (n : Inner) → KeepsWay d (behind d n)
 behind_keeps d n = fork_keeps d _ (down_keeps d n (child_of d.chart.key n.entries) refl) n.high (page_at n.right)
 
 -- the tree object's entry for the key is not above it
-pub root_upto : (c : Chart) → IsUpto (from_root c)
+pub root_upto : (c : Chart) → IsUptoKey (from_root c)
 root_upto c = on (child_of c.key (tree_held c.root).entries) refl where
   on : (o : Option Entry) → child_of c.key (tree_held c.root).entries ≡ o → bytes_below c.key (entry_or o).0 ≡ false
   on (Some e) found = child_at_most c.key (tree_held c.root).entries e found
@@ -117,7 +117,7 @@ stride_kept : (d : Descent) (n : Inner) → IsFresh d → WasKept d n → stride
 stride_kept d n fresh kept =
     stride_inner d fresh.0 false fresh.1 ∙ (ap (stride_at d) kept.1 ∙ ap (go_on d) (fork_some d kept.0.bytes n kept.2))
 
-stride_over : (d e : Descent) (n : Inner) → IsUpto d → LeadsOver d n e → stride d ≡ Goes e
+stride_over : (d e : Descent) (n : Inner) → IsUptoKey d → LeadsOver d n e → stride d ≡ Goes e
 stride_over d e n upto leads = stride_kept d n leads.0 leads.1 ∙ (ap (go_on d) (fork_promised d n upto leads.2) ∙ ap Goes (sym leads.3))
 
 stride_stops : (tree : ℕ) (d : Descent) (t : Trouble) → d.chart.tree ≡ tree → BreaksAt tree d t → stride d ≡ Stops d t
@@ -150,7 +150,7 @@ unfolding walk
 walk_over zero d e goes fewer enough = absurd (omega (arith, fewer, enough))
 walk_over (suc less) d e goes fewer enough = (less, ap (follow (walk less)) goes, omega (arith, fewer, enough))
 
-walks_to : (start e : Descent) (ns : List Inner) → IsUpto start → ComesOver ns start e → WalksTo start e
+walks_to : (start e : Descent) (ns : List Inner) → IsUptoKey start → ComesOver ns start e → WalksTo start e
 walks_to start e [] upto comes =
     subst (WalksTo start) (sym comes)
     (record {
@@ -178,7 +178,7 @@ unfolding walk
 walk_stops zero d t stops = ap (follow (λ (e : Descent). Stops e (trouble.Loop e.page))) stops
 walk_stops (suc n) d t stops = ap (follow (walk n)) stops
 
-pub way_stops : (tree : ℕ) (start : Descent) (t : Trouble) → start.chart.tree ≡ tree → IsUpto start → BreaksFrom tree start t
+pub way_stops : (tree : ℕ) (start : Descent) (t : Trouble) → start.chart.tree ≡ tree → IsUptoKey start → BreaksFrom tree start t
     → (e : Descent) × (arrive start ≡ Stops e t)
 way_stops tree start t same upto (e, ns, comes, breaks) =
     let w : WalksTo start e = walks_to start e ns upto comes in

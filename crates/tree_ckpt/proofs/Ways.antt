@@ -20,11 +20,11 @@ use Rattle.tree_descent.specs.declared.fork.Fork.TheVariants.{Right, Down}
 use Rattle.tree_descent.specs.Fork.{bad_fence, down_to, fork_at, forked_on}
 use Rattle.tree_descent.specs.Descent.{begun, forked, forked_by, fork_of, passed, go_on, stride_at, kept_at, stride, follow, walk, arrived, arrive, absent_node, with_node, got_node, descent_got}
 use Rattle.tree_moves.specs.Moves.{entry_or, root_entry, down_from}
-use Rattle.tree_ckpt.specs.Causing.{Calls, Brings, WasGot, WasNode, WasRead, Shows}
+use Rattle.tree_ckpt.specs.Causes.{Calls, Brings, WasGot, WasNode, WasRead, Shows}
 use Rattle.tree_ckpt.specs.Way.{IsFresh, WasKept, IsPromised, behind, LeadsOver, ComesOver, BreaksAt, BreaksFrom, from_root}
 use Rattle.tree_ckpt.specs.Demands.{BreaksNode}
 use Rattle.tree_ckpt.proofs.Words.{Trouble, Answer, Next, Goes, Ends, Stops, Ask, Chart, KeptNode, Descent, Fork}
-use Rattle.tree_ckpt.proofs.Brought.{IsKept, Charted, OnWay, read_behind, seen_read, kept_with, kept_found}
+use Rattle.tree_ckpt.proofs.Brought.{IsKeptNode, Charted, OnWay, read_behind, seen_read, kept_with, kept_found}
 use Rattle.tree_ckpt.proofs.Passed.{unseen, unseen_most, unseen_less}
 
 -- on the way down to a key
@@ -164,7 +164,7 @@ module _ (tree : ℕ) (cs : Calls) (ask : Ask) (a : Answer) where
   stride_at_tells : (d : Descent) → KnowsWay tree d cs → IsFresh d → (o : Option KeptNode) → kept_at d ≡ o → StridesOn d (stride_at d o)
   stride_at_tells d k fresh None e = k
   stride_at_tells d k fresh (Some kept) e =
-      let there : IsKept tree kept cs × (kept.page ≡ d.page) = kept_found tree d.page d.chart.nodes kept cs k.chart.nodes e in
+      let there : IsKeptNode tree kept cs × (kept.page ≡ d.page) = kept_found tree d.page d.chart.nodes kept cs k.chart.nodes e in
       let got : WasGot (object.Page tree d.page) (Some kept.bytes) cs =
       subst (λ (p : ℕ). WasGot (object.Page tree p) (Some kept.bytes) cs) there.1 there.0.0 in
       go_on_tells d there.0.1.0 (fork_of d kept.bytes) kept e there.0.1.1 fresh (read_tells d kept.bytes there.0.1.0 there.0.1.1 k got)

@@ -22,7 +22,7 @@ use Rattle.tree_moves.specs.declared.work.Held.{Held}
 use Rattle.tree_moves.specs.declared.work.Work.{Work}
 use Rattle.tree_moves.specs.declared.work.Work.TheVariants as work
 use Rattle.tree_moves.specs.Work.{work_ask}
-use Rattle.tree_ckpt.specs.Causing.{GoesRight, BreaksMessage, ticks_of}
+use Rattle.tree_ckpt.specs.Causes.{GoesRight, BreaksMessage, ticks_of}
 use Rattle.tree_ckpt.specs.Way.{BreaksWay}
 use Rattle.tree_ckpt.specs.Due.{GetsLeaf, Spends}
 

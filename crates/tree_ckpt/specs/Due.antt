@@ -33,7 +33,7 @@ use Rattle.tree_moves.specs.declared.work.Onward.TheVariants as onward
 use Rattle.tree_moves.specs.declared.work.Work.{Work}
 use Rattle.tree_moves.specs.declared.work.Work.TheVariants as work
 use Rattle.tree_moves.specs.Moves.{next_key}
-use Rattle.tree_ckpt.specs.Causing.{Calls, WasRoot, WasNode, WasLeaf}
+use Rattle.tree_ckpt.specs.Causes.{Calls, WasRoot, WasNode, WasLeaf}
 
 -- What is to be put while a tree object stands: a leaf with a run applied, an inner node with links, or the tree object itself with links and a
 -- cursor raised to a top.

@@ -1,11 +1,11 @@
 pub mod Making
-pub mod Standing
-pub mod Ending
-pub mod Causing
+pub mod Leases
+pub mod End
+pub mod Causes
 pub mod Way
 pub mod Due
 pub mod Demands
 pub mod Working
 pub mod Meaning
-pub mod Well
+pub mod Calm
 pub mod Stepped

@@ -22,7 +22,7 @@ use Rattle.tree_parts.specs.Read.{tree_held}
 use Rattle.tree_moves.specs.Work.{take_tree}
 use Rattle.tree_moves.specs.Moves.{went}
 use Rattle.tree_ckpt.specs.Making.{Making}
-use Rattle.tree_ckpt.specs.Causing.{Calls}
+use Rattle.tree_ckpt.specs.Causes.{Calls}
 use Rattle.tree_ckpt.specs.Working.{Worked, WorksBy, applied_count}
 
 -- ---- the opening: the tree is taken, its object is read under the lease, and its queue is received from

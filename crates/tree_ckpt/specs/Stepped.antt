@@ -14,12 +14,12 @@ use Rattle.cloud_trait.specs.Calm.{AreCalm}
 use Rattle.cloud_trait.specs.Plenty.{HadMemory}
 use Rattle.ckpt_parts.specs.Leasing.{outstanding}
 use Rattle.tree_ckpt.specs.Making.{Making, making_ask, MakingLeads, KeepsLeases}
-use Rattle.tree_ckpt.specs.Standing.{Went, AreReturned}
-use Rattle.tree_ckpt.specs.Causing.{Calls, Shows, kept_trouble}
+use Rattle.tree_ckpt.specs.Leases.{Went, AreReturned}
+use Rattle.tree_ckpt.specs.Causes.{Calls, Shows, kept_trouble}
 use Rattle.tree_ckpt.specs.Due.{Due, IsDue, IsCutShort, NeedsFew, WasBrought, WasLastButOne}
 use Rattle.tree_ckpt.specs.Demands.{Matters, Demands}
 use Rattle.tree_ckpt.specs.Meaning.{MeansDone}
-use Rattle.tree_ckpt.specs.Well.{IsWell}
+use Rattle.tree_ckpt.specs.Calm.{IsWell}
 
 -- the calls with the newest one
 abbrev pub calls_with : Making → List Deed → Answer → Calls

@@ -41,7 +41,7 @@ use Rattle.tree_rising.specs.declared.root.RootPlan.{RootPlan}
 use Rattle.tree_rising.specs.Nodes.{with_links, is_touched}
 use Rattle.tree_rising.specs.Root.{risen}
 use Rattle.tree_moves.specs.Moves.{entry_or}
-use Rattle.tree_ckpt.specs.Causing.{Calls, WasGot, WasNode, GoesRight}
+use Rattle.tree_ckpt.specs.Causes.{Calls, WasGot, WasNode, GoesRight}
 
 -- ---- lists
 

@@ -54,8 +54,8 @@ impl Model for TreeCkpt {
 impl TreeCkpt {
     ghost use Rattle.ckpt_parts.specs.Leasing.{outstanding};
     ghost use Rattle.tree_moves.specs.Work.{applying_in, claims_in};
-    ghost use Rattle.tree_ckpt.specs.Ending.{calls_in, IsShort};
-    ghost use Rattle.tree_ckpt.specs.Standing.{Went, Names, GivesBack};
+    ghost use Rattle.tree_ckpt.specs.End.{calls_in, IsShort};
+    ghost use Rattle.tree_ckpt.specs.Leases.{Went, Names, GivesBack};
     ghost use Rattle.tree_ckpt.specs.Stepped.{Stepped};
     ghost use Rattle.tree_ckpt.specs.Making.{new_making, making_ask, with_received, with_work, handed_over, AbsorbsBy, WentBy, SameLeases, MakingLeads, KeepsLeases};
 

@@ -1,6 +1,6 @@
 //! Lists are no longer than memory allows.
 
-ghost use Rattle.tree_ckpt.specs.Ending.{IsShortChart, IsShort};
+ghost use Rattle.tree_ckpt.specs.End.{IsShortChart, IsShort};
 
 use tree_moves::work::{Onward, Work};
 use tree_parts::chart::Chart;

@@ -4,7 +4,7 @@ use Rattle.std.specs.Prelude.{unwrap_or}
 use Rattle.byte_format.specs.Whole.{whole, offset, IsBytes}
 use Rattle.byte_format.proofs.Wholes.{whole_only, whole_found}
 use Rattle.leaf_view.specs.Leaf.{Leaf, IsLeaf, leaf}
-use Rattle.leaf_view.proofs.Exactness.{leaf_exact}
+use Rattle.leaf_view.proofs.Exact.{leaf_exact}
 use Rattle.node_codec.specs.Inner.{Inner, IsInner, inner_of, inner_format}
 use Rattle.node_codec.specs.Tree.{Tree, IsTree, tree_bytes, tree_of, empty_tree}
 use Rattle.node_codec.proofs.SpellingLaws.{tree_only, tree_found, inner_only, inner_found}

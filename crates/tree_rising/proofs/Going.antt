@@ -13,7 +13,7 @@ use Rattle.tree_parts.specs.Read.{tree_held}
 use Rattle.tree_rising.specs.declared.node.NodePlan.{NodePlan}
 use Rattle.tree_rising.specs.declared.rising.Rising.{Rising}
 use Rattle.tree_rising.specs.Nodes.{node_plan}
-use Rattle.tree_rising.specs.Rising.{Step, next_touched, touched_node, FindsPlan, put_node, finish, rise_at, rise}
+use Rattle.tree_rising.specs.Rising.{RisingStep, next_touched, touched_node, FindsPlan, put_node, finish, rise_at, rise}
 
 -- what was planned from the parts of the chart
 pub found_some : (r : Rising) (at next level : ℕ) (root : Tree) (ls : List Link) (k : KeptNode) (plan : Result NodePlan Fault)

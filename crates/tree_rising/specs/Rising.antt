@@ -22,8 +22,8 @@ use Rattle.tree_rising.specs.declared.root.RootPlan.{RootPlan}
 use Rattle.tree_rising.specs.Nodes.{node_plan, touched_at}
 use Rattle.tree_rising.specs.Root.{raised_root, root_plan}
 
-abbrev pub Step : Type 0
-Step = Next Rising (Unit {0})
+abbrev pub RisingStep : Type 0
+RisingStep = Next Rising (Unit {0})
 
 -- behind the last leaf
 abbrev pub begun : Chart → Rising
@@ -44,7 +44,7 @@ abbrev pub next_touched : Rising → ℕ
 next_touched r = r.at + touched_at r.chart.tree r.chart.links (drop r.at r.chart.nodes)
 
 -- what was planned for a node is put next, and its new pieces are noted for the level above
-abbrev pub put_node : Rising → ℕ → ℕ → Result NodePlan Trouble → Step
+abbrev pub put_node : Rising → ℕ → ℕ → Result NodePlan Trouble → RisingStep
 put_node r next level (Ok p) = Goes (record r {
   chart = record r.chart { links = r.chart.links ++ links_at level p.entries };
   at = next;
@@ -61,11 +61,11 @@ plan_of root (Err f) = Err f
 abbrev pub last_plan : Rising → Result RootPlan Trouble
 last_plan r = plan_of (tree_held r.chart.root) (raised_root (tree_held r.chart.root) r.chart.links r.chart.run.top)
 
-abbrev pub put_root : Rising → Result RootPlan Trouble → Step
+abbrev pub put_root : Rising → Result RootPlan Trouble → RisingStep
 put_root r (Ok p) = Goes (record r { placing = p.placing; last = Some p.last; is_spent = p.is_spent })
 put_root r (Err t) = Stops r t
 
-abbrev pub finish : Rising → Step
+abbrev pub finish : Rising → RisingStep
 finish r = put_root r (last_plan r)
 
 -- the next node that a link goes to
@@ -81,11 +81,11 @@ FindsPlan r (Some x) None = ⊥
 FindsPlan r None (Some k) = ⊥
 
 -- the next node that a link goes to is put, and the tree object where there is none
-abbrev pub rise_at : Rising → ℕ → Option KeptNode → Step
+abbrev pub rise_at : Rising → ℕ → Option KeptNode → RisingStep
 rise_at r at (Some k) = put_node r (at + 1) (k.level + 1) (node_plan (tree_held r.chart.root) r.chart.tree k r.chart.links)
 rise_at r at None = finish r
 
-abbrev pub rise : Rising → Step
+abbrev pub rise : Rising → RisingStep
 rise r = rise_at r (next_touched r) (touched_node r)
 
 -- ---- the puts
@@ -94,21 +94,21 @@ abbrev pub landed : Rising → Rising
 landed r = record r { chart = record r.chart { root = landed_root r.placing r.chart.root }; placing = landed_placing r.placing }
 
 -- where no version is left for the tree object, it stops behind the last piece
-abbrev pub put_next : Rising → Step
+abbrev pub put_next : Rising → RisingStep
 put_next r = if has_nothing r.placing && r.is_spent then Stops r version_spent else Goes r
 
 -- once all is put that was planned for a node, the way up goes on
-abbrev pub after_put : Rising → Step
+abbrev pub after_put : Rising → RisingStep
 after_put r = if not (has_nothing r.placing) || is_some r.last then put_next r else rise r
 
-abbrev pub put_landed : Rising → Step
+abbrev pub put_landed : Rising → RisingStep
 put_landed r = if has_nothing r.placing then Ends r tt else after_put (landed r)
 
-abbrev pub risen_by : {A : Type 0} → Rising → Result A Trouble → Step
+abbrev pub risen_by : {A : Type 0} → Rising → Result A Trouble → RisingStep
 risen_by r (Ok _) = put_landed r
 risen_by r (Err t) = Stops r t
 
 -- ---- the machine
 
-abbrev pub rising_next : Rising → Answer → Step
+abbrev pub rising_next : Rising → Answer → RisingStep
 rising_next r a = risen_by r (done_of a)

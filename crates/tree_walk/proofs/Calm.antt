@@ -16,8 +16,8 @@ use Rattle.page_cache.specs.Cache.{Cache}
 use Rattle.page_cache.specs.Refused.{IsDamaged}
 use Rattle.tree_walk.specs.Moves.{Moves}
 use Rattle.tree_walk.specs.Walk.{Walk, is_leaf, object_of, walk_ask, walk_next}
-use Rattle.tree_walk.specs.Causing.{BreaksLevel, BreaksFence, IsOld, LinkShows, Shows}
-use Rattle.tree_walk.specs.Serving.{deed_of, GoesCalmly}
+use Rattle.tree_walk.specs.Causes.{BreaksLevel, BreaksFence, IsOld, LinkShows, Shows}
+use Rattle.tree_walk.specs.Served.{deed_of, GoesCalmly}
 use Rattle.tree_walk.proofs.Causes.{moved_shows}
 use Rattle.tree_walk.proofs.Served.{get_row, steady}
 

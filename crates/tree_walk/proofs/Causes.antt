@@ -17,10 +17,10 @@ use Rattle.cloud_trait.specs.Seen.{Seen}
 use Rattle.page_cache.specs.Cache.{Cache}
 use Rattle.tree_walk.specs.Moves.{Moves}
 use Rattle.tree_walk.specs.Walk.{Spot, Walk, is_leaf, is_among, object_of, rested, walk_ask, walk_ready, walk_next}
-use Rattle.tree_walk.specs.Causing.{IsLinked, WasLed, LinkShows, Shows, CausesReady}
+use Rattle.tree_walk.specs.Causes.{IsLinked, WasLed, LinkShows, Shows, CausesReady}
 use Rattle.tree_walk.proofs.Outcomes as step
 use Rattle.tree_walk.proofs.Outcomes.{Passes, Halts, Links, Way, StopsFor, Comes, comes, Readies, readies}
-use Rattle.tree_walk.proofs.Refusing.{refused_shows}
+use Rattle.tree_walk.proofs.Refusals.{refused_shows}
 
 -- ---- what the objects show
 

@@ -23,13 +23,13 @@ use Rattle.page_cache.specs.Held.{leaf_at, inner_at, root_at}
 use Rattle.page_cache.specs.Refused.{IsDamaged}
 use Rattle.tree_walk.specs.Moves.{Moves}
 use Rattle.tree_walk.specs.Walk.{Spot, Walk, new_walk, sought, is_got_at, is_got, is_leaf, is_among, is_page, object_of, came_to, use_of, entry_for, right_of, linked, node_passed, leaf_passed, root_read, node_read, read_at, read_from, read_kept, follow, onward, goes_through, goes_on, got_read, accepted_by, left_by, beside, rested, walk_ready, walk_next}
-use Rattle.tree_walk.specs.Causing.{below, aside, node_link, node_link_by, LeadsTo, BreaksLevel, BreaksFence, HasLow, IsOld, AnswerShows, Brings, IsStopped, passed_with, led_on, Meets, breaks, leads_back, beyond}
-use Rattle.tree_walk.specs.Serving.{IsMissing, MustGet}
-use Rattle.tree_walk.proofs.Getting.{goes_must, ready_must}
-use Rattle.tree_walk.proofs.Onceness.{among_push, or_right, passed_still}
+use Rattle.tree_walk.specs.Causes.{below, aside, node_link, node_link_by, LeadsTo, BreaksLevel, BreaksFence, HasLow, IsOld, AnswerShows, Brings, IsStopped, passed_with, led_on, Meets, breaks, leads_back, beyond}
+use Rattle.tree_walk.specs.Served.{IsMissing, MustGet}
+use Rattle.tree_walk.proofs.Gets.{goes_must, ready_must}
+use Rattle.tree_walk.proofs.Within.{among_push, or_right, passed_still}
 use Rattle.tree_walk.proofs.Outcomes as step
 use Rattle.tree_walk.proofs.Outcomes.{Passes, came_by}
-use Rattle.tree_walk.proofs.Refusing.{damaged_refused, old_refused}
+use Rattle.tree_walk.proofs.Refusals.{damaged_refused, old_refused}
 
 -- ---- what the answer shows
 
@@ -89,12 +89,12 @@ broken c w s t at shown = subst (λ (o : Option Spot). (let v : Walk = record w 
 
 -- ---- where the object in hand leads
 
-Leads : Cache → Walk → Spot → Type 0
-Leads c w to = (v : Walk) × Passes c w v to × (read_from w c ≡ Some (linked v to))
+LinksTo : Cache → Walk → Spot → Type 0
+LinksTo c w to = (v : Walk) × Passes c w v to × (read_from w c ≡ Some (linked v to))
 
 node_leads : (c : Cache) (w : Walk) (s : Spot) (n : Inner) (to : Spot) → (s.level == 0) ≡ false → inner_at c (object.Page w.tree s.page) ≡ Some n → (n.level == s.level) ≡ true
-    → bytes_same n.low s.low ≡ true → to ≡ node_link (sought w) n → (let v : Walk = record w { spot = Some s } in Leads c v to)
-unfolding Leads
+    → bytes_same n.low s.low ≡ true → to ≡ node_link (sought w) n → (let v : Walk = record w { spot = Some s } in LinksTo c v to)
+unfolding LinksTo
 node_leads c w s n to above kept level low is = by (right_of (sought w) n.high (node_at n.right)) refl where
   v : Walk
   v = record w { spot = Some s }
@@ -103,7 +103,7 @@ node_leads c w s n to above kept level low is = by (right_of (sought w) n.high (
   passes turned =
       subst (Passes c v (record (node_passed v) { turned = turned })) (sym is) (step.by_node s n turned (record { in_hand = refl; above = above; kept = kept; level = level; low = low }))
 
-  by : (o : Option (ℕ × List ℕ)) → right_of (sought w) n.high (node_at n.right) ≡ o → Leads c v to
+  by : (o : Option (ℕ × List ℕ)) → right_of (sought w) n.high (node_at n.right) ≡ o → LinksTo c v to
   by (Some next) r =
       let led : to ≡ aside s.level next = is ∙ ap (node_link_by (sought w) n) r ∙ ap (λ (k : ℕ). aside k next) (eqb-true n.level s.level level) in
       (record (node_passed v) { turned = true }, passes true, rw (above, kept, level, low, r, led))
@@ -113,18 +113,18 @@ node_leads c w s n to above kept level low is = by (right_of (sought w) n.high (
       (node_passed v, passes w.turned, rw (above, kept, level, low, r, led))
 
 leaf_leads : (c : Cache) (w : Walk) (s : Spot) (l : Leaf) (next : ℕ × List ℕ) (to : Spot) → (s.level == 0) ≡ true → leaf_at c (object.Page w.tree s.page) ≡ Some l → bytes_same l.low s.low ≡ true
-    → right_of (sought w) l.high (page_at l.right) ≡ Some next → to ≡ aside 0 next → (let v : Walk = record w { spot = Some s } in Leads c v to)
-unfolding Leads
+    → right_of (sought w) l.high (page_at l.right) ≡ Some next → to ≡ aside 0 next → (let v : Walk = record w { spot = Some s } in LinksTo c v to)
+unfolding LinksTo
 leaf_leads c w s l next to bottom kept low right is =
     let v : Walk = record w { spot = Some s } in
     let led : to ≡ aside s.level next = is ∙ ap (λ (k : ℕ). aside k next) (sym (eqb-true s.level 0 bottom)) in
     let u : Walk = record (leaf_passed (use_of v)) { turned = true } in
     (u, subst (Passes c v u) (sym is) (step.by_leaf s l next (record { in_hand = refl; bottom = bottom; kept = kept; low = low }) right), rw (bottom, kept, low, right, led))
 
-leads : (c : Cache) (w : Walk) (to : Spot) → LeadsTo c w w.spot to → Leads c w to
-unfolding Leads
+leads : (c : Cache) (w : Walk) (to : Spot) → LeadsTo c w w.spot to → LinksTo c w to
+unfolding LinksTo
 leads c w to = at w.spot where
-  at : (o : Option Spot) → LeadsTo c w o to → (let v : Walk = record w { spot = o } in Leads c v to)
+  at : (o : Option Spot) → LeadsTo c w o to → (let v : Walk = record w { spot = o } in LinksTo c v to)
   at None (t, kept, is) =
       let v : Walk = record w { spot = None } in (use_of v, subst (Passes c v (use_of v)) (sym is) (step.by_root t refl kept), rw (kept, is))
   at (Some s) (inl (n, above, kept, level, low, is)) = node_leads c w s n to above kept level low is
@@ -135,7 +135,7 @@ Loops : Cache → Walk → ℕ → Type 0
 Loops c w page = (v : Walk) × (read_from w c ≡ Some (Stops v (trouble.Loop page)))
 
 leads_loops : (c : Cache) (w : Walk) (to : Spot) → LeadsTo c w w.spot to → came_to w to.page ≡ true → Loops c w to.page
-unfolding Leads Loops
+unfolding LinksTo Loops
 leads_loops c w to h came =
     let (v, passes, read) = leads c w to h in
     let again : came_to v to.page ≡ true = or_right (is_page to.page v.spot) (is_among v.nodes to.page || is_among v.leaves to.page) (passed_still c w v to passes to.page came) in
@@ -184,7 +184,7 @@ goes_by c w _ to (step.by_node s n turned at) read new above =
 goes_by c w _ _ (step.by_leaf s l next at right) read new above = absurd (cc (above))
 
 leads_on : (c : Cache) (w : Walk) (to : Spot) → LeadsTo c w w.spot to → came_to w to.page ≡ false → (to.level == 0) ≡ false → LeadsOn c w to
-unfolding Leads
+unfolding LinksTo
 leads_on c w to h new above = let (v, passes, read) = leads c w to h in goes_by c w v to passes read new above
 
 -- ---- what is read of the object in hand

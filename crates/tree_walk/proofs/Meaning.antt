@@ -11,12 +11,12 @@ use Rattle.page_cache.proofs.CacheLemmas.{accept_kept, accept_others}
 use Rattle.page_cache.proofs.NameLemmas.{same_name-is, same_name-refl}
 use Rattle.tree_walk.specs.Walk.{Spot, Walk, new_walk, sought, object_of, is_leaf, asks, rested, walk_ready, walk_next}
 use Rattle.tree_walk.specs.Within.{IsBegun}
-use Rattle.tree_walk.specs.Causing.{IsLinked, WasLed}
-use Rattle.tree_walk.specs.Led.{WasGot, HasRead, LinksTo, WasLinked, Walked, began_with, LedBy}
+use Rattle.tree_walk.specs.Causes.{IsLinked, WasLed}
+use Rattle.tree_walk.specs.Meaning.{WasGot, HasRead, LinksTo, WasLinked, Walked, began_with, LedBy}
 use Rattle.tree_walk.proofs.Outcomes as step
 use Rattle.tree_walk.proofs.Outcomes.{came_by, way_behind, Readies, readies}
 use Rattle.tree_walk.proofs.Causes.{way_led}
-use Rattle.tree_walk.proofs.Walking.{IsTo, WalksBeside, ready_walks, next_walks}
+use Rattle.tree_walk.proofs.Stays.{IsTo, WalksBeside, ready_walks, next_walks}
 
 -- ---- what was read
 

@@ -18,7 +18,7 @@ use Rattle.page_cache.specs.Held.{leaf_at, as_leaf}
 use Rattle.page_cache.proofs.CacheLemmas.{accept_kept}
 use Rattle.tree_walk.specs.Moves.{Moves}
 use Rattle.tree_walk.specs.Walk.{Walk, IsWalk, IsAtLeaf, is_leaf, object_of, use_of, rested, walk_ask, walk_next}
-use Rattle.tree_walk.specs.Serving.{IsServed, Serves}
+use Rattle.tree_walk.specs.Served.{IsServed, Serves}
 use Rattle.tree_walk.proofs.Leaves.{arrives_in_hand, ended_at, ends_at, kept_stays}
 use Rattle.tree_walk.proofs.Outcomes as step
 use Rattle.tree_walk.proofs.Outcomes.{Arrives, came_by}

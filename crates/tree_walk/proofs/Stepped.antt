@@ -18,13 +18,13 @@ use Rattle.page_cache.proofs.CacheLemmas.{accept_rises}
 use Rattle.tree_walk.specs.Moves.{Moves}
 use Rattle.tree_walk.specs.Walk.{Walk, IsWalk, ServesOn, KeepsServed, HasAim, walk_ask, walk_next, left_by, passed, rested}
 use Rattle.tree_walk.specs.Stepped.{Stepped}
-use Rattle.tree_walk.specs.Serving.{deed_of}
+use Rattle.tree_walk.specs.Served.{deed_of}
 use Rattle.tree_walk.proofs.Calm.{moved_calmly}
 use Rattle.tree_walk.proofs.Causes.{asked, moved_shows}
 use Rattle.tree_walk.proofs.Demands.{answer_stops, moved_stopped, brought_meets}
 use Rattle.tree_walk.proofs.Meaning.{walked_led}
 use Rattle.tree_walk.proofs.Served.{moved_serves}
-use Rattle.tree_walk.proofs.Walking.{WalksBeside, next_walks}
+use Rattle.tree_walk.proofs.Stays.{WalksBeside, next_walks}
 
 -- ---- served versions
 

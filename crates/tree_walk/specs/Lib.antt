@@ -1,7 +1,7 @@
 pub mod Moves
 pub mod Walk
-pub mod Causing
+pub mod Causes
 pub mod Within
-pub mod Led
-pub mod Serving
+pub mod Meaning
+pub mod Served
 pub mod Stepped

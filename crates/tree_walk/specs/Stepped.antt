@@ -10,9 +10,9 @@ use Rattle.cloud_trait.specs.Seen.{Seen}
 use Rattle.cloud_trait.specs.Weather.{Makes}
 use Rattle.page_cache.specs.Cache.{Cache}
 use Rattle.tree_walk.specs.Walk.{Walk, asks, walk_next, ServesOn, KeepsServed, HasAim}
-use Rattle.tree_walk.specs.Causing.{Causes, Exact}
-use Rattle.tree_walk.specs.Led.{LedBy, Walked, began_with}
-use Rattle.tree_walk.specs.Serving.{Serves, GoesCalmly, deed_of}
+use Rattle.tree_walk.specs.Causes.{Causes, Exact}
+use Rattle.tree_walk.specs.Meaning.{LedBy, Walked, began_with}
+use Rattle.tree_walk.specs.Served.{Serves, GoesCalmly, deed_of}
 use Rattle.tree_walk.specs.Within.{IsBegun}
 
 pub record Stepped (who : Caller) (before after : Seen) (old new : Walk × Cache) (turn : Turn ℕ) : Type 0 where

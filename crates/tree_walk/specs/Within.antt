@@ -32,7 +32,7 @@ pub record IsOnce (w : Walk) : Type 0 where
   pub in_hand : (s : Spot) → w.spot ≡ Some s → (is_among w.nodes s.page || is_among w.leaves s.page) ≡ false
 
 -- these calls are one more at most than the pages that the walk had come to, each once; and it has come to them still
-pub record IsWithin (calls : ℕ) (old new : Walk) (turn : Turn ℕ) : Type 0 where
+pub record WalksWithin (calls : ℕ) (old new : Walk) (turn : Turn ℕ) : Type 0 where
   pub once : IsOnce old
   pub bound : calls ≤ 1 + pages old
   pub still : turn ≢ Stopped trouble.Memory → (page : ℕ) → came_to old page ≡ true → came_to new page ≡ true

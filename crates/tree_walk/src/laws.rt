@@ -5,9 +5,9 @@ ghost use Rattle.cloud_trait.specs.declared.turn.Turn.{Turn as TurnOf};
 ghost use Rattle.cloud_trait.specs.declared.turn.Turn.TheVariants as turn;
 ghost use Rattle.page_cache.specs.Cache.{Cache, IsCache};
 ghost use Rattle.db_base.specs.declared.trouble.Trouble.{Trouble};
-ghost use Rattle.tree_walk.specs.Causing.{CausesReady, IsStopped, Meets};
+ghost use Rattle.tree_walk.specs.Causes.{CausesReady, IsStopped, Meets};
 ghost use Rattle.tree_walk.specs.Moves.{Moves};
-ghost use Rattle.tree_walk.specs.Serving.{MustGet};
+ghost use Rattle.tree_walk.specs.Served.{MustGet};
 ghost use Rattle.tree_walk.specs.Walk.{Walk as State, new_walk, walk_ready};
 
 /// What the local work before the first call comes to.

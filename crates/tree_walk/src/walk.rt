@@ -7,10 +7,10 @@ ghost use Rattle.cloud_trait.specs.Machine.{Deed};
 ghost use Rattle.node_codec.specs.Node.{page_at as node_at};
 ghost use Rattle.page_cache.specs.Cache.{Cache, dropped};
 ghost use Rattle.tree_walk.specs.Moves.{is_more, Moves, MovesIf, MovesBeside};
-ghost use Rattle.tree_walk.specs.Serving.{MustGet};
+ghost use Rattle.tree_walk.specs.Served.{MustGet};
 ghost use Rattle.tree_walk.specs.Stepped.{Stepped};
 ghost use Rattle.tree_walk.specs.Walk.{right_of, ServesOn};
-ghost use Rattle.tree_walk.specs.Within.{Went, IsWithin};
+ghost use Rattle.tree_walk.specs.Within.{Went, WalksWithin};
 
 use crate::spot::Spot;
 use byte_format::{is_below, is_same};
@@ -490,7 +490,7 @@ impl Walk {
         ensures less { result ≡ Turn.More → calls_left self.new < calls_left self.old }
         ensures ends { (page : ℕ) → result ≡ Turn.Ended page → IsAtLeaf self.new cache.new page }
         // It comes to each page once, and one call more than these is all.
-        ensures within { (h : List Deed) → Went h (self.old, cache.old) → IsWithin (length h + 1) self.old self.new result }
+        ensures within { (h : List Deed) → Went h (self.old, cache.old) → WalksWithin (length h + 1) self.old self.new result }
         // What it gets next is a leaf, the tree object of a fresh walk, or what the cache does not keep.
         ensures gets { result ≡ Turn.More → MustGet self.new cache.new }
     {

@@ -14,9 +14,9 @@ use Rattle.client_work.specs.declared.op.Op.TheVariants as op
 use Rattle.client_work.specs.declared.work.Work.TheVariants as work
 use Rattle.client_work.specs.Session.{Acting, rule_of, paging_begun_by, folding_begun_by}
 use Rattle.replay_meaning.specs.Standing.{Line, Standing, standing, after_own, session_of, joins}
-use Rattle.session_facts.specs.Facts.{ActsAs}
-use Rattle.session_facts.proofs.LineLemmas.{line_of, refused_own}
-use Rattle.session_facts.specs.Errands.{settles, sweeps}
+use Rattle.session_facts.specs.Lines.Facts.{ActsAs}
+use Rattle.session_facts.proofs.Lines.More.{line_of, refused_own}
+use Rattle.session_facts.specs.Lines.Errands.{settles, sweeps}
 use Rattle.world_core.specs.World.{World}
 use Rattle.world_core.specs.declared.asked.Noting.{Noting}
 use Rattle.world_core.specs.declared.asked.Request.{Request}

@@ -10,13 +10,13 @@ use Rattle.event_text.specs.declared.event.Event.{Event}
 use Rattle.event_text.specs.declared.event.Event.TheVariants as event
 use Rattle.replay_meaning.specs.Standing.{Line}
 use Rattle.reply_text.specs.declared.reply.Reply.{Reply}
-use Rattle.session_facts.specs.Added.{AddsTo}
-use Rattle.session_facts.specs.Facts.{session_at}
-use Rattle.session_facts.specs.Sessions.Sessions.{Sessions}
-use Rattle.session_facts.proofs.AddedRows.{adds_same, adds_line}
-use Rattle.session_facts.proofs.LineLemmas.{line_of}
-use Rattle.session_facts.proofs.SettlerLemmas.{errand_row}
-use Rattle.session_facts.specs.Errands.{Errand, settles, sweeps, event_for, session_for, AreRowsOf}
+use Rattle.session_facts.specs.Rows.Added.{AddsTo}
+use Rattle.session_facts.specs.Lines.Facts.{session_at}
+use Rattle.session_facts.specs.Sessions.Knows.{Sessions}
+use Rattle.session_facts.proofs.Rows.Added.{adds_same, adds_line}
+use Rattle.session_facts.proofs.Lines.More.{line_of}
+use Rattle.session_facts.proofs.Lines.Settler.{errand_row}
+use Rattle.session_facts.specs.Lines.Errands.{Errand, settles, sweeps, event_for, session_for, AreRowsOf}
 use Rattle.ckpt_policy.specs.declared.role.Role.{Role}
 use Rattle.world_core.specs.World.{World}
 use Rattle.world_core.specs.declared.asked.Asked.{Asked}

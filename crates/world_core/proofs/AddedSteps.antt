@@ -18,17 +18,17 @@ use Rattle.client_work.specs.declared.answer.Answer.{Answer}
 use Rattle.client_work.specs.Session.{Acting, closed_session, StepsSession, noted_behind}
 use Rattle.cloud_facts.specs.Book.Tally.{at}
 use Rattle.cloud_facts.proofs.Book.Names.{at_same, at_other}
-use Rattle.session_facts.specs.Sessions.Sessions.{Sessions}
+use Rattle.session_facts.specs.Sessions.Knows.{Sessions}
 use Rattle.replay_meaning.specs.Standing.{Line, Standing, standing, after_line, after_own, session_of, steps}
-use Rattle.session_facts.specs.Added.{AddsKinds, AddsTo}
-use Rattle.session_facts.specs.Facts.{session_at, ActsAs, AllAct, SettlerRests}
-use Rattle.session_facts.proofs.AddedRows.{adds_same, adds_line, adds_later, session_adds, errand_adds}
-use Rattle.session_facts.proofs.Acting.{goes_as, goes_noted, ends_as}
-use Rattle.session_facts.proofs.CallKinds.{errand_goes}
-use Rattle.session_facts.proofs.CommittedLemmas.{standing_line}
-use Rattle.session_facts.proofs.LineLemmas.{line_of, AllActWith, own_line, still_line, refused_own, acts_set}
-use Rattle.session_facts.proofs.SettlerLemmas.{errand_row}
-use Rattle.session_facts.specs.Errands.{Errand, event_for, session_for, WorksOn, AreRowsOf}
+use Rattle.session_facts.specs.Rows.Added.{AddsKinds, AddsTo}
+use Rattle.session_facts.specs.Lines.Facts.{session_at, ActsAs, AllAct, SettlerRests}
+use Rattle.session_facts.proofs.Rows.Added.{adds_same, adds_line, adds_later, session_adds, errand_adds}
+use Rattle.session_facts.proofs.Lines.Acts.{goes_as, goes_noted, ends_as}
+use Rattle.session_facts.proofs.Rows.CallKinds.{errand_goes}
+use Rattle.session_facts.proofs.Lines.Committed.{standing_line}
+use Rattle.session_facts.proofs.Lines.More.{line_of, AllActWith, own_line, still_line, refused_own, acts_set}
+use Rattle.session_facts.proofs.Lines.Settler.{errand_row}
+use Rattle.session_facts.specs.Lines.Errands.{Errand, event_for, session_for, WorksOn, AreRowsOf}
 use Rattle.world_audit.specs.Look.{Looked}
 use Rattle.ckpt_policy.specs.declared.role.Role.{Role}
 use Rattle.world_core.specs.World.{World}

@@ -21,12 +21,12 @@ use Rattle.replay_meaning.specs.Standing.{Line}
 use Rattle.reply_text.specs.declared.reply.Reply.{Reply}
 use Rattle.session_facts.proofs.Sessions.Alone.{session_alone}
 use Rattle.session_facts.proofs.Sessions.AloneLeases.{begun_leases}
-use Rattle.session_facts.proofs.Settled.Locks.{same_alone}
-use Rattle.session_facts.proofs.Steps.{MadeCall, made_call, wish_holds}
-use Rattle.session_facts.specs.Facts.{session_at, CloudHolds}
+use Rattle.session_facts.proofs.Settling.Locks.{same_alone}
+use Rattle.session_facts.proofs.Lines.Outcome.{MadeCall, made_call, wish_holds}
+use Rattle.session_facts.specs.Lines.Facts.{session_at, CloudHolds}
 use Rattle.session_facts.specs.Sessions.Alone.{IsAlone}
-use Rattle.session_facts.specs.Sessions.Sessions.{SessionsStand, leases_of}
-use Rattle.session_facts.specs.Settled.Locks.{HoldsAlone}
+use Rattle.session_facts.specs.Sessions.Knows.{SessionsStand, leases_of}
+use Rattle.session_facts.specs.Settling.Locks.{HoldsAlone}
 use Rattle.world_core.proofs.EachHeld.{each_held}
 use Rattle.world_core.proofs.StandsLemmas.{changed_at, changed_was, end_later, no_memory}
 use Rattle.world_core.specs.Alone.{IsAloneIn, KeepsAlone, LeavesAlone, StepIsUndisturbed}

@@ -29,7 +29,7 @@ use Rattle.client_work.specs.declared.shown.Shown.TheVariants.{Nothing}
 use Rattle.client_work.specs.declared.work.Work.{Work}
 use Rattle.client_work.specs.declared.work.Work.TheVariants as work
 use Rattle.client_work.specs.Session.{Acting, Begins, BeginsOpening, BeginsWith, BeginsIndexed, HasInHand, CommitsNothing, CommitsNoted, CommitsIn, CommitsOf, Follows, LooksIn, LooksOf, ReadsIn, ReadsOf, ScansIn, ScansOf, begins_by, paging_begun_by, folding_begun_by, old_lease, rule_of, stopped_work}
-use Rattle.session_facts.specs.Sessions.Sessions.{Sessions, SessionsStand, IsRightOp}
+use Rattle.session_facts.specs.Sessions.Knows.{Sessions, SessionsStand, IsRightOp}
 use Rattle.session_facts.proofs.Sessions.Begins.{begins_keeps}
 use Rattle.session_facts.proofs.Sessions.Laws.{buffer_keeps, same_sessions}
 use Rattle.page_cache.specs.Cache.{Cache}
@@ -40,19 +40,19 @@ use Rattle.tree_walk.specs.Moves.{Moves}
 use Rattle.tree_walk.specs.Walk.{new_walk}
 use Rattle.attr_index.specs.Look.{Query}
 use Rattle.commit_run.specs.Run.{home_of}
-use Rattle.session_facts.specs.Commits.Committing.{MayCommit}
-use Rattle.session_facts.proofs.Commits.Noted.{may_none}
+use Rattle.session_facts.specs.Machines.Commits.Knows.{MayCommit}
+use Rattle.session_facts.proofs.Machines.Commits.Noted.{may_none}
 use Rattle.cloud_facts.specs.Book.Tally.{at}
 use Rattle.cloud_facts.proofs.Book.Names.{at_same, at_other}
 use Rattle.replay_meaning.specs.Standing.{Line, Standing, Working as WorkingOn, Committing as CommittingAll, Reading as ReadingKey, Scanning as ScanningRange, LookingUp, standing, after_own, joins}
-use Rattle.session_facts.specs.Facts.{session_at, ActsAs, WorksAs}
-use Rattle.session_facts.proofs.Acting.{IsReplyTo}
-use Rattle.session_facts.proofs.RunSteps.{RunsFor, IsRefusal, run_begins}
-use Rattle.session_facts.proofs.LineLemmas.{line_of, refused_own}
-use Rattle.session_facts.proofs.OpeningSteps.{opening_begins}
-use Rattle.session_facts.proofs.ReadingWalk.{reading_begins}
-use Rattle.session_facts.proofs.ScanningRange.{range_of, moved_range, scanning_begins, scanning_begins_ended}
-use Rattle.session_facts.proofs.Looks.Queries.{look_begins_for}
+use Rattle.session_facts.specs.Lines.Facts.{session_at, ActsAs, WorksAs}
+use Rattle.session_facts.proofs.Lines.Acts.{IsReplyTo}
+use Rattle.session_facts.proofs.Machines.CommitRuns.Stays.{RunsFor, IsRefusal, run_begins}
+use Rattle.session_facts.proofs.Lines.More.{line_of, refused_own}
+use Rattle.session_facts.proofs.Machines.Openings.Stays.{opening_begins}
+use Rattle.session_facts.proofs.Machines.Walks.Stays.{reading_begins}
+use Rattle.session_facts.proofs.Machines.Scans.Stays.{range_of, moved_range, scanning_begins, scanning_begins_ended}
+use Rattle.session_facts.proofs.Machines.Looks.Stays.{look_begins_for}
 use Rattle.world_core.specs.declared.asked.Noting.{Noting}
 use Rattle.world_core.specs.World.{World}
 use Rattle.world_core.specs.declared.world.WorldFault.{WorldFault}

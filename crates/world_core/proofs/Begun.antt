@@ -11,7 +11,7 @@ use Rattle.cloud_trait.specs.Machine.{Next, Goes, Ends, Stops}
 use Rattle.cloud_trait.specs.declared.turn.Turn.{Turn}
 use Rattle.cloud_trait.specs.declared.turn.Turn.TheVariants.{More, Ended, Stopped}
 use Rattle.page_cache.specs.Cache.{Cache}
-use Rattle.tree_walk.specs.Causing.{LinkShows}
+use Rattle.tree_walk.specs.Causes.{LinkShows}
 use Rattle.tree_walk.specs.Walk.{Walk, new_walk, walk_ready}
 use Rattle.tree_walk.proofs.Causes.{ready_shows}
 use Rattle.tree_walk.proofs.Outcomes.{unended_ready}
@@ -20,8 +20,8 @@ use Rattle.range_scan.specs.Scan.{Scan, new_scan}
 use Rattle.range_scan.proofs.Demands.{scan_ready_shows}
 use Rattle.recover_run.specs.declared.home.Home.{Home}
 use Rattle.commit_run.specs.Run.{new_run}
-use Rattle.commit_run.proofs.Causing.{ready_causes}
-use Rattle.commit_run.proofs.Exacting.{ready_exact}
+use Rattle.commit_run.proofs.Causes.{ready_causes}
+use Rattle.commit_run.proofs.CallDemands.{ready_exact}
 use Rattle.commit_run.proofs.Meaning.{ready_means}
 use Rattle.client_work.specs.declared.listing.Listing.{Listing}
 use Rattle.client_work.specs.Session.{Acting, CommitsNoted, LooksOf, ReadsOf, ScansOf, Follows, begins_by, Begins}

@@ -5,7 +5,7 @@ use Rattle.cloud_trait.specs.State.{CloudState}
 use Rattle.replay_meaning.specs.Right.{ReportIsRight}
 use Rattle.replay_meaning.specs.Standing.{Line}
 use Rattle.reply_text.specs.declared.reply.Reply.{Reply}
-use Rattle.session_facts.specs.Facts.{session_at, Stands}
+use Rattle.session_facts.specs.Lines.Facts.{session_at, Stands}
 use Rattle.world_core.specs.Stands.{LeftIsRight}
 use Rattle.world_core.specs.World.{World}
 

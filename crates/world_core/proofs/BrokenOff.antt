@@ -5,9 +5,9 @@ use Rattle.commit_run.specs.Run.{home_of}
 use Rattle.client_work.specs.declared.work.Work.{Work}
 use Rattle.client_work.specs.declared.work.Work.TheVariants.{Closed, Idle, Opening, Committing, Reading, Scanning, Looking, Paging, Folding, Closing, Renewing, Settling, Sweeping, Broken}
 use Rattle.client_work.specs.BrokenOff.{broken_work}
-use Rattle.session_facts.proofs.OpenedCalls.{Leads, away_leads}
+use Rattle.session_facts.proofs.Rows.Opened.{LeadsOpened, away_leads}
 
-pub broken_away : (w b : Work) (Was : ℕ → Type 0) (Is : Head → Type 0) → b ≡ broken_work w → Leads Was Is b
+pub broken_away : (w b : Work) (Was : ℕ → Type 0) (Is : Head → Type 0) → b ≡ broken_work w → LeadsOpened Was Is b
 broken_away Closed b Was Is e = away_leads Was Is Closed b e (λ head. tt) tt (λ client h. h)
 broken_away (Idle home) b Was Is e = away_leads Was Is (Broken home.lease) b e (λ head. tt) tt (λ client h. h)
 broken_away (Opening m) b Was Is e = away_leads Was Is Closed b e (λ head. tt) tt (λ client h. h)

@@ -29,18 +29,18 @@ use Rattle.db_base.specs.Value.{Value}
 use Rattle.event_text.specs.declared.event.Event.{Event}
 use Rattle.event_text.specs.declared.event.Event.TheVariants as event
 use Rattle.replay_meaning.specs.Standing.{Line, Task, Opening, Closing, Renewing, Committing, Reading, Scanning, LookingUp, Paging, Folding, Posture, Working, session_of, standing}
-use Rattle.session_facts.specs.Answers.{IsSoundReply}
-use Rattle.session_facts.proofs.CallKinds.{errand_goes}
-use Rattle.session_facts.specs.Errands.{Errand, settles, sweeps, event_for, session_for, WorksOn}
-use Rattle.session_facts.specs.Facts.{session_at}
-use Rattle.session_facts.specs.Sweeps.Sweep.{MayStop as MayStopSweep}
+use Rattle.session_facts.specs.Lines.Answers.{IsSoundReply}
+use Rattle.session_facts.proofs.Rows.CallKinds.{errand_goes}
+use Rattle.session_facts.specs.Lines.Errands.{Errand, settles, sweeps, event_for, session_for, WorksOn}
+use Rattle.session_facts.specs.Lines.Facts.{session_at}
+use Rattle.session_facts.specs.Machines.Sweeps.Knows.{MayStopSweep}
 use Rattle.reply_text.specs.Reply.{HasText}
 use Rattle.reply_text.specs.declared.reply.Reply.{Reply}
 use Rattle.reply_text.specs.declared.reply.Reply.TheVariants as reply
-use Rattle.session_facts.specs.Sessions.Explaining.{spent_for}
-use Rattle.session_facts.specs.Sessions.Sessions.{Sessions, IsRightOp}
+use Rattle.session_facts.specs.Sessions.Explains.{spent_for}
+use Rattle.session_facts.specs.Sessions.Knows.{Sessions, IsRightOp}
 use Rattle.session_facts.specs.Sessions.Untroubled.{StepsCalmly, IsOfNoCall, IsUntroubled}
-use Rattle.session_facts.proofs.CommitRuns.Telling.{IsTold}
+use Rattle.session_facts.proofs.Machines.CommitRuns.Troubles.{IsTold}
 use Rattle.session_facts.proofs.Sessions.AtOnce.{IsAtOnce, begins_at_once, begins_untroubled}
 use Rattle.session_facts.proofs.Sessions.Untroubled.{IsAtRest, rested, untroubled_later, step_untroubled, answer_untroubled, answered_rests, closed_rests, at_rest, rests_as, commit_tells}
 use Rattle.ckpt_policy.specs.declared.role.Role.{Role}

@@ -21,13 +21,13 @@ use Rattle.db_base.specs.Value.{Value}
 use Rattle.page_cache.specs.Cache.{Cache}
 use Rattle.recover_run.specs.declared.home.Home.{Home}
 use Rattle.replay_meaning.specs.Standing.{Task, Opening, Closing, Renewing, Committing, Reading, Scanning, LookingUp, Paging, Folding, Posture, Working, Standing}
-use Rattle.session_facts.specs.Answers.{IsSoundReply}
-use Rattle.session_facts.specs.Facts.{WorksAs}
+use Rattle.session_facts.specs.Lines.Answers.{IsSoundReply}
+use Rattle.session_facts.specs.Lines.Facts.{WorksAs}
 use Rattle.reply_text.specs.declared.reply.Reply.{Reply}
 use Rattle.reply_text.specs.declared.reply.Reply.TheVariants as reply
-use Rattle.session_facts.specs.Sessions.Explaining.{left_told, spent_for, trouble_of_answer}
+use Rattle.session_facts.specs.Sessions.Explains.{left_told, spent_for, trouble_of_answer}
 use Rattle.session_facts.specs.Sessions.Untroubled.{IsOfNoCall}
-use Rattle.session_facts.proofs.CommitRuns.Telling.{IsTold}
+use Rattle.session_facts.proofs.Machines.CommitRuns.Troubles.{IsTold}
 use Rattle.session_facts.proofs.Sessions.Untroubled.{no_call_by, commit_well}
 use Rattle.tree_walk.specs.Walk.{sought}
 use Rattle.txn_buffer.specs.Noted.{Noted}

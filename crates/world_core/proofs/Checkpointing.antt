@@ -28,10 +28,10 @@ use Rattle.db_base.specs.declared.refusal.Refused.{Refused}
 use Rattle.db_base.specs.declared.refusal.Refused.TheVariants as refused
 use Rattle.db_base.specs.declared.trouble.Trouble.{Trouble}
 use Rattle.recover_run.specs.declared.home.Home.{Home}
-use Rattle.session_facts.specs.Facts.{session_at}
-use Rattle.session_facts.specs.Sessions.Sessions.{Sessions}
-use Rattle.session_facts.proofs.CallKinds.{HasCheckpoint}
-use Rattle.session_facts.proofs.Lists.{session_there}
+use Rattle.session_facts.specs.Lines.Facts.{session_at}
+use Rattle.session_facts.specs.Sessions.Knows.{Sessions}
+use Rattle.session_facts.proofs.Rows.CallKinds.{HasCheckpoint}
+use Rattle.session_facts.proofs.Sessions.Lists.{session_there}
 use Rattle.session_notes.specs.declared.notebook.Notebook.{Notebook}
 use Rattle.session_notes.specs.Notebook.{ChangesBook, GoesOnBy, GoesOnEnded, LedgerTakes}
 use Rattle.world_core.specs.World.{World}

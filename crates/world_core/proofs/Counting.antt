@@ -38,17 +38,17 @@ use Rattle.replay_meaning.specs.Standing.{Line, session_of}
 use Rattle.reply_text.specs.declared.reply.Reply.{Reply}
 use Rattle.reply_text.specs.declared.reply.Reply.TheVariants as reply
 use Rattle.report_types.specs.declared.entry.Entry.{Entry}
-use Rattle.session_facts.proofs.LineLemmas.{line_of}
-use Rattle.session_facts.proofs.Sessions.CheckpointCalls.{IsOther, Leads, begun_counts, page_begun, counts_beside, other_counts, session_few, session_names, more_counts, end_counts}
-use Rattle.session_facts.proofs.SettlerLemmas.{errand_row}
-use Rattle.session_facts.specs.Errands.{Errand, settles, sweeps, event_for, session_for, AreRowsOf}
-use Rattle.session_facts.proofs.Steps.{CallLeaves, CallLeavesUpto, wish_holds}
-use Rattle.session_facts.proofs.CallKinds.{IsWorkersRow}
-use Rattle.session_facts.specs.Counted.{counted, counted_line, counted_from, calls_told, CountsWork, CountsAll, FewFor}
-use Rattle.session_facts.specs.Facts.{session_at, CloudHolds}
-use Rattle.session_facts.specs.Few.{next_page}
-use Rattle.session_facts.specs.Sessions.Sessions.{Sessions, SessionsStand}
-use Rattle.session_facts.specs.TreeCheckpoints.Named.{NamesPieces}
+use Rattle.session_facts.proofs.Lines.More.{line_of}
+use Rattle.session_facts.proofs.Sessions.CheckpointCalls.{IsOther, LosesNothing, begun_counts, page_begun, counts_beside, other_counts, session_few, session_names, more_counts, end_counts}
+use Rattle.session_facts.proofs.Lines.Settler.{errand_row}
+use Rattle.session_facts.specs.Lines.Errands.{Errand, settles, sweeps, event_for, session_for, AreRowsOf}
+use Rattle.session_facts.proofs.Lines.Outcome.{CallLeaves, CallLeavesUpto, wish_holds}
+use Rattle.session_facts.proofs.Rows.CallKinds.{IsWorkersRow}
+use Rattle.session_facts.specs.Lines.Counted.{counted, counted_line, counted_from, calls_told, CountsWork, CountsAll, FewFor}
+use Rattle.session_facts.specs.Lines.Facts.{session_at, CloudHolds}
+use Rattle.session_facts.specs.Machines.TreeCheckpoints.Few.{next_page}
+use Rattle.session_facts.specs.Sessions.Knows.{Sessions, SessionsStand}
+use Rattle.session_facts.specs.Machines.TreeCheckpoints.Named.{NamesPieces}
 use Rattle.txn_buffer.specs.Noted.{Noted}
 use Rattle.db_base.specs.declared.names.QueueName.{QueueName}
 use Rattle.ckpt_policy.specs.declared.role.Role.{Role}
@@ -78,7 +78,7 @@ no_more : (n : ℕ) → n ≤ n
 no_more n = omega arith
 
 -- a wait loses nothing
-wait_leads : (t : CloudState) (now waits : ℕ) → t.now ≤ now → Leads t (record t { now = now; waits = waits })
+wait_leads : (t : CloudState) (now waits : ℕ) → t.now ≤ now → LosesNothing t (record t { now = now; waits = waits })
 wait_leads t now waits later = record {
   next = λ tree. no_more (next_page t tree);
   grown = record {

@@ -11,14 +11,14 @@ use Rattle.db_base.specs.declared.wish.Wish.{Wish}
 use Rattle.db_base.specs.declared.wish.Wish.TheVariants.{Plain}
 use Rattle.event_text.specs.declared.event.Event.TheVariants as event
 use Rattle.replay_meaning.specs.Standing.{Line}
-use Rattle.session_facts.specs.Facts.{session_at, CloudHolds}
-use Rattle.session_facts.proofs.CallKinds.{IsWorkersRow}
-use Rattle.session_facts.proofs.LineLemmas.{line_of}
-use Rattle.session_facts.proofs.SettlerLemmas.{errand_row}
-use Rattle.session_facts.specs.Errands.{Errand, settles, sweeps, event_for, AreRowsOf}
+use Rattle.session_facts.specs.Lines.Facts.{session_at, CloudHolds}
+use Rattle.session_facts.proofs.Rows.CallKinds.{IsWorkersRow}
+use Rattle.session_facts.proofs.Lines.More.{line_of}
+use Rattle.session_facts.proofs.Lines.Settler.{errand_row}
+use Rattle.session_facts.specs.Lines.Errands.{Errand, settles, sweeps, event_for, AreRowsOf}
 use Rattle.reply_text.specs.declared.reply.Reply.{Reply}
 use Rattle.reply_text.specs.declared.reply.Reply.TheVariants as reply
-use Rattle.session_facts.specs.Sessions.Sessions.{Sessions}
+use Rattle.session_facts.specs.Sessions.Knows.{Sessions}
 use Rattle.recover_run.specs.declared.home.Home.{Home}
 use Rattle.db_base.specs.declared.names.QueueName.{QueueName}
 use Rattle.world_core.proofs.Workers.{IsInside, HoldsWithin, IsBetween, holds_begun, holds_went, holds_works, open_rests, within_begun, within_works, worker, worker_begins, worker_rows}

@@ -9,8 +9,8 @@ use Rattle.replay_meaning.specs.Standing.{Standing, after_own}
 use Rattle.reply_text.specs.declared.reply.Reply.{Reply}
 use Rattle.report_types.specs.declared.entry.Entry.{Entry}
 use Rattle.session_facts.proofs.Sessions.Begins.{settling_begins_session, sweeping_begins_session}
-use Rattle.session_facts.specs.Errands.{Errand, settles, sweeps, event_for, session_for, WorksOn}
-use Rattle.session_facts.specs.Sessions.Sessions.{Sessions, SessionsStand}
+use Rattle.session_facts.specs.Lines.Errands.{Errand, settles, sweeps, event_for, session_for, WorksOn}
+use Rattle.session_facts.specs.Sessions.Knows.{Sessions, SessionsStand}
 
 -- a sweep is of a tree
 abbrev pub IsRightErrand : Errand → Type 0

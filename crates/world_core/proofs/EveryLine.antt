@@ -9,7 +9,7 @@ use Rattle.cloud_trait.specs.State.{CloudState}
 use Rattle.cloud_trait.specs.Seen.{Seen}
 use Rattle.client_work.specs.declared.op.Op.TheVariants as op
 use Rattle.replay_meaning.specs.Standing.{Line, Standing, after_own, session_of, joins}
-use Rattle.session_facts.proofs.LineLemmas.{line_of}
+use Rattle.session_facts.proofs.Lines.More.{line_of}
 use Rattle.world_core.specs.World.{World}
 use Rattle.world_core.specs.declared.asked.Noting.{Noting}
 use Rattle.world_core.specs.declared.asked.Request.{Request}
@@ -20,7 +20,7 @@ use Rattle.world_core.specs.Asked.{noting_of, bound_of, IsOpening, IsReading, Is
 use Rattle.world_core.specs.Sessions.{joined}
 use Rattle.world_core.specs.Handled.{MakesNoCall, Does, Answers, Handled}
 use Rattle.world_core.proofs.Behind.{LinesStand, LineLeaves}
-use Rattle.session_facts.specs.Errands.{settles, sweeps}
+use Rattle.session_facts.specs.Lines.Errands.{settles, sweeps}
 use Rattle.world_core.proofs.StandsLemmas.{Ready, declines, runs, makes_step, crashes, policies, goes_errand, waits, reports}
 use Rattle.world_core.proofs.Workers.{works_through}
 use Rattle.world_core.proofs.BeginLemmas.{opening_begun, read_begun, scan_begun, look_begun, paging_begun, close_begun, renewal_begun, folding_begun, commit_begun, notes, aborts}

@@ -8,11 +8,11 @@ use Rattle.cloud_trait.specs.declared.turn.Turn.{Turn}
 use Rattle.db_base.specs.declared.wish.Wish.{Wish}
 use Rattle.event_text.specs.declared.event.Event.{Event}
 use Rattle.replay_meaning.specs.Standing.{Line}
-use Rattle.session_facts.specs.Facts.{session_at, CloudHolds}
-use Rattle.session_facts.proofs.Steps.{wish_holds}
+use Rattle.session_facts.specs.Lines.Facts.{session_at, CloudHolds}
+use Rattle.session_facts.proofs.Lines.Outcome.{wish_holds}
 use Rattle.reply_text.specs.declared.reply.Reply.{Reply}
-use Rattle.session_facts.specs.Sessions.Sessions.{SessionsStand}
-use Rattle.session_facts.proofs.Sessions.Explaining.{session_explains}
+use Rattle.session_facts.specs.Sessions.Knows.{SessionsStand}
+use Rattle.session_facts.proofs.Sessions.Explains.Sessions.{session_explains}
 use Rattle.world_core.specs.World.{World}
 use Rattle.world_core.specs.declared.world.WorldFault.{WorldFault}
 use Rattle.world_core.specs.Explained.{StepExplains, ExplainsSteps}

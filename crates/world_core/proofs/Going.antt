@@ -16,7 +16,7 @@ use Rattle.client_work.specs.declared.work.Work.TheVariants.{Closed, Idle, Openi
 use Rattle.client_work.specs.declared.listing.Listing.{Listing}
 use Rattle.client_work.specs.declared.shown.Shown.{Shown}
 use Rattle.client_work.specs.Session.{Acting, closed_session, Follows, StepsAt, ask_of_work, calls_left}
-use Rattle.client_work.proofs.Ending.{session_less}
+use Rattle.client_work.proofs.End.{session_less}
 use Rattle.cloud_trait.specs.Ask.{Ask}
 use Rattle.world_core.specs.declared.put.Put.{Put}
 use Rattle.world_core.specs.World.{World}

@@ -16,7 +16,7 @@ use Rattle.cloud_trait.proofs.UptoLemmas.{agree_itself, agree_trans}
 use Rattle.client_work.specs.declared.answer.Answer.{Answer}
 use Rattle.client_work.specs.declared.work.Work.{Work}
 use Rattle.client_work.specs.Session.{Acting, StepsSession, StepsAt}
-use Rattle.session_facts.proofs.Steps.{made_call}
+use Rattle.session_facts.proofs.Lines.Outcome.{made_call}
 use Rattle.world_audit.specs.Look.{Looked}
 use Rattle.world_core.specs.Sessions.{Changes}
 use Rattle.world_core.specs.Handled.{SetsWish}

@@ -2,8 +2,8 @@
 use Rattle.std.proofs.Common.{◌≤◌, List, length}
 use Rattle.db_base.specs.Change.{IsChange}
 use Rattle.txn_buffer.specs.Noted.{Noted}
-use Rattle.session_facts.specs.Commits.Committing.{MayCommit}
-use Rattle.session_facts.proofs.Commits.Noted.{may_note, may_put}
+use Rattle.session_facts.specs.Machines.Commits.Knows.{MayCommit}
+use Rattle.session_facts.proofs.Machines.Commits.Noted.{may_note, may_put}
 use Rattle.world_core.specs.declared.asked.Noting.{Noting}
 use Rattle.world_core.specs.declared.asked.Noting.TheVariants.{Single, Indexed}
 use Rattle.world_core.specs.Asked.{IsPlace, change_in}

@@ -22,15 +22,15 @@ use Rattle.event_text.specs.declared.event.Event.{Event}
 use Rattle.event_text.specs.declared.event.Event.TheVariants as event
 use Rattle.reply_text.specs.declared.reply.Reply.{Reply}
 use Rattle.report_types.specs.declared.entry.Entry.{Entry}
-use Rattle.session_facts.proofs.Commits.Noted.{may_none}
+use Rattle.session_facts.proofs.Machines.Commits.Noted.{may_none}
 use Rattle.session_facts.proofs.Sessions.Begins.{begins_keeps}
-use Rattle.session_facts.specs.Errands.{Errand, settles, sweeps, session_for}
-use Rattle.session_facts.proofs.Sessions.Calling.{session_keeps}
+use Rattle.session_facts.specs.Lines.Errands.{Errand, settles, sweeps, session_for}
+use Rattle.session_facts.proofs.Sessions.Outcome.{session_keeps}
 use Rattle.session_facts.proofs.Sessions.Laws.{buffer_keeps, crash_keeps, rest_keeps, same_sessions}
-use Rattle.session_facts.proofs.Steps.{MadeCall, made_call}
-use Rattle.session_facts.specs.Commits.Committing.{MayCommit}
-use Rattle.session_facts.specs.Facts.{session_at, SettlerRests}
-use Rattle.session_facts.specs.Sessions.Sessions.{Sessions, SessionsStand, Goes as SessionGoes, IsRightOp}
+use Rattle.session_facts.proofs.Lines.Outcome.{MadeCall, made_call}
+use Rattle.session_facts.specs.Machines.Commits.Knows.{MayCommit}
+use Rattle.session_facts.specs.Lines.Facts.{session_at, SettlerRests}
+use Rattle.session_facts.specs.Sessions.Knows.{Sessions, SessionsStand, Goes as SessionGoes, IsRightOp}
 use Rattle.txn_buffer.specs.Noted.{Noted}
 use Rattle.replay_meaning.specs.Standing.{session_of}
 use Rattle.db_base.specs.declared.names.QueueName.{QueueName}

@@ -83,14 +83,14 @@ at_place place other is = one-place place other (on (place_cmp place other) is)
     on Greater h = absurd (cc (h))
 
 -- the queue of a page counts no send more, or the call is one
-abbrev Adds : Ask → List Note → Place → Type 0
-Adds ask notes place =
+abbrev AddsNoSend : Ask → List Note → Place → Type 0
+AddsNoSend ask notes place =
     (sent_since (with_note notes (note_of_ask ask)) place ≤ sent_since notes place) ⊎ ((bytes : List ℕ) × (ask ≡ Send (PagePu place.tree place.page) bytes))
 
-tree_adds : (tree : ℕ) (bytes : List ℕ) (notes : List Note) (place : Place) → 1 ≤ place.page → Adds (Send (TreePu tree) bytes) notes place
+tree_adds : (tree : ℕ) (bytes : List ℕ) (notes : List Note) (place : Place) → 1 ≤ place.page → AddsNoSend (Send (TreePu tree) bytes) notes place
 tree_adds tree bytes notes place some = on (is_here place (place_of (TreePu tree))) refl
   where
-    on : (b : Bool) → is_here place (place_of (TreePu tree)) ≡ b → Adds (Send (TreePu tree) bytes) notes place
+    on : (b : Bool) → is_here place (place_of (TreePu tree)) ≡ b → AddsNoSend (Send (TreePu tree) bytes) notes place
     on true e =
         let none : place.page ≡ 0 = ap (λ (p : Place). p.page) (at_place place (record { tree = tree; page = 0 }) e) in
         absurd (omega (arith, none, some))
@@ -98,17 +98,17 @@ tree_adds tree bytes notes place some = on (is_here place (place_of (TreePu tree
         let same : sent_since (notes ++ NotesSent (TreePu tree) ∷ []) place ≡ sent_since notes place = ap (λ c. c.sent) (counts-other (NotesSent (TreePu tree)) place e notes) in
         inl (omega (arith, same))
 
-page_adds : (tree page : ℕ) (bytes : List ℕ) (notes : List Note) (place : Place) → Adds (Send (PagePu tree page) bytes) notes place
+page_adds : (tree page : ℕ) (bytes : List ℕ) (notes : List Note) (place : Place) → AddsNoSend (Send (PagePu tree page) bytes) notes place
 page_adds tree page bytes notes place = on (is_here place (place_of (PagePu tree page))) refl
   where
-    on : (b : Bool) → is_here place (place_of (PagePu tree page)) ≡ b → Adds (Send (PagePu tree page) bytes) notes place
+    on : (b : Bool) → is_here place (place_of (PagePu tree page)) ≡ b → AddsNoSend (Send (PagePu tree page) bytes) notes place
     on true e = inr (bytes, ap (λ (p : Place). Send (PagePu p.tree p.page) bytes) (sym (at_place place (record { tree = tree; page = page }) e)))
     on false e =
         let same : sent_since (notes ++ NotesSent (PagePu tree page) ∷ []) place ≡ sent_since notes place =
         ap (λ c. c.sent) (counts-other (NotesSent (PagePu tree page)) place e notes) in
         inl (omega (arith, same))
 
-adds_so : (ask : Ask) (notes : List Note) (place : Place) → 1 ≤ place.page → Adds ask notes place
+adds_so : (ask : Ask) (notes : List Note) (place : Place) → 1 ≤ place.page → AddsNoSend ask notes place
 adds_so (Send (Atomic client) bytes) notes place some = inl (omega arith)
 adds_so (Send (TreePu tree) bytes) notes place some = tree_adds tree bytes notes place some
 adds_so (Send (PagePu tree page) bytes) notes place some = page_adds tree page bytes notes place
@@ -183,7 +183,7 @@ module _ (who : Caller) (wish : Wish) (before after : Seen) (old new : World) (t
           let less = end_less (is_done turn) p.notes.does.called.queue mid place in
           subst (λ (ns : List Note). 1 ≤ sent_since ns place) mid_is (omega (arith, less, many))
 
-      on : Adds made.ask notes place → left.after.messages (PagePu place.tree place.page) ≢ []
+      on : AddsNoSend made.ask notes place → left.after.messages (PagePu place.tree place.page) ≢ []
       on (inl less) =
           let before_it : 1 ≤ sent_since notes place = omega (arith, less, sent_mid) in
           kept_some (h.state.messages (PagePu place.tree place.page)) (left.after.messages (PagePu place.tree place.page)) (grown.messages (PagePu place.tree place.page))

@@ -16,12 +16,12 @@ use Rattle.replay_meaning.specs.Standing.{Line, Posture, session_of, standing}
 use Rattle.reply_text.specs.declared.reply.Reply.{Reply}
 use Rattle.reply_text.specs.declared.reply.Reply.TheVariants as reply
 use Rattle.report_types.specs.declared.entry.Entry.{Entry}
-use Rattle.session_facts.proofs.LeftNone.{left_none}
-use Rattle.session_facts.proofs.CommittedLemmas.{committed_line}
-use Rattle.session_facts.proofs.LineLemmas.{line_of}
-use Rattle.session_facts.proofs.Steps.{CallLeaves, wish_holds}
-use Rattle.session_facts.specs.LeftNone.{LeavesNoneAt, IsLeftReply}
-use Rattle.session_facts.specs.Facts.{session_at, CloudHolds}
+use Rattle.session_facts.proofs.Lines.LeftNone.{left_none}
+use Rattle.session_facts.proofs.Lines.Committed.{committed_line}
+use Rattle.session_facts.proofs.Lines.More.{line_of}
+use Rattle.session_facts.proofs.Lines.Outcome.{CallLeaves, wish_holds}
+use Rattle.session_facts.specs.Lines.LeftNone.{LeavesNoneAt, IsLeftReply}
+use Rattle.session_facts.specs.Lines.Facts.{session_at, CloudHolds}
 use Rattle.world_core.specs.declared.world.WorldFault.{WorldFault}
 use Rattle.world_core.specs.LeftNone.{LeavesNoCommit}
 use Rattle.world_core.specs.Handled.{StepsLooked, Handled}

@@ -3,13 +3,13 @@
 use Rattle.std.proofs.Common.{◌≡◌, ◌≤◌, ◌+◌, inl, inr, ℕ, List, [], ◌∷◌, length, Option, Some, None, Ok, refl, ap, sym, subst, ◌∙◌, arith}
 use Rattle.std.specs.List.{AllByRecursion}
 use Rattle.std.proofs.lemmas.Option.{same_Some}
-use Rattle.attr_index.specs.Found.{Visit, Looked, leaf_by, visited, tree_at}
+use Rattle.attr_index.specs.Meaning.{Visit, Looked, leaf_by, visited, tree_at}
 use Rattle.attr_index.specs.Look.{Query, Own, Look}
 use Rattle.attr_index.specs.Stepped.{Stepped as StepsLook, deed_of}
 use Rattle.attr_index.specs.Tagged.{FindsTagged}
 use Rattle.client_work.proofs.Looks.{step_looked}
 use Rattle.client_work.specs.Session.{Acting, StepsSession, ShowsAt, LooksBy, items_in, items_of, noted_behind, shown_behind}
-use Rattle.client_work.specs.Showing.{own_of}
+use Rattle.client_work.specs.Shows.{own_of}
 use Rattle.client_work.specs.declared.answer.Answer.{Answer}
 use Rattle.client_work.specs.declared.answer.Answer.TheVariants as answer
 use Rattle.client_work.specs.declared.shown.Shown.{Shown}
@@ -38,10 +38,10 @@ use Rattle.replay_meaning.proofs.SameLemmas.{finds_same}
 use Rattle.replay_meaning.specs.Committed.{Versions, committed, committed_by}
 use Rattle.replay_meaning.specs.Standing.{Line}
 use Rattle.report_types.specs.declared.entry.Entry.{Entry}
-use Rattle.session_facts.proofs.NewestLeaves.{applied_same, looked_newest}
-use Rattle.session_facts.proofs.Steps.{made_call, wish_holds}
-use Rattle.session_facts.specs.Facts.{session_at, CloudHolds}
-use Rattle.session_facts.specs.NewestLeaves.{IsAllApplied, IsNewestAt}
+use Rattle.session_facts.proofs.Index.NewestLeaves.{applied_same, looked_newest}
+use Rattle.session_facts.proofs.Lines.Outcome.{made_call, wish_holds}
+use Rattle.session_facts.specs.Lines.Facts.{session_at, CloudHolds}
+use Rattle.session_facts.specs.Index.NewestLeaves.{IsAllApplied, IsNewestAt}
 use Rattle.tree_walk.specs.Walk.{object_of, sought}
 use Rattle.txn_buffer.specs.Noted.{Noted}
 use Rattle.world_core.specs.World.{World}

@@ -9,7 +9,7 @@ use Rattle.cloud_trait.proofs.RowLemmas.{leaves_last, leaves_waits}
 use Rattle.db_base.specs.declared.wish.Wish.{Wish}
 use Rattle.client_work.specs.declared.answer.Answer.{Answer}
 use Rattle.client_work.specs.Session.{Acting, StepsSession}
-use Rattle.session_facts.proofs.Steps.{MadeCall, made_call}
+use Rattle.session_facts.proofs.Lines.Outcome.{MadeCall, made_call}
 use Rattle.world_audit.specs.Look.{Looked}
 use Rattle.world_core.specs.Sessions.{Changes}
 use Rattle.world_core.specs.Handled.{SetsWish, IsNewestCall}

@@ -5,7 +5,7 @@ use Rattle.ckpt_policy.specs.declared.note.Note.{Note}
 use Rattle.ckpt_policy.specs.declared.note.Note.TheVariants.{Kept}
 use Rattle.ckpt_policy.specs.declared.place.Place.{Place}
 use Rattle.ckpt_policy.specs.Notes.{queue_at}
-use Rattle.client_work.specs.Causing.{CausesAt}
+use Rattle.client_work.specs.Causes.{CausesAt}
 use Rattle.client_work.specs.declared.answer.Answer.{Answer as Told}
 use Rattle.client_work.specs.declared.answer.Answer.TheVariants as told
 use Rattle.client_work.specs.declared.work.Work.{Work}
@@ -28,11 +28,11 @@ use Rattle.db_base.specs.declared.wish.Wish.TheVariants.{Plain}
 use Rattle.page_cache.specs.Cache.{Cache}
 use Rattle.page_ckpt.specs.Paging.{Paging as Page, paging_ask, PagingLeads}
 use Rattle.recover_run.specs.declared.home.Home.{Home}
-use Rattle.session_facts.proofs.Settled.Trails.{IsBetween}
-use Rattle.session_facts.proofs.Settled.TreeDrains.{SendsNothing}
-use Rattle.session_facts.specs.Facts.{session_at}
-use Rattle.session_facts.specs.Settled.Runs.{waiting}
-use Rattle.session_facts.specs.Settled.Story.{Moment}
+use Rattle.session_facts.proofs.Settling.Trails.{IsBetween}
+use Rattle.session_facts.proofs.Settling.Trees.Drains.{SendsNothing}
+use Rattle.session_facts.specs.Lines.Facts.{session_at}
+use Rattle.session_facts.specs.Settling.Runs.{waiting}
+use Rattle.session_facts.specs.Settling.Story.{Moment}
 use Rattle.session_notes.proofs.MeterLemmas.{adds_none, call_metered, kept_metered}
 use Rattle.session_notes.specs.declared.notebook.Notebook.{Notebook}
 use Rattle.session_notes.specs.Metered.{IsMetered, SendNoMore}
@@ -50,32 +50,32 @@ use Rattle.world_core.specs.World.{World}
 -- ---- the calls of the two machines
 
 -- the call of a step, which found memory, and where its answer led
-pub record Answers (ask : Ask) (Leads : Answer → Type 0) (who : Caller) (before after : Seen) : Type 0 where
+pub record AnswersCall (ask : Ask) (Leads : Answer → Type 0) (who : Caller) (before after : Seen) : Type 0 where
   pub answer : Answer
   pub made : Makes who ask answer before after
   pub took : Leads answer
   pub found : answer ≢ Memory
 
 pub folding_more : (who : Caller) (before after : Seen) (home : Home) (m : Making) (c d : Cache) (work : Work) → CausesAt who before after (Folding home m) c d work More
-    → (n : Making) × (Answers (making_ask m) (λ a. MakingLeads m a (Goes n)) who before after × (work ≡ Folding home n))
+    → (n : Making) × (AnswersCall (making_ask m) (λ a. MakingLeads m a (Goes n)) who before after × (work ≡ Folding home n))
 folding_more who before after home m c d work (n, causes, is) =
     let s = causes.stepped in
     (n, (record { answer = s.did.answer; made = s.did.made; took = s.did.took; found = λ e. absurd (let never = s.memory e in cc (never)) }, is))
 
 pub folding_ends : (who : Caller) (before after : Seen) (home : Home) (m : Making) (c d : Cache) (work : Work) (x : CkptAnswer)
-    → CausesAt who before after (Folding home m) c d work (Ended (told.Done x)) → (n : Making) × Answers (making_ask m) (λ a. MakingLeads m a (Ends n x)) who before after
+    → CausesAt who before after (Folding home m) c d work (Ended (told.Done x)) → (n : Making) × AnswersCall (making_ask m) (λ a. MakingLeads m a (Ends n x)) who before after
 folding_ends who before after home m c d work x (n, causes) =
     let s = causes.stepped in
     (n, record { answer = s.did.answer; made = s.did.made; took = s.did.took; found = λ e. absurd (let never = s.memory e in cc (never)) })
 
 pub paging_more : (who : Caller) (before after : Seen) (home : Home) (m : Page) (c d : Cache) (work : Work) → CausesAt who before after (Paging home m) c d work More
-    → (n : Page) × (Answers (paging_ask m) (λ a. PagingLeads m a (Goes n)) who before after × (work ≡ Paging home n))
+    → (n : Page) × (AnswersCall (paging_ask m) (λ a. PagingLeads m a (Goes n)) who before after × (work ≡ Paging home n))
 paging_more who before after home m c d work (n, causes, is) =
     let s = causes.stepped in
     (n, (record { answer = s.did.answer; made = s.did.made; took = s.did.took; found = λ e. absurd (let never = s.memory e in cc (never)) }, is))
 
 pub paging_ends : (who : Caller) (before after : Seen) (home : Home) (m : Page) (c d : Cache) (work : Work) (x : CkptAnswer)
-    → CausesAt who before after (Paging home m) c d work (Ended (told.Done x)) → (n : Page) × Answers (paging_ask m) (λ a. PagingLeads m a (Ends n x)) who before after
+    → CausesAt who before after (Paging home m) c d work (Ended (told.Done x)) → (n : Page) × AnswersCall (paging_ask m) (λ a. PagingLeads m a (Ends n x)) who before after
 paging_ends who before after home m c d work x (n, causes) =
     let s = causes.stepped in
     (n, record { answer = s.did.answer; made = s.did.made; took = s.did.took; found = λ e. absurd (let never = s.memory e in cc (never)) })
@@ -121,9 +121,9 @@ more_less a b c one two place =
 module _ {M : Type 0} (ask : M → Ask) (leads : M → Answer → Next M CkptAnswer → Type 0) (wrap : Home → M → Work) (begin : M) (queue : QueueName)
     (hand : (home : Home) (m : M) → ask_of_work (wrap home m) ≡ Some (ask m)) (quiet : (m : M) → SendsNothing (ask m))
     (goes : (who : Caller) (before after : Seen) (home : Home) (m : M) (c d : Cache) (work : Work) → CausesAt who before after (wrap home m) c d work More
-    → (n : M) × (Answers (ask m) (λ a. leads m a (Goes n)) who before after × (work ≡ wrap home n)))
+    → (n : M) × (AnswersCall (ask m) (λ a. leads m a (Goes n)) who before after × (work ≡ wrap home n)))
     (ends : (who : Caller) (before after : Seen) (home : Home) (m : M) (c d : Cache) (work : Work) (x : CkptAnswer)
-    → CausesAt who before after (wrap home m) c d work (Ended (told.Done x)) → (n : M) × Answers (ask m) (λ a. leads m a (Ends n x)) who before after)
+    → CausesAt who before after (wrap home m) c d work (Ended (told.Done x)) → (n : M) × AnswersCall (ask m) (λ a. leads m a (Ends n x)) who before after)
     (first : Moment)
     (empties : (m n : M) (s t : CloudState) → Comes ask leads begin first.state m s → (end : Deed) (x : CkptAnswer) → IsBetween end s t → end.ask ≡ ask m → leads m end.answer (Ends n x)
     → end.after.counts.withheld ≡ end.before.counts.withheld → length (waiting first.state queue) ≤ 256 → waiting t queue ≡ [])
@@ -158,7 +158,7 @@ module _ {M : Type 0} (ask : M → Ask) (leads : M → Answer → Next M CkptAns
     less : SendNoMore earlier later
     less = more_less earlier on.notes later on.less (adds_none (ask m) on.notes (is_no_send (ask m) (quiet m)))
 
-    module _ (Leads : Answer → Type 0) (h : Answers (ask m) Leads who p.under p.to) where
+    module _ (Leads : Answer → Type 0) (h : AnswersCall (ask m) Leads who p.under p.to) where
       abbrev deed : Deed
       deed = record { who = who; ask = ask m; answer = h.answer; before = p.under; after = p.to }
 
@@ -185,7 +185,7 @@ module _ {M : Type 0} (ask : M → Ask) (leads : M → Answer → Next M CkptAns
       → On new after
   goes_on before after old new on p through = by (goes who p.under p.to on.home on.machine p.session.before.cache p.session.does.causes.0 p.session.after.work (causes before after old new More on p through))
     where
-      by : (n : M) × (Answers (ask on.machine) (λ a. leads on.machine a (Goes n)) who p.under p.to × (p.session.after.work ≡ wrap on.home n)) → On new after
+      by : (n : M) × (AnswersCall (ask on.machine) (λ a. leads on.machine a (Goes n)) who p.under p.to × (p.session.after.work ≡ wrap on.home n)) → On new after
       by (n, (h, is)) =
           let l = left before after old new More on p through (λ a. leads on.machine a (Goes n)) h in
           let was : p.notes.before ≡ on.book = book_before who.session _ old.notes new.notes on.book p.notes on.there in
@@ -219,7 +219,7 @@ module _ {M : Type 0} (ask : M → Ask) (leads : M → Answer → Next M CkptAns
   comes_to_end own own_is few before after old new x on p through =
       by (ends who p.under p.to on.home on.machine p.session.before.cache p.session.does.causes.0 p.session.after.work x (causes before after old new (Ended (told.Done x)) on p through))
     where
-      by : (n : M) × Answers (ask on.machine) (λ a. leads on.machine a (Ends n x)) who p.under p.to → AtItsEnd queue who.session k earlier new after
+      by : (n : M) × AnswersCall (ask on.machine) (λ a. leads on.machine a (Ends n x)) who p.under p.to → AtItsEnd queue who.session k earlier new after
       by (n, h) =
           let l = left before after old new (Ended (told.Done x)) on p through (λ a. leads on.machine a (Ends n x)) h in
           let was : p.notes.before ≡ on.book = book_before who.session _ old.notes new.notes on.book p.notes on.there in

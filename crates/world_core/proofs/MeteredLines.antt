@@ -31,8 +31,8 @@ use Rattle.recover_run.specs.declared.home.Home.{Home}
 use Rattle.replay_meaning.specs.Standing.{Line}
 use Rattle.reply_text.specs.declared.reply.Reply.{Reply}
 use Rattle.reply_text.specs.declared.reply.Reply.TheVariants as reply
-use Rattle.session_facts.proofs.LineLemmas.{line_of}
-use Rattle.session_facts.specs.Facts.{session_at}
+use Rattle.session_facts.proofs.Lines.More.{line_of}
+use Rattle.session_facts.specs.Lines.Facts.{session_at}
 use Rattle.session_notes.specs.declared.notebook.Notebook.{Notebook}
 use Rattle.session_notes.specs.Metered.{IsMetered, sent_since, waiting_at}
 use Rattle.session_notes.specs.Notebook.{IsDue}

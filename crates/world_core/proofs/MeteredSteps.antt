@@ -16,8 +16,8 @@ use Rattle.cloud_trait.specs.declared.turn.Turn.{Turn}
 use Rattle.cloud_trait.specs.declared.turn.Turn.TheVariants.{More, Ended}
 use Rattle.db_base.specs.declared.wish.Wish.{Wish}
 use Rattle.db_base.specs.declared.wish.Wish.TheVariants.{Plain}
-use Rattle.session_facts.proofs.Steps.{MadeCall, made_call}
-use Rattle.session_facts.specs.Facts.{session_at}
+use Rattle.session_facts.proofs.Lines.Outcome.{MadeCall, made_call}
+use Rattle.session_facts.specs.Lines.Facts.{session_at}
 use Rattle.session_notes.proofs.MeterLemmas.{adds_sends, call_metered}
 use Rattle.session_notes.specs.Metered.{IsMetered, sent_since}
 use Rattle.session_notes.specs.Notebook.{with_note}

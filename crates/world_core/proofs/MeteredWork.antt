@@ -26,11 +26,11 @@ use Rattle.db_base.specs.declared.wish.Wish.TheVariants.{Plain}
 use Rattle.page_ckpt.specs.Paging.{new_paging, paging_ask, PagingLeads}
 use Rattle.recover_run.specs.declared.home.Home.{Home}
 use Rattle.replay_meaning.specs.Standing.{Line}
-use Rattle.session_facts.proofs.CallKinds.{IsWorkersRow}
-use Rattle.session_facts.proofs.Steps.{wish_holds}
-use Rattle.session_facts.specs.Facts.{session_at, CloudHolds}
-use Rattle.session_facts.specs.Sessions.Sessions.{Sessions, IsRightOp}
-use Rattle.session_facts.specs.Settled.Story.{Moment}
+use Rattle.session_facts.proofs.Rows.CallKinds.{IsWorkersRow}
+use Rattle.session_facts.proofs.Lines.Outcome.{wish_holds}
+use Rattle.session_facts.specs.Lines.Facts.{session_at, CloudHolds}
+use Rattle.session_facts.specs.Sessions.Knows.{Sessions, IsRightOp}
+use Rattle.session_facts.specs.Settling.Story.{Moment}
 use Rattle.session_notes.proofs.MeterLemmas.{all_less, works_below}
 use Rattle.session_notes.specs.declared.notebook.Notebook.{Notebook}
 use Rattle.session_notes.specs.Metered.{AllKept, IsMetered, SendNoMore, sent_since, waiting_at}

@@ -12,14 +12,14 @@ use Rattle.db_base.specs.declared.wish.Wish.TheVariants.{Plain}
 use Rattle.event_text.specs.declared.event.Event.{Event}
 use Rattle.replay_meaning.specs.Standing.{Line}
 use Rattle.reply_text.specs.declared.reply.Reply.{Reply}
-use Rattle.session_facts.specs.Counted.{calls_told, CountsAll}
-use Rattle.session_facts.specs.Facts.{session_at}
+use Rattle.session_facts.specs.Lines.Counted.{calls_told, CountsAll}
+use Rattle.session_facts.specs.Lines.Facts.{session_at}
 use Rattle.recover_run.specs.declared.home.Home.{Home}
-use Rattle.session_facts.proofs.CallKinds.{IsWorkersRow}
+use Rattle.session_facts.proofs.Rows.CallKinds.{IsWorkersRow}
 use Rattle.db_base.specs.declared.names.QueueName.{QueueName}
-use Rattle.session_facts.specs.Sessions.Sessions.{Sessions}
+use Rattle.session_facts.specs.Sessions.Knows.{Sessions}
 use Rattle.cloud_facts.specs.Book.Tally.{at}
-use Rattle.session_facts.proofs.LineLemmas.{line_of}
+use Rattle.session_facts.proofs.Lines.More.{line_of}
 use Rattle.world_core.proofs.Workers.{HoldsWithin, IsBetween, holds_begun, holds_step, holds_went, holds_works, open_rests, within_begun, within_went, within_works, worker, worker_begins, worker_rows}
 use Rattle.world_core.proofs.Counting.{names_of, begins_own, went_counts, begun_none, worker_names, worker_went, works_none}
 use Rattle.world_core.proofs.StandsLemmas.{IsUnderWay, way_begins, went_on}

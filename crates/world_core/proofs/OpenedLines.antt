@@ -33,16 +33,16 @@ use Rattle.client_work.specs.declared.work.Work.TheVariants as work
 use Rattle.client_work.specs.BrokenOff.{broken_off}
 use Rattle.client_work.specs.Session.{Acting, closed_session, StepsSession, Begins, BeginsWith, BeginsOpening, HasInHand, CommitsIn, CommitsOf, CommitsNoted, LooksIn, LooksOf, ReadsOf, ReadsIn, ScansIn, old_lease, stopped_work, paging_begun_by, folding_begun_by}
 use Rattle.replay_meaning.specs.Standing.{Line, Closed, standing}
-use Rattle.session_facts.specs.Facts.{session_at, ActsAs}
-use Rattle.session_facts.specs.Sessions.Sessions.{Sessions}
-use Rattle.session_facts.specs.Opened.{MayHaveOpened, TakesNumber, WorksFor, AddsApart, AddsNoneTwice}
-use Rattle.session_facts.proofs.LineLemmas.{line_of}
-use Rattle.session_facts.proofs.OpenedCalls.{Leads, LeadsHome, scan_leads, stopped_leads, away_leads, closed_leads, apart_changes, apart_more, apart_same, apart_rows, apart_none_twice, opening_apart, session_apart, errand_apart, worker_apart}
-use Rattle.session_facts.proofs.OpenedRuns.{RunsFrom, run_begins_from}
-use Rattle.session_facts.proofs.RunSteps.{RunsFor, IsRefusal, run_begins}
+use Rattle.session_facts.specs.Lines.Facts.{session_at, ActsAs}
+use Rattle.session_facts.specs.Sessions.Knows.{Sessions}
+use Rattle.session_facts.specs.Rows.Opened.{MayHaveOpened, TakesNumber, WorksFor, AddsApart, AddsNoneTwice}
+use Rattle.session_facts.proofs.Lines.More.{line_of}
+use Rattle.session_facts.proofs.Rows.Opened.{LeadsOpened, LeadsHome, scan_leads, stopped_leads, away_leads, closed_leads, apart_changes, apart_more, apart_same, apart_rows, apart_none_twice, opening_apart, session_apart, errand_apart, worker_apart}
+use Rattle.session_facts.proofs.Machines.CommitRuns.Opened.{RunsFrom, run_begins_from}
+use Rattle.session_facts.proofs.Machines.CommitRuns.Stays.{RunsFor, IsRefusal, run_begins}
 use Rattle.session_facts.proofs.Sessions.Indexed.{indexed_or}
-use Rattle.session_facts.proofs.SettlerLemmas.{errand_row}
-use Rattle.session_facts.specs.Errands.{Errand, settles, sweeps, event_for, session_for, AreRowsOf}
+use Rattle.session_facts.proofs.Lines.Settler.{errand_row}
+use Rattle.session_facts.specs.Lines.Errands.{Errand, settles, sweeps, event_for, session_for, AreRowsOf}
 use Rattle.world_audit.specs.Look.{Looked}
 use Rattle.db_base.specs.declared.names.QueueName.TheVariants.{Atomic, PagePu, TreePu}
 use Rattle.ckpt_policy.specs.Notes.{IsPending}
@@ -62,7 +62,7 @@ use Rattle.world_core.specs.Replying.{RepliesBegun}
 use Rattle.world_core.specs.Sessions.{Changes, NotesIn, AbortsIn}
 use Rattle.world_core.specs.Handled.{Has, BeginsOp, BreaksOff, SetsWish, StepsLooked, StepsTo, FallsShort, RunsShort, MakesStep, Went, start, further, StopsShort, ComesTo, RunsTo, Runs, SettlesOn, Settles, Dies, Crashes, CrashesDone, Does, Answers, Handled, BeginsCheckpoint, CheckpointFails, FailsAt, KnowsNoDue, Policies, Works, WorksThrough, checkpoint_more, checkpoint_of, no_checkpoint}
 use Rattle.world_core.specs.Added.{WorldAdds}
-use Rattle.world_core.specs.Opened.{Opens, IsOpenedIn, OpenEachOnce, WorldApart}
+use Rattle.world_core.specs.Opened.{AsksToOpen, IsOpenedIn, OpenEachOnce, WorldApart}
 use Rattle.world_core.proofs.AddedSteps.{IsAdding, SettlerAdds, adding_begins, begun_way, settler_went, went_adding}
 use Rattle.world_core.proofs.BrokenOff.{broken_away}
 use Rattle.world_core.proofs.StandsLemmas.{changed_at, changed_was, settler}
@@ -74,12 +74,12 @@ opened_more [] e client h = absurd h
 opened_more (x ∷ events) e client (inl h) = inl h
 opened_more (x ∷ events) e client (inr h) = inr (opened_more events e client h)
 
-pub opened_last : (events : List Event) (e : Event) (client : ℕ) → Opens e client → IsOpenedIn (events ++ e ∷ []) client
+pub opened_last : (events : List Event) (e : Event) (client : ℕ) → AsksToOpen e client → IsOpenedIn (events ++ e ∷ []) client
 opened_last [] e client h = inl h
 opened_last (x ∷ events) e client h = inr (opened_last events e client h)
 
 -- what the last of them opens no earlier one did
-pub opened_new : (events : List Event) (e : Event) (client : ℕ) → OpenEachOnce (events ++ e ∷ []) → Opens e client → IsOpenedIn events client → ⊥
+pub opened_new : (events : List Event) (e : Event) (client : ℕ) → OpenEachOnce (events ++ e ∷ []) → AsksToOpen e client → IsOpenedIn events client → ⊥
 opened_new [] e client once opens h = absurd h
 opened_new (x ∷ events) e client once opens (inl h) = once.0 client h (opened_last events e client opens)
 opened_new (x ∷ events) e client once opens (inr h) = opened_new events e client once.1 opens h
@@ -94,7 +94,7 @@ once_before [] more once = tt
 once_before (x ∷ events) more once = (λ client opens h. once.0 client opens (opened_behind events more client h), once_before events more once.1)
 
 -- the line that begins opening a client is one that asks for it
-begins_opening : (e : Event) (k client : ℕ) → Asks e (Session k (Ok (Begin (op.Open client)))) → Opens e client
+begins_opening : (e : Event) (k client : ℕ) → Asks e (Session k (Ok (Begin (op.Open client)))) → AsksToOpen e client
 begins_opening (event.Open session own) k client asks = let is : Begin (op.Open client) ≡ Begin (op.Open own) = asks.1.1 in cc
 begins_opening (event.Close session) k client asks = absurd (cc (asks.1))
 begins_opening (event.Renew session) k client asks = absurd (cc (asks.1))
@@ -118,18 +118,18 @@ begins_opening e k client asks = absurd asks.1
 
 -- ---- an operation begins
 
-same_session : (a b : Acting) → b ≡ a → TakesNumber a.work → Leads (λ client. WorksFor client a.work) (MayHaveOpened a.work) b.work
-same_session a b e takes = subst (λ (z : Acting). Leads (λ client. WorksFor client a.work) (MayHaveOpened a.work) z.work) (sym e) (λ head h. h, takes, λ client h. h)
+same_session : (a b : Acting) → b ≡ a → TakesNumber a.work → LeadsOpened (λ client. WorksFor client a.work) (MayHaveOpened a.work) b.work
+same_session a b e takes = subst (λ (z : Acting). LeadsOpened (λ client. WorksFor client a.work) (MayHaveOpened a.work) z.work) (sym e) (λ head h. h, takes, λ client h. h)
 
-from_idle : (home : Home) (a : Acting) (w : Work) → a.work ≡ work.Idle home → LeadsHome home w → Leads (λ client. WorksFor client a.work) (MayHaveOpened a.work) w
-from_idle home a w e h = subst (λ x. Leads (λ client. WorksFor client x) (MayHaveOpened x) w) (sym e) h
+from_idle : (home : Home) (a : Acting) (w : Work) → a.work ≡ work.Idle home → LeadsHome home w → LeadsOpened (λ client. WorksFor client a.work) (MayHaveOpened a.work) w
+from_idle home a w e h = subst (λ x. LeadsOpened (λ client. WorksFor client x) (MayHaveOpened x) w) (sym e) h
 
 to_work : (home : Home) (b w : Work) → b ≡ w → LeadsHome home w → LeadsHome home b
 to_work home b w e h = subst (LeadsHome home) (sym e) h
 
 -- an operation of an open client
 with_home : (Effect : Home → Acting → Begun → Type 0) (a b : Acting) (result : Result Begun Refused) → ((home : Home) (begun : Begun) → Effect home b begun → LeadsHome home b.work)
-    → BeginsWith Effect a b result → TakesNumber a.work → Leads (λ client. WorksFor client a.work) (MayHaveOpened a.work) b.work
+    → BeginsWith Effect a b result → TakesNumber a.work → LeadsOpened (λ client. WorksFor client a.work) (MayHaveOpened a.work) b.work
 with_home Effect a b (Ok begun) leads begins takes = from_idle begins.0 a b.work begins.1 (leads begins.0 begun begins.2)
 with_home Effect a b (Err (refused.Rule rule)) leads begins takes = same_session a b begins.1 takes
 with_home Effect a b (Err refused.Memory) leads begins takes = absurd begins
@@ -139,7 +139,7 @@ in_hand own a b home begun so has = subst (λ (z : Acting). LeadsHome home z.wor
 
 -- one that is in hand then
 hands : (own : Home → Work) (a b : Acting) (result : Result Begun Refused) → ((home : Home) → LeadsHome home (own home)) → BeginsWith (λ home. HasInHand a (own home)) a b result
-    → TakesNumber a.work → Leads (λ client. WorksFor client a.work) (MayHaveOpened a.work) b.work
+    → TakesNumber a.work → LeadsOpened (λ client. WorksFor client a.work) (MayHaveOpened a.work) b.work
 hands own a b result so begins takes = with_home (λ home. HasInHand a (own home)) a b result (λ home begun. in_hand own a b home begun (so home)) begins takes
 
 commits_so : (home : Home) (buffer : List Noted) (c d : Cache) (w : Work) (begun : Begun) → CommitsOf home buffer c d w begun → LeadsHome home w
@@ -172,24 +172,24 @@ looks_so home q c d w shown (Answered (answer.Trouble t)) (stopped, is, none) = 
 looks_so home q c d w shown (Answered a) never = absurd never
 
 -- what works for the same client as before may have opened no less, and puts no head but of the number that it took
-abbrev LeadsOn : Acting → Acting → Type 0
-LeadsOn a b = Leads (λ client. WorksFor client a.work) (MayHaveOpened a.work) b.work
+abbrev OpensNoMore : Acting → Acting → Type 0
+OpensNoMore a b = LeadsOpened (λ client. WorksFor client a.work) (MayHaveOpened a.work) b.work
 
 -- an operation that opens no client
-abbrev IsWithin : Op → Type 0
-IsWithin (op.Open client) = ⊥
-IsWithin o = Unit {0}
+abbrev OpensNoClient : Op → Type 0
+OpensNoClient (op.Open client) = ⊥
+OpensNoClient o = Unit {0}
 
-look_so : (tree : ℕ) (attr : List ℕ) (a b : Acting) (result : Result Begun Refused) → Begins (op.Lookup tree attr) a b result → TakesNumber a.work → LeadsOn a b
+look_so : (tree : ℕ) (attr : List ℕ) (a b : Acting) (result : Result Begun Refused) → Begins (op.Lookup tree attr) a b result → TakesNumber a.work → OpensNoMore a b
 look_so tree attr a b result begins takes = on (indexed_or tree (LooksIn tree attr a) a b result begins)
   where
-    on : (b ≡ a) ⊎ ((tree ≤ 8) × BeginsWith (LooksIn tree attr a) a b result) → LeadsOn a b
+    on : (b ≡ a) ⊎ ((tree ≤ 8) × BeginsWith (LooksIn tree attr a) a b result) → OpensNoMore a b
     on (inl same) = same_session a b same takes
     on (inr (few, begun)) =
         with_home (LooksIn tree attr a) a b result
         (λ home done looks. looks_so home (record { tree = tree; attr = attr }) a.cache b.cache b.work b.shown done looks.1) begun takes
 
-begins_so : (o : Op) (a b : Acting) (result : Result Begun Refused) → IsWithin o → Begins o a b result → TakesNumber a.work → LeadsOn a b
+begins_so : (o : Op) (a b : Acting) (result : Result Begun Refused) → OpensNoClient o → Begins o a b result → TakesNumber a.work → OpensNoMore a b
 begins_so (op.Open client) a b result within begins takes = absurd within
 begins_so op.Close a b result within begins takes = hands (λ (h : Home). work.Closing h.lease) a b result (λ home. (λ head h. tt, tt, λ client h. absurd h)) begins takes
 begins_so op.Renew a b result within begins takes = hands (λ (h : Home). work.Renewing h) a b result (λ home. (λ head h. h, tt, λ client h. h)) begins takes
@@ -205,12 +205,12 @@ begins_so (op.Page tree page) a b result within begins takes = hands (paging_beg
 begins_so (op.Tree tree) a b result within begins takes = hands (folding_begun_by tree) a b result (λ home. (λ head h. h, tt, λ client h. h)) begins takes
 
 -- a change is noted, or all are dropped
-notes_so : (noting : Noting) (a b : Acting) (noted : Result (Unit {0}) Refused) → NotesIn noting a b noted → TakesNumber a.work → LeadsOn a b
-notes_so noting a b (Ok done) h takes = subst (λ (z : Acting). LeadsOn a z) (sym h.0) (λ head k. k, takes, λ client k. k)
+notes_so : (noting : Noting) (a b : Acting) (noted : Result (Unit {0}) Refused) → NotesIn noting a b noted → TakesNumber a.work → OpensNoMore a b
+notes_so noting a b (Ok done) h takes = subst (λ (z : Acting). OpensNoMore a z) (sym h.0) (λ head k. k, takes, λ client k. k)
 notes_so noting a b (Err why) h takes = same_session a b h.0 takes
 
-aborts_so : (a b : Acting) (dropped : Result (Unit {0}) Refused) → AbortsIn a b dropped → TakesNumber a.work → LeadsOn a b
-aborts_so a b (Ok done) h takes = subst (λ (z : Acting). LeadsOn a z) (sym h.0) (λ head k. k, takes, λ client k. k)
+aborts_so : (a b : Acting) (dropped : Result (Unit {0}) Refused) → AbortsIn a b dropped → TakesNumber a.work → OpensNoMore a b
+aborts_so a b (Ok done) h takes = subst (λ (z : Acting). OpensNoMore a z) (sym h.0) (λ head k. k, takes, λ client k. k)
 aborts_so a b (Err why) h takes = same_session a b h.0 takes
 
 -- an opening is never answered at its begin, and each reply to its begin is told
@@ -226,10 +226,10 @@ opening_begins client (Err why) a b p = absurd (untold_opening client why a p.le
 
 -- ---- a session that is broken off works for no client, whatever it worked on before
 
-broken_from : (a left b : Acting) → b ≡ broken_off left → LeadsOn a b
+broken_from : (a left b : Acting) → b ≡ broken_off left → OpensNoMore a b
 broken_from a left b e = broken_away left.work b.work _ _ (ap (λ (z : Acting). z.work) e)
 
-broken_leads : (a b : Acting) → b ≡ broken_off a → LeadsOn a b
+broken_leads : (a b : Acting) → b ≡ broken_off a → OpensNoMore a b
 broken_leads a b e = broken_from a a b e
 
 -- ---- what is no call
@@ -250,15 +250,15 @@ module _ (events : List Event) (first : CloudState) where
 
   -- a session changes without a call
   changes : (k : ℕ) (seen : Seen) (old new : World) (Does : Acting → Acting → Type 0) → (c : Changes k Does old.sessions new.sessions)
-      → (TakesNumber c.before.work → LeadsOn c.before c.after) → WorldApart events first old seen → WorldApart events first new seen
+      → (TakesNumber c.before.work → OpensNoMore c.before c.after) → WorldApart events first old seen → WorldApart events first new seen
   changes k seen old new Does c leads h =
       let was : session_at old.sessions k ≡ c.before = changed_was k Does old.sessions new.sessions c in
-      let so : LeadsOn c.before c.after = leads (subst (λ (a : Acting). TakesNumber a.work) was (h.takes k)) in
+      let so : OpensNoMore c.before c.after = leads (subst (λ (a : Acting). TakesNumber a.work) was (h.takes k)) in
       apart_same Was first _ (session_at new.sessions) seen (changed_at k Does old.sessions new.sessions c)
-      (apart_changes Was (session_at old.sessions) k c.after first seen (subst (λ (a : Acting). LeadsOn a c.after) (sym was) so) h)
+      (apart_changes Was (session_at old.sessions) k c.after first seen (subst (λ (a : Acting). OpensNoMore a c.after) (sym was) so) h)
 
   quietly : (k : ℕ) (before after : Seen) (old new : World) (Does : Acting → Acting → Type 0) → after ≡ before → (c : Changes k Does old.sessions new.sessions)
-      → (TakesNumber c.before.work → LeadsOn c.before c.after) → WorldApart events first old before → WorldApart events first new after
+      → (TakesNumber c.before.work → OpensNoMore c.before c.after) → WorldApart events first old before → WorldApart events first new after
   quietly k before after old new Does same c leads h = subst (WorldApart events first new) (sym same) (changes k before old new Does c leads h)
 
   -- it is closed
@@ -383,7 +383,7 @@ module _ (events : List Event) (first : CloudState) where
     worker_on before old after new w (further mid _ world _ went p) h =
         worker_stepped mid after world new More (within_went (worker k n) home others before old mid world w went) p (worker_on before old mid world w went h)
 
-    within_op : (queue : QueueName) → IsPending queue → IsWithin (checkpoint_of queue)
+    within_op : (queue : QueueName) → IsPending queue → OpensNoClient (checkpoint_of queue)
     within_op (TreePu tree) pending = tt
     within_op (PagePu tree page) pending = tt
     within_op (Atomic client) pending = absurd pending
@@ -495,7 +495,7 @@ module _ (events : List Event) (first : CloudState) (n : ℕ) (before after : Se
       settles_on events first errand lines n at (session_at old.sessions) closed before after s.begun new result (begun_way errand lines first n reply.Called before old s.begun at w s.begins) s.settles
       (changes events first 0 before old s.begun _ s.begins.session_is (λ takes. away errand _ _ _ (ap (λ (a : Acting). a.work) s.begins.session_is.does)) h)
     where
-      away : (errand : Errand) (For : ℕ → Type 0) (Was : Head → Type 0) (w : Work) → w ≡ (session_for errand).work → Leads For Was w
+      away : (errand : Errand) (For : ℕ → Type 0) (Was : Head → Type 0) (w : Work) → w ≡ (session_for errand).work → LeadsOpened For Was w
       away settles For Was w is = away_leads _ _ _ w is (λ head. tt) tt (λ client k. k)
       away (sweeps tree) For Was w is = away_leads _ _ _ w is (λ head. tt) tt (λ client k. k)
 
@@ -503,11 +503,11 @@ module _ (events : List Event) (first : CloudState) (n : ℕ) (before after : Se
       closed = (subst (λ (a : Acting). ActsAs a (standing lines 0)) w.rests (w.acts 0)).work
   settles_so errand (inr memory) = nothing_done events first before after old new memory.1.world memory.1.seen h
 
-  begun_within : (o : Op) (r : Result Reply WorldFault) (a b : Acting) → IsWithin o → BeginsOp o r a b → TakesNumber a.work → LeadsOn a b
+  begun_within : (o : Op) (r : Result Reply WorldFault) (a b : Acting) → OpensNoClient o → BeginsOp o r a b → TakesNumber a.work → OpensNoMore a b
   begun_within o (Ok reply) a b within begins takes = begins_so o a b begins.begun within begins.begins takes
   begun_within o (Err why) a b within begins takes = broken_from a begins.left b begins.breaks
 
-  does_within : (k : ℕ) (o : Op) → IsWithin o → Does n k (Begin o) before after old new result → Apart
+  does_within : (k : ℕ) (o : Op) → OpensNoClient o → Does n k (Begin o) before after old new result → Apart
   does_within k o within done = quietly events first k before after old new _ done.0.seen done.1 (begun_within o result done.1.before done.1.after within done.1.does) h
 
   policy_so : (k : ℕ) (role : Role) (kept : ℕ) → Policies k role kept before after old new result → Apart
@@ -545,7 +545,7 @@ module _ (events : List Event) (first : CloudState) (n : ℕ) (before after : Se
     with_more : Apart → Then
     with_more k = apart_more _ _ first _ after (λ client. opened_more events e client) k
 
-    begins_one : (k client : ℕ) → Opens e client → after ≡ before → (c : Changes k (λ a b. (begun : Result Begun Refused) × BeginsOpening client a b begun) old.sessions new.sessions) → Then
+    begins_one : (k client : ℕ) → AsksToOpen e client → after ≡ before → (c : Changes k (λ a b. (begun : Result Begun Refused) × BeginsOpening client a b begun) old.sessions new.sessions) → Then
     begins_one k client opens same c = on c.does.0 c.does.1
       where
         f : Sessions
@@ -565,13 +565,13 @@ module _ (events : List Event) (first : CloudState) (n : ℕ) (before after : Se
         on (Err (refused.Rule rule)) begins = with_more (quietly events first k before after old new _ same c (same_session c.before c.after begins.1) h)
         on (Err refused.Memory) begins = absurd begins
 
-    opens_so : (k client : ℕ) → Opens e client → Does n k (Begin (op.Open client)) before after old new result → Then
+    opens_so : (k client : ℕ) → AsksToOpen e client → Does n k (Begin (op.Open client)) before after old new result → Then
     opens_so k client opens done =
         let c = done.1 in
         let begins = opening_begins client result c.before c.after c.does in
         begins_one k client opens done.0.seen (record { before = c.before; after = c.after; there = c.there; does = begins; rest = c.rest })
 
-    does_so : (k : ℕ) (request : Request) → ((client : ℕ) → request ≡ Begin (op.Open client) → Opens e client) → Does n k request before after old new result → Then
+    does_so : (k : ℕ) (request : Request) → ((client : ℕ) → request ≡ Begin (op.Open client) → AsksToOpen e client) → Does n k request before after old new result → Then
     does_so k (Begin (op.Open client)) own done = opens_so k client (own client refl) done
     does_so k (Begin op.Close) own done = with_more (does_within k op.Close tt done)
     does_so k (Begin op.Renew) own done = with_more (does_within k op.Renew tt done)

@@ -25,15 +25,15 @@ use Rattle.recover_run.specs.declared.home.Home.{Home}
 use Rattle.replay_meaning.specs.Standing.{Line}
 use Rattle.reply_text.specs.declared.reply.Reply.{Reply}
 use Rattle.reply_text.specs.declared.reply.Reply.TheVariants as reply
-use Rattle.session_facts.proofs.CallKinds.{IsNoWant, IsWorkersRow}
-use Rattle.session_facts.proofs.LineLemmas.{line_of}
-use Rattle.session_facts.proofs.Sessions.Stopping.{session_stops}
+use Rattle.session_facts.proofs.Rows.CallKinds.{IsNoWant, IsWorkersRow}
+use Rattle.session_facts.proofs.Lines.More.{line_of}
+use Rattle.session_facts.proofs.Sessions.Stops.{session_stops}
 use Rattle.session_facts.proofs.Sessions.Untroubled.{IsAtRest, at_rest, rested, rests_as}
-use Rattle.session_facts.proofs.Steps.{wish_holds}
-use Rattle.session_facts.specs.Facts.{session_at, CloudHolds}
-use Rattle.session_facts.specs.Sessions.Answering.{MayAnswer}
-use Rattle.session_facts.specs.Sessions.Explaining.{spent_for}
-use Rattle.session_facts.specs.Sessions.Sessions.{Sessions}
+use Rattle.session_facts.proofs.Lines.Outcome.{wish_holds}
+use Rattle.session_facts.specs.Lines.Facts.{session_at, CloudHolds}
+use Rattle.session_facts.specs.Sessions.Stops.{MayAnswer}
+use Rattle.session_facts.specs.Sessions.Explains.{spent_for}
+use Rattle.session_facts.specs.Sessions.Knows.{Sessions}
 use Rattle.session_facts.specs.Sessions.Spent.{IsSpentInTree}
 use Rattle.session_facts.specs.Sessions.Untroubled.{IsOfNoCall, IsSpent, IsSpentOrOf}
 use Rattle.world_core.proofs.Calm.{GoesWellAt, answers_calmly, went_calmly}

@@ -14,7 +14,7 @@ use Rattle.cloud_trait.specs.Weather.{Leaves}
 use Rattle.cloud_trait.proofs.EffectLemmas.{effect_trace}
 use Rattle.cloud_trait.proofs.RowLemmas.{leaves_by}
 use Rattle.db_base.specs.declared.wish.Wish.{Wish}
-use Rattle.session_facts.proofs.Steps.{MadeCall, made_call}
+use Rattle.session_facts.proofs.Lines.Outcome.{MadeCall, made_call}
 use Rattle.world_audit.specs.Look.{Looked}
 use Rattle.world_core.specs.Handled.{SetsWish, StepsLooked, FallsShort}
 use Rattle.world_core.specs.Quota.{SpendsQuota}

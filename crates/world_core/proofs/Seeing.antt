@@ -15,7 +15,7 @@ use Rattle.event_text.specs.declared.event.Event.TheVariants as event
 use Rattle.report_types.specs.declared.report.Report.{Report as ReportShown}
 use Rattle.reply_text.specs.declared.reply.Reply.{Reply}
 use Rattle.reply_text.specs.declared.reply.Reply.TheVariants as reply
-use Rattle.session_facts.proofs.Steps.{made_call}
+use Rattle.session_facts.proofs.Lines.Outcome.{made_call}
 use Rattle.db_base.specs.declared.names.QueueName.{QueueName}
 use Rattle.ckpt_policy.specs.declared.role.Role.{Role}
 use Rattle.world_core.specs.World.{World}
@@ -24,7 +24,7 @@ use Rattle.world_core.specs.declared.asked.Asked.TheVariants.{Session, Wait, Rep
 use Rattle.world_core.specs.declared.asked.Request.{Request}
 use Rattle.world_core.specs.declared.asked.Request.TheVariants.{Begin, Note, Abort, Policy, Work as WorksDue, Step, Run, Crash}
 use Rattle.world_core.specs.declared.world.WorldFault.{WorldFault}
-use Rattle.session_facts.specs.Errands.{Errand, settles, sweeps}
+use Rattle.session_facts.specs.Lines.Errands.{Errand, settles, sweeps}
 use Rattle.world_core.specs.Handled.{Declines, MakesNoCall, Has, StepsLooked, MakesStep, Went, start, further, ComesTo, Runs, SettlesOn, Crashes, Does, Reports, Answers, Handled, BeginsCheckpoint, Policies, Works, WorksThrough, checkpoint_more, no_checkpoint}
 use Rattle.world_core.specs.Sound.{IsSoundReport}
 use Rattle.world_core.proofs.StandsLemmas.{no_memory}

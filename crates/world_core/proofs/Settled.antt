@@ -20,32 +20,32 @@ use Rattle.db_base.specs.declared.wish.Wish.TheVariants.{Plain}
 use Rattle.event_text.specs.declared.event.Event.{Event}
 use Rattle.event_text.specs.declared.event.Event.TheVariants as event
 use Rattle.replay_meaning.specs.Standing.{Posture, standing}
-use Rattle.session_facts.proofs.SettledLemmas.{none_open, none_wait}
-use Rattle.session_facts.specs.Answers.{IsSoundReply}
-use Rattle.session_facts.specs.Errands.{settles}
-use Rattle.session_facts.specs.Facts.{session_at, SomeBookStands}
+use Rattle.session_facts.proofs.Reports.Settled.{none_open, none_wait}
+use Rattle.session_facts.specs.Lines.Answers.{IsSoundReply}
+use Rattle.session_facts.specs.Lines.Errands.{settles}
+use Rattle.session_facts.specs.Lines.Facts.{session_at, SomeBookStands}
 use Rattle.reply_text.specs.declared.reply.Reply.{Reply}
 use Rattle.reply_text.specs.declared.reply.Reply.TheVariants as reply
-use Rattle.session_facts.proofs.Settled.Along.{Handed, Hands, behind_part}
-use Rattle.session_facts.proofs.Settled.Begins.{left_begins, both_begin}
-use Rattle.session_facts.proofs.Settled.CostHands.{GoesCalmly, LeftAndCost, SettledWell, cost_hands}
-use Rattle.session_facts.proofs.Settled.Free.{begins_alone}
-use Rattle.session_facts.proofs.Settled.LeftHands.{IsDelivered, left_hands}
-use Rattle.session_facts.proofs.Settled.Lefts.{Left, NothingWaits}
-use Rattle.session_facts.proofs.Settled.PageRuns.{pages_run}
-use Rattle.session_facts.proofs.Settled.RecoveryRuns.{recoveries_run}
-use Rattle.session_facts.proofs.Settled.TreeRuns.{trees_run}
-use Rattle.session_facts.proofs.Settled.Turns.{settler, OnWay, of_session, IsAlone, calm_with, step_on, step_ends, first_moment, begins_on}
+use Rattle.session_facts.proofs.Settling.Along.{Handed, Hands, behind_part}
+use Rattle.session_facts.proofs.Settling.Begins.{left_begins, both_begin}
+use Rattle.session_facts.proofs.Settling.CostParts.{GoesCalmly, LeftAndCost, SettledWell, cost_hands}
+use Rattle.session_facts.proofs.Settling.Free.{begins_alone}
+use Rattle.session_facts.proofs.Settling.LeftParts.{IsDelivered, left_hands}
+use Rattle.session_facts.proofs.Settling.Lefts.{Left, NothingWaits}
+use Rattle.session_facts.proofs.Settling.Pages.Runs.{pages_run}
+use Rattle.session_facts.proofs.Settling.Recoveries.Runs.{recoveries_run}
+use Rattle.session_facts.proofs.Settling.Trees.Runs.{trees_run}
+use Rattle.session_facts.proofs.Settling.Turns.{settler, OnWay, of_session, IsAlone, calm_with, step_on, step_ends, first_moment, begins_on}
 use Rattle.session_facts.specs.Sessions.Calls.{reply_of}
-use Rattle.session_facts.proofs.Sessions.Explaining.{session_explains}
-use Rattle.session_facts.proofs.Sessions.Stopping.{session_stops}
-use Rattle.session_facts.proofs.Steps.{MadeCall, made_call}
-use Rattle.session_facts.specs.Sessions.Answering.{MaySettle, MayAnswer}
-use Rattle.session_facts.specs.Sessions.Sessions.{SessionsStand}
+use Rattle.session_facts.proofs.Sessions.Explains.Sessions.{session_explains}
+use Rattle.session_facts.proofs.Sessions.Stops.{session_stops}
+use Rattle.session_facts.proofs.Lines.Outcome.{MadeCall, made_call}
+use Rattle.session_facts.specs.Sessions.Stops.{MaySettle, MayAnswer}
+use Rattle.session_facts.specs.Sessions.Knows.{SessionsStand}
 use Rattle.session_facts.specs.Sessions.Untroubled.{GivesBackLasting, IsUntroubled}
-use Rattle.session_facts.specs.Settled.Bound.{IsWithin}
-use Rattle.session_facts.specs.Settled.Runs.{TreesRun, PagesRun, RecoveriesRun}
-use Rattle.session_facts.specs.Settled.Story.{Moment}
+use Rattle.session_facts.specs.Settling.Bound.{SettlesWithin}
+use Rattle.session_facts.specs.Settling.Runs.{TreesRun, PagesRun, RecoveriesRun}
+use Rattle.session_facts.specs.Settling.Story.{Moment}
 use Rattle.settle_run.specs.Settling.{Settling, Step, passed, new_settling, settle_ask}
 use Rattle.settle_run.specs.declared.settled.Settled.{Settled as Answered}
 use Rattle.world_core.proofs.Calm.{errand_well}
@@ -420,7 +420,7 @@ module _ (trees : TreesRun) (pages : PagesRun) (clients : RecoveriesRun) (n : â„
             told = end.1.1.told;
             nothing = leaves_nothing end.1.1.now end.1.1.settling end.0 end.1.1.holds.0;
             no_log = Î» client is. let most = is.most in end.1.1.holds.1.0 client is (omega (arith, most));
-            within = subst (IsWithin t end.1.1.now.state) end.1.0 end.1.1.holds.1.1;
+            within = subst (SettlesWithin t end.1.1.now.state) end.1.0 end.1.1.holds.1.1;
           }
 
 -- ---- the clauses

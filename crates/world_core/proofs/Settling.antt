@@ -12,8 +12,8 @@ use Rattle.client_work.specs.declared.work.Work.{Work}
 use Rattle.client_work.specs.declared.work.Work.TheVariants.{Settling, Sweeping}
 use Rattle.client_work.specs.Session.{Acting, StepsAt, closed_session}
 use Rattle.orphan_sweep.specs.Sweeping.{new_sweeping, sweep_ask}
-use Rattle.session_facts.proofs.CallKinds.{errand_goes}
-use Rattle.session_facts.specs.Errands.{Errand, settles, sweeps, session_for, WorksOn}
+use Rattle.session_facts.proofs.Rows.CallKinds.{errand_goes}
+use Rattle.session_facts.specs.Lines.Errands.{Errand, settles, sweeps, session_for, WorksOn}
 use Rattle.settle_run.specs.Settling.{new_settling, settle_ask}
 use Rattle.world_core.specs.World.{World}
 use Rattle.world_core.specs.Replying.{IsOfErrand}

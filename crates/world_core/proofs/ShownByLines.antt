@@ -13,16 +13,16 @@ use Rattle.db_base.specs.declared.wish.Wish.TheVariants.{Plain}
 use Rattle.event_text.specs.declared.event.Event.{Event}
 use Rattle.replay_meaning.specs.Standing.{Line}
 use Rattle.reply_text.specs.declared.reply.Reply.{Reply}
-use Rattle.session_facts.specs.Errands.{Errand, session_for}
-use Rattle.session_facts.specs.Errands as errands
-use Rattle.session_facts.specs.Facts.{session_at, CloudHolds}
-use Rattle.session_facts.specs.ShownByLines.{ShowsByLines}
-use Rattle.session_facts.proofs.ShownByLines.{IsSettler, shown_by_lines, settler_goes, settler_by_lines, checkpoint_by_lines}
-use Rattle.session_facts.proofs.Steps.{wish_holds}
-use Rattle.session_facts.proofs.CallKinds.{HasCheckpoint}
+use Rattle.session_facts.specs.Lines.Errands.{Errand, session_for}
+use Rattle.session_facts.specs.Lines.Errands as errands
+use Rattle.session_facts.specs.Lines.Facts.{session_at, CloudHolds}
+use Rattle.session_facts.specs.Lines.Shown.{ShowsByLines}
+use Rattle.session_facts.proofs.Lines.Shown.{IsSettler, shown_by_lines, settler_goes, settler_by_lines, checkpoint_by_lines}
+use Rattle.session_facts.proofs.Lines.Outcome.{wish_holds}
+use Rattle.session_facts.proofs.Rows.CallKinds.{HasCheckpoint}
 use Rattle.recover_run.specs.declared.home.Home.{Home}
 use Rattle.db_base.specs.declared.names.QueueName.{QueueName}
-use Rattle.session_facts.specs.Sessions.Sessions.{Sessions}
+use Rattle.session_facts.specs.Sessions.Knows.{Sessions}
 use Rattle.world_core.proofs.Workers.{IsInside, IsBetween, open_rests, within_begun, within_went, within_works}
 use Rattle.world_core.specs.World.{World}
 use Rattle.world_core.specs.declared.world.WorldFault.{WorldFault}

@@ -17,7 +17,7 @@ use Rattle.cloud_trait.specs.State.{CloudState}
 use Rattle.world_audit.specs.Stop.{Stopped as StopsReport}
 use Rattle.cloud_trait.specs.declared.turn.Turn.{Turn}
 use Rattle.cloud_trait.specs.declared.turn.Turn.TheVariants.{More, Ended, Stopped}
-use Rattle.session_facts.specs.CommitRuns.Stopping.{MayEnd}
+use Rattle.session_facts.specs.Machines.CommitRuns.Stops.{MayEnd}
 use Rattle.db_base.specs.declared.refusal.Refused.{Refused}
 use Rattle.db_base.specs.declared.refusal.Refused.TheVariants as refused
 use Rattle.db_base.specs.declared.trouble.CommitAnswer.{CommitAnswer}
@@ -29,21 +29,21 @@ use Rattle.db_base.specs.Value.{Value}
 use Rattle.event_text.specs.declared.event.Event.{Event}
 use Rattle.event_text.specs.declared.event.Event.TheVariants as event
 use Rattle.replay_meaning.specs.Standing.{Line, Posture, session_of, standing}
-use Rattle.session_facts.specs.Answers.{MayTrouble, IsSoundReply}
-use Rattle.session_facts.specs.Facts.{session_at, CloudHolds}
-use Rattle.session_facts.proofs.Answering.{may_by_lines}
-use Rattle.session_facts.proofs.LineLemmas.{line_of}
-use Rattle.session_facts.proofs.SettlerLemmas.{errand_row}
-use Rattle.session_facts.specs.Errands.{Errand, settles, sweeps, event_for, WorksOn, AreRowsOf}
-use Rattle.session_facts.specs.Sweeps.Sweep.{MayStop as MayStopSweep}
-use Rattle.session_facts.proofs.Steps.{CallLeaves, CallLeavesUpto, wish_holds}
+use Rattle.session_facts.specs.Lines.Answers.{MayTrouble, IsSoundReply}
+use Rattle.session_facts.specs.Lines.Facts.{session_at, CloudHolds}
+use Rattle.session_facts.proofs.Lines.Answers.{may_by_lines}
+use Rattle.session_facts.proofs.Lines.More.{line_of}
+use Rattle.session_facts.proofs.Lines.Settler.{errand_row}
+use Rattle.session_facts.specs.Lines.Errands.{Errand, settles, sweeps, event_for, WorksOn, AreRowsOf}
+use Rattle.session_facts.specs.Machines.Sweeps.Knows.{MayStopSweep}
+use Rattle.session_facts.proofs.Lines.Outcome.{CallLeaves, CallLeavesUpto, wish_holds}
 use Rattle.reply_text.specs.Reply.{HasText}
 use Rattle.reply_text.specs.declared.reply.Reply.{Reply}
 use Rattle.reply_text.specs.declared.reply.Reply.TheVariants as reply
-use Rattle.session_facts.specs.Sessions.Answering.{MaySettle, MayAnswer}
-use Rattle.session_facts.specs.Sessions.Sessions.{Sessions, IsRightOp}
+use Rattle.session_facts.specs.Sessions.Stops.{MaySettle, MayAnswer}
+use Rattle.session_facts.specs.Sessions.Knows.{Sessions, IsRightOp}
 use Rattle.session_facts.proofs.Sessions.BeginStops.{begin_stops, begin_ends}
-use Rattle.session_facts.proofs.Sessions.Stopping.{session_stops, session_ends}
+use Rattle.session_facts.proofs.Sessions.Stops.{session_stops, session_ends}
 use Rattle.cloud_facts.specs.Book.Tally.{at}
 use Rattle.cloud_facts.specs.Tellings.Told.{store_of}
 use Rattle.cloud_facts.proofs.Audits.Whole.{only_slips}

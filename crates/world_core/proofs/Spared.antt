@@ -26,7 +26,7 @@ use Rattle.db_base.specs.declared.refusal.Refused.{Refused}
 use Rattle.db_base.specs.declared.refusal.Refused.TheVariants as refused
 use Rattle.db_base.specs.declared.trouble.Trouble.{Trouble}
 use Rattle.db_base.specs.declared.trouble.Trouble.TheVariants as trouble
-use Rattle.session_facts.proofs.Steps.{MadeCall, made_call}
+use Rattle.session_facts.proofs.Lines.Outcome.{MadeCall, made_call}
 use Rattle.session_facts.specs.Sessions.Spent.{IsSpentInPages, IsSpentInTree}
 use Rattle.session_facts.specs.Sessions.Untroubled.{IsSpent}
 use Rattle.cloud_trait.proofs.RowLemmas.{leaves_grown}

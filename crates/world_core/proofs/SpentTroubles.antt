@@ -7,16 +7,16 @@ use Rattle.db_base.specs.declared.trouble.Counter.{Counter}
 use Rattle.db_base.specs.declared.trouble.Counter.TheVariants as counter
 use Rattle.db_base.specs.declared.trouble.Trouble.{Trouble}
 use Rattle.db_base.specs.declared.trouble.Trouble.TheVariants as trouble
-use Rattle.session_facts.specs.CommitRuns.Stopping.{MayStop as MayStopCommit}
-use Rattle.session_facts.specs.Openings.Opening.{MayStop as MayStopOpening}
-use Rattle.session_facts.specs.PageCheckpoints.Checkpoint.{MayStop as MayStopPage}
-use Rattle.session_facts.specs.Sessions.Answering.{MayRefuse, MaySettle}
-use Rattle.session_facts.specs.Sessions.Explaining.{spent_for}
+use Rattle.session_facts.specs.Machines.CommitRuns.Stops.{MayStopCommit}
+use Rattle.session_facts.specs.Machines.Openings.Knows.{MayStopOpening}
+use Rattle.session_facts.specs.Machines.PageCheckpoints.Knows.{MayStopPage}
+use Rattle.session_facts.specs.Sessions.Stops.{MayRefuse, MaySettle}
+use Rattle.session_facts.specs.Sessions.Explains.{spent_for}
 use Rattle.session_facts.specs.Sessions.Spent.{IsOfSettling, IsSpentToOpen, IsSpentToCommit, IsSpentInPages, IsSpentInTree, IsSpentToSettle}
 use Rattle.session_facts.specs.Sessions.Untroubled.{IsOfNoCall, IsSpent, IsSpentOrOf}
-use Rattle.session_facts.specs.TreeCheckpoints.Checkpoint.{MayStop as MayStopTree}
-use Rattle.session_facts.specs.Walks.Walks.{MayStop as MayStopWalk}
-use Rattle.session_facts.proofs.Sessions.Spending.{pages_in_tree}
+use Rattle.session_facts.specs.Machines.TreeCheckpoints.Knows.{MayStopTree}
+use Rattle.session_facts.specs.Machines.Walks.Knows.{MayStopWalk}
+use Rattle.session_facts.proofs.Sessions.Spent.{pages_in_tree}
 
 pub opening_spent : (u : CloudState) (k : Trouble) → MayStopOpening k → IsOfNoCall IsSpentToOpen u k → (k ≡ trouble.Memory → ⊥) → IsSpent IsSpentToOpen u k
 opening_spent u (trouble.Exhausted what) may none other = none

@@ -31,20 +31,20 @@ use Rattle.history.specs.Fold.{of_tree}
 use Rattle.world_audit.specs.Counts.{heads_upto, AreWaiting}
 use Rattle.cloud_facts.specs.Book.Tally.{at}
 use Rattle.cloud_facts.proofs.Book.Names.{at_same, at_other}
-use Rattle.session_facts.specs.Sessions.Noting.{audited}
-use Rattle.session_facts.specs.Sessions.Sessions.{Sessions, SessionsStand}
-use Rattle.session_facts.specs.Errands.{Errand, event_for, session_for, WorksOn, AreRowsOf}
+use Rattle.session_facts.specs.Sessions.Audited.{audited}
+use Rattle.session_facts.specs.Sessions.Knows.{Sessions, SessionsStand}
+use Rattle.session_facts.specs.Lines.Errands.{Errand, event_for, session_for, WorksOn, AreRowsOf}
 use Rattle.session_facts.proofs.Sessions.Laws.{crash_keeps}
 use Rattle.replay_meaning.specs.Standing.{Line, Standing, standing, after_line, after_own, session_of, steps}
 use Rattle.replay_meaning.specs.Right.{ReportIsRight}
-use Rattle.session_facts.specs.Facts.{session_at, ActsAs, AllAct, CloudHolds, IsFrontOf, SettlerRests, Stands, GoesOn}
-use Rattle.session_facts.proofs.CallKinds.{errand_goes}
-use Rattle.session_facts.proofs.Acting.{IsReplyTo, goes_as, goes_noted, ends_as}
-use Rattle.session_facts.proofs.LineLemmas.{line_of, AllActWith, begins_line, begins_with, line_through, holds_same, own_line, still_line, refused_own, acts_set}
-use Rattle.session_facts.proofs.Lists.{session_there, session_set}
-use Rattle.session_facts.proofs.SettlerLemmas.{errand_begins, errand_ends, errand_row}
-use Rattle.session_facts.proofs.Steps.{CallLeaves, CallLeavesUpto, call_holds, errand_holds, never_stops, wish_holds, wait_holds}
-use Rattle.session_facts.proofs.ReportLemmas.{IsShown, report_right}
+use Rattle.session_facts.specs.Lines.Facts.{session_at, ActsAs, AllAct, CloudHolds, IsFrontOf, SettlerRests, Stands, GoesOn}
+use Rattle.session_facts.proofs.Rows.CallKinds.{errand_goes}
+use Rattle.session_facts.proofs.Lines.Acts.{IsReplyTo, goes_as, goes_noted, ends_as}
+use Rattle.session_facts.proofs.Lines.More.{line_of, AllActWith, begins_line, begins_with, line_through, holds_same, own_line, still_line, refused_own, acts_set}
+use Rattle.session_facts.proofs.Sessions.Lists.{session_there, session_set}
+use Rattle.session_facts.proofs.Lines.Settler.{errand_begins, errand_ends, errand_row}
+use Rattle.session_facts.proofs.Lines.Outcome.{CallLeaves, CallLeavesUpto, call_holds, errand_holds, never_stops, wish_holds, wait_holds}
+use Rattle.session_facts.proofs.Reports.Right.{ShowsTree, report_right}
 use Rattle.world_core.specs.World.{World}
 use Rattle.world_core.specs.declared.world.WorldFault.{WorldFault}
 use Rattle.world_core.specs.declared.world.WorldFault.TheVariants.{Memory}
@@ -686,7 +686,7 @@ left_of tree audit s t r shows told =
       messages = subst (λ k. AreWaiting t k r.messages) is (shows.messages t told);
     }
 
-shown_of : (tree : ℕ) (audit : Audited) (s : Option CloudState) (t : CloudState) (r : ReportShown) → Shows tree s audit r → s ≡ Some t → IsShown tree t audit r
+shown_of : (tree : ℕ) (audit : Audited) (s : Option CloudState) (t : CloudState) (r : ReportShown) → Shows tree s audit r → s ≡ Some t → ShowsTree tree t audit r
 shown_of tree audit s t r shows told = record {
   tree_is = shows.tree_is;
   committed = shows.committed;

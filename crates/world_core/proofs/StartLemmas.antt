@@ -4,10 +4,10 @@ use Rattle.std.specs.Prelude.{replicate}
 use Rattle.client_work.specs.Session.{Acting, closed_session}
 use Rattle.cloud_trait.specs.State.{CloudState, IsEmptyCloud}
 use Rattle.history.specs.Audited.{Audited}
-use Rattle.session_facts.specs.Facts.{session_at, Stands}
-use Rattle.session_facts.specs.Sessions.Sessions.{Sessions}
-use Rattle.session_facts.proofs.StartLemmas.{closed_at, nothing_stands_yet}
-use Rattle.session_facts.specs.Counted.{calls_told, CountsWork, CountsAll}
+use Rattle.session_facts.specs.Lines.Facts.{session_at, Stands}
+use Rattle.session_facts.specs.Sessions.Knows.{Sessions}
+use Rattle.session_facts.proofs.Lines.Start.{closed_at, nothing_stands_yet}
+use Rattle.session_facts.specs.Lines.Counted.{calls_told, CountsWork, CountsAll}
 use Rattle.session_notes.specs.declared.notebook.Notebook.{Notebook}
 use Rattle.world_core.specs.Stands.{WorldStands}
 

@@ -28,16 +28,16 @@ use Rattle.orphan_sweep.specs.Sweeping.{Sweeping, new_sweeping, sweep_ask}
 use Rattle.orphan_sweep.specs.declared.swept.Swept.{Swept}
 use Rattle.reply_text.specs.declared.reply.Reply.{Reply}
 use Rattle.report_types.specs.declared.entry.Entry.{Entry}
-use Rattle.session_facts.proofs.Sessions.Calling.{session_keeps}
+use Rattle.session_facts.proofs.Sessions.Outcome.{session_keeps}
 use Rattle.session_facts.proofs.Sessions.Laws.{rest_keeps, same_sessions}
-use Rattle.session_facts.proofs.Sweeps.Remaining.{itself_remains, same_remains, same_just}
-use Rattle.session_facts.proofs.Sweeps.Resting.{SweepsFrom, leaves_remaining, goes_from, ends_just, begins_from}
-use Rattle.session_facts.proofs.Sweeps.Telling.{tells_same}
-use Rattle.session_facts.specs.Errands.{sweeps, session_for}
-use Rattle.session_facts.specs.Facts.{session_at, SomeBookStands}
-use Rattle.session_facts.specs.Sessions.Sessions.{Sessions, SessionsStand, KnowsWork, Goes as SessionGoes}
-use Rattle.session_facts.specs.Sweeps.Remains.{Remains, AreJustReached}
-use Rattle.session_facts.specs.Sweeps.Sweep.{KnowsSweep}
+use Rattle.session_facts.proofs.Machines.Sweeps.Remains.{itself_remains, same_remains, same_just}
+use Rattle.session_facts.proofs.Machines.Sweeps.Calls.{SweepsFrom, leaves_remaining, goes_from, ends_just, begins_from}
+use Rattle.session_facts.proofs.Machines.Sweeps.Same.{tells_same}
+use Rattle.session_facts.specs.Lines.Errands.{sweeps, session_for}
+use Rattle.session_facts.specs.Lines.Facts.{session_at, SomeBookStands}
+use Rattle.session_facts.specs.Sessions.Knows.{Sessions, SessionsStand, KnowsWork, Goes as SessionGoes}
+use Rattle.session_facts.specs.Machines.Sweeps.Remains.{Remains, AreJustReached}
+use Rattle.session_facts.specs.Machines.Sweeps.Knows.{KnowsSweep}
 use Rattle.world_audit.specs.Look.{Looked}
 use Rattle.world_core.proofs.Errands.{begins_errand}
 use Rattle.world_core.proofs.StandsLemmas.{changed_at, changed_was, has_at}
@@ -81,7 +81,7 @@ record OnSweep (begun : CloudState) (tree : ℕ) (world : World) (seen : Seen) :
   from : SweepsFrom begun tree sweep state
 
 -- what is left of that cloud
-record IsLeft (begun : CloudState) (tree : ℕ) (seen : Seen) (Is : CloudState → Type 0) : Type 0 where
+record IsLeftOf (begun : CloudState) (tree : ℕ) (seen : Seen) (Is : CloudState → Type 0) : Type 0 where
   state : CloudState
   told : seen.state ≡ Some state
   remains : Remains begun state tree
@@ -97,11 +97,11 @@ record LeavesSo (begun : CloudState) (tree : ℕ) (after : Seen) (result : Resul
 abbrev Any : CloudState → Type 0
 Any s = Unit {0}
 
-looked_left : (begun : CloudState) (tree : ℕ) (before after : Seen) (Is : CloudState → Type 0) → Looked before after → IsLeft begun tree before Is → IsLeft begun tree after Is
+looked_left : (begun : CloudState) (tree : ℕ) (before after : Seen) (Is : CloudState → Type 0) → Looked before after → IsLeftOf begun tree before Is → IsLeftOf begun tree after Is
 looked_left begun tree before after Is look left = record { state = left.state; told = look.stays left.state left.told; remains = left.remains; is = left.is }
 
 module _ (begun : CloudState) (tree n : ℕ) (before : Seen) (old : World) (on : OnSweep begun tree old before) where
-  on_left : IsLeft begun tree before Any
+  on_left : IsLeftOf begun tree before Any
   on_left = record { state = on.state; told = on.told; remains = on.from.remains; is = tt }
 
   module _ (from under to : Seen) (look : Looked before from) (wishes : SetsWish Plain from under) where
@@ -146,7 +146,7 @@ module _ (begun : CloudState) (tree n : ℕ) (before : Seen) (old : World) (on :
       remains : Remains begun left.after tree
       remains = leaves_remaining begun tree (settler n) s left.after on.book on.order stand.cloud m (stand.parts 0) knows heard call wished
 
-      call_left : IsLeft begun tree to Any
+      call_left : IsLeftOf begun tree to Any
       call_left = record { state = left.after; told = left.told; remains = remains; is = tt }
 
       goes : SessionGoes on.book on.order s left.after f 0 a
@@ -176,7 +176,7 @@ module _ (begun : CloudState) (tree n : ℕ) (before : Seen) (old : World) (on :
         }
 
     -- one that ends
-    swept_left : (x : Swept) (a : Acting) → StepsSession (settler n) under to (f 0) a (Ok (Ended (answer.Swept x))) → IsLeft begun tree to (λ u. AreJustReached begun u tree)
+    swept_left : (x : Swept) (a : Acting) → StepsSession (settler n) under to (f 0) a (Ok (Ended (answer.Swept x))) → IsLeftOf begun tree to (λ u. AreJustReached begun u tree)
     unfolding call_in sweeping
     swept_left x a steps =
         let p = sweeping a (Ended (answer.Swept x)) steps in
@@ -197,7 +197,7 @@ module _ (begun : CloudState) (tree n : ℕ) where
     steps_of : StepsSession (settler n) p.under p.to (session_at old.sessions 0) p.session.after (Ok turn)
     steps_of = subst (λ (a : Acting). StepsSession (settler n) p.under p.to a p.session.after (Ok turn)) (sym (changed_was 0 _ old.sessions new.sessions p.session)) p.session.does
 
-    step_left : IsLeft begun tree after Any
+    step_left : IsLeftOf begun tree after Any
     step_left =
         looked_left begun tree p.to after Any p.look_after (call_left begun tree n before old on p.from p.under p.to p.look_before p.wishes p.session.after turn steps_of)
 
@@ -207,7 +207,7 @@ module _ (begun : CloudState) (tree n : ℕ) where
       (changed_at 0 _ old.sessions new.sessions p.session)
 
   step_swept : (x : Swept) (before after : Seen) (old new : World) → OnSweep begun tree old before → StepsLooked (settler n) Plain before after old new (Ended (answer.Swept x))
-      → IsLeft begun tree after (λ u. AreJustReached begun u tree)
+      → IsLeftOf begun tree after (λ u. AreJustReached begun u tree)
   step_swept x before after old new on p =
       looked_left begun tree p.to after (λ u. AreJustReached begun u tree) p.look_after
       (swept_left begun tree n before old on p.from p.under p.to p.look_before p.wishes x p.session.after (steps_of before after old new (Ended (answer.Swept x)) on p))
@@ -217,7 +217,7 @@ module _ (begun : CloudState) (tree n : ℕ) where
   went_on before old after new on (further mid _ world _ went step) = step_more mid after world new (went_on before old mid world on went) step
 
   -- memory ran out beside a step
-  falls_left : (before after : Seen) (old new : World) → OnSweep begun tree old before → FallsShort (settler n) Plain before after old new → IsLeft begun tree after Any
+  falls_left : (before after : Seen) (old new : World) → OnSweep begun tree old before → FallsShort (settler n) Plain before after old new → IsLeftOf begun tree after Any
   falls_left before after old new on (inl u) = looked_left begun tree before after Any u.looked (on_left begun tree n before old on)
   falls_left before after old new on (inr u) =
       looked_left begun tree u.to after Any u.look_after
@@ -234,7 +234,7 @@ module _ (begun : CloudState) (tree n : ℕ) where
   trouble_swept t trouble.Memory = tt
   trouble_swept t k = tt
 
-  short_from : (after : Seen) (result : Result Reply WorldFault) → FindsNoMemory result → IsLeft begun tree after Any → LeavesSo begun tree after result
+  short_from : (after : Seen) (result : Result Reply WorldFault) → FindsNoMemory result → IsLeftOf begun tree after Any → LeavesSo begun tree after result
   short_from after result e left = record { state = left.state; told = left.told; remains = left.remains; swept = memory_swept left.state result e }
 
   ends_from : (before after : Seen) (old new : World) (a : Answer) (result : Result Reply WorldFault) → OnSweep begun tree old before

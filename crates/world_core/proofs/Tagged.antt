@@ -23,13 +23,13 @@ use Rattle.replay_meaning.specs.Standing.{Line}
 use Rattle.reply_text.specs.declared.reply.Reply.{Reply}
 use Rattle.reply_text.specs.declared.reply.Reply.TheVariants as reply
 use Rattle.report_types.specs.declared.stored.Stored.{Stored}
-use Rattle.session_facts.proofs.Acting.{IsReplyTo}
-use Rattle.session_facts.proofs.Still.{still}
-use Rattle.session_facts.specs.Facts.{session_at, CloudHolds}
-use Rattle.session_facts.specs.Looks.Looks.{IsIndexed}
-use Rattle.session_facts.specs.NewestLeaves.{AreContents}
-use Rattle.session_facts.specs.Sessions.Sessions.{KnowsWork}
-use Rattle.session_facts.specs.WholeIndex.{IsIndexWhole}
+use Rattle.session_facts.proofs.Lines.Acts.{IsReplyTo}
+use Rattle.session_facts.proofs.Index.Still.{still}
+use Rattle.session_facts.specs.Lines.Facts.{session_at, CloudHolds}
+use Rattle.session_facts.specs.Machines.Looks.Knows.{IsIndexed}
+use Rattle.session_facts.specs.Index.NewestLeaves.{AreContents}
+use Rattle.session_facts.specs.Sessions.Knows.{KnowsWork}
+use Rattle.session_facts.specs.Index.Whole.{IsIndexWhole}
 use Rattle.tree_walk.specs.Walk.{Walk, walk_ready}
 use Rattle.world_core.specs.Asked.{OfSession}
 use Rattle.world_core.specs.Handled.{ComesTo, Runs, Does, Answers, Handled}

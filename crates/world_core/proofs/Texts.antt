@@ -28,7 +28,7 @@ use Rattle.world_core.specs.declared.asked.Request.TheVariants.{Begin, Note, Abo
 use Rattle.world_core.specs.declared.world.WorldFault.{WorldFault}
 use Rattle.world_core.specs.World.{World}
 use Rattle.world_core.specs.Handled.{Declines, FindsNoMemory, MakesStep, Runs, SettlesOn, Settles, Crashes, Does, ReportReply, Answers, Policies, WorksThrough}
-use Rattle.session_facts.specs.Errands.{Errand, settles, sweeps}
+use Rattle.session_facts.specs.Lines.Errands.{Errand, settles, sweeps}
 use Rattle.world_core.specs.Replying.{declined, done_reply, told, told_by, commit_reply, trouble_reply, value_reply, RepliesTo, RepliesBegun, RepliesFor, RepliesTurn}
 
 -- the reply of a line

@@ -42,11 +42,11 @@ use Rattle.page_ckpt.specs.declared.link.Link.{Link as Found}
 use Rattle.page_ckpt.specs.declared.stage.Stage.{Stage}
 use Rattle.page_ckpt.specs.declared.stage.Stage.TheVariants.{GettingHome, GettingRight, Releasing}
 use Rattle.report_types.specs.declared.entry.Entry.{Entry}
-use Rattle.session_facts.proofs.PageCheckpoints.Explaining.{KeepsNext, waiting_kept}
-use Rattle.session_facts.proofs.PageCheckpoints.PageReads.{linked_is, named_leaf}
-use Rattle.session_facts.proofs.Runs.Leaves.{own_queue as queue_is}
-use Rattle.session_facts.specs.PageCheckpoints.Checkpoint.{KnowsPaging, KnowsPagingAt, TroubleWaits}
-use Rattle.session_facts.specs.Sessions.Explaining.{MeetsNext}
+use Rattle.session_facts.proofs.Machines.PageCheckpoints.Explains.{KeepsNext, waiting_kept}
+use Rattle.session_facts.proofs.Machines.PageCheckpoints.Reads.{linked_is, named_leaf}
+use Rattle.session_facts.proofs.Machines.Runs.Leaves.{own_queue as queue_is}
+use Rattle.session_facts.specs.Machines.PageCheckpoints.Knows.{KnowsPaging, KnowsPagingAt, TroubleWaits}
+use Rattle.session_facts.specs.Sessions.Explains.{MeetsNext}
 use Rattle.session_facts.specs.Sessions.Spent.{IsSpentInPages}
 use Rattle.session_facts.specs.Sessions.Untroubled.{IsSpent, IsSpentOrOf}
 use Rattle.world_core.specs.UnsentPages.{IsOfUnsent, IsUnsent}

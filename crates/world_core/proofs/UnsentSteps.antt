@@ -24,12 +24,12 @@ use Rattle.page_cache.specs.Cache.{Cache}
 use Rattle.page_ckpt.specs.Paging.{Paging}
 use Rattle.replay_meaning.specs.Standing.{Line}
 use Rattle.report_types.specs.declared.entry.Entry.{Entry}
-use Rattle.session_facts.proofs.PagingPage.{same_page}
+use Rattle.session_facts.proofs.Machines.PageCheckpoints.Stays.{same_page}
 use Rattle.session_facts.proofs.Sessions.Untroubled.{IsAtRest}
-use Rattle.session_facts.proofs.Steps.{wish_holds}
-use Rattle.session_facts.specs.Facts.{session_at, CloudHolds}
-use Rattle.session_facts.specs.Sessions.Explaining.{trouble_in}
-use Rattle.session_facts.specs.Sessions.Sessions.{KnowsWork}
+use Rattle.session_facts.proofs.Lines.Outcome.{wish_holds}
+use Rattle.session_facts.specs.Lines.Facts.{session_at, CloudHolds}
+use Rattle.session_facts.specs.Sessions.Explains.{trouble_in}
+use Rattle.session_facts.specs.Sessions.Knows.{KnowsWork}
 use Rattle.world_core.proofs.StandsLemmas.{changed_at, changed_was}
 use Rattle.world_core.proofs.UnsentPages.{met_unsent, same_unsent}
 use Rattle.world_core.proofs.Workers.{HoldsWithin}

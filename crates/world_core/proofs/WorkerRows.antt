@@ -12,20 +12,20 @@ use Rattle.event_text.specs.declared.event.Event.TheVariants as event
 use Rattle.recover_run.specs.declared.home.Home.{Home}
 use Rattle.replay_meaning.specs.Standing.{Line}
 use Rattle.reply_text.specs.declared.reply.Reply.{Reply}
-use Rattle.session_facts.proofs.AddedRows.{adds_line, worker_adds}
-use Rattle.session_facts.proofs.CallKinds.{IsWorkersRow}
-use Rattle.session_facts.proofs.CommittedLemmas.{standing_line}
-use Rattle.session_facts.proofs.LineLemmas.{line_of, still_line}
-use Rattle.session_facts.specs.Added.{AddsTo}
-use Rattle.session_facts.specs.Facts.{session_at, ActsAs}
-use Rattle.session_facts.specs.Sessions.Sessions.{Sessions}
+use Rattle.session_facts.proofs.Rows.Added.{adds_line, worker_adds}
+use Rattle.session_facts.proofs.Rows.CallKinds.{IsWorkersRow}
+use Rattle.session_facts.proofs.Lines.Committed.{standing_line}
+use Rattle.session_facts.proofs.Lines.More.{line_of, still_line}
+use Rattle.session_facts.specs.Rows.Added.{AddsTo}
+use Rattle.session_facts.specs.Lines.Facts.{session_at, ActsAs}
+use Rattle.session_facts.specs.Sessions.Knows.{Sessions}
 use Rattle.world_audit.specs.Look.{Looked}
 use Rattle.world_core.specs.Added.{WorldAdds}
 use Rattle.world_core.specs.Handled.{SetsWish, StepsLooked, Went, start, further, RunsShort, StopsShort, FallsShort, Checkpoints, CheckpointFails, FailsAt, KnowsNoDue, Works, no_checkpoint, checkpoint_more, WorksDown, WorksShort, WorksThrough}
 use Rattle.world_core.specs.Sessions.{Changes}
 use Rattle.world_core.specs.World.{World}
 use Rattle.world_core.specs.declared.world.WorldFault.{WorldFault}
-use Rattle.session_facts.proofs.WorkerLemmas.{worker_row}
+use Rattle.session_facts.proofs.Lines.Worker.{worker_row}
 use Rattle.world_core.proofs.AddedSteps.{adds_declined, rows_begin, rows_seen, rows_stay, rows_wished}
 use Rattle.world_core.proofs.StandsLemmas.{changed_was, no_memory}
 use Rattle.world_core.proofs.Workers.{IsInside, IsBetween, open_rests, within_begun, within_went, within_works, worker, worker_acts, worker_settler}

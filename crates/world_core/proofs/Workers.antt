@@ -26,15 +26,15 @@ use Rattle.replay_meaning.specs.Standing.{Line, standing}
 use Rattle.reply_text.specs.declared.reply.Reply.{Reply}
 use Rattle.reply_text.specs.declared.reply.Reply.TheVariants as reply
 use Rattle.txn_buffer.specs.Noted.{Noted}
-use Rattle.session_facts.specs.Facts.{session_at, ActsAs, AllAct, CloudHolds, SettlerRests, WorksAs}
-use Rattle.session_facts.specs.Sessions.Noting.{audited}
-use Rattle.session_facts.specs.Sessions.Sessions.{Sessions, SessionsStand}
-use Rattle.session_facts.proofs.CallKinds.{HasCheckpoint, IsNoWant, IsWorkersRow, checkpoint_goes, checkpoint_ends}
-use Rattle.session_facts.proofs.LineLemmas.{line_of, begins_line, holds_same}
-use Rattle.session_facts.proofs.Lists.{session_there}
+use Rattle.session_facts.specs.Lines.Facts.{session_at, ActsAs, AllAct, CloudHolds, SettlerRests, WorksAs}
+use Rattle.session_facts.specs.Sessions.Audited.{audited}
+use Rattle.session_facts.specs.Sessions.Knows.{Sessions, SessionsStand}
+use Rattle.session_facts.proofs.Rows.CallKinds.{HasCheckpoint, IsNoWant, IsWorkersRow, checkpoint_goes, checkpoint_ends}
+use Rattle.session_facts.proofs.Lines.More.{line_of, begins_line, holds_same}
+use Rattle.session_facts.proofs.Sessions.Lists.{session_there}
 use Rattle.session_facts.proofs.Sessions.Begins.{begins_keeps}
-use Rattle.session_facts.proofs.Steps.{CallLeavesUpto, work_holds, wish_holds}
-use Rattle.session_facts.proofs.WorkerLemmas.{work_begins, work_ends, worker_row}
+use Rattle.session_facts.proofs.Lines.Outcome.{CallLeavesUpto, work_holds, wish_holds}
+use Rattle.session_facts.proofs.Lines.Worker.{work_begins, work_ends, worker_row}
 use Rattle.world_core.specs.World.{World}
 use Rattle.world_core.specs.declared.world.WorldFault.{WorldFault}
 use Rattle.world_core.specs.Sessions.{Changes}
@@ -94,14 +94,14 @@ passable a h = tt
 -- ---- the sessions
 
 -- the session at work has this in hand and noted what it had noted before, and the others are as they were
-pub record IsWithin (Has : Work → Type 0) (k : ℕ) (first : Sessions) (world : World) : Type 0 where
+pub record WorksWithin (Has : Work → Type 0) (k : ℕ) (first : Sessions) (world : World) : Type 0 where
   pub works : Has (session_at world.sessions k).work
   pub buffer : (session_at world.sessions k).buffer ≡ (first k).buffer
   pub others : (m : ℕ) → m ≢ k → session_at world.sessions m ≡ first m
 
 -- one session changes
 pub within_changed : (Had Has : Work → Type 0) (k : ℕ) (first : Sessions) (Does : Acting → Acting → Type 0) (old new : World) → (c : Changes k Does old.sessions new.sessions)
-    → IsWithin Had k first old → (Had c.before.work → Has c.after.work × (c.after.buffer ≡ c.before.buffer)) → IsWithin Has k first new
+    → WorksWithin Had k first old → (Had c.before.work → Has c.after.work × (c.after.buffer ≡ c.before.buffer)) → WorksWithin Has k first new
 within_changed Had Has k first Does old new c w goes = record {
   works = subst (λ (a : Acting). Has a.work) (sym own) next.0;
   buffer = ap (λ (a : Acting). a.buffer) own ∙ next.1 ∙ ap (λ (a : Acting). a.buffer) (sym was) ∙ w.buffer;
@@ -119,10 +119,10 @@ within_changed Had Has k first Does old new c w goes = record {
 
 module _ (k : ℕ) (home : Home) (first : Sessions) where
   abbrev pub IsBetween : World → Type 0
-  IsBetween world = IsWithin (IsIdle home) k first world
+  IsBetween world = WorksWithin (IsIdle home) k first world
 
   abbrev pub IsInside : World → Type 0
-  IsInside world = IsWithin (HasCheckpoint home) k first world
+  IsInside world = WorksWithin (HasCheckpoint home) k first world
 
   pub within_begun : (queue : QueueName) (old begun : World) → IsBetween old → BeginsCheckpoint k queue old begun → IsInside begun
   within_begun queue old begun w b =

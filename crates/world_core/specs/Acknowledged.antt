@@ -6,7 +6,7 @@ use Rattle.event_text.specs.declared.event.Event.{Event}
 use Rattle.replay_meaning.specs.Committed.{committed}
 use Rattle.replay_meaning.specs.Standing.{Line, session_of, standing}
 use Rattle.reply_text.specs.declared.reply.Reply.{Reply}
-use Rattle.session_facts.specs.Acknowledged.{IsKeptReply}
+use Rattle.session_facts.specs.Lines.Acknowledged.{IsKeptReply}
 use Rattle.world_core.specs.World.{World}
 use Rattle.world_core.specs.declared.world.WorldFault.{WorldFault}
 use Rattle.world_core.specs.Stands.{WorldStands}

@@ -3,8 +3,8 @@ use Rattle.std.specs.Prelude.{List, length}
 use Rattle.cloud_trait.specs.State.{CloudState}
 use Rattle.cloud_trait.specs.Seen.{Seen}
 use Rattle.replay_meaning.specs.Standing.{Line}
-use Rattle.session_facts.specs.Added.{AddsTo}
-use Rattle.session_facts.specs.Facts.{session_at, AllAct, SettlerRests}
+use Rattle.session_facts.specs.Rows.Added.{AddsTo}
+use Rattle.session_facts.specs.Lines.Facts.{session_at, AllAct, SettlerRests}
 use Rattle.world_core.specs.World.{World}
 
 -- behind these lines the sessions of a world stand as they say, the settler rests, and each row that was added since the cloud stood so is of its kind

@@ -10,13 +10,13 @@ use Rattle.txn_buffer.specs.Noted.{Noted}
 use Rattle.cloud_trait.specs.Seen.{Seen}
 use Rattle.cloud_trait.specs.declared.turn.Turn.TheVariants.{Ended}
 use Rattle.page_cache.specs.Cache.{Cache}
-use Rattle.tree_walk.specs.Causing.{LinkShows}
+use Rattle.tree_walk.specs.Causes.{LinkShows}
 use Rattle.tree_walk.specs.Walk.{Walk, new_walk}
 use Rattle.range_scan.specs.Scan.{new_scan}
 use Rattle.attr_index.specs.Look.{new_look}
 use Rattle.recover_run.specs.declared.home.Home.{Home}
-use Rattle.commit_run.specs.Causing.{CausesReady}
-use Rattle.commit_run.specs.Exact.{ExactReady}
+use Rattle.commit_run.specs.Causes.{CausesReady}
+use Rattle.commit_run.specs.CallDemands.{ExactReady}
 use Rattle.commit_run.specs.Meaning.{MeansReady}
 use Rattle.commit_run.specs.Run.{Run, new_run, home_of}
 use Rattle.client_work.specs.Session.{Acting}

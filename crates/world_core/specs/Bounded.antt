@@ -14,7 +14,7 @@ use Rattle.db_base.specs.declared.wish.Wish.TheVariants.{Plain}
 use Rattle.event_text.specs.declared.event.Event.{Event}
 use Rattle.replay_meaning.specs.Standing.{Line}
 use Rattle.reply_text.specs.declared.reply.Reply.{Reply}
-use Rattle.session_facts.specs.Counted.{calls_told, FewFor}
+use Rattle.session_facts.specs.Lines.Counted.{calls_told, FewFor}
 use Rattle.world_core.specs.declared.asked.Asked.{Asked}
 use Rattle.world_core.specs.declared.asked.Asked.TheVariants.{Session}
 use Rattle.world_core.specs.declared.asked.Request.{Request}

@@ -12,7 +12,7 @@ use Rattle.db_base.specs.declared.wish.Wish.{Wish}
 use Rattle.db_base.specs.declared.wish.Wish.TheVariants.{Plain}
 use Rattle.event_text.specs.declared.event.Event.{Event}
 use Rattle.reply_text.specs.declared.reply.Reply.{Reply}
-use Rattle.session_facts.specs.Errands.{Errand, settles, sweeps}
+use Rattle.session_facts.specs.Lines.Errands.{Errand, settles, sweeps}
 use Rattle.world_core.specs.declared.asked.Asked.{Asked}
 use Rattle.world_core.specs.declared.asked.Asked.TheVariants.{Session, Wait, Report, Settle, Sweep}
 use Rattle.world_core.specs.declared.asked.Request.{Request}

@@ -45,9 +45,9 @@ use Rattle.world_audit.specs.Look.{Looked}
 use Rattle.world_audit.specs.Finding.{Finds}
 use Rattle.replay_meaning.specs.Chain.{Walked}
 use Rattle.world_audit.specs.Counts.{heads_upto, AreWaiting}
-use Rattle.session_facts.specs.Errands.{Errand, settles, sweeps, session_for}
-use Rattle.session_facts.specs.Sessions.Noting.{audited}
-use Rattle.session_facts.specs.Sessions.Sessions.{IsRightOp}
+use Rattle.session_facts.specs.Lines.Errands.{Errand, settles, sweeps, session_for}
+use Rattle.session_facts.specs.Sessions.Audited.{audited}
+use Rattle.session_facts.specs.Sessions.Knows.{IsRightOp}
 use Rattle.world_core.specs.declared.asked.Noting.{Noting}
 use Rattle.world_core.specs.declared.asked.Request.{Request}
 use Rattle.world_core.specs.declared.asked.Request.TheVariants.{Begin, Note, Abort, Policy, Work as WorksDue, Step, Run, Crash}

@@ -6,8 +6,8 @@ use Rattle.event_text.specs.declared.event.Event.{Event}
 use Rattle.replay_meaning.specs.Committed.{committed}
 use Rattle.replay_meaning.specs.Standing.{Line, session_of, standing}
 use Rattle.reply_text.specs.declared.reply.Reply.{Reply}
-use Rattle.session_facts.specs.Facts.{session_at}
-use Rattle.session_facts.specs.LeftNone.{IsLeftReply}
+use Rattle.session_facts.specs.Lines.Facts.{session_at}
+use Rattle.session_facts.specs.Lines.LeftNone.{IsLeftReply}
 use Rattle.world_core.specs.World.{World}
 use Rattle.world_core.specs.declared.world.WorldFault.{WorldFault}
 use Rattle.world_core.specs.Stands.{WorldStands}

@@ -9,7 +9,7 @@ use Rattle.cloud_trait.specs.State.{CloudState}
 use Rattle.event_text.specs.declared.event.Event.{Event}
 use Rattle.replay_meaning.specs.Standing.{Line}
 use Rattle.reply_text.specs.declared.reply.Reply.{Reply}
-use Rattle.session_facts.specs.Facts.{session_at}
+use Rattle.session_facts.specs.Lines.Facts.{session_at}
 use Rattle.session_notes.specs.declared.notebook.Notebook.{Notebook}
 use Rattle.session_notes.specs.Metered.{IsMetered, sent_since, waiting_at}
 use Rattle.writer_bound.specs.Sending.{SendsAtMost}

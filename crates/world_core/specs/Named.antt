@@ -10,7 +10,7 @@ use Rattle.event_text.specs.declared.event.Event.{Event}
 use Rattle.recover_run.specs.declared.home.Home.{Home}
 use Rattle.replay_meaning.specs.Standing.{Line}
 use Rattle.reply_text.specs.declared.reply.Reply.{Reply}
-use Rattle.session_facts.specs.TreeCheckpoints.Named.{NamesPieces}
+use Rattle.session_facts.specs.Machines.TreeCheckpoints.Named.{NamesPieces}
 use Rattle.tree_ckpt.specs.Making.{Making}
 use Rattle.world_core.specs.World.{World}
 use Rattle.world_core.specs.declared.world.WorldFault.{WorldFault}

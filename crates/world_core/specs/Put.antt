@@ -9,7 +9,7 @@ use Rattle.history.specs.Audited.{Audited, applied_entry}
 use Rattle.world_audit.specs.declared.mark.Mark.{Mark}
 use Rattle.cloud_trait.specs.Bench.{has_bytes}
 use Rattle.cloud_facts.specs.Calls.Looks.{Newest}
-use Rattle.session_facts.specs.Sessions.Noting.{noted_head}
+use Rattle.session_facts.specs.Sessions.Audited.{noted_head}
 use Rattle.world_core.specs.declared.put.Put.{Put}
 
 -- the object and bytes of a call that is a put

@@ -13,7 +13,7 @@ use Rattle.cloud_trait.specs.declared.turn.Turn.TheVariants.{More, Ended, Stoppe
 use Rattle.reply_text.specs.declared.reply.Reply.{Reply}
 use Rattle.reply_text.specs.declared.reply.Reply.TheVariants as reply
 use Rattle.client_work.specs.Session.{Acting, items_of, value_of}
-use Rattle.session_facts.specs.Errands.{Errand, settles, sweeps}
+use Rattle.session_facts.specs.Lines.Errands.{Errand, settles, sweeps}
 use Rattle.client_work.specs.declared.answer.Answer.{Answer}
 use Rattle.client_work.specs.declared.answer.Answer.TheVariants as answer
 use Rattle.client_work.specs.declared.answer.Begun.{Begun}

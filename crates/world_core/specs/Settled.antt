@@ -19,12 +19,12 @@ use Rattle.replay_meaning.specs.Standing.{Posture}
 use Rattle.reply_text.specs.declared.reply.Reply.{Reply}
 use Rattle.reply_text.specs.declared.reply.Reply.TheVariants as reply
 use Rattle.report_types.specs.declared.entry.Entry.{Entry}
-use Rattle.session_facts.specs.Answers.{IsSoundReply}
-use Rattle.session_facts.specs.Facts.{session_at, SomeBookStands}
+use Rattle.session_facts.specs.Lines.Answers.{IsSoundReply}
+use Rattle.session_facts.specs.Lines.Facts.{session_at, SomeBookStands}
 use Rattle.session_facts.specs.Sessions.Calls.{reply_of}
 use Rattle.session_facts.specs.Sessions.Spent.{IsSpentToSettle}
 use Rattle.session_facts.specs.Sessions.Untroubled.{GivesBackLasting, IsSpent, IsUntroubled}
-use Rattle.session_facts.specs.Settled.Bound.{IsWithin}
+use Rattle.session_facts.specs.Settling.Bound.{SettlesWithin}
 use Rattle.world_audit.specs.Counts.{heads_upto, AreWaiting}
 use Rattle.world_core.specs.Calm.{StepIsCalm, SettlesWell, work_at}
 use Rattle.world_core.specs.EachStep.{StepFact, EachStep}
@@ -82,7 +82,7 @@ pub record SettledWithin (before : CloudState) (after : Seen) (calls : ℕ) : Ty
   pub told : after.state ≡ Some state
   pub nothing : LeavesNothing state
   pub no_log : LeavesNoLog state
-  pub within : IsWithin before state calls
+  pub within : SettlesWithin before state calls
 
 -- where in no step a message was withheld it left nothing, whatever calls failed
 abbrev pub SettledLeaves : (n calls : ℕ) (before after : Seen) (old new : World) → Handled n event.Settle before after old new (Ok (reply.Settled calls)) → Type 0

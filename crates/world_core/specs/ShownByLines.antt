@@ -5,7 +5,7 @@ use Rattle.cloud_trait.specs.State.{CloudState}
 use Rattle.event_text.specs.declared.event.Event.{Event}
 use Rattle.replay_meaning.specs.Standing.{Line}
 use Rattle.reply_text.specs.declared.reply.Reply.{Reply}
-use Rattle.session_facts.specs.ShownByLines.{ShowsByLines}
+use Rattle.session_facts.specs.Lines.Shown.{ShowsByLines}
 use Rattle.world_core.specs.World.{World}
 use Rattle.world_core.specs.declared.world.WorldFault.{WorldFault}
 use Rattle.world_core.specs.EachStep.{StepFact, EachStep}

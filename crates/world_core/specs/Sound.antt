@@ -6,8 +6,8 @@ use Rattle.db_base.specs.declared.trouble.Trouble.TheVariants.{Failed}
 use Rattle.event_text.specs.declared.event.Event.{Event}
 use Rattle.event_text.specs.declared.event.Event.TheVariants as event
 use Rattle.replay_meaning.specs.Standing.{Line, Posture, session_of, standing}
-use Rattle.session_facts.specs.Answers.{IsSoundReply}
-use Rattle.session_facts.specs.Sweeps.Sweep.{MayStop as MayStopSweep}
+use Rattle.session_facts.specs.Lines.Answers.{IsSoundReply}
+use Rattle.session_facts.specs.Machines.Sweeps.Knows.{MayStopSweep}
 use Rattle.reply_text.specs.declared.reply.Reply.{Reply}
 use Rattle.reply_text.specs.declared.reply.Reply.TheVariants as reply
 use Rattle.world_core.specs.World.{World}

@@ -11,8 +11,8 @@ use Rattle.reply_text.specs.declared.reply.Reply.TheVariants as reply
 use Rattle.world_audit.specs.Counts.{heads_upto, AreWaiting}
 use Rattle.replay_meaning.specs.Standing.{Line}
 use Rattle.replay_meaning.specs.Right.{ReportIsRight}
-use Rattle.session_facts.specs.Counted.{calls_told, CountsAll}
-use Rattle.session_facts.specs.Facts.{session_at, Stands, SomeBookStands}
+use Rattle.session_facts.specs.Lines.Counted.{calls_told, CountsAll}
+use Rattle.session_facts.specs.Lines.Facts.{session_at, Stands, SomeBookStands}
 use Rattle.world_core.specs.World.{World}
 use Rattle.world_core.specs.declared.world.WorldFault.{WorldFault}
 

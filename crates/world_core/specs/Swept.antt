@@ -7,9 +7,9 @@ use Rattle.event_text.specs.declared.event.Event.{Event}
 use Rattle.event_text.specs.declared.event.Event.TheVariants as event
 use Rattle.reply_text.specs.declared.reply.Reply.{Reply}
 use Rattle.reply_text.specs.declared.reply.Reply.TheVariants as reply
-use Rattle.session_facts.specs.Facts.{session_at, SomeBookStands}
-use Rattle.session_facts.specs.Sweeps.Remains.{Remains, AreJustReached}
-use Rattle.session_facts.specs.Sweeps.Same.{TellsTheSame}
+use Rattle.session_facts.specs.Lines.Facts.{session_at, SomeBookStands}
+use Rattle.session_facts.specs.Machines.Sweeps.Remains.{Remains, AreJustReached}
+use Rattle.session_facts.specs.Machines.Sweeps.Same.{TellsTheSame}
 use Rattle.world_core.specs.Handled.{Handled}
 use Rattle.world_core.specs.World.{World}
 use Rattle.world_core.specs.declared.world.WorldFault.{WorldFault}

@@ -16,9 +16,9 @@ use Rattle.replay_meaning.specs.Standing.{Line}
 use Rattle.reply_text.specs.declared.reply.Reply.{Reply}
 use Rattle.reply_text.specs.declared.reply.Reply.TheVariants as reply
 use Rattle.report_types.specs.declared.stored.Stored.{Stored}
-use Rattle.session_facts.specs.Facts.{session_at}
-use Rattle.session_facts.specs.NewestLeaves.{AreContents}
-use Rattle.session_facts.specs.WholeIndex.{IsIndexWhole}
+use Rattle.session_facts.specs.Lines.Facts.{session_at}
+use Rattle.session_facts.specs.Index.NewestLeaves.{AreContents}
+use Rattle.session_facts.specs.Index.Whole.{IsIndexWhole}
 use Rattle.world_core.specs.World.{World}
 use Rattle.world_core.specs.declared.world.WorldFault.{WorldFault}
 use Rattle.world_core.specs.Stands.{WorldStands}

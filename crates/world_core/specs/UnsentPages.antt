@@ -10,7 +10,7 @@ use Rattle.event_text.specs.declared.event.Event.TheVariants as event
 use Rattle.replay_meaning.specs.Standing.{Paging, Posture, Working}
 use Rattle.reply_text.specs.declared.reply.Reply.{Reply}
 use Rattle.reply_text.specs.declared.reply.Reply.TheVariants as reply
-use Rattle.session_facts.specs.Sessions.Explaining.{trouble_in}
+use Rattle.session_facts.specs.Sessions.Explains.{trouble_in}
 
 -- no message was ever sent to the queue of a page
 abbrev pub IsUnsent : ℕ → ℕ → CloudState → Type 0

@@ -2,7 +2,7 @@
 
 ghost use Rattle.std.specs.Prelude.{◌≡◌, ◌+◌, ◌<◌};
 ghost use Rattle.ckpt_policy.specs.Notes.{IsPending};
-ghost use Rattle.session_facts.specs.Sessions.Sessions.{IsRightOp};
+ghost use Rattle.session_facts.specs.Sessions.Knows.{IsRightOp};
 ghost use Rattle.session_notes.specs.Notebook.{ChangesBook};
 ghost use Rattle.world_core.specs.Handled.{as_one, book_begun, checkpoint_of};
 

@@ -2,7 +2,7 @@
 
 ghost use Rattle.std.specs.Prelude.{◌≡◌, Some, OnOk};
 ghost use Rattle.client_work.specs.Session.{opens_of, committing_of};
-ghost use Rattle.session_facts.specs.Sessions.Noting.{noted_head};
+ghost use Rattle.session_facts.specs.Sessions.Audited.{noted_head};
 ghost use Rattle.world_core.specs.Put.{noted_put, kept_of};
 ghost use Rattle.world_core.specs.Sessions.{NotesPut};
 

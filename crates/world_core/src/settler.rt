@@ -18,7 +18,7 @@ use std::alloc::Global;
 impl<S: SessionCalls> World<S> {
     ghost use Rattle.client_work.specs.Session.{settling_session, sweeping_session};
     ghost use Rattle.db_base.specs.Ids.{IsTree};
-    ghost use Rattle.session_facts.specs.Errands.{settles, sweeps};
+    ghost use Rattle.session_facts.specs.Lines.Errands.{settles, sweeps};
     ghost use Rattle.world_core.specs.Handled.{Answers, Has, KeepsNotes, Settles, SettlesOn};
     ghost use Rattle.world_core.specs.Quota.{SpendsQuota};
 

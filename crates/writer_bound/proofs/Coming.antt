@@ -6,8 +6,8 @@ use Rattle.cloud_trait.specs.declared.answer.Answer.TheVariants.{Failed, Memory}
 use Rattle.cloud_trait.specs.Ask.{Ask}
 use Rattle.cloud_trait.specs.Machine.{Next, Goes, Deed, Came, Follows}
 use Rattle.cloud_trait.specs.State.{CloudState}
-use Rattle.session_facts.proofs.Settled.Trails.{IsBetween, Trail}
-use Rattle.session_facts.specs.Settled.Runs.{AreDelivered}
+use Rattle.session_facts.proofs.Settling.Trails.{IsBetween, Trail}
+use Rattle.session_facts.specs.Settling.Runs.{AreDelivered}
 use Rattle.writer_bound.specs.Alone.{AreAnswered}
 use Rattle.std.proofs.lemmas.Option.{same_Some}
 

@@ -20,22 +20,22 @@ use Rattle.page_ckpt.specs.Meaning.{IsDone as IsPageDone, Scene, scene, deletes_
 use Rattle.page_ckpt.specs.Paging.{Paging, Step as PageNext, new_paging, paging_ask, PagingLeads, ask_at as page_ask_at, delete_next, under}
 use Rattle.page_ckpt.specs.declared.stage.Stage.{Stage}
 use Rattle.page_ckpt.specs.declared.stage.Stage.TheVariants as stage
-use Rattle.page_ckpt.specs.Standing.{Went as PageWent}
+use Rattle.page_ckpt.specs.Leases.{Went as PageWent}
 use Rattle.ckpt_parts.specs.Deleting.{next_id}
 use Rattle.ckpt_parts.specs.Leasing.{newest_lease}
-use Rattle.session_facts.proofs.PagingPage.{same_page}
-use Rattle.session_facts.proofs.Settled.Emptied.{tree_emptied}
-use Rattle.session_facts.proofs.Settled.PageEmptied.{page_emptied}
-use Rattle.session_facts.proofs.Settled.Trails.{Calls, IsBetween, Trail, first_is, rest_is, ask_is, answer_is}
-use Rattle.session_facts.proofs.Settled.TreeDrains.{SendsNothing}
-use Rattle.session_facts.proofs.Settled.TreeRuns.{work_sends}
-use Rattle.session_facts.specs.Settled.Runs.{waiting}
-use Rattle.session_facts.specs.Settled.Story.{Moment}
+use Rattle.session_facts.proofs.Machines.PageCheckpoints.Stays.{same_page}
+use Rattle.session_facts.proofs.Settling.Trees.Emptied.{tree_emptied}
+use Rattle.session_facts.proofs.Settling.Pages.Emptied.{page_emptied}
+use Rattle.session_facts.proofs.Settling.Trails.{Calls, IsBetween, Trail, first_is, rest_is, ask_is, answer_is}
+use Rattle.session_facts.proofs.Settling.Trees.Drains.{SendsNothing}
+use Rattle.session_facts.proofs.Settling.Trees.Runs.{work_sends}
+use Rattle.session_facts.specs.Settling.Runs.{waiting}
+use Rattle.session_facts.specs.Settling.Story.{Moment}
 use Rattle.tree_ckpt.proofs.Causes.{went_brought}
 use Rattle.tree_ckpt.proofs.Meaning.{went_done, took_done}
 use Rattle.tree_ckpt.specs.Making.{Making, new_making, making_ask, MakingLeads}
 use Rattle.tree_ckpt.specs.Meaning.{IsDone as IsTreeDone, deletes_over, failed_count, one_less, Tried}
-use Rattle.tree_ckpt.specs.Standing.{Went}
+use Rattle.tree_ckpt.specs.Leases.{Went}
 use Rattle.tree_moves.specs.Moves.{went}
 use Rattle.writer_bound.specs.Alone.{AreAnswered}
 use Rattle.writer_bound.proofs.Coming.{Comes}
@@ -110,12 +110,12 @@ module _ (first : Moment) (tree : ℕ) (m n : Making) (s t : CloudState) (comes 
 -- ---- a page's checkpoint
 
 -- it ends at the page of the checkpoint
-abbrev EndsAt : Paging → PageNext → Type 0
-EndsAt p (Goes n) = Unit {0}
-EndsAt p (Ends n x) = (n.tree ≡ p.tree) × (n.page ≡ p.page)
-EndsAt p (Stops n t) = Unit {0}
+abbrev EndsAtPage : Paging → PageNext → Type 0
+EndsAtPage p (Goes n) = Unit {0}
+EndsAtPage p (Ends n x) = (n.tree ≡ p.tree) × (n.page ≡ p.page)
+EndsAtPage p (Stops n t) = Unit {0}
 
-ends_at : {p : Paging} {a : Answer} {next : PageNext} → PageStep p a next → EndsAt p next
+ends_at : {p : Paging} {a : Answer} {next : PageNext} → PageStep p a next → EndsAtPage p next
 ends_at (step.ends p first second a last none) = (refl, refl)
 ends_at (step.refused p first second a t e) = tt
 ends_at c = tt

@@ -28,7 +28,7 @@ use Rattle.node_codec.specs.Tree.{Tree}
 use Rattle.page_cache.specs.Cache.{Cache}
 use Rattle.recover_run.specs.declared.home.Home.{Home}
 use Rattle.route_plan.specs.Queue.{queue_name}
-use Rattle.session_facts.proofs.Commits.Routing.{count_is}
+use Rattle.session_facts.proofs.Machines.Commits.Routes.{count_is}
 use Rattle.session_notes.specs.Metered.{sends_of}
 use Rattle.session_notes.specs.Notebook.{note_of_send}
 use Rattle.tree_walk.specs.Walk.{Walk, new_walk, object_of, walk_ready, walk_next}

@@ -10,7 +10,7 @@ use Rattle.head_codec.specs.declared.head.Head.{Head}
 use Rattle.head_codec.specs.Head.{empty_head}
 use Rattle.head_codec.specs.Spelling.{head_of}
 use Rattle.leaf_view.specs.Leaf.{Leaf, leaf, leaf_head, IsLeaf}
-use Rattle.leaf_view.proofs.Exactness.{leaf_exact}
+use Rattle.leaf_view.proofs.Exact.{leaf_exact}
 use Rattle.node_codec.specs.Inner.{Inner, IsInner}
 use Rattle.node_codec.specs.Tree.{Tree, empty_tree, tree_of, IsTree}
 use Rattle.node_codec.proofs.SpellingLaws.{tree_only, inner_only}

@@ -40,29 +40,29 @@ use Rattle.recover_run.specs.declared.home.Home.{Home}
 use Rattle.recover_run.specs.declared.stage.RecoverAnswer.TheVariants.{Opened}
 use Rattle.recover_run.specs.Recovery.{Recovery, Step as RecoveryStep, IsSound, recovery_ask, recovery_next}
 use Rattle.report_types.specs.declared.entry.Entry.{Entry}
-use Rattle.session_facts.proofs.CommitRuns.RunLeases.{RunLeaseStays, run_lease}
+use Rattle.session_facts.proofs.Machines.CommitRuns.Leases.{RunLeaseStays, run_lease}
 use Rattle.session_facts.proofs.Sessions.AloneLeases.{after_beside, first_last, follows_leases, last_first, making_other, paging_other, run_moves_none, stopped_leases, uses_beside, TakesOther}
-use Rattle.session_facts.proofs.Sessions.CommitSteps as commit
-use Rattle.session_facts.proofs.Sessions.LeaseSteps.{renews_both}
-use Rattle.session_facts.proofs.Sessions.OpeningSteps as opening
-use Rattle.session_facts.proofs.Settled.ClientLeases.{recovery_leaves, recovery_uses}
-use Rattle.session_facts.proofs.Settled.Free.{settling_holds, settling_uses}
-use Rattle.session_facts.proofs.Settled.Locks.{call_alone, quiet_after, quiet_uses, renewed_alone, same_alone, takes_free}
-use Rattle.session_facts.proofs.Settled.PageLeases.{paging_holds, paging_uses}
-use Rattle.session_facts.proofs.Settled.TreeLeases.{making_holds, making_uses}
-use Rattle.session_facts.specs.Openings.Opening.{KnowsOpening, leases_of_recovery}
-use Rattle.session_facts.specs.PageCheckpoints.Checkpoint.{KnowsPaging, leases_of_paging}
+use Rattle.session_facts.proofs.Sessions.Steps.Commits as commit
+use Rattle.session_facts.proofs.Sessions.Steps.Leases.{renews_both}
+use Rattle.session_facts.proofs.Sessions.Steps.Openings as opening
+use Rattle.session_facts.proofs.Settling.Recoveries.Leases.{recovery_leaves, recovery_uses}
+use Rattle.session_facts.proofs.Settling.Free.{settling_holds, settling_uses}
+use Rattle.session_facts.proofs.Settling.Locks.{call_alone, quiet_after, quiet_uses, renewed_alone, same_alone, takes_free}
+use Rattle.session_facts.proofs.Settling.Pages.Leases.{paging_holds, paging_uses}
+use Rattle.session_facts.proofs.Settling.Trees.Leases.{making_holds, making_uses}
+use Rattle.session_facts.specs.Machines.Openings.Knows.{KnowsOpening, leases_of_recovery}
+use Rattle.session_facts.specs.Machines.PageCheckpoints.Knows.{KnowsPaging, leases_of_paging}
 use Rattle.session_facts.specs.Sessions.Alone.{IsAlone, StepsUndisturbed}
 use Rattle.session_facts.specs.Sessions.Calls.{closing_reply, commit_reply, folding_reply, looking_reply, opening_reply, paging_reply, reading_reply, reply_at, reply_of, settling_reply, sweeping_reply}
-use Rattle.session_facts.specs.Sessions.Sessions.{KnowsWork, Sessions, SessionsStand, leases_of}
+use Rattle.session_facts.specs.Sessions.Knows.{KnowsWork, Sessions, SessionsStand, leases_of}
 use Rattle.session_facts.specs.Sessions.Untroubled.{StepsCalmly}
-use Rattle.session_facts.specs.Settled.Locks.{HoldsAlone, UsesOwn}
-use Rattle.session_facts.specs.Settlings.Settling.{KnowsSettling, leases_of_settling}
-use Rattle.session_facts.specs.TreeCheckpoints.Checkpoint.{KnowsMaking, leases_of_making}
+use Rattle.session_facts.specs.Settling.Locks.{HoldsAlone, UsesOwn}
+use Rattle.session_facts.specs.Machines.Settlings.Knows.{KnowsSettling, leases_of_settling}
+use Rattle.session_facts.specs.Machines.TreeCheckpoints.Knows.{KnowsMaking, leases_of_making}
 use Rattle.settle_run.specs.Parts.{IsSoundPart}
 use Rattle.orphan_sweep.specs.Sweeping.{Sweeping as SweepingState, sweep_ask}
-use Rattle.session_facts.proofs.Sweeps.Leases.{held_at, sweep_uses, sweep_holds}
-use Rattle.session_facts.specs.Sweeps.Sweep.{KnowsSweep, leases_of_sweep}
+use Rattle.session_facts.proofs.Machines.Sweeps.Leases.{held_at, sweep_uses, sweep_holds}
+use Rattle.session_facts.specs.Machines.Sweeps.Knows.{KnowsSweep, leases_of_sweep}
 use Rattle.settle_run.specs.Settling.{Settling as SettlingState, settle_ask}
 use Rattle.tree_ckpt.specs.Making.{Making, making_ask}
 use Rattle.tree_walk.specs.Walk.{Walk, object_of, walk_ask}

@@ -42,10 +42,10 @@ use Rattle.page_ckpt.specs.declared.stage.Stage.{Stage}
 use Rattle.page_ckpt.specs.declared.stage.Stage.TheVariants as stage
 use Rattle.page_ckpt.specs.Paging.{Paging as Page, ask_at, delete_next, home_name, paging_ask, right_name, under}
 use Rattle.recover_run.specs.declared.home.Home.{Home}
-use Rattle.session_facts.proofs.CommitRuns.RunLeases.{RunLeaseStays, ready_lease}
+use Rattle.session_facts.proofs.Machines.CommitRuns.Leases.{RunLeaseStays, ready_lease}
 use Rattle.session_facts.proofs.Sessions.Indexed.{indexed_or}
-use Rattle.session_facts.specs.Sessions.Sessions.{leases_of}
-use Rattle.session_facts.specs.Settled.Locks.{IsOwn, HoldsAlone, UsesOwn}
+use Rattle.session_facts.specs.Sessions.Knows.{leases_of}
+use Rattle.session_facts.specs.Settling.Locks.{IsOwn, HoldsAlone, UsesOwn}
 use Rattle.std.specs.Prelude.{slice_get, unwrap_or}
 use Rattle.split_plan.specs.declared.put_list.PagePut.{PagePut}
 use Rattle.tree_ckpt.specs.Making.{Making, making_ask}

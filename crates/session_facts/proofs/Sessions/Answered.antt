@@ -7,7 +7,7 @@ use Rattle.cloud_trait.specs.declared.turn.Turn.TheVariants.{Ended}
 use Rattle.db_base.specs.declared.trouble.Trouble.{Trouble}
 use Rattle.db_base.specs.declared.trouble.Trouble.TheVariants as trouble
 use Rattle.recover_run.specs.declared.home.Home.{Home}
-use Rattle.session_facts.specs.Sessions.Explaining.{trouble_in, Meets, KeepsTrouble}
+use Rattle.session_facts.specs.Sessions.Explains.{trouble_in, Meets, KeepsTrouble}
 use Rattle.tree_walk.proofs.Demands.{memory_or}
 
 -- nothing is met any more where an operation stopped

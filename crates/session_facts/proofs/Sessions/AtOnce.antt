@@ -28,10 +28,10 @@ use Rattle.page_cache.specs.Cache.{Cache}
 use Rattle.range_scan.specs.Scan.{moved_on}
 use Rattle.recover_run.specs.declared.home.Home.{Home}
 use Rattle.report_types.specs.declared.entry.Entry.{Entry}
-use Rattle.session_facts.specs.CommitRuns.Stopping.{MayStopAtOnce, EndsBy}
-use Rattle.session_facts.specs.Sessions.Sessions.{Sessions, SessionsStand, IsRightOp}
+use Rattle.session_facts.specs.Machines.CommitRuns.Stops.{MayStopAtOnce, EndsBy}
+use Rattle.session_facts.specs.Sessions.Knows.{Sessions, SessionsStand, IsRightOp}
 use Rattle.session_facts.specs.Sessions.Untroubled.{IsUntroubled, CommitsWell}
-use Rattle.session_facts.proofs.CommitRuns.Telling.{EndsTold, IsTold, ready_tells}
+use Rattle.session_facts.proofs.Machines.CommitRuns.Troubles.{EndsTold, IsTold, ready_tells}
 use Rattle.session_facts.proofs.Sessions.BeginStops.{begin_stops, begin_spent}
 use Rattle.session_facts.proofs.Sessions.Indexed.{indexed_or}
 use Rattle.session_facts.proofs.Sessions.Untroubled.{IsAtRest, rested, at_rest, rests_as, idle_rests, stopped_rests}

@@ -14,9 +14,9 @@ use Rattle.cloud_trait.specs.declared.turn.Turn.{Turn}
 use Rattle.cloud_trait.specs.declared.turn.Turn.TheVariants.{More, Ended, Stopped}
 use Rattle.cloud_trait.specs.Machine.{Next, Goes, Stops}
 use Rattle.cloud_trait.specs.State.{CloudState}
-use Rattle.session_facts.specs.CommitRuns.Stopping.{MayStop, MayStopAtOnce, EndsBy, MayEnd}
-use Rattle.session_facts.proofs.Commits.Near.{near_told}
-use Rattle.session_facts.proofs.CommitRuns.Stopping.{EndsWell, ready_ends_by}
+use Rattle.session_facts.specs.Machines.CommitRuns.Stops.{MayStopCommit, MayStopAtOnce, EndsBy, MayEnd}
+use Rattle.session_facts.proofs.Machines.Commits.Near.{near_told}
+use Rattle.session_facts.proofs.Machines.CommitRuns.Stops.{EndsWell, ready_ends_by}
 use Rattle.db_base.specs.Ids.{IsTree}
 use Rattle.db_base.specs.declared.trouble.CommitAnswer.{CommitAnswer}
 use Rattle.db_base.specs.declared.trouble.CommitAnswer.TheVariants.{Committed, NotCommitted, InDoubt, CommittedOpen}
@@ -27,17 +27,17 @@ use Rattle.page_cache.specs.Cache.{Cache}
 use Rattle.range_scan.specs.Scan.{Scan, new_scan, scan_ready}
 use Rattle.recover_run.specs.declared.home.Home.{Home}
 use Rattle.report_types.specs.declared.entry.Entry.{Entry}
-use Rattle.session_facts.specs.Looks.Looks.{IsIndexed}
-use Rattle.session_facts.proofs.Looks.Looks.{look_begins}
-use Rattle.session_facts.proofs.Scans.Scans.{scan_begins}
-use Rattle.session_facts.specs.Sessions.Sessions.{IsHome, KnowsWork, KnowsKept, Sessions, SessionsStand, IsRightOp}
+use Rattle.session_facts.specs.Machines.Looks.Knows.{IsIndexed}
+use Rattle.session_facts.proofs.Machines.Looks.Outcome.{look_begins}
+use Rattle.session_facts.proofs.Machines.Scans.Outcome.{scan_begins}
+use Rattle.session_facts.specs.Sessions.Knows.{IsHome, KnowsWork, KnowsKept, Sessions, SessionsStand, IsRightOp}
 use Rattle.cloud_facts.specs.Book.Book.{Book}
 use Rattle.cloud_facts.specs.Book.Tally.{Store}
 use Rattle.cloud_facts.specs.Tellings.Told.{store_of}
 use Rattle.tree_walk.specs.Moves.{Moves}
 use Rattle.tree_walk.specs.Walk.{new_walk, walk_ready}
-use Rattle.session_facts.specs.Walks.Caches.{KnowsCache}
-use Rattle.session_facts.proofs.Walks.Walks.{walk_begins}
+use Rattle.session_facts.specs.Machines.Walks.Caches.{KnowsCache}
+use Rattle.session_facts.proofs.Machines.Walks.Outcome.{walk_begins}
 use Rattle.tree_walk.proofs.Demands.{memory_or}
 
 -- a step that goes on does not stop
@@ -64,7 +64,7 @@ end_is : (a b : CommitAnswer) → (let x : Begun = Answered (answer.Commit a) in
 end_is a b e = cc
 
 -- what may come without a call may come, and is the trouble of the end of a commit
-may_then : (s : CloudState) (t : Trouble) → MayStopAtOnce s t → MayStop t
+may_then : (s : CloudState) (t : Trouble) → MayStopAtOnce s t → MayStopCommit t
 may_then s (trouble.Exhausted counter.Txn) may = tt
 may_then s (trouble.Exhausted counter.Number) may = tt
 may_then s (trouble.Exhausted what) may = absurd may

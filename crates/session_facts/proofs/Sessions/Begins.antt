@@ -17,11 +17,11 @@ use Rattle.cloud_trait.specs.declared.turn.Turn.TheVariants.{More, Ended, Stoppe
 use Rattle.cloud_trait.specs.Claim.{Claim}
 use Rattle.cloud_trait.specs.Machine.{Next, Goes, Ends}
 use Rattle.cloud_trait.specs.State.{CloudState}
-use Rattle.session_facts.specs.Commits.Committing.{MayCommit, KnowsEnd}
+use Rattle.session_facts.specs.Machines.Commits.Knows.{MayCommit, KnowsEnd}
 use Rattle.commit_run.specs.Run.{Run, new_run, home_of, run_ready}
-use Rattle.session_facts.proofs.CommitRuns.Begins.{HasBegun, run_begins}
-use Rattle.session_facts.proofs.CommitRuns.Refusals.{IsRefusal}
-use Rattle.session_facts.proofs.Commits.Noted.{may_none}
+use Rattle.session_facts.proofs.Machines.CommitRuns.Begins.{HasBegun, run_begins}
+use Rattle.session_facts.proofs.Machines.CommitRuns.Refusals.{IsRefusal}
+use Rattle.session_facts.proofs.Machines.Commits.Noted.{may_none}
 use Rattle.db_base.specs.Ids.{IsClient, IsTree, IsPage}
 use Rattle.db_base.specs.declared.trouble.Trouble.{Trouble}
 use Rattle.db_base.specs.declared.trouble.Trouble.TheVariants as trouble
@@ -30,19 +30,19 @@ use Rattle.db_base.specs.declared.refusal.Refused.TheVariants as refused
 use Rattle.db_base.specs.declared.trouble.CommitAnswer.{CommitAnswer}
 use Rattle.db_base.specs.declared.trouble.CommitAnswer.TheVariants.{Committed, NotCommitted, InDoubt, CommittedOpen}
 use Rattle.cloud_facts.specs.Homes.Homes.{Part, Away}
-use Rattle.session_facts.specs.Openings.Opening.{leases_of_recovery, KnowsOpening}
-use Rattle.session_facts.proofs.Openings.Begins.{opening_begins}
+use Rattle.session_facts.specs.Machines.Openings.Knows.{leases_of_recovery, KnowsOpening}
+use Rattle.session_facts.proofs.Machines.Openings.Begins.{opening_begins}
 use Rattle.recover_run.specs.declared.home.Home.{Home}
 use Rattle.recover_run.specs.declared.stage.Aim.TheVariants as aim
-use Rattle.session_facts.proofs.PageCheckpoints.Begins.{paging_begins}
+use Rattle.session_facts.proofs.Machines.PageCheckpoints.Begins.{paging_begins}
 use Rattle.range_scan.specs.Scan.{Scan, new_scan, scan_ready, moved_on}
 use Rattle.recover_run.specs.Recovery.{new_recovery}
 use Rattle.report_types.specs.declared.entry.Entry.{Entry}
-use Rattle.session_facts.specs.Looks.Looks.{IsIndexed, KnowsLooking, LookLeads}
-use Rattle.session_facts.proofs.Looks.Looks.{look_begins}
-use Rattle.session_facts.specs.Scans.Scans.{KnowsScan, KnowsScanning, IsAtScannedLeaf, ScanLeads}
-use Rattle.session_facts.proofs.Scans.Scans.{scan_begins, scan_moves_on}
-use Rattle.session_facts.specs.Sessions.Sessions.{leases_of, IsHome, KnowsWork, KnowsKept, Knows, Sessions, SessionsStand, IsRightOp}
+use Rattle.session_facts.specs.Machines.Looks.Knows.{IsIndexed, KnowsLooking, LookLeads}
+use Rattle.session_facts.proofs.Machines.Looks.Outcome.{look_begins}
+use Rattle.session_facts.specs.Machines.Scans.Knows.{KnowsScan, KnowsScanning, IsAtScannedLeaf, ScanLeads}
+use Rattle.session_facts.proofs.Machines.Scans.Outcome.{scan_begins, scan_moves_on}
+use Rattle.session_facts.specs.Sessions.Knows.{leases_of, IsHome, KnowsWork, KnowsKept, Knows, Sessions, SessionsStand, IsRightOp}
 use Rattle.page_cache.specs.Cache.{Cache}
 use Rattle.session_facts.proofs.Sessions.Indexed.{indexed_or}
 use Rattle.session_facts.proofs.Sessions.Troubles.{stays_open}
@@ -50,20 +50,20 @@ use Rattle.session_facts.proofs.Sessions.Kept.{KnowsBoth}
 use Rattle.tree_walk.specs.Moves.{Moves}
 use Rattle.tree_walk.specs.Walk.{new_walk, walk_ready}
 use Rattle.session_facts.proofs.Sessions.Laws.{session_changes, session_rests, session_leaves}
-use Rattle.session_facts.specs.Settlings.Settling.{KnowsSettling}
-use Rattle.session_facts.proofs.Settlings.Begins.{settling_begins}
-use Rattle.session_facts.proofs.Sweeps.Begins.{sweep_begins}
+use Rattle.session_facts.specs.Machines.Settlings.Knows.{KnowsSettling}
+use Rattle.session_facts.proofs.Machines.Settlings.Begins.{settling_begins}
+use Rattle.session_facts.proofs.Machines.Sweeps.Begins.{sweep_begins}
 use Rattle.settle_run.specs.Settling.{new_settling}
 use Rattle.cloud_facts.specs.Book.Book.{Book}
 use Rattle.cloud_facts.specs.Book.Records.{IsIn}
 use Rattle.cloud_facts.specs.Book.Tally.{Store, at}
 use Rattle.cloud_facts.proofs.Book.Places.{in_none}
 use Rattle.cloud_facts.specs.Tellings.Told.{store_of}
-use Rattle.session_facts.proofs.TreeCheckpoints.Begins.{making_begins}
-use Rattle.session_facts.specs.Walks.Caches.{KnowsCache}
-use Rattle.session_facts.specs.Walks.Walks.{KnowsWalking, IsAtSeenLeaf, WalkLeads, MayStop}
-use Rattle.session_facts.proofs.Walks.Caches.{empty_knows}
-use Rattle.session_facts.proofs.Walks.Walks.{walk_begins}
+use Rattle.session_facts.proofs.Machines.TreeCheckpoints.Begins.{making_begins}
+use Rattle.session_facts.specs.Machines.Walks.Caches.{KnowsCache}
+use Rattle.session_facts.specs.Machines.Walks.Knows.{KnowsWalking, IsAtSeenLeaf, WalkLeads, MayStopWalk}
+use Rattle.session_facts.proofs.Machines.Walks.Caches.{empty_knows}
+use Rattle.session_facts.proofs.Machines.Walks.Outcome.{walk_begins}
 use Rattle.tree_walk.proofs.Demands.{memory_or}
 
 abbrev RunStep : Type 0
@@ -271,22 +271,22 @@ module _ (book : Book) (order : List Entry) (s : CloudState) (sessions : Session
       on (inr other) = hands_on new (Idle home) (same_buffer new same) (e ∙ stays_open home t other) (mine home idle) (home_known home idle, looks other)
 
   -- what is known where the walk leads without a call
-  walks : (tree : ℕ) (key : List ℕ) (home : Home) → IsTree tree → old.work ≡ Idle home → WalkLeads st MayStop (walk_ready (new_walk tree (Some key) false, old.cache))
+  walks : (tree : ℕ) (key : List ℕ) (home : Home) → IsTree tree → old.work ≡ Idle home → WalkLeads st MayStopWalk (walk_ready (new_walk tree (Some key) false, old.cache))
   walks tree key home is idle =
       let begins = walk_begins st stand.cloud.holds.chains tree (Some key) false old.cache is (cache_known home idle) in
-      subst (WalkLeads st MayStop) (sym begins.1) begins.2
+      subst (WalkLeads st MayStopWalk) (sym begins.1) begins.2
 
   reads_of : (tree : ℕ) (key : List ℕ) (home : Home) (new : Acting) (begun : Begun) → IsTree tree → old.work ≡ Idle home → new.buffer ≡ old.buffer
       → ReadsOf home (new_walk tree (Some key) false) old.cache new.cache new.work new.shown begun → After new
   reads_of tree key home new Working is idle same (m, leads, e, none) =
-      let k : KnowsWalking st m new.cache = subst (WalkLeads st MayStop) leads (walks tree key home is idle) in
+      let k : KnowsWalking st m new.cache = subst (WalkLeads st MayStopWalk) leads (walks tree key home is idle) in
       hands_on new (Reading home m) (same_buffer new same) e (mine home idle) ((home_known home idle, k.walk), k.cache)
   reads_of tree key home new (Answered answer.Value) is idle same (m, page, leads, e, some) =
-      let k : KnowsWalking st m new.cache × IsAtSeenLeaf st m new.cache page = subst (WalkLeads st MayStop) leads (walks tree key home is idle) in
+      let k : KnowsWalking st m new.cache × IsAtSeenLeaf st m new.cache page = subst (WalkLeads st MayStopWalk) leads (walks tree key home is idle) in
       hands_on new (Idle home) (same_buffer new same) e (mine home idle) (home_known home idle, k.0.cache)
   reads_of tree key home new (Answered (answer.Trouble t)) is idle same (m, leads, e, none) =
       stops_well home t new idle same e
-      (λ other. let k : KnowsWalking st m new.cache × MayStop t = subst (WalkLeads st MayStop) (leads other) (walks tree key home is idle) in k.0.cache)
+      (λ other. let k : KnowsWalking st m new.cache × MayStopWalk t = subst (WalkLeads st MayStopWalk) (leads other) (walks tree key home is idle) in k.0.cache)
   reads_of tree key home new (Answered (answer.Opened epoch)) is idle same never = absurd never
   reads_of tree key home new (Answered answer.Closed) is idle same never = absurd never
   reads_of tree key home new (Answered (answer.Renewed end)) is idle same never = absurd never
@@ -303,10 +303,10 @@ module _ (book : Book) (order : List Entry) (s : CloudState) (sessions : Session
 
   module _ (tree : ℕ) (from to : Option (List ℕ)) (home : Home) (new : Acting) (is : IsTree tree) (idle : old.work ≡ Idle home) (same : new.buffer ≡ old.buffer) where
     -- what is known where the scan leads without a call
-    scans : ScanLeads st MayStop (scan_ready (new_scan tree from to, old.cache))
+    scans : ScanLeads st MayStopWalk (scan_ready (new_scan tree from to, old.cache))
     scans =
         let begins = scan_begins st stand.cloud.holds.chains tree from to old.cache is (cache_known home idle) in
-        subst (ScanLeads st MayStop) (sym begins.1) begins.2
+        subst (ScanLeads st MayStopWalk) (sym begins.1) begins.2
 
     goes_on_well : (m : Listing) → new.work ≡ Scanning home m → KnowsScan st m.scan → KnowsCache st new.cache → After new
     goes_on_well m e k looks = hands_on new (Scanning home m) (same_buffer new same) e (mine home idle) ((home_known home idle, k), looks)
@@ -331,13 +331,13 @@ module _ (book : Book) (order : List Entry) (s : CloudState) (sessions : Session
     follows_well : (m : Scan) (moved : Turn ℕ) (turn : Turn Answer) → Moves (scan_ready (new_scan tree from to, old.cache)) (m, new.cache) moved
         → Follows home old.buffer (record { scan = m; pairs = [] }) new.cache moved new.work new.shown turn → After new
     follows_well m More turn leads (e, none, more) =
-        let k : KnowsScanning st m new.cache = subst (ScanLeads st MayStop) leads scans in
+        let k : KnowsScanning st m new.cache = subst (ScanLeads st MayStopWalk) leads scans in
         goes_on_well (record { scan = m; pairs = [] }) e k.scan k.cache
     follows_well m (Ended page) turn leads listed =
-        let k : KnowsScanning st m new.cache × IsAtScannedLeaf st m new.cache page = subst (ScanLeads st MayStop) leads scans in
+        let k : KnowsScanning st m new.cache × IsAtScannedLeaf st m new.cache page = subst (ScanLeads st MayStopWalk) leads scans in
         lists_well m page turn k.0 k.1 listed
     follows_well m (Stopped t) turn leads (e, none, stopped) =
-        stops_well home t new idle same e (λ other. let k : KnowsCache st new.cache × MayStop t = subst (ScanLeads st MayStop) (leads other) scans in k.0)
+        stops_well home t new idle same e (λ other. let k : KnowsCache st new.cache × MayStopWalk t = subst (ScanLeads st MayStopWalk) (leads other) scans in k.0)
 
     scans_of : (begun : Begun) → ScansOf home old.buffer (new_scan tree from to) old.cache new.cache new.work new.shown begun → After new
     scans_of begun p = follows_well p.scan p.moved p.turn p.moves p.follows
@@ -352,18 +352,18 @@ module _ (book : Book) (order : List Entry) (s : CloudState) (sessions : Session
     query = record { tree = tree; attr = attr }
 
     -- what is known where the look-up leads without a call
-    looks : LookLeads st MayStop (look_ready query old.cache)
+    looks : LookLeads st MayStopWalk (look_ready query old.cache)
     looks =
         let begins = look_begins st stand.cloud.holds.chains query old.cache is (cache_known home idle) in
-        subst (LookLeads st MayStop) (sym begins.1) begins.2
+        subst (LookLeads st MayStopWalk) (sym begins.1) begins.2
 
     looks_of : (begun : Begun) → LooksOf home query old.cache new.cache new.work new.shown begun → After new
     looks_of Working (m, leads, e, none) =
-        let k : KnowsLooking st m new.cache = subst (LookLeads st MayStop) leads looks in
+        let k : KnowsLooking st m new.cache = subst (LookLeads st MayStopWalk) leads looks in
         hands_on new (Looking home m) (same_buffer new same) e (mine home idle) ((home_known home idle, k.look), k.cache)
     looks_of (Answered (answer.Trouble t)) (stops, e, none) =
         stops_well home t new idle same e
-        (λ other. let k : KnowsCache st new.cache × MayStop t = subst (LookLeads st MayStop) (stops other).1 looks in k.0)
+        (λ other. let k : KnowsCache st new.cache × MayStopWalk t = subst (LookLeads st MayStopWalk) (stops other).1 looks in k.0)
     looks_of (Answered (answer.Opened epoch)) never = absurd never
     looks_of (Answered answer.Closed) never = absurd never
     looks_of (Answered (answer.Renewed end)) never = absurd never

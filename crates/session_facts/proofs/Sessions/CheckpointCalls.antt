@@ -33,21 +33,21 @@ use Rattle.db_base.specs.declared.trouble.Trouble.TheVariants as trouble
 use Rattle.page_cache.specs.Cache.{Cache}
 use Rattle.page_ckpt.proofs.Leases.{came_stands, stands_few}
 use Rattle.page_ckpt.specs.Paging.{Paging as Page, new_paging, paging_ask}
-use Rattle.page_ckpt.specs.Standing.{AreFew}
+use Rattle.page_ckpt.specs.Leases.{AreFew}
 use Rattle.recover_run.specs.declared.home.Home.{Home}
 use Rattle.report_types.specs.declared.entry.Entry.{Entry}
-use Rattle.session_facts.proofs.Sessions.Calling.{session_keeps}
+use Rattle.session_facts.proofs.Sessions.Outcome.{session_keeps}
 use Rattle.session_facts.proofs.Sessions.ToldCalls.{grown_on, told_begun, told_beside, told_goes, told_names}
-use Rattle.session_facts.proofs.Steps.{MadeCall, made_call}
-use Rattle.session_facts.proofs.Settled.TreeReceives.{IsReceiving}
-use Rattle.session_facts.proofs.Settled.TreeTurns.{first_few, few_beside, few_on, ends_few}
-use Rattle.session_facts.specs.Counted.{IsBehind, CameBy, CountsWork, CountsAll, FewFor}
-use Rattle.session_facts.specs.Few.{next_page, IsFew}
-use Rattle.session_facts.specs.Sessions.Sessions.{KnowsWork, Knows, Sessions, SessionsStand}
-use Rattle.session_facts.specs.TreeCheckpoints.Checkpoint.{KnowsWork as KnowsMoves, KnowsMaking}
-use Rattle.session_facts.specs.TreeCheckpoints.Counting.{MadeFew, IsCounted}
-use Rattle.session_facts.specs.TreeCheckpoints.Named.{CameTold, NamesPieces}
-use Rattle.tree_ckpt.specs.Ending.{calls_in}
+use Rattle.session_facts.proofs.Lines.Outcome.{MadeCall, made_call}
+use Rattle.session_facts.proofs.Settling.Trees.Receives.{IsReceiving}
+use Rattle.session_facts.proofs.Settling.Trees.Turns.{first_few, few_beside, few_on, ends_few}
+use Rattle.session_facts.specs.Lines.Counted.{LostNothing, CameBy, CountsWork, CountsAll, FewFor}
+use Rattle.session_facts.specs.Machines.TreeCheckpoints.Few.{next_page, IsFew}
+use Rattle.session_facts.specs.Sessions.Knows.{KnowsWork, Knows, Sessions, SessionsStand}
+use Rattle.session_facts.specs.Machines.TreeCheckpoints.Knows.{KnowsWork as KnowsMoves, KnowsMaking}
+use Rattle.session_facts.specs.Machines.TreeCheckpoints.Counting.{MadeFew, IsCounted}
+use Rattle.session_facts.specs.Machines.TreeCheckpoints.Named.{CameTold, NamesPieces}
+use Rattle.tree_ckpt.specs.End.{calls_in}
 use Rattle.tree_ckpt.specs.Making.{Making, new_making, making_ask}
 use Rattle.tree_moves.specs.Work.{work_ask}
 use Rattle.tree_moves.specs.declared.work.Work.{Work as Moving}
@@ -65,16 +65,16 @@ pub page_begun : (s : CloudState) (home : Home) (tree page : ℕ) → CountsWork
 page_begun s home tree page = record { tree = tree; page = page; made = []; came = refl; many = refl; behind = tt }
 
 -- what calls leave of a cloud: no next free page falls, and nothing that landed is lost
-pub record Leads (s t : CloudState) : Type 0 where
+pub record LosesNothing (s t : CloudState) : Type 0 where
   pub next : (tree : ℕ) → next_page s tree ≤ next_page t tree
   pub grown : HasGrown s t
 
-behind_on : (h : List Deed) (s t : CloudState) → HasGrown s t → IsBehind h s → IsBehind h t
+behind_on : (h : List Deed) (s t : CloudState) → HasGrown s t → LostNothing h s → LostNothing h t
 behind_on [] s t grown is = tt
 behind_on (last ∷ h) s t grown is = λ x seen. grown_on x s t (is x seen) grown
 
 -- and so what is in hand is counted as before
-pub counts_beside : (calls : ℕ) (s t : CloudState) (w : Work) → Leads s t → CountsWork calls s w → CountsWork calls t w
+pub counts_beside : (calls : ℕ) (s t : CloudState) (w : Work) → LosesNothing s t → CountsWork calls s w → CountsWork calls t w
 counts_beside calls s t (Folding home m) leads k = (
   record { early = k.0.early; made = few_beside m.tree calls s t m.work m.received (leads.next m.tree) k.0.made },
   told_beside s t m leads.grown k.1,
@@ -207,7 +207,7 @@ receives_early w calls early is = absurd is
 module _ (who : Caller) (before after : Seen) (s t : CloudState) (book : Book) (order : List Entry) (sessions : Sessions) (told : before.state ≡ Some s) (told_after : after.state ≡ Some t)
     (stand : SessionsStand book order s sessions) where
   -- what the call leaves
-  call_leads : (new : Acting) (turn : Turn Answer) → StepsSession who before after (sessions who.session) new (Ok turn) → Leads s t
+  call_leads : (new : Acting) (turn : Turn Answer) → StepsSession who before after (sessions who.session) new (Ok turn) → LosesNothing s t
   call_leads new turn steps = record {
     next = λ tree. (session_keeps who before after s t book order sessions new (Ok turn) told told_after stand steps).grows.next tree;
     grown = subst (λ (z : CloudState). HasGrown s z) (same l.after t (sym l.told ∙ told_after)) (leaves_grown who c.ask c.answer before.counts after.counts s after.state l);
@@ -281,7 +281,7 @@ module _ (who : Caller) (before after : Seen) (s t : CloudState) (book : Book) (
         deed : Deed
         deed = record { who = who; ask = paging_ask p; answer = steps.answer; before = before; after = after }
 
-        follows : (h : List Deed) → IsBehind h s → ComesBehind h deed
+        follows : (h : List Deed) → LostNothing h s → ComesBehind h deed
         follows [] is = tt
         follows (last ∷ h) is = λ x y seen now. subst (HasGrown x) (same_Some s y (sym told ∙ now)) (is x seen)
 

@@ -6,21 +6,21 @@ use Rattle.client_work.specs.Session.{ask_of_work, opens_of}
 use Rattle.client_work.specs.declared.work.Work.{Work}
 use Rattle.client_work.specs.declared.work.Work.TheVariants.{Closed, Idle, Opening, Committing, Reading, Scanning, Looking, Folding, Paging, Closing, Renewing, Settling, Sweeping, Broken}
 use Rattle.commit_run.specs.Run.{Run, run_opens}
-use Rattle.session_facts.specs.CommitRuns.Puts.{OpensRun, PutsRun}
-use Rattle.session_facts.proofs.CommitRuns.HeadPuts.{run_puts}
+use Rattle.session_facts.specs.Machines.CommitRuns.HeadPuts.{OpensRun, PutsRun}
+use Rattle.session_facts.proofs.Machines.CommitRuns.HeadPuts.{run_puts}
 use Rattle.db_base.specs.declared.names.ObjName.{ObjName}
 use Rattle.db_base.specs.declared.names.ObjName.TheVariants as object
 use Rattle.head_codec.specs.declared.head.Phase.TheVariants as phase
 use Rattle.cloud_facts.specs.Homes.Homes.{Part}
-use Rattle.session_facts.proofs.Openings.HeadPuts.{opening_puts}
+use Rattle.session_facts.proofs.Machines.Openings.HeadPuts.{opening_puts}
 use Rattle.page_cache.specs.Cache.{Cache}
-use Rattle.session_facts.proofs.PageCheckpoints.HeadPuts.{paging_puts_none}
+use Rattle.session_facts.proofs.Machines.PageCheckpoints.HeadPuts.{paging_puts_none}
 use Rattle.attr_index.specs.Look.{look_ask}
 use Rattle.range_scan.specs.Scan.{scan_ask}
-use Rattle.session_facts.specs.Sessions.Puts.{IsSoundWork, Commits, PutsHead}
-use Rattle.session_facts.specs.Sessions.Sessions.{KnowsWork}
-use Rattle.session_facts.proofs.Sweeps.Asks.{sweep_puts_none}
-use Rattle.session_facts.proofs.Settlings.HeadPuts.{making_puts_none, settling_puts}
+use Rattle.session_facts.specs.Sessions.HeadPuts.{IsSoundWork, Commits, PutsHead}
+use Rattle.session_facts.specs.Sessions.Knows.{KnowsWork}
+use Rattle.session_facts.proofs.Machines.Sweeps.Asks.{sweep_puts_none}
+use Rattle.session_facts.proofs.Machines.Settlings.HeadPuts.{making_puts_none, settling_puts}
 use Rattle.cloud_facts.specs.Book.Tally.{Store}
 use Rattle.tree_walk.specs.Walk.{walk_ask}
 use Rattle.std.proofs.lemmas.Option.{same_Some}

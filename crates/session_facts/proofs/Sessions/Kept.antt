@@ -12,13 +12,13 @@ use Rattle.history.specs.Audited.{Audited}
 use Rattle.cloud_facts.specs.Homes.Homes.{Part, Parts}
 use Rattle.page_cache.specs.Cache.{Cache}
 use Rattle.report_types.specs.declared.entry.Entry.{Entry}
-use Rattle.session_facts.specs.Sessions.Sessions.{KnowsWork, KnowsKept}
+use Rattle.session_facts.specs.Sessions.Knows.{KnowsWork, KnowsKept}
 use Rattle.cloud_facts.specs.Book.Book.{Book}
 use Rattle.cloud_facts.specs.Book.Growth.{Grows}
 use Rattle.cloud_facts.specs.Book.Tally.{Store}
 use Rattle.cloud_facts.specs.Tellings.Told.{store_of}
-use Rattle.session_facts.specs.Walks.Caches.{KnowsCache}
-use Rattle.session_facts.proofs.Walks.Caches.{empty_knows, cache_grows}
+use Rattle.session_facts.specs.Machines.Walks.Caches.{KnowsCache}
+use Rattle.session_facts.proofs.Machines.Walks.Caches.{empty_knows, cache_grows}
 
 pub kept_from : (st : Store) (c : Cache) (work : Work) → KnowsCache st c → KnowsKept st c work
 kept_from st c (Broken l) k = tt

@@ -19,8 +19,8 @@ use Rattle.cloud_trait.specs.Caller.{Caller}
 use Rattle.cloud_trait.specs.Claim.{Claim, Lasts}
 use Rattle.cloud_trait.specs.State.{CloudState, IsEmptyCloud, newest}
 use Rattle.cloud_trait.specs.Weather.{Leaves}
-use Rattle.session_facts.specs.Commits.Committing.{MayCommit}
-use Rattle.session_facts.proofs.Commits.Noted.{may_none}
+use Rattle.session_facts.specs.Machines.Commits.Knows.{MayCommit}
+use Rattle.session_facts.proofs.Machines.Commits.Noted.{may_none}
 use Rattle.db_base.specs.declared.names.Lock.{Lock}
 use Rattle.db_base.specs.declared.names.Lock.TheVariants as lock
 use Rattle.cloud_facts.specs.Decoding.Decodes.{Decodes}
@@ -35,10 +35,10 @@ use Rattle.cloud_facts.proofs.Leases.LeaseLemmas.{leaves_keep, fewer_keeps, late
 use Rattle.log_codec.specs.declared.record.AtomicRec.{AtomicRec}
 use Rattle.cloud_facts.specs.Numbers.Numbers.{Numbers}
 use Rattle.report_types.specs.declared.entry.Entry.{Entry}
-use Rattle.session_facts.specs.Sessions.Noting.{noted_at, noted_in_hand}
-use Rattle.session_facts.specs.Sessions.Sessions.{leases_of, KnowsWork, Knows, Sessions, hands_of, SessionsStand, Goes}
+use Rattle.session_facts.specs.Sessions.Audited.{noted_at, noted_in_hand}
+use Rattle.session_facts.specs.Sessions.Knows.{leases_of, KnowsWork, Knows, Sessions, hands_of, SessionsStand, Goes}
 use Rattle.session_facts.proofs.Sessions.Kept.{KnowsBoth}
-use Rattle.session_facts.proofs.Sessions.Keeping.{knows_others, knows_later, part_lease}
+use Rattle.session_facts.proofs.Sessions.Others.{knows_others, knows_later, part_lease}
 use Rattle.cloud_facts.specs.Book.Book.{Book, empty_book}
 use Rattle.cloud_facts.specs.Book.Records.{IsIn}
 use Rattle.cloud_facts.specs.Book.Tally.{Store, at}
@@ -48,7 +48,7 @@ use Rattle.cloud_facts.proofs.Book.Places.{in_none}
 use Rattle.cloud_facts.specs.Tellings.Told.{store_of}
 use Rattle.cloud_facts.proofs.Tellings.Easy.{same_told}
 use Rattle.txn_buffer.specs.Noted.{Noted}
-use Rattle.session_facts.proofs.Walks.Caches.{empty_knows}
+use Rattle.session_facts.proofs.Machines.Walks.Caches.{empty_knows}
 
 -- ---- the leases in hand after a call
 

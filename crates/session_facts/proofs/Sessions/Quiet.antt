@@ -16,7 +16,7 @@ use Rattle.log_codec.specs.declared.record.AtomicRec.{AtomicRec}
 use Rattle.page_ckpt.specs.Paging.{Paging, ask_at, paging_ask, under, delete_next, right_name, home_name}
 use Rattle.page_ckpt.specs.declared.stage.Stage.{Stage}
 use Rattle.page_ckpt.specs.declared.stage.Stage.TheVariants as stage
-use Rattle.session_facts.specs.Sessions.Explaining.{ReceivesLate}
+use Rattle.session_facts.specs.Sessions.Explains.{ReceivesLate}
 use Rattle.split_plan.specs.declared.put_list.PagePut.{PagePut}
 use Rattle.tree_ckpt.specs.Making.{Making, making_ask}
 use Rattle.tree_moves.specs.Work.{delete_ask, release_ask, work_ask}

@@ -20,15 +20,15 @@ use Rattle.cloud_trait.specs.Upto.{posts_of}
 use Rattle.cloud_trait.specs.Weather.{Makes}
 use Rattle.report_types.specs.declared.entry.Entry.{Entry}
 use Rattle.db_base.specs.declared.names.ObjName.{ObjName}
-use Rattle.session_facts.proofs.TreeCheckpoints.Landed.{up_told, work_told}
-use Rattle.session_facts.proofs.TreeCheckpoints.NestingSteps.{step_nests}
-use Rattle.session_facts.proofs.TreeCheckpoints.PiecesNamed.{works_is, done_names}
-use Rattle.session_facts.specs.TreeCheckpoints.Checkpoint.{KnowsWork}
-use Rattle.session_facts.specs.TreeCheckpoints.Named.{AreTold, HasLanded, CameTold, NamesPieces}
-use Rattle.session_facts.specs.TreeCheckpoints.Nesting.{NestsOver, AreNested}
+use Rattle.session_facts.proofs.Machines.TreeCheckpoints.Landed.{up_told, work_told}
+use Rattle.session_facts.proofs.Machines.TreeCheckpoints.NestingSteps.{step_nests}
+use Rattle.session_facts.proofs.Machines.TreeCheckpoints.PiecesNamed.{works_is, done_names}
+use Rattle.session_facts.specs.Machines.TreeCheckpoints.Knows.{KnowsWork}
+use Rattle.session_facts.specs.Machines.TreeCheckpoints.Named.{AreTold, HasLanded, CameTold, NamesPieces}
+use Rattle.session_facts.specs.Machines.TreeCheckpoints.Nesting.{NestsOver, AreNested}
 use Rattle.tree_ckpt.proofs.Causes.{went_brought}
 use Rattle.tree_ckpt.proofs.Meaning.{went_done, took_done}
-use Rattle.tree_ckpt.specs.Causing.{Calls}
+use Rattle.tree_ckpt.specs.Causes.{Calls}
 use Rattle.tree_ckpt.specs.Making.{Making, new_making, making_ask, MakingLeads, KeepsLeases}
 use Rattle.tree_ckpt.specs.Meaning.{IsDone, opening_calls}
 use Rattle.tree_ckpt.specs.Working.{IsAmong, Worked, worked_calls}

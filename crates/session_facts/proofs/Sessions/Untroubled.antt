@@ -28,15 +28,15 @@ use Rattle.page_cache.specs.Cache.{Cache}
 use Rattle.recover_run.specs.declared.home.Home.{Home}
 use Rattle.recover_run.specs.Recovery.{home_of}
 use Rattle.txn_buffer.specs.Noted.{Noted}
-use Rattle.session_facts.specs.CommitRuns.Stopping.{MayStop as MayStopCommit, MayEnd}
+use Rattle.session_facts.specs.Machines.CommitRuns.Stops.{MayStopCommit, MayEnd}
 use Rattle.session_facts.specs.Sessions.Calls.{GivesLateBack, IsExplained, WaitsLate, reply_at, reply_of}
-use Rattle.session_facts.specs.Sessions.Explaining.{Explains, IsShown, KeepsTrouble, Meets, left_in, left_told, spent_for, trouble_in, trouble_of_answer, trouble_of_commit}
-use Rattle.session_facts.specs.Sessions.Sessions.{leases_of}
+use Rattle.session_facts.specs.Sessions.Explains.{Explains, IsShown, KeepsTrouble, Meets, left_in, left_told, spent_for, trouble_in, trouble_of_answer, trouble_of_commit}
+use Rattle.session_facts.specs.Sessions.Knows.{leases_of}
 use Rattle.session_facts.specs.Sessions.Spent.{IsSpentToCommit, IsSpentInPages, IsSpentInTree}
 use Rattle.session_facts.specs.Sessions.Untroubled.{GivesBackLasting, StepsCalmly, IsOfNoCall, IsExcused, IsUntroubled, IsSpent, CommitsWell}
-use Rattle.session_facts.proofs.CommitRuns.Telling.{EndsTold, IsByNoCall, IsTold, run_tells}
-use Rattle.session_facts.proofs.PageCheckpoints.Explaining.{paging_goes}
-use Rattle.session_facts.proofs.Sessions.Spending.{HasAll, grown_all, open_later, commit_later, pages_later, tree_later, settle_later}
+use Rattle.session_facts.proofs.Machines.CommitRuns.Troubles.{EndsTold, IsByNoCall, IsTold, run_tells}
+use Rattle.session_facts.proofs.Machines.PageCheckpoints.Explains.{paging_goes}
+use Rattle.session_facts.proofs.Sessions.Spent.{HasAll, grown_all, open_later, commit_later, pages_later, tree_later, settle_later}
 use Rattle.session_facts.proofs.Sessions.Troubles.{memory_or}
 
 -- one trouble is told

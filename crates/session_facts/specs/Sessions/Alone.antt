@@ -14,9 +14,9 @@ use Rattle.cloud_trait.specs.Seen.{Seen}
 use Rattle.cloud_trait.specs.State.{CloudState}
 use Rattle.db_base.specs.declared.trouble.Trouble.TheVariants as trouble
 use Rattle.session_facts.specs.Sessions.Calls.{reply_of}
-use Rattle.session_facts.specs.Sessions.Sessions.{leases_of}
+use Rattle.session_facts.specs.Sessions.Knows.{leases_of}
 use Rattle.session_facts.specs.Sessions.Untroubled.{GivesBackLasting}
-use Rattle.session_facts.specs.Settled.Locks.{HoldsAlone}
+use Rattle.session_facts.specs.Settling.Locks.{HoldsAlone}
 
 -- with this in hand a session is alone: each lock is free, or it is that of one of its leases and stands as that says
 abbrev pub IsAlone : Work → CloudState → Type 0

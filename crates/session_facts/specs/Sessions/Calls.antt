@@ -24,7 +24,7 @@ use Rattle.page_cache.specs.Cache.{Cache}
 use Rattle.page_ckpt.specs.Paging.{Paging as Page}
 use Rattle.recover_run.specs.declared.home.Home.{Home}
 use Rattle.recover_run.specs.Recovery.{Recovery}
-use Rattle.session_facts.specs.Sessions.Explaining.{Explains, Meets, left_in, trouble_in}
+use Rattle.session_facts.specs.Sessions.Explains.{Explains, Meets, left_in, trouble_in}
 use Rattle.orphan_sweep.specs.Sweeping.{Sweeping as SweepingState}
 use Rattle.orphan_sweep.specs.Sweeping.{Sweeping as SweepingState}
 use Rattle.settle_run.specs.Settling.{Settling as SettlingState}

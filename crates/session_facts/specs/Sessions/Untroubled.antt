@@ -16,9 +16,9 @@ use Rattle.db_base.specs.declared.trouble.CommitAnswer.TheVariants.{Committed, N
 use Rattle.db_base.specs.declared.trouble.Counter.{Counter}
 use Rattle.db_base.specs.declared.trouble.Trouble.{Trouble}
 use Rattle.db_base.specs.declared.trouble.Trouble.TheVariants as trouble
-use Rattle.session_facts.specs.PageCheckpoints.Checkpoint.{IsNamedOne}
+use Rattle.session_facts.specs.Machines.PageCheckpoints.Knows.{IsNamedOne}
 use Rattle.session_facts.specs.Sessions.Calls.{GivesLateBack, reply_of}
-use Rattle.session_facts.specs.Sessions.Explaining.{left_in, spent_for, trouble_in}
+use Rattle.session_facts.specs.Sessions.Explains.{left_in, spent_for, trouble_in}
 use Rattle.session_facts.specs.Sessions.Spent.{IsSpentToCommit, IsSpentInPages}
 
 -- the lease that the call gives back lasts at a moment

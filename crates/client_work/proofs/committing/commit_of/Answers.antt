@@ -1,6 +1,6 @@
 use Rattle.std.proofs.Common.{ap, inr, refl, ◌∙◌}
 use Rattle.client_work.specs.declared.work.Work.TheVariants.{Broken, Idle}
-use Rattle.client_work.proofs.Readying.{memory_stops, ready_by}
+use Rattle.client_work.proofs.Ready.{memory_stops, ready_by}
 use Rattle.client_work.proofs.committing.commit_of.Goals as goal
 
 pub returns-in-More : goal.returns-in-More

@@ -1,6 +1,6 @@
 use Rattle.std.proofs.Common.{◌≡◌, ◌++◌, length}
 use Rattle.std.specs.Prelude.{map}
-use Rattle.client_work.specs.Showing.{pair_of}
+use Rattle.client_work.specs.Shows.{pair_of}
 use Rattle.client_work.proofs.listing.list_items.Given as goal
 
 abbrev pub invariant-loop-key : goal.invariant-loop-key

@@ -2,7 +2,7 @@ use Rattle.std.proofs.Common.{ap, refl, subst}
 use Rattle.attr_index.specs.Stepped.{Stepped}
 use Rattle.cloud_trait.specs.declared.turn.Turn.TheVariants.{Ended, Stopped}
 use Rattle.recover_run.specs.declared.home.Home.{Home}
-use Rattle.client_work.specs.Showing.{own_of}
+use Rattle.client_work.specs.Shows.{own_of}
 use Rattle.client_work.specs.declared.shown.Shown.TheVariants.{Listed}
 use Rattle.client_work.proofs.looking.step_looking.Goals as goal
 

@@ -1,4 +1,4 @@
-use Rattle.client_work.proofs.Stopping.{stays_idle}
+use Rattle.client_work.proofs.Stops.{stays_idle}
 use Rattle.client_work.proofs.work.stopped.Goals as goal
 
 pub returns-in_default : goal.returns-in_default

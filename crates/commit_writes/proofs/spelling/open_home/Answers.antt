@@ -1,4 +1,4 @@
-use Rattle.commit_writes.proofs.Keeping.{opened_spelled}
+use Rattle.commit_writes.proofs.Spelled.{opened_spelled}
 use Rattle.commit_writes.proofs.spelling.open_home.Goals as goal
 
 pub bytes_of-requires : goal.bytes_of-requires

@@ -2,7 +2,7 @@ use Rattle.std.proofs.Common.{◌≡◌, true, false, Ok, arith}
 use Rattle.byte_format.specs.Format.{more_at}
 use Rattle.byte_format.proofs.Plain.{more_of, ended_of, split_is, item_of}
 use Rattle.leaf_view.specs.Leaf.{plain_done}
-use Rattle.leaf_view.proofs.Exactness.{plain_done_exact}
+use Rattle.leaf_view.proofs.Exact.{plain_done_exact}
 use Rattle.leaf_view.proofs.done_rules.split_done.Goals as goal
 
 pub returns-in_default : goal.returns-in_default

@@ -1,7 +1,7 @@
 use Rattle.std.proofs.Common.{arith}
 use Rattle.byte_format.proofs.Plain.{length-items_in}
 use Rattle.leaf_view.specs.Leaf.{plain_entry}
-use Rattle.leaf_view.proofs.Exactness.{plain_entry_exact}
+use Rattle.leaf_view.proofs.Exact.{plain_entry_exact}
 use Rattle.leaf_view.proofs.entry.count_entries.Goals as goal
 
 pub loop-rest-init : goal.loop-rest-init

@@ -1,6 +1,6 @@
 use Rattle.std.proofs.Common.{Ok, Err, sym, ap, ◌∙◌, arith}
 use Rattle.leaf_view.specs.Leaf.{Leaf, leaf}
-use Rattle.leaf_view.proofs.Exactness.{leaf_exact}
+use Rattle.leaf_view.proofs.Exact.{leaf_exact}
 use Rattle.page_cache.specs.Spelled.{leaf_version}
 use Rattle.page_cache.proofs.ReadingLemmas.{version_spelled, fault_found}
 use Rattle.page_cache.proofs.reading.leaf_version.Goals as goal

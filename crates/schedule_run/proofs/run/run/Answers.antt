@@ -1,6 +1,6 @@
 use Rattle.std.proofs.Common.{Some, map, subst, sym}
 use Rattle.std.specs.Prelude.{string_bytes}
-use Rattle.schedule_run.specs.Run.{IsOf}
+use Rattle.schedule_run.specs.Run.{IsOfShape}
 use Rattle.schedule_run.specs.declared.status.Status.TheVariants as status
 use Rattle.schedule_run.proofs.RunLemmas.{asked_within, not_asked}
 use Rattle.schedule_run.proofs.CompleteLemmas.{completes, memory_of, of_words, stops_at_bad_line, out_of_memory}
@@ -14,11 +14,11 @@ pub returns-in-Ok-clause-only : goal.returns-in-Ok-clause-only
 returns-in-Ok-clause-only g c = rw c.in-Ok.ensures c.run_asked.ensures.only
 
 pub returns-in-Ok-clause-unread : goal.returns-in-Ok-clause-unread
-returns-in-Ok-clause-unread g c e = absurd (of_words c.in-Ok.asked (subst (IsOf (Some c.in-Ok.asked)) e c.run_asked.ensures.only))
+returns-in-Ok-clause-unread g c e = absurd (of_words c.in-Ok.asked (subst (IsOfShape (Some c.in-Ok.asked)) e c.run_asked.ensures.only))
 
 pub returns-in-Err-BadWords-clause-only : goal.returns-in-Err-BadWords-clause-only
 returns-in-Err-BadWords-clause-only g c =
-    let none = rw c.in-Err-BadWords.field-0-is at c.in-Err-BadWords.ensures in subst (λ asked. IsOf asked status.BadWords) (sym none) tt
+    let none = rw c.in-Err-BadWords.field-0-is at c.in-Err-BadWords.ensures in subst (λ asked. IsOfShape asked status.BadWords) (sym none) tt
 
 pub returns-in-Err-Memory-clause-only : goal.returns-in-Err-Memory-clause-only
 returns-in-Err-Memory-clause-only g c = memory_of _

@@ -2,7 +2,7 @@ use Rattle.std.proofs.Common.{◌≡◌, ◌<◌, ◌^◌, length, subst, arith}
 use Rattle.byte_format.specs.Whole.{IsBytes}
 use Rattle.cloud_trait.specs.declared.turn.Turn.TheVariants.{More}
 use Rattle.tree_walk.specs.Walk.{sought}
-use Rattle.attr_index.specs.Ending.{calls_left}
+use Rattle.attr_index.specs.End.{calls_left}
 use Rattle.txn_buffer.specs.Noted.{AreDistinct}
 use Rattle.attr_index.specs.Look.{Own, Look}
 use Rattle.attr_index.specs.Stepped.{Stepped}

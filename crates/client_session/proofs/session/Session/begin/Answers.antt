@@ -1,7 +1,7 @@
 use Rattle.std.proofs.Common.{Ok, ap}
 use Rattle.client_work.specs.Session.{Acting, Begins}
-use Rattle.client_work.proofs.Coming.{begins_come}
-use Rattle.client_work.proofs.Showing.{begins_known}
+use Rattle.client_work.proofs.Came.{begins_come}
+use Rattle.client_work.proofs.Shows.{begins_known}
 use Rattle.client_session.proofs.Phases.{begun}
 use Rattle.client_session.proofs.session.Session.begin.Goals as goal
 

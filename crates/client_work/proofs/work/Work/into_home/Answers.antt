@@ -1,4 +1,4 @@
-use Rattle.client_work.proofs.Resting.{only_idle}
+use Rattle.client_work.proofs.Rests.{only_idle}
 use Rattle.client_work.proofs.work.Work.into_home.Goals as goal
 
 pub unreachable-requires : goal.unreachable-requires

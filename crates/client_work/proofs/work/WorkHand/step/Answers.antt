@@ -1,5 +1,5 @@
 use Rattle.std.proofs.Common.{refl}
-use Rattle.client_work.proofs.Resting.{other_work}
+use Rattle.client_work.proofs.Rests.{other_work}
 use Rattle.client_work.proofs.Stepped.{machine_by, shows_by, steps_by}
 use Rattle.client_work.proofs.work.WorkHand.step.Goals as goal
 

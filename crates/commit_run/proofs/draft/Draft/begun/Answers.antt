@@ -1,4 +1,4 @@
-use Rattle.commit_run.proofs.Holding.{begun_stopped}
+use Rattle.commit_run.proofs.Hands.{begun_stopped}
 use Rattle.commit_run.proofs.draft.Draft.begun.Goals as goal
 
 pub returns-in-Stopped-clause-led : goal.returns-in-Stopped-clause-led

@@ -1,5 +1,5 @@
 use Rattle.std.proofs.Common.{sym, ◌∙◌}
-use Rattle.commit_run.proofs.Holding.{all_known, no_target, seek_none}
+use Rattle.commit_run.proofs.Hands.{all_known, no_target, seek_none}
 use Rattle.commit_run.proofs.draft.Draft.seek.Goals as goal
 
 pub route-requires-clause-leaves : goal.route-requires-clause-leaves

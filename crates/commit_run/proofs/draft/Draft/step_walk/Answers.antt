@@ -1,7 +1,7 @@
-use Rattle.commit_run.proofs.Holding.{steps_held}
+use Rattle.commit_run.proofs.Hands.{steps_held}
 use Rattle.commit_run.proofs.Leading.{walk_leads, keeps_head}
 use Rattle.commit_run.proofs.Demands.{walk_demands}
-use Rattle.commit_run.proofs.Exacting.{walk_stepped}
+use Rattle.commit_run.proofs.CallDemands.{walk_stepped}
 use Rattle.commit_run.proofs.End.{walk_less}
 use Rattle.commit_run.proofs.draft.Draft.step_walk.Goals as goal
 

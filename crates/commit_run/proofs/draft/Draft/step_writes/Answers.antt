@@ -1,4 +1,4 @@
-use Rattle.commit_run.proofs.Exacting.{write_stepped_at}
+use Rattle.commit_run.proofs.CallDemands.{write_stepped_at}
 use Rattle.commit_run.proofs.draft.Draft.step_writes.Goals as goal
 
 pub returns-clause-stepped : goal.returns-clause-stepped

@@ -1,5 +1,5 @@
 use Rattle.std.proofs.Common.{sym, ◌∙◌}
-use Rattle.commit_run.proofs.Holding.{stopped_other}
+use Rattle.commit_run.proofs.Hands.{stopped_other}
 use Rattle.commit_run.proofs.draft.Draft.walk_stopped.Goals as goal
 
 pub returns-clause-led : goal.returns-clause-led

@@ -1,4 +1,4 @@
-use Rattle.commit_run.proofs.Holding.{begins_held}
+use Rattle.commit_run.proofs.Hands.{begins_held}
 use Rattle.commit_run.proofs.draft.Draft.walk_to.Goals as goal
 
 pub begun-requires : goal.begun-requires

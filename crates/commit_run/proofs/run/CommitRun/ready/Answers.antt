@@ -1,10 +1,10 @@
 use Rattle.std.proofs.Common.{subst}
 use Rattle.commit_run.specs.Run.{Run, run_ready, Led}
-use Rattle.commit_run.proofs.Causing.{ready_causes}
+use Rattle.commit_run.proofs.Causes.{ready_causes}
 use Rattle.commit_run.proofs.Demands.{ready_demands}
 use Rattle.commit_run.proofs.Meaning.{ready_means}
 use Rattle.commit_run.proofs.End.{ready_most}
-use Rattle.commit_run.proofs.Exacting.{ready_exact}
+use Rattle.commit_run.proofs.CallDemands.{ready_exact}
 use Rattle.commit_run.proofs.run.CommitRun.ready.Goals as goal
 
 pub returns-clause-means : goal.returns-clause-means

@@ -1,5 +1,5 @@
-use Rattle.commit_run.proofs.Exacting.{run_names}
-use Rattle.commit_run.proofs.Grouping.{run_within}
+use Rattle.commit_run.proofs.CallDemands.{run_names}
+use Rattle.commit_run.proofs.Groups.{run_within}
 use Rattle.commit_run.proofs.run.CommitRun.step.Goals as goal
 
 pub returns-in-Writes-clause-within : goal.returns-in-Writes-clause-within

@@ -1,7 +1,7 @@
-use Rattle.commit_writes.proofs.Counting.{went_within}
-use Rattle.commit_writes.proofs.Ending.{took_less}
-use Rattle.commit_writes.proofs.Exacting.{went_stepped, names_at}
-use Rattle.commit_writes.proofs.Refusing.{not_deleting}
+use Rattle.commit_writes.proofs.Within.{went_within}
+use Rattle.commit_writes.proofs.End.{took_less}
+use Rattle.commit_writes.proofs.Demands.{went_stepped, names_at}
+use Rattle.commit_writes.proofs.Refusals.{not_deleting}
 use Rattle.commit_writes.proofs.writes.CommitWrites.step.Goals as goal
 
 pub returns-clause-less : goal.returns-clause-less

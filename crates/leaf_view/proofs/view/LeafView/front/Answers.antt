@@ -2,7 +2,7 @@ use Rattle.std.proofs.Common.{refl, arith}
 use Rattle.std.proofs.lemmas.Result.{err_from_is_err_and}
 use Rattle.std.specs.Option.{option_copied}
 use Rattle.leaf_view.specs.Leaf.{Head, head_of}
-use Rattle.leaf_view.proofs.Exactness.{done_exact}
+use Rattle.leaf_view.proofs.Exact.{done_exact}
 use Rattle.leaf_view.proofs.Reading.{head_fails, done_fails, is_known}
 use Rattle.leaf_view.proofs.view.LeafView.front.Goals as goal
 

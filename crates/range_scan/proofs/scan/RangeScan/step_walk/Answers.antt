@@ -2,7 +2,7 @@ use Rattle.std.proofs.Common.{is_some, ap, subst, ◌∙◌}
 use Rattle.cloud_trait.specs.Machine.{LeadsBy, Steps}
 use Rattle.tree_walk.specs.Stepped.{steps_of}
 use Rattle.range_scan.specs.Scan.{Scan, scan_asks, scan_next, KeepsServed}
-use Rattle.range_scan.proofs.ScanLemmas.{none_of, walk_steps}
+use Rattle.range_scan.proofs.Turns.{none_of, walk_steps}
 use Rattle.range_scan.proofs.scan.RangeScan.step_walk.Goals as goal
 
 pub returns-clause-steps : goal.returns-clause-steps

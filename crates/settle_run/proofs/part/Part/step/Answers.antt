@@ -1,5 +1,5 @@
-use Rattle.settle_run.proofs.Ending.{recovery_less, making_less, paging_less}
-use Rattle.settle_run.proofs.Stepping.{recovery_steps, making_steps, paging_steps}
+use Rattle.settle_run.proofs.End.{recovery_less, making_less, paging_less}
+use Rattle.settle_run.proofs.Stepped.{recovery_steps, making_steps, paging_steps}
 use Rattle.settle_run.proofs.part.Part.step.Goals as goal
 
 pub returns-in-Client-clause-steps : goal.returns-in-Client-clause-steps

@@ -1,16 +1,16 @@
 use Rattle.std.proofs.Common.{◌≡◌, ◌<◌, List, refl, subst}
 use Rattle.cloud_trait.specs.declared.turn.Turn.TheVariants.{More}
 use Rattle.cloud_trait.specs.Machine.{Deed}
-use Rattle.settle_run.specs.Ending.{calls_left}
+use Rattle.settle_run.specs.End.{calls_left}
 use Rattle.settle_run.specs.Meaning.{Went, Stepped, deed_of}
 use Rattle.settle_run.specs.Settling.{Settling}
-use Rattle.settle_run.specs.Standing.{GivesBack}
+use Rattle.settle_run.specs.Leases.{GivesBack}
 use Rattle.settle_run.specs.contracts.settle.SettleRun.{the_view}
-use Rattle.settle_run.proofs.Causing.{took_exact, took_follows, exact_tells}
-use Rattle.settle_run.proofs.Ending.{turn_less}
-use Rattle.settle_run.proofs.Holding.{went_holds, took_gives, took_returns}
-use Rattle.settle_run.proofs.Ranging.{went_stands, own_calls, took_means}
-use Rattle.settle_run.proofs.Stepping.{followed}
+use Rattle.settle_run.proofs.Causes.{took_exact, took_follows, exact_tells}
+use Rattle.settle_run.proofs.End.{turn_less}
+use Rattle.settle_run.proofs.Leases.{went_holds, took_gives, took_returns}
+use Rattle.settle_run.proofs.Meaning.{went_stands, own_calls, took_means}
+use Rattle.settle_run.proofs.Stepped.{followed}
 use Rattle.settle_run.proofs.settle.SettleRun.step.Goals as goal
 
 pub returns-clause-steps : goal.returns-clause-steps

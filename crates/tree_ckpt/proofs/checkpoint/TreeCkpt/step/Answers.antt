@@ -1,6 +1,6 @@
 use Rattle.tree_ckpt.proofs.End.{took_less}
 use Rattle.tree_ckpt.proofs.Leading.{took_handed}
-use Rattle.tree_ckpt.proofs.Stepping.{stepped_by}
+use Rattle.tree_ckpt.proofs.Stepped.{stepped_by}
 use Rattle.tree_ckpt.proofs.Leases.{went_stands, stands_names, stands_gives}
 use Rattle.tree_ckpt.proofs.checkpoint.TreeCkpt.step.Goals as goal
 

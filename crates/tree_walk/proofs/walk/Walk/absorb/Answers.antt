@@ -5,7 +5,7 @@ use Rattle.cloud_trait.specs.Views.{got_of}
 use Rattle.tree_walk.specs.Moves.{MovesBeside}
 use Rattle.tree_walk.specs.Walk.{Walk, rested, got_by}
 use Rattle.tree_walk.proofs.Stepped.{left_on}
-use Rattle.tree_walk.proofs.WalkLemmas.{beside_took}
+use Rattle.tree_walk.proofs.Turns.{beside_took}
 use Rattle.tree_walk.proofs.walk.Walk.absorb.Goals as goal
 
 pub returns-clause-moves : goal.returns-clause-moves

@@ -1,6 +1,6 @@
 use Rattle.std.proofs.Common.{◌≡◌, ◌-◌, suc, ap, sym, ◌∙◌, arith}
 use Rattle.cloud_trait.specs.Machine.{Goes}
-use Rattle.tree_walk.proofs.WalkLemmas.{through_more, through_stopped, through_none, through_end}
+use Rattle.tree_walk.proofs.Turns.{through_more, through_stopped, through_none, through_end}
 use Rattle.tree_walk.proofs.walk.Walk.go_on.Goals as goal
 
 pub loop-left-preserved : goal.loop-left-preserved

@@ -1,6 +1,6 @@
 use Rattle.std.proofs.Common.{◌≡◌, ℕ, List, false, subst}
 use Rattle.byte_format.specs.Order.{bytes_below}
-use Rattle.tree_walk.proofs.WalkLemmas.{child_at_most}
+use Rattle.tree_walk.proofs.Turns.{child_at_most}
 use Rattle.tree_walk.proofs.walk.Walk.leave_node.Goals as goal
 
 pub go_down-requires : goal.go_down-requires

@@ -1,7 +1,7 @@
 use Rattle.std.proofs.Common.{◌≡◌, ℕ, List, true, false, ap, sym, subst, ◌∙◌}
 use Rattle.byte_format.specs.Order.{bytes_below, bytes_same}
 use Rattle.tree_walk.specs.Walk.{Walk, IsWalk, sought, spot_of}
-use Rattle.tree_walk.proofs.WalkLemmas.{fence_holds}
+use Rattle.tree_walk.proofs.Turns.{fence_holds}
 use Rattle.tree_walk.proofs.walk.Walk.read_node.Goals as goal
 
 pub leave_node-requires : goal.leave_node-requires

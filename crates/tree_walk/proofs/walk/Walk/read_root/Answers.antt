@@ -2,7 +2,7 @@ use Rattle.std.proofs.Common.{◌≡◌, ℕ, List, false, ap, subst, ◌∙◌}
 use Rattle.std.specs.Prelude.{Some}
 use Rattle.byte_format.specs.Order.{bytes_below}
 use Rattle.tree_walk.specs.Walk.{Walk, sought}
-use Rattle.tree_walk.proofs.WalkLemmas.{child_at_most, root_moves}
+use Rattle.tree_walk.proofs.Turns.{child_at_most, root_moves}
 use Rattle.tree_walk.proofs.walk.Walk.read_root.Goals as goal
 
 pub go_down-requires : goal.go_down-requires

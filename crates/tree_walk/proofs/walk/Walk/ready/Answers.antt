@@ -2,7 +2,7 @@ use Rattle.std.proofs.Common.{ap, subst}
 use Rattle.tree_walk.specs.Moves.{Moves}
 use Rattle.tree_walk.specs.Walk.{Walk, rested, goes_on}
 use Rattle.tree_walk.proofs.Stepped.{left_on, same_on}
-use Rattle.tree_walk.proofs.WalkLemmas.{beside_took, moves_beside}
+use Rattle.tree_walk.proofs.Turns.{beside_took, moves_beside}
 use Rattle.tree_walk.proofs.walk.Walk.ready.Goals as goal
 
 pub returns-clause-moves : goal.returns-clause-moves

@@ -1,9 +1,9 @@
 use Rattle.std.proofs.Common.{◌+◌, ◌<◌, ◌^◌, length, subst, arith}
 use Rattle.tree_walk.specs.Walk.{Walk, IsWalk, pages, spots}
 use Rattle.tree_walk.proofs.End.{moved_less, spots_most}
-use Rattle.tree_walk.proofs.Getting.{moved_gets}
+use Rattle.tree_walk.proofs.Gets.{moved_gets}
 use Rattle.tree_walk.proofs.Leaves.{moved_ends}
-use Rattle.tree_walk.proofs.Onceness.{moved_within}
+use Rattle.tree_walk.proofs.Within.{moved_within}
 use Rattle.tree_walk.proofs.Stepped.{moved_stepped}
 use Rattle.tree_walk.proofs.walk.Walk.step.Goals as goal
 

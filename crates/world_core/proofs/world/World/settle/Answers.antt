@@ -1,6 +1,6 @@
 use Rattle.std.proofs.Common.{ℕ, inl, subst}
 use Rattle.client_work.specs.Session.{settling_session}
-use Rattle.session_facts.specs.Errands.{settles}
+use Rattle.session_facts.specs.Lines.Errands.{settles}
 use Rattle.world_core.specs.Handled.{Has, SettlesOn}
 use Rattle.world_core.proofs.world.World.settle.Goals as goal
 

@@ -1,4 +1,4 @@
-use Rattle.session_facts.specs.Errands.{settles}
+use Rattle.session_facts.specs.Lines.Errands.{settles}
 use Rattle.world_core.proofs.Settling.{errand_works, answers_errand}
 use Rattle.world_core.proofs.world.World.settle_on.Goals as goal
 

@@ -1,6 +1,6 @@
 use Rattle.std.proofs.Common.{ℕ, inl, subst}
 use Rattle.client_work.specs.Session.{sweeping_session}
-use Rattle.session_facts.specs.Errands.{sweeps}
+use Rattle.session_facts.specs.Lines.Errands.{sweeps}
 use Rattle.world_core.specs.Handled.{Has, SettlesOn}
 use Rattle.world_core.proofs.world.World.sweep.Goals as goal
 

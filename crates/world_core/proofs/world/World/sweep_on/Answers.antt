@@ -1,4 +1,4 @@
-use Rattle.session_facts.specs.Errands.{sweeps}
+use Rattle.session_facts.specs.Lines.Errands.{sweeps}
 use Rattle.world_core.proofs.Settling.{errand_works, answers_errand}
 use Rattle.world_core.proofs.world.World.sweep_on.Goals as goal
 

@@ -1,0 +1,197 @@
+-- Where no call of a commit raised the count of faults, each of its ATOMIC messages was marked by its own deletion.
+use Rattle.std.proofs.Common.{◌≡◌, ◌≢◌, ◌≤◌, ◌+◌, ℕ, suc, List, [], ◌∷◌, ◌++◌, length, Option, Some, None, Result, Ok, Err, refl, ap, sym, subst, ◌∙◌, arith}
+use Rattle.std.specs.Prelude.{slice_get, take}
+use Rattle.std.specs.List.{AllByRecursion}
+use Rattle.std.proofs.lemmas.List.{take_all}
+use Rattle.db_base.specs.declared.names.QueueName.TheVariants as queue
+use Rattle.db_base.specs.declared.trouble.Trouble.{Trouble}
+use Rattle.db_base.specs.declared.trouble.Trouble.TheVariants as trouble
+use Rattle.db_base.specs.declared.trouble.CommitAnswer.{CommitAnswer}
+use Rattle.db_base.specs.declared.trouble.CommitAnswer.TheVariants.{Committed}
+use Rattle.log_codec.specs.declared.record.AtomicRec.{AtomicRec}
+use Rattle.txn_buffer.specs.Noted.{Noted}
+use Rattle.cloud_trait.specs.declared.answer.Answer.{Answer}
+use Rattle.cloud_trait.specs.declared.answer.Answer.TheVariants.{Done, Failed, Memory}
+use Rattle.cloud_trait.specs.declared.state.Posted.{Posted}
+use Rattle.cloud_trait.specs.Ask.{Ask, Delete}
+use Rattle.cloud_trait.specs.Machine.{Next, Goes, Ends, Stops, LeadsBy, Came, Deed, IsMade}
+use Rattle.cloud_trait.specs.Views.{sent_of, done_of}
+use Rattle.cloud_trait.specs.Weather.{Fits, Rose}
+use Rattle.recover_run.specs.declared.home.Home.{Home}
+use Rattle.commit_writes.specs.declared.stage.Stage.{Stage}
+use Rattle.commit_writes.specs.declared.stage.Stage.TheVariants.{Waiting, Logging, Opening, Sending, Settling, Deleting, Finished}
+use Rattle.commit_writes.specs.Writing.{Writing, waiting, begun, writing_ask, writing_next, ask_at, next_at, delete_ask, logged_by, opened_by, not_opened, sent_by, settled_by, deleted_by, log_or_open, send_or_settle, delete_or_end}
+use Rattle.commit_writes.specs.Calls.{Calls, told, deleted_calls, all_logged}
+use Rattle.commit_writes.specs.Demands.{IsDeletion, deletions, Demands}
+use Rattle.commit_writes.specs.Calm.{IsMarked, RaisesNoFault, IsGone, AreGone}
+use Rattle.commit_writes.specs.Within.{Went}
+use Rattle.commit_writes.proofs.Knows.{KnowsDeleting, KnowsAt, Knows}
+use Rattle.recover_run.proofs.KeptRecords.{take_more}
+use Rattle.commit_writes.proofs.Meaning.{post_asked, came_knows, went_knows}
+use Rattle.commit_writes.proofs.Within.{deleted_before}
+use Rattle.commit_writes.proofs.Marks.{marked_sets, deletes, asks_deletion, IsFront, begins_more, begins_settled}
+
+-- ---- a deletion in which the count of faults did not rise
+
+no_rise : (c d : ℕ) → d ≡ c → Rose c d → ⊥
+no_rise c d same rose = omega (arith, same, rose)
+
+done_alone : (x : Deed) (q : Ask) (client id : ℕ) (a : Answer) → q ≡ Delete (queue.Atomic client) id → x.answer ≡ a → Fits q a → IsMade x → RaisesNoFault x → a ≢ Memory → a ≡ Done
+done_alone x q client id a asks answers fits made none ample = on a answers (subst (λ (k : Ask). Fits k a) asks fits) ample where
+  on : (b : Answer) → x.answer ≡ b → Fits (Delete (queue.Atomic client) id) b → b ≢ Memory → b ≡ Done
+  on Done e f m = refl
+  on Failed e f m = absurd (no_rise x.before.counts.faults x.after.counts.faults none (made.failed e))
+  on Memory e f m = absurd (m refl)
+  on b e f m = absurd f
+
+gone_now : (h : List Deed) (x : Deed) (client id : ℕ) → x.ask ≡ Delete (queue.Atomic client) id → x.answer ≡ Done → IsMade x → IsGone client (x ∷ h) id
+gone_now h x client id asks answers made = record {
+  place = 0;
+  deletion = x;
+  among = refl;
+  asks = asks;
+  done = answers;
+  marks = λ s t told left.
+      subst (λ (ms : List Posted). IsMarked ms id) (sym (deletes x (queue.Atomic client) id s t made asks answers told left)) (marked_sets (s.messages (queue.Atomic client)) id);
+}
+
+gone_still : (h : List Deed) (x : Deed) (client id : ℕ) → IsGone client h id → IsGone client (x ∷ h) id
+gone_still h x client id g = record { place = suc g.place; deletion = g.deletion; among = g.among; asks = g.asks; done = g.done; marks = g.marks }
+
+gone_more : (h : List Deed) (x : Deed) (client id : ℕ) (ids : List ℕ) → IsGone client (x ∷ h) id → AllByRecursion (IsGone client h) ids → AllByRecursion (IsGone client (x ∷ h)) (ids ++ id ∷ [])
+gone_more h x client id [] now all = (now, tt)
+gone_more h x client id (j ∷ ids) now all = (gone_still h x client j all.0, gone_more h x client id ids now all.1)
+
+-- ---- at each deletion, the messages before the next one are gone
+
+abbrev pub GoneBefore : Writing → List Deed → Type 0
+GoneBefore w h = AllByRecursion (IsGone w.home.client h) (take w.place w.ids)
+
+abbrev pub GoneAt : Stage → Writing → List Deed → Type 0
+GoneAt Waiting w h = Unit {0}
+GoneAt Logging w h = Unit {0}
+GoneAt Opening w h = Unit {0}
+GoneAt Sending w h = Unit {0}
+GoneAt Settling w h = Unit {0}
+GoneAt Deleting w h = GoneBefore w h
+GoneAt Finished w h = Unit {0}
+
+abbrev pub GoneNext : List Deed → Next Writing CommitAnswer → Type 0
+GoneNext h (Goes m) = GoneAt m.stage m h
+GoneNext h (Ends m a) = Unit {0}
+GoneNext h (Stops m t) = Unit {0}
+
+log_gone : (h : List Deed) (w : Writing) (o : Option AtomicRec) → GoneNext h (log_or_open w o)
+log_gone h w (Some r) = tt
+log_gone h w None = tt
+
+send_gone : (h : List Deed) (w : Writing) (o : Option AtomicRec) → GoneNext h (send_or_settle w o)
+send_gone h w (Some r) = tt
+send_gone h w None = tt
+
+logged_gone : (h : List Deed) (w : Writing) (g : Result ℕ Trouble) → GoneNext h (logged_by w g)
+logged_gone h w (Ok id) = log_gone h (record w { ids = w.ids ++ id ∷ []; place = w.place + 1 }) (slice_get w.records (w.place + 1))
+logged_gone h w (Err trouble.Memory) = tt
+logged_gone h w (Err t) = tt
+
+not_opened_gone : (h : List Deed) (w : Writing) (t : Trouble) → GoneNext h (not_opened w t)
+not_opened_gone h w (trouble.Late end now) = tt
+not_opened_gone h w trouble.Memory = tt
+not_opened_gone h w t = tt
+
+opened_gone : (h : List Deed) (w : Writing) (g : Result (Unit {0}) Trouble) → GoneNext h (opened_by w g)
+opened_gone h w (Ok u) = send_gone h (record w { place = 0 }) (slice_get w.records 0)
+opened_gone h w (Err t) = not_opened_gone h w t
+
+sent_gone : (h : List Deed) (w : Writing) (g : Result ℕ Trouble) → GoneNext h (sent_by w g)
+sent_gone h w (Ok id) = send_gone h (record w { place = w.place + 1 }) (slice_get w.records (w.place + 1))
+sent_gone h w (Err trouble.Memory) = tt
+sent_gone h w (Err t) = tt
+
+none_gone : (P : ℕ → Type 0) (ids : List ℕ) → AllByRecursion P (take 0 ids)
+none_gone P [] = tt
+none_gone P (id ∷ ids) = tt
+
+settled_gone : (h : List Deed) (w : Writing) (g : Result (Unit {0}) Trouble) → GoneNext h (settled_by w g)
+settled_gone h w (Ok u) = on (slice_get w.ids 0) where
+  on : (o : Option ℕ) → GoneNext h (delete_or_end (record w { place = 0 }) o)
+  on (Some id) = none_gone (IsGone w.home.client h) w.ids
+  on None = tt
+settled_gone h w (Err trouble.Memory) = tt
+settled_gone h w (Err t) = tt
+
+-- one message more
+one_gone : (w : Writing) (h : List Deed) (x : Deed) (id : ℕ) → GoneBefore w h → slice_get w.ids w.place ≡ Some id → IsGone w.home.client (x ∷ h) id
+    → AllByRecursion (IsGone w.home.client (x ∷ h)) (take (w.place + 1) w.ids)
+one_gone w h x id before here now =
+    subst (AllByRecursion (IsGone w.home.client (x ∷ h))) (sym (take_more w.ids w.place id here)) (gone_more h x w.home.client id (take w.place w.ids) now before)
+
+delete_gone : (h : List Deed) (w : Writing) (x : Deed) (id : ℕ) (a : Answer) → GoneBefore w h → slice_get w.ids w.place ≡ Some id → x.ask ≡ Delete (queue.Atomic w.home.client) id → x.answer ≡ a
+    → Fits (Delete (queue.Atomic w.home.client) id) a → IsMade x → RaisesNoFault x → GoneNext (x ∷ h) (deleted_by w (done_of a))
+delete_gone h w x id Done before here asks answers fits made none = on (slice_get w.ids (w.place + 1)) where
+  on : (o : Option ℕ) → GoneNext (x ∷ h) (delete_or_end (record w { place = w.place + 1 }) o)
+  on (Some other) = one_gone w h x id before here (gone_now h x w.home.client id asks answers made)
+  on None = tt
+delete_gone h w x id Failed before here asks answers fits made none = absurd (no_rise x.before.counts.faults x.after.counts.faults none (made.failed answers))
+delete_gone h w x id Memory before here asks answers fits made none = tt
+delete_gone h w x id a before here asks answers fits made none = absurd fits
+
+gone_next : (stage : Stage) (home : Home) (cs : Calls) (w : Writing) (x : Deed) (h : List Deed) → KnowsAt stage home cs w → GoneAt stage w h → x.ask ≡ ask_at stage w → IsMade x → RaisesNoFault x
+    → GoneNext (x ∷ h) (next_at stage w x.answer)
+gone_next Waiting home cs w x h k at asked made none = absurd k
+gone_next Logging home cs w x h k at asked made none = logged_gone (x ∷ h) w (sent_of x.answer)
+gone_next Opening home cs w x h k at asked made none = opened_gone (x ∷ h) w (done_of x.answer)
+gone_next Sending home cs w x h k at asked made none = sent_gone (x ∷ h) w (sent_of x.answer)
+gone_next Settling home cs w x h k at asked made none = settled_gone (x ∷ h) w (done_of x.answer)
+gone_next Deleting home cs w x h k at asked made none =
+    let asks : x.ask ≡ Delete (queue.Atomic w.home.client) k.id = asks_deletion home cs w x k asked in
+    delete_gone h w x k.id x.answer at k.here asks refl (subst (λ (q : Ask). Fits q x.answer) asks made.fits) made none
+gone_next Finished home cs w x h k at asked made none = absurd k
+
+came_gone : (home : Home) (changes : List Noted) (rs : List AtomicRec) (start : Writing) → begun (waiting home changes) rs ≡ Goes start → (h : List Deed) (m : Writing)
+    → Came writing_ask (LeadsBy writing_next) start h m → AllByRecursion RaisesNoFault h → GoneAt m.stage m h
+came_gone home changes rs start goes [] m came none =
+    subst (λ (w : Writing). GoneAt w.stage w []) (sym came)
+    (subst (GoneNext []) goes (log_gone [] (record (waiting home changes) { records = rs; place = 0 }) (slice_get rs 0)))
+came_gone home changes rs start goes (x ∷ h) m (from, came, asked, made, leads, follows) none =
+    subst (GoneNext (x ∷ h)) leads
+    (gone_next from.stage home (told h) from x h (came_knows home changes rs start goes h from came).1 (came_gone home changes rs start goes h from came none.1) asked made none.0)
+
+-- ---- at the end
+
+gone_end : (home : Home) (w : Writing) (x : Deed) (h : List Deed) → KnowsDeleting home (told h) w → GoneBefore w h → x.ask ≡ delete_ask w (slice_get w.ids w.place) → IsMade x → RaisesNoFault x
+    → x.answer ≢ Memory → deletions (told h) + 1 ≡ length w.records → AreGone home w.records (x ∷ h)
+gone_end home w x h k before asked made none ample last =
+    let asks : x.ask ≡ Delete (queue.Atomic w.home.client) k.id = asks_deletion home (told h) w x k asked in
+    let done : x.answer ≡ Done = done_alone x x.ask w.home.client k.id x.answer asks refl made.fits made none ample in
+    let past : length w.ids ≤ w.place + 1 = omega (arith, last, k.logged, deleted_before home (told h) w k) in
+    let whole : AllByRecursion (IsGone w.home.client (x ∷ h)) w.ids =
+    subst (AllByRecursion (IsGone w.home.client (x ∷ h))) (take_all (w.place + 1) w.ids past)
+    (one_gone w h x k.id before k.here (gone_now h x w.home.client k.id asks done made)) in
+    let front : IsFront (all_logged home w.records w.ids) (told h ++ (x.ask, x.answer) ∷ []) =
+    begins_more (all_logged home w.records w.ids) (told h) ((x.ask, x.answer) ∷ [])
+    (subst (IsFront (all_logged home w.records w.ids)) (sym k.calls) (begins_settled home w.records w.ids k.posts (deleted_calls home.client (take w.place w.ids) k.answers))) in
+    record {
+      ids = w.ids;
+      later = front.0;
+      logged = k.logged;
+      are = front.1;
+      gone = subst (λ (c : ℕ). AllByRecursion (IsGone c (x ∷ h)) w.ids) (ap (λ (y : Home). y.client) k.home) whole;
+    }
+
+gone_at : (stage : Stage) (home : Home) (w : Writing) (x : Deed) (h : List Deed) → KnowsAt stage home (told h) w → GoneAt stage w h → x.ask ≡ ask_at stage w → IsMade x → RaisesNoFault x
+    → x.answer ≢ Memory → IsDeletion (ask_at stage w) → deletions (told h) + 1 ≡ length w.records → AreGone home w.records (x ∷ h)
+gone_at Waiting home w x h k at asked made none ample deletion last = absurd k
+gone_at Logging home w x h k at asked made none ample deletion last = absurd deletion
+gone_at Opening home w x h k at asked made none ample deletion last = absurd deletion
+gone_at Sending home w x h k at asked made none ample deletion last = absurd (subst IsDeletion (post_asked w (slice_get w.records w.place) k.r k.here k.out) deletion)
+gone_at Settling home w x h k at asked made none ample deletion last = absurd deletion
+gone_at Deleting home w x h k at asked made none ample deletion last = gone_end home w x h k at asked made none ample last
+gone_at Finished home w x h k at asked made none ample deletion last = absurd k
+
+pub went_gone : (home : Home) (records : List AtomicRec) (h : List Deed) (w : Writing) (x : Deed) (y : ℕ) → Went home records h w → AllByRecursion RaisesNoFault (x ∷ h) → x.ask ≡ writing_ask w → IsMade x
+    → x.answer ≢ Memory → Demands (length records) home.attempt (told h) (writing_ask w) x.answer (Committed y) → AreGone home records (x ∷ h)
+went_gone home records h w x y went none asked made ample demands =
+    let k : Knows home records (told h) w = went_knows home records h w went in
+    subst (λ (rs : List AtomicRec). AreGone home rs (x ∷ h)) k.0
+    (gone_at w.stage home w x h k.1 (came_gone home went.1 records went.2 went.3 h w went.4 none.1) asked made none.0 ample demands.1 (demands.2 ∙ sym (ap length k.0)))

@@ -1,0 +1,330 @@
+-- Why a commit ends with nothing committed, or stays open: while its lease lasts its walks know their way, and no object is damaged.
+use Rattle.std.proofs.Common.{◌≡◌, ◌∙◌, ◌+◌, ℕ, Bool, true, false, cond, List, [], ◌∷◌, ◌++◌, length, Option, Some, None, Result, Ok, Err, refl, sym, subst}
+use Rattle.std.specs.Prelude.{nat_lt, slice_get}
+use Rattle.std.specs.Option.{option_map}
+use Rattle.std.proofs.lemmas.Option.{same_Some}
+use Rattle.cloud_facts.specs.Calls.Call.{IsCall}
+use Rattle.cloud_facts.specs.Calls.Standing.{StandsUnder}
+use Rattle.cloud_trait.specs.declared.answer.Answer.{Answer}
+use Rattle.cloud_trait.specs.declared.answer.Answer.TheVariants.{Got, Sent, Received, Listed, Done, Given, Held, Renewed, Late, Failed, Memory}
+use Rattle.cloud_trait.specs.Caller.{Caller}
+use Rattle.cloud_trait.specs.Machine.{Next, Goes, Ends, Stops}
+use Rattle.cloud_trait.specs.State.{CloudState}
+use Rattle.cloud_trait.specs.Views.{trouble_of, sent_of, done_of}
+use Rattle.session_facts.specs.Machines.Commits.Knows.{MayCommit}
+use Rattle.session_facts.proofs.Machines.Commits.Near.{IsNear, near_routed}
+use Rattle.session_facts.proofs.Machines.Commits.Begins.{KnowsHeld}
+use Rattle.commit_run.specs.declared.hand.Hand.{Hand}
+use Rattle.commit_run.specs.declared.hand.Hand.TheVariants.{Writes, First, Change}
+use Rattle.commit_run.specs.Draft.{Draft, pruned_by_root, pruned_by_kept, pruned_with, planned}
+use Rattle.commit_run.specs.Run.{Run, new_run, asks, ask_at, wrote, is_stale, pending_target, walked, run_ready, next_at, run_next}
+use Rattle.commit_run.proofs.Outcomes.{Begins, Plans, Behind, Comes, comes, Starts, starts, used_kept}
+use Rattle.commit_run.proofs.Outcomes as run
+use Rattle.session_facts.specs.Machines.CommitRuns.Knows.{KnowsSeeking, KnowsHand, KnowsRun}
+use Rattle.session_facts.specs.Machines.Openings.Client.{AreCounted}
+use Rattle.session_facts.specs.Machines.CommitRuns.Stops.{MayStopCommit, EndsBy}
+use Rattle.session_facts.proofs.Machines.CommitRuns.Nexts.{RunStep}
+use Rattle.commit_writes.specs.declared.stage.Stage.{Stage}
+use Rattle.commit_writes.specs.declared.stage.Stage.TheVariants.{Waiting, Logging, Opening, Sending, Settling, Deleting, Finished}
+use Rattle.commit_writes.specs.Writing.{Writing, log_or_open, send_or_settle, send_at, delete_or_end, delete_at, logged_by, not_opened, opened_by, sent_by, settled_by, deleted_by, next_at as writes_at, writing_next}
+use Rattle.db_base.specs.Ids.{IsTree}
+use Rattle.db_base.specs.declared.names.ObjName.{ObjName}
+use Rattle.db_base.specs.declared.names.ObjName.TheVariants as object
+use Rattle.db_base.specs.declared.trouble.CommitAnswer.{CommitAnswer}
+use Rattle.db_base.specs.declared.trouble.Counter.TheVariants as counter
+use Rattle.db_base.specs.declared.trouble.Trouble.{Trouble}
+use Rattle.db_base.specs.declared.trouble.Trouble.TheVariants as trouble
+use Rattle.head_codec.specs.declared.lists.QueueCount.{QueueCount}
+use Rattle.head_codec.specs.declared.lists.Pending.{Pending}
+use Rattle.cloud_facts.specs.Homes.Homes.{Part}
+use Rattle.cloud_facts.specs.Landings.Holding.{Holds}
+use Rattle.leaf_view.specs.Leaf.{Leaf}
+use Rattle.log_codec.specs.declared.record.AtomicRec.{AtomicRec}
+use Rattle.node_codec.specs.Tree.{Tree}
+use Rattle.page_cache.specs.Cache.{Cache}
+use Rattle.page_cache.specs.Held.{leaf_at, root_at}
+use Rattle.recover_run.specs.declared.home.Home.{Home as Owner}
+use Rattle.report_types.specs.declared.entry.Entry.{Entry}
+use Rattle.cloud_facts.specs.Book.Book.{Book}
+use Rattle.cloud_facts.specs.Book.Tally.{Store}
+use Rattle.cloud_facts.specs.Tellings.Told.{store_of}
+use Rattle.tree_walk.specs.Walk.{Walk, object_of, walk_next}
+use Rattle.txn_buffer.specs.Noted.{Noted}
+use Rattle.session_facts.specs.Machines.Walks.Caches.{KnowsCache}
+use Rattle.session_facts.specs.Machines.Walks.Knows.{WalkLeads, MayStopWalk}
+use Rattle.session_facts.proofs.Machines.Walks.Beside.{LeavesKnown, turn_leaves}
+use Rattle.session_facts.proofs.Machines.Walks.Outcome.{walk_begins, call_answers, walk_goes}
+
+-- ---- what may be answered
+
+-- what brings no value has a trouble that may come
+abbrev pub IsFair : {X : Type 0} → (Trouble → Type 0) → Result X Trouble → Type 0
+IsFair May (Ok x) = Unit {0}
+IsFair May (Err t) = May t
+
+-- a put that commits and was not late is in doubt: it failed
+abbrev pub MayDoubt : (Trouble → Type 0) → Trouble → Type 0
+MayDoubt May (trouble.Late end now) = May (trouble.Late end now)
+MayDoubt May trouble.Memory = May trouble.Memory
+MayDoubt May t = May trouble.Failed
+
+abbrev pub IsOpeningFair : {X : Type 0} → (Trouble → Type 0) → Result X Trouble → Type 0
+IsOpeningFair May (Ok x) = Unit {0}
+IsOpeningFair May (Err t) = MayDoubt May t
+
+-- of the call in hand of each stage; a deletion may fail
+abbrev pub MayAnswerAt : (Trouble → Type 0) → Stage → Answer → Type 0
+MayAnswerAt May Waiting a = May trouble.Failed
+MayAnswerAt May Logging a = IsFair May (sent_of a)
+MayAnswerAt May Opening a = IsOpeningFair May (done_of a)
+MayAnswerAt May Sending a = IsFair May (sent_of a)
+MayAnswerAt May Settling a = IsFair May (done_of a)
+MayAnswerAt May Deleting a = May trouble.Memory
+MayAnswerAt May Finished a = May trouble.Failed
+
+-- and of a run: its walk leads where its get may
+abbrev pub MayAnswerIn : (Trouble → Type 0) → (Trouble → Type 0) → Store → Hand → Draft → Cache → Answer → Type 0
+MayAnswerIn May MayWalk st Writes d c a = MayAnswerAt May d.writes.stage a
+MayAnswerIn May MayWalk st (First w) d c a = WalkLeads st MayWalk (walk_next (w, c) a)
+MayAnswerIn May MayWalk st (Change w) d c a = WalkLeads st MayWalk (walk_next (w, c) a)
+
+-- ---- what is written
+
+abbrev WritesWell : (Trouble → Type 0) → Next Writing CommitAnswer → Type 0
+WritesWell May (Goes w) = Unit {0}
+WritesWell May (Ends w a) = EndsBy May a
+WritesWell May (Stops w t) = May t
+
+-- where a step leads
+abbrev pub EndsWell : (Trouble → Type 0) → RunStep → Type 0
+EndsWell May (Goes m) = Unit {0}
+EndsWell May (Ends m a) = EndsBy May a
+EndsWell May (Stops m t) = May t
+
+module _ (May : Trouble → Type 0) (txn : May (trouble.Exhausted counter.Txn)) where
+  -- a head whose counter is near the end may stop it
+  abbrev MayPass : List QueueCount → Type 0
+  MayPass counters = IsNear counters → May (trouble.Exhausted counter.Number)
+
+  logs : (w : Writing) (o : Option AtomicRec) → WritesWell May (log_or_open w o)
+  logs w (Some r) = tt
+  logs w None = tt
+
+  logged : (w : Writing) (g : Result ℕ Trouble) → IsFair May g → WritesWell May (logged_by w g)
+  logged w (Ok id) may = logs (record w { ids = w.ids ++ id ∷ []; place = w.place + 1 }) (slice_get w.records (w.place + 1))
+  logged w (Err trouble.Memory) may = may
+  logged w (Err t) may = may
+
+  sends : (w : Writing) (n : ℕ) → WritesWell May (send_at w n)
+  sends w n = on (slice_get w.records n)
+    where
+      on : (o : Option AtomicRec) → WritesWell May (send_or_settle (record w { place = n }) o)
+      on (Some r) = tt
+      on None = tt
+
+  not_open : (w : Writing) (t : Trouble) → MayDoubt May t → WritesWell May (not_opened w t)
+  not_open w (trouble.Late end now) may = may
+  not_open w trouble.Memory may = may
+  not_open w t may = may
+
+  opened : (w : Writing) (g : Result (Unit {0}) Trouble) → IsOpeningFair May g → WritesWell May (opened_by w g)
+  opened w (Ok x) may = sends w 0
+  opened w (Err t) may = not_open w t may
+
+  sent : (w : Writing) (g : Result ℕ Trouble) → IsFair May g → WritesWell May (sent_by w g)
+  sent w (Ok id) may = sends w (w.place + 1)
+  sent w (Err trouble.Memory) may = may
+  sent w (Err t) may = may
+
+  deletes : (w : Writing) (n : ℕ) → WritesWell May (delete_at w n)
+  deletes w n = on (slice_get w.ids n)
+    where
+      on : (o : Option ℕ) → WritesWell May (delete_or_end (record w { place = n }) o)
+      on (Some id) = tt
+      on None = tt
+
+  settled : (w : Writing) (g : Result (Unit {0}) Trouble) → IsFair May g → WritesWell May (settled_by w g)
+  settled w (Ok x) may = deletes w 0
+  settled w (Err trouble.Memory) may = may
+  settled w (Err t) may = may
+
+  deleted : (w : Writing) (g : Result (Unit {0}) Trouble) → May trouble.Memory → WritesWell May (deleted_by w g)
+  deleted w (Err trouble.Memory) may = may
+  deleted w done may = deletes w (w.place + 1)
+
+  writes : (w : Writing) (a : Answer) → MayAnswerAt May w.stage a → WritesWell May (writing_next w a)
+  writes w a may = on w.stage may
+    where
+      on : (stage : Stage) → MayAnswerAt May stage a → WritesWell May (writes_at stage w a)
+      on Waiting may = may
+      on Logging may = logged w (sent_of a) may
+      on Opening may = opened w (done_of a) may
+      on Sending may = sent w (sent_of a) may
+      on Settling may = settled w (done_of a) may
+      on Deleting may = deleted w (done_of a) may
+      on Finished may = may
+
+  -- ---- where a step leads
+
+  wrote_well : (d : Draft) (c : Cache) (n : Next Writing CommitAnswer) → WritesWell May n → EndsWell May (wrote d c n)
+  wrote_well d c (Goes w) may = tt
+  wrote_well d c (Ends w a) may = may
+  wrote_well d c (Stops w t) may = may
+
+  module _ (st : Store) (h : Holds st) where
+    -- a walk begins with a call
+    begins_well : {first : Bool} {d : Draft} {k : Cache} {to : ℕ × List ℕ} {next : RunStep} → Begins first d k to next → IsTree to.0 → KnowsCache st k → EndsWell May next
+    begins_well (run.walks m e is aims) tree cache = tt
+    begins_well {first = first} {k = k} {to = to} (run.stops m t e link other) tree cache =
+        absurd (let goes = sym (walk_begins st h.chains to.0 (Some to.1) first k tree cache).1 ∙ e in cc (goes))
+    begins_well {first = first} {k = k} {to = to} (run.lacks m e) tree cache =
+        absurd (let goes = sym (walk_begins st h.chains to.0 (Some to.1) first k tree cache).1 ∙ e in cc (goes))
+
+    plans_well : {d : Draft} {k : Cache} {next : RunStep} → Plans d k next → MayCommit d.writes.changes → MayPass d.writes.home.head.counters → KnowsCache st k → EndsWell May next
+    plans_well {d = d} (run.seeks n next is begins) may pass cache = begins_well begins (may.each n (length (planned d).plan.pages, is)).0 cache
+    plans_well {d = d} (run.full none over) may pass cache = pass (near_routed d.writes.home d.writes.changes (planned d).plan.pages may.noted.most over)
+    plans_well (run.writes w none fits e) may pass cache = tt
+
+    same_counters : (w : Writing) (c : Cache) (used : Option ObjName) → MayPass w.home.head.counters → MayPass (pruned_with w c used).home.head.counters
+    same_counters w c None pass = pass
+    same_counters w c (Some (object.Head client)) pass = pass
+    same_counters w c (Some (object.Tree tree)) pass = on (root_at c (object.Tree tree))
+      where
+        on : (o : Option Tree) → MayPass (pruned_by_root w tree o).home.head.counters
+        on (Some root) = pass
+        on None = pass
+    same_counters w c (Some (object.Page tree page)) pass = on (leaf_at c (object.Page tree page))
+      where
+        on : (o : Option Leaf) → MayPass (pruned_by_kept w tree o).home.head.counters
+        on (Some leaf) = pass
+        on None = pass
+
+    -- pruning leaves the changes
+    pruned_may : (d : Draft) (m : Walk × Cache) → MayCommit d.writes.changes → MayCommit (pruned_with d.writes m.1 m.0.used).changes
+    pruned_may d m may = subst MayCommit (sym (used_kept d.writes m.1 m.0.used).changes) may
+
+    -- behind a turn of a walk planning goes on, and stale pages are passed over
+    planned_well : {d e : Draft} {w : Walk} {c k : Cache} {a : Answer} {first : Bool} {next : RunStep} → Behind d w c a first e k → Plans e k next → MayCommit d.writes.changes
+        → MayPass d.writes.home.head.counters → LeavesKnown st (walk_next (w, c) a) → EndsWell May next
+    planned_well {d = d} (run.at_leaf first m page e aims) plans may pass known =
+        plans_well plans (pruned_may d m may) (same_counters d.writes m.1 m.0.used pass) (subst (LeavesKnown st) e known)
+    planned_well {d = d} (run.at_stale m t e stale) plans may pass known =
+        plans_well plans (pruned_may d m may) (same_counters d.writes m.1 m.0.used pass) (subst (LeavesKnown st) e known)
+    planned_well {d = d} (run.passed_over m t e stale) plans may pass known =
+        plans_well plans (pruned_may d m may) (same_counters d.writes m.1 m.0.used pass) (subst (LeavesKnown st) e known)
+
+    module _ (MayWalk : Trouble → Type 0) (fair : (t : Trouble) → MayWalk t → is_stale t ≡ false → May t) where
+      comes_well : {d : Draft} {w : Walk} {c : Cache} {a : Answer} {first : Bool} {next : RunStep} → Comes d w c a first next → MayCommit d.writes.changes → MayPass d.writes.home.head.counters
+          → LeavesKnown st (walk_next (w, c) a) → WalkLeads st MayWalk (walk_next (w, c) a) → EndsWell May next
+      comes_well (run.goes m e is aims) may pass known leads = tt
+      comes_well (run.ends m t e fresh other) may pass known leads = fair t (subst (WalkLeads st MayWalk) e leads).1 fresh
+      comes_well (run.lacks m e) may pass known leads = fair trouble.Memory (subst (WalkLeads st MayWalk) e leads).1 refl
+      comes_well (run.plans e k next behind plans) may pass known leads = planned_well behind plans may pass known
+
+  -- ---- a call, by what it may have answered
+
+  module _ (book : Book) (order : List Entry) (s : CloudState) (stands : StandsUnder book order s)
+      (number : (client : ℕ) (counters : List QueueCount) → AreCounted book.log client counters → MayPass counters) where
+    pub run_ends_by : (MayWalk : Trouble → Type 0) (fair : (t : Trouble) → MayWalk t → is_stale t ≡ false → May t) (who : Caller) (t : CloudState) (m : Run × Cache) (part : Part) (reply : Answer) → KnowsRun (store_of book order s) t.now m part
+        → IsCall who (asks m) reply s t → MayAnswerIn May MayWalk (store_of book order s) m.0.hand m.0.draft m.1 reply → EndsWell May (run_next m reply)
+    run_ends_by MayWalk fair who t m part reply k call may = on m.0.hand k.hand call may
+      where
+        walks : (first : Bool) (w : Walk) → KnowsSeeking (store_of book order s) t.now m.0.draft w part → IsCall who (ask_at (Change w) m.0.draft.writes) reply s t
+            → WalkLeads (store_of book order s) MayWalk (walk_next (w, m.1) reply) → EndsWell May (walked first m.0.draft w m.1 reply)
+        walks first w seeks call leads =
+            comes_well (store_of book order s) stands.holds MayWalk fair (comes m.0.draft w m.1 reply first) seeks.draft.may
+            (number m.0.draft.writes.home.client m.0.draft.writes.home.head.counters seeks.draft.taken.home.counted)
+            (turn_leaves (store_of book order s) w m.1 reply k.cache (call_answers book order s stands who (object_of w) reply t call)) leads
+
+        on : (hand : Hand) → KnowsHand hand (store_of book order s) t.now m.0.draft part → IsCall who (ask_at hand m.0.draft.writes) reply s t
+            → MayAnswerIn May MayWalk (store_of book order s) hand m.0.draft m.1 reply → EndsWell May (next_at hand m.0.draft m.1 reply)
+        on Writes a call may = wrote_well m.0.draft m.1 (writing_next m.0.draft.writes reply) (writes m.0.draft.writes reply may)
+        on (First w) a call leads = walks true w a call leads
+        on (Change w) a call leads = walks false w a call leads
+
+    -- and one that is answered at once
+    module _ (now : ℕ) (part : Part) (home : Owner) (changes : List Noted) (c : Cache) (k : KnowsHeld (store_of book order s) now home part) (may : MayCommit changes)
+        (cache : KnowsCache (store_of book order s) c) where
+      pass : MayPass home.head.counters
+      pass = number home.client home.head.counters k.counted
+
+      -- a long list of pending entries is pruned by the first, which is of a tree
+      first_tree : (b : Bool) (o : Option Pending) (to : ℕ × List ℕ) → slice_get home.head.pending 0 ≡ o → cond b (option_map pending_target o) None ≡ Some to → IsTree to.0
+      first_tree true (Some e) to is aims = subst (λ (t : ℕ × List ℕ). IsTree t.0) (same_Some (pending_target e) to aims) (k.trees e (0, is))
+      first_tree true None to is aims = absurd (cc)
+      first_tree false o to is aims = absurd (cc)
+
+      starts_well : {next : RunStep} → Starts home changes c next → EndsWell May next
+      starts_well (run.spent e) = txn
+      starts_well (run.long to next left aims begins) =
+          begins_well (store_of book order s) stands.holds begins (first_tree (nat_lt 256 (length home.head.pending)) (slice_get home.head.pending 0) to refl aims) cache
+      starts_well (run.few next left none plans) = plans_well (store_of book order s) stands.holds plans may pass cache
+
+      pub ready_ends_by : EndsWell May (run_ready (new_run home changes, c))
+      ready_ends_by = starts_well (starts home changes c)
+
+-- ---- answers that bring no value
+
+refused_may : (a : Answer) → MayStopCommit (trouble_of a)
+refused_may (Got v) = tt
+refused_may (Sent id) = tt
+refused_may (Received ms) = tt
+refused_may (Listed pages) = tt
+refused_may Done = tt
+refused_may (Given l) = tt
+refused_may (Held until) = tt
+refused_may (Renewed e) = tt
+refused_may (Late e n) = tt
+refused_may Failed = tt
+refused_may Memory = tt
+
+sent_fair : (a : Answer) → IsFair MayStopCommit (sent_of a)
+sent_fair (Sent id) = tt
+sent_fair a = refused_may a
+
+done_fair : (a : Answer) → IsFair MayStopCommit (done_of a)
+done_fair Done = tt
+done_fair a = refused_may a
+
+doubt_may : (t : Trouble) → MayDoubt MayStopCommit t
+doubt_may (trouble.Late end now) = tt
+doubt_may t = tt
+
+opening_fair : (g : Result (Unit {0}) Trouble) → IsOpeningFair MayStopCommit g
+opening_fair (Ok x) = tt
+opening_fair (Err t) = doubt_may t
+
+answers_may : (stage : Stage) (a : Answer) → MayAnswerAt MayStopCommit stage a
+answers_may Waiting a = tt
+answers_may Logging a = sent_fair a
+answers_may Opening a = opening_fair (done_of a)
+answers_may Sending a = sent_fair a
+answers_may Settling a = done_fair a
+answers_may Deleting a = tt
+answers_may Finished a = tt
+
+-- a trouble of a walk that is not passed over
+walk_fair : (t : Trouble) → MayStopWalk t → is_stale t ≡ false → MayStopCommit t
+walk_fair (trouble.Stale page least found) may stale = absurd (cc)
+walk_fair trouble.Failed may stale = tt
+walk_fair trouble.Memory may stale = tt
+walk_fair t may stale = absurd may
+
+-- ---- the whole
+
+module _ (book : Book) (order : List Entry) (s : CloudState) (stands : StandsUnder book order s) where
+  -- how a call of a commit ends
+  pub run_ends : (who : Caller) (t : CloudState) (m : Run × Cache) (part : Part) (reply : Answer) → KnowsRun (store_of book order s) t.now m part
+      → IsCall who (asks m) reply s t → EndsWell MayStopCommit (run_next m reply)
+  run_ends who t m part reply k call =
+      run_ends_by MayStopCommit tt book order s stands (λ client counters counted near. tt) MayStopWalk walk_fair who t m part reply k call (on m.0.hand k.hand call)
+    where
+      walks : (w : Walk) → KnowsSeeking (store_of book order s) t.now m.0.draft w part → IsCall who (ask_at (Change w) m.0.draft.writes) reply s t
+          → WalkLeads (store_of book order s) MayStopWalk (walk_next (w, m.1) reply)
+      walks w seeks call = walk_goes book order s stands who w m.1 reply t call (record { walk = seeks.walk; cache = k.cache })
+
+      on : (hand : Hand) → KnowsHand hand (store_of book order s) t.now m.0.draft part → IsCall who (ask_at hand m.0.draft.writes) reply s t
+          → MayAnswerIn MayStopCommit MayStopWalk (store_of book order s) hand m.0.draft m.1 reply
+      on Writes a call = answers_may m.0.draft.writes.stage reply
+      on (First w) a call = walks w a call
+      on (Change w) a call = walks w a call

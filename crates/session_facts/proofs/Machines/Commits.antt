@@ -1,0 +1,23 @@
+-- A commit: what it knows of a cloud at each of its calls, what others leave of that, and what its calls rest on and leave.
+pub mod Noted
+pub mod Distinct
+pub mod Routes
+pub mod Records
+pub mod Opened
+pub mod Others
+pub mod Logged
+pub mod Nexts
+pub mod Settled
+pub mod Ready
+pub mod SentLogged
+pub mod PutOpened
+pub mod SentOn
+pub mod PutSettled
+pub mod Deleted
+pub mod Outcome
+pub mod HeadPuts
+pub mod Hands
+pub mod Near
+pub mod Begins
+pub mod Leases
+pub mod Stays

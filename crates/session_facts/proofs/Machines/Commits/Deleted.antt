@@ -1,0 +1,83 @@
+-- What a deletion of an ATOMIC message leaves.
+use Rattle.std.proofs.Common.{◌≡◌, ◌+◌, ◌⊎◌, inl, inr, ℕ, List, [], ◌∷◌, Some, refl}
+use Rattle.std.specs.Prelude.{slice_get}
+use Rattle.cloud_facts.specs.Calls.Acting.{Outcome}
+use Rattle.cloud_facts.specs.Calls.Call.{IsCall}
+use Rattle.cloud_facts.proofs.Calls.Calls.{landed_or_not}
+use Rattle.cloud_facts.proofs.Calls.Outcomes.{stays, other_landed}
+use Rattle.cloud_trait.specs.declared.answer.Answer.{Answer}
+use Rattle.cloud_trait.specs.Ask.{Ask, Delete, Lands}
+use Rattle.cloud_trait.specs.Caller.{Caller}
+use Rattle.cloud_trait.specs.State.{CloudState, called}
+use Rattle.cloud_trait.specs.Views.{done_of}
+use Rattle.session_facts.specs.Machines.Commits.Knows.{attempt_of, Deletes, KnowsNext}
+use Rattle.session_facts.specs.Machines.Commits.Audited.{noted_at}
+use Rattle.session_facts.proofs.Machines.Commits.Records.{messages_stay}
+use Rattle.session_facts.proofs.Machines.Commits.Logged.{marks, spared}
+use Rattle.session_facts.proofs.Machines.Commits.Nexts.{WriteStep, part_next, next_homes, deletes_at, deleted_known}
+use Rattle.session_facts.proofs.Machines.Commits.Ready.{Ready, homes}
+use Rattle.commit_writes.specs.declared.stage.Stage.TheVariants.{Deleting}
+use Rattle.commit_writes.specs.Writing.{Writing, next_at}
+use Rattle.db_base.specs.declared.names.QueueName.TheVariants.{Atomic}
+use Rattle.cloud_facts.specs.Homes.Homes.{Home, Part, Parts, HomesHold}
+use Rattle.cloud_facts.proofs.Homes.HomeLemmas.{marked_keeps, keeps_part}
+use Rattle.cloud_facts.specs.Landings.Landing as landing
+use Rattle.report_types.specs.declared.entry.Entry.{Entry}
+use Rattle.cloud_facts.specs.Book.Book.{Book}
+use Rattle.cloud_facts.specs.Book.Effects.{after_log_mark}
+use Rattle.cloud_facts.specs.Book.Tally.{Store, at}
+use Rattle.cloud_facts.proofs.Book.GrowthLemmas.{log_mark_grows}
+use Rattle.cloud_facts.specs.Tellings.Told.{store_of}
+
+module _ (who : Caller) (book : Book) (order : List Entry) (s t : CloudState) (parts : Parts) (w : Writing) (reply : Answer) (part : Part) (g : Home)
+    (ready : Ready who book order s t.now parts w part g) (a : Deletes (store_of book order s) t.now w g) (id : ℕ) (there : slice_get w.ids w.place ≡ Some id) where
+  abbrev st : Store
+  st = store_of book order s
+
+  abbrev client : ℕ
+  client = w.home.client
+
+  abbrev step : WriteStep
+  step = next_at Deleting w reply
+
+  abbrev ask : Ask
+  ask = Delete (Atomic client) id
+
+  abbrev su : Store
+  su = after_log_mark client id st
+
+  abbrev OutcomeOf : Ask → Type 0
+  OutcomeOf q = Outcome who book order s t parts (w.home.lease ∷ []) q (noted_at Deleting w q) (KnowsNext step)
+
+  after_homes : HomesHold su.tally t.now (at who.session part parts)
+  after_homes =
+      keeps_part su.tally t.now parts who.session part ready.is
+      (marked_keeps st t.now parts client id (spared st t.now w g a id there parts who.session part (ready.stands).home ready.is (ready.setting).homes) (ready.setting).homes)
+
+  still : Deletes su t.now w g
+  still = record {
+    committed = a.committed;
+    settled = a.settled;
+    txn_is = a.txn_is;
+    past = a.past;
+    newest = a.newest;
+    trees = a.trees;
+    of_records = a.of_records;
+    counted = a.counted;
+    needed = a.needed;
+    messages = messages_stay st su (attempt_of w) w.ids (log_mark_grows st client id) a.messages;
+  }
+
+  pub deleting_outcome : IsCall who ask reply s t → OutcomeOf ask
+  deleting_outcome call = on (landed_or_not who ask reply s t call)
+    where
+      on : (t ≡ called who t.now s) ⊎ Lands who ask (called who t.now s) t → OutcomeOf ask
+      on (inl e) =
+          stays who book order s t parts (w.home.lease ∷ []) ask (noted_at Deleting w ask) (KnowsNext step) e (ready.setting).cloud (part_next step part)
+          (next_homes st.tally t.now parts who.session part step (homes who book order s t.now parts w part g ready))
+          (deleted_known st t.now w part (done_of reply) (deletes_at st t.now w part g ready.stands (w.place + 1) a))
+      on (inr lands) =
+          other_landed who book order s t parts (w.home.lease ∷ []) ask (noted_at Deleting w ask) (KnowsNext step) su lands (ready.setting).cloud (landing.marks_log client id (marks st t.now w g a id there)) tt tt tt
+          (part_next step part) (next_homes su.tally t.now parts who.session part step after_homes)
+          (deleted_known su t.now w part (done_of reply) (deletes_at su t.now w part g ready.stands (w.place + 1) still))
+          (λ look new. refl) refl

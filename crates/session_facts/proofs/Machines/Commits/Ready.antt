@@ -1,0 +1,50 @@
+-- What stands before a call of a commit, and what that says of its home.
+use Rattle.std.proofs.Common.{◌≡◌, ℕ, List, [], ◌∷◌, refl, sym, subst, ◌∙◌}
+use Rattle.cloud_facts.specs.Calls.Acting.{Setting, Outcome}
+use Rattle.cloud_trait.specs.declared.answer.Answer.{Answer}
+use Rattle.cloud_trait.specs.Caller.{Caller}
+use Rattle.cloud_trait.specs.Claim.{Claim, Lasts}
+use Rattle.cloud_trait.specs.State.{CloudState}
+use Rattle.session_facts.specs.Machines.Commits.Knows.{attempt_of, KnowsNext}
+use Rattle.session_facts.specs.Machines.Commits.Audited.{noted_at}
+use Rattle.session_facts.proofs.Machines.Commits.Nexts.{Stands}
+use Rattle.commit_writes.specs.declared.stage.Stage.{Stage}
+use Rattle.commit_writes.specs.Writing.{Writing, ask_at, next_at}
+use Rattle.cloud_facts.specs.Homes.Homes.{Home, Part, AtHome, Parts, IsAlone, HomeHolds, PartHolds, HomesHold}
+use Rattle.cloud_facts.proofs.Homes.HomeLemmas.{keeps_part}
+use Rattle.report_types.specs.declared.entry.Entry.{Entry}
+use Rattle.cloud_facts.specs.Book.Book.{Book}
+use Rattle.cloud_facts.specs.Book.Tally.{at}
+use Rattle.cloud_facts.specs.Tellings.Told.{store_of}
+
+-- the part of the session is at home for the transaction
+pub record Ready (who : Caller) (book : Book) (order : List Entry) (s : CloudState) (now : ℕ) (parts : Parts) (w : Writing) (part : Part) (g : Home) : Type 0 where
+  pub setting : Setting book order s now parts who.session (w.home.lease ∷ [])
+  pub is : parts who.session ≡ part
+  pub stands : Stands (attempt_of w) w.changes part g
+
+-- the outcome of the call of a stage
+abbrev pub OutcomeAt : Caller → Book → List Entry → CloudState → CloudState → Parts → Writing → Answer → Stage → Type 0
+OutcomeAt who book order s t parts w reply stage = Outcome who book order s t parts (w.home.lease ∷ []) (ask_at stage w) (noted_at stage w (ask_at stage w)) (KnowsNext (next_at stage w reply))
+
+module _ (who : Caller) (book : Book) (order : List Entry) (s : CloudState) (now : ℕ) (parts : Parts) (w : Writing) (part : Part) (g : Home)
+    (ready : Ready who book order s now parts w part g) where
+  pub at_home : parts who.session ≡ AtHome g
+  at_home = ready.is ∙ ((ready.stands).home).part_is
+
+  -- what holds of the home
+  pub holds : HomeHolds (store_of book order s).tally now g
+  holds = subst (λ (p : Part). PartHolds (store_of book order s).tally now p) at_home (((ready.setting).homes).each who.session)
+
+  -- its part may stay
+  pub homes : HomesHold (store_of book order s).tally now (at who.session part parts)
+  homes = keeps_part (store_of book order s).tally now parts who.session part ready.is (ready.setting).homes
+
+  pub lasting : Lasts now w.home.lease → Lasts now g.lease
+  lasting lasts = subst (λ (l : Claim). Lasts now l) (sym ((ready.stands).home).lease_is) lasts
+
+  -- nobody else has a lasting part of the client
+  pub alone : Lasts now w.home.lease → IsAlone now parts who.session g.client
+  alone lasts =
+      subst (λ c. IsAlone now parts who.session c) (sym ((ready.stands).home).client_is)
+      ((ready.setting).alone w.home.lease w.home.client (0, refl) (ready.stands).lock lasts)

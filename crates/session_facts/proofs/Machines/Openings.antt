@@ -1,0 +1,27 @@
+-- Openings: what an opening or a recovery knows of a cloud, that it survives the calls of others, and what its own calls leave.
+pub mod Turns
+pub mod Kept
+pub mod Messages
+pub mod Sends
+pub mod Marks
+pub mod Begins
+pub mod Entries
+pub mod Counted
+pub mod Others
+pub mod Nexts
+pub mod Sifted
+pub mod Gathered
+pub mod Clears
+pub mod Refusals
+pub mod Landings
+pub mod Outcome
+pub mod HeadPuts
+pub mod Hands
+pub mod Stops
+pub mod Unmarked
+pub mod Complete
+pub mod Shows
+pub mod Explains
+pub mod Late
+pub mod Stays
+pub mod SettledHeads

@@ -1,0 +1,86 @@
+-- Why an answer stops an opening: a call failed, came too late or ran out of memory, and the lease may be held. No head and no message is damaged.
+use Rattle.std.proofs.Common.{◌≡◌, ℕ, List, [], ◌∷◌, map, Option, Some, None, Result, Ok, Err, refl, subst, ◌∙◌}
+use Rattle.std.specs.List.{AllByRecursion}
+use Rattle.cloud_trait.specs.declared.answer.Answer.{Answer}
+use Rattle.cloud_trait.specs.declared.answer.Answer.TheVariants.{Got, Sent, Received, Listed, Done, Given, Held, Renewed, Late, Failed, Memory}
+use Rattle.cloud_trait.specs.declared.message.Message.{Message}
+use Rattle.cloud_trait.specs.Delivery.{WasSent}
+use Rattle.cloud_trait.specs.State.{CloudState, newest}
+use Rattle.cloud_trait.specs.Views.{trouble_of, given_of, got_of, sent_of, received_of, done_of}
+use Rattle.db_base.specs.declared.names.Lock.{Lock}
+use Rattle.db_base.specs.declared.names.ObjName.TheVariants as object
+use Rattle.db_base.specs.declared.names.QueueName.TheVariants as queue
+use Rattle.db_base.specs.declared.trouble.Trouble.{Trouble}
+use Rattle.db_base.specs.declared.trouble.Trouble.TheVariants as trouble
+use Rattle.cloud_facts.specs.Decoding.Decodes.{Decodes}
+use Rattle.cloud_facts.proofs.Decoding.Values.{newest_head_decodes, message_decodes}
+use Rattle.head_codec.specs.Head.{empty_head}
+use Rattle.log_codec.specs.Atomic.{atomic_of}
+use Rattle.log_codec.specs.declared.record.AtomicRec.{AtomicRec}
+use Rattle.session_facts.specs.Machines.Openings.Knows.{MayStopOpening}
+use Rattle.session_facts.proofs.Machines.Openings.Gathered.{AllRead}
+use Rattle.session_facts.proofs.Machines.Openings.Nexts.{ReadsHead}
+use Rattle.recover_run.specs.declared.items.AtomicItem.{AtomicItem}
+use Rattle.recover_run.specs.Items.{items_of, with_first}
+use Rattle.cloud_facts.specs.Book.Telling.{last_or, head_in}
+
+-- ---- answers that bring no value
+
+refused_may : (a : Answer) → MayStopOpening (trouble_of a)
+refused_may (Got v) = tt
+refused_may (Sent id) = tt
+refused_may (Received ms) = tt
+refused_may (Listed pages) = tt
+refused_may Done = tt
+refused_may (Given l) = tt
+refused_may (Held until) = tt
+refused_may (Renewed e) = tt
+refused_may (Late e n) = tt
+refused_may Failed = tt
+refused_may Memory = tt
+
+refusal : {X : Type 0} (a b : Trouble) (g : Result X Trouble) → MayStopOpening a → g ≡ Err a → g ≡ Err b → MayStopOpening b
+refusal a b g may e f = let same : a ≡ b = cc in subst MayStopOpening same may
+
+pub got_may : (a : Answer) (t : Trouble) → got_of a ≡ Err t → MayStopOpening t
+got_may (Got v) t e = absurd (cc)
+got_may a t e = refusal (trouble_of a) t (got_of a) (refused_may a) refl e
+
+pub sent_may : (a : Answer) (t : Trouble) → sent_of a ≡ Err t → MayStopOpening t
+sent_may (Sent id) t e = absurd (cc)
+sent_may a t e = refusal (trouble_of a) t (sent_of a) (refused_may a) refl e
+
+pub received_may : (a : Answer) (t : Trouble) → received_of a ≡ Err t → MayStopOpening t
+received_may (Received ms) t e = absurd (cc)
+received_may a t e = refusal (trouble_of a) t (received_of a) (refused_may a) refl e
+
+pub done_may : (a : Answer) (t : Trouble) → done_of a ≡ Err t → MayStopOpening t
+done_may Done t e = absurd (cc)
+done_may a t e = refusal (trouble_of a) t (done_of a) (refused_may a) refl e
+
+pub given_may : (k : Lock) (a : Answer) (t : Trouble) → given_of k a ≡ Err t → MayStopOpening t
+given_may k (Given l) t e = absurd (cc)
+given_may k (Held until) t e = refusal (trouble.Busy k until) t (given_of k (Held until)) tt refl e
+given_may k a t e = refusal (trouble_of a) t (given_of k a) (refused_may a) refl e
+
+-- ---- what is read
+
+-- the newest head of a client decodes
+pub newest_reads : (s : CloudState) (client : ℕ) (v : Option (List ℕ)) → Decodes s → newest s (object.Head client) ≡ v → ReadsHead v
+newest_reads s client None decodes e = tt
+newest_reads s client (Some bytes) decodes e = (last_or empty_head (map head_in (s.versions (object.Head client))), newest_head_decodes s client bytes decodes e)
+
+-- messages that were sent are records
+pub all_read : (s : CloudState) (client : ℕ) → Decodes s → (ms : List Message) → AllByRecursion (WasSent (s.messages (queue.Atomic client))) ms → AllRead ms
+all_read s client decodes [] was bad e = cc
+all_read s client decodes (m ∷ ms) was bad e = on (λ q. all_read s client decodes ms was.1 bad q) (items_of ms) refl e
+  where
+    record_of : (r : AtomicRec) × (atomic_of m.bytes ≡ Some r) × (r.client ≡ client)
+    record_of = message_decodes s (queue.Atomic client) m.id m.bytes decodes was.0
+
+    at : (g : Result (List AtomicItem) Message) → with_first m (Some record_of.0) g ≡ Err bad → g ≡ Err bad
+    at (Ok items) h = absurd (cc)
+    at (Err b) h = cc
+
+    on : (items_of ms ≡ Err bad → ⊥) → (g : Result (List AtomicItem) Message) → items_of ms ≡ g → with_first m (atomic_of m.bytes) g ≡ Err bad → ⊥
+    on again g q h = again (q ∙ at g (subst (λ (o : Option AtomicRec). with_first m o g ≡ Err bad) record_of.1 h))

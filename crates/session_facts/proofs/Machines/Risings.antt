@@ -1,0 +1,19 @@
+-- The way up of a tree checkpoint: what the checkpoint knows there, and what each of its puts leaves.
+pub mod Covers
+pub mod LastRoot
+pub mod Pieces
+pub mod Spells
+pub mod Grounds
+pub mod Places
+pub mod Nodes
+pub mod Roots
+pub mod Nexts
+pub mod Others
+pub mod Effects
+pub mod Reserves
+pub mod Puts
+pub mod LastPuts
+pub mod Outcome
+pub mod Stays
+pub mod Stops
+pub mod Guards

@@ -1,0 +1,175 @@
+-- The puts of the way up: which is in hand, and what is owed for it where it lands.
+use Rattle.std.proofs.Common.{◌≡◌, ◌<◌, ◌≤◌, ◌==◌, ℕ, Bool, true, false, cond, not, ◌&&◌, ◌||◌, List, [], ◌∷◌, length, map, reverse, Option, Some, None, refl, sym, ap, ◌∙◌, arith}
+use Rattle.std.specs.Prelude.{unwrap_or, is_none, is_some}
+use Rattle.std.proofs.lemmas.Bool.{ne_eqb}
+use Rattle.std.proofs.lemmas.List.{length-reverse}
+use Rattle.cloud_facts.specs.Chains.Chain.{IsUnlinked}
+use Rattle.cloud_facts.specs.Chains.Cuts.{inner_node}
+use Rattle.cloud_facts.specs.Chains.Links.{top_of, newest_node, NodeNames}
+use Rattle.cloud_facts.specs.Calls.Looks.{audit_of}
+use Rattle.cloud_facts.specs.Calls.Standing.{StandsUnder, Follows, Commits}
+use Rattle.cloud_trait.specs.Ask.{PutHeld}
+use Rattle.cloud_trait.specs.Caller.{Caller}
+use Rattle.cloud_trait.specs.Claim.{Claim}
+use Rattle.cloud_trait.specs.Machine.{Goes, Ends, Stops}
+use Rattle.cloud_trait.specs.State.{CloudState}
+use Rattle.db_base.specs.Ids.{IsTree}
+use Rattle.db_base.specs.declared.names.ObjName.{ObjName}
+use Rattle.db_base.specs.declared.names.ObjName.TheVariants as object
+use Rattle.cloud_facts.specs.Homes.Homes.{Part as Home}
+use Rattle.cloud_facts.specs.Landings.Landing.{Landing, puts_page}
+use Rattle.cloud_facts.specs.Landings.Landing as landing
+use Rattle.leaf_view.specs.Lookup.{empty_leaf}
+use Rattle.node_codec.specs.Inner.{Inner, IsInner, HasInnerSpelling, inner_bytes}
+use Rattle.report_types.specs.declared.entry.Entry.{Entry}
+use Rattle.split_plan.specs.declared.put_list.PagePut.{PagePut}
+use Rattle.split_plan.specs.Part.{NodePart, node_of_part}
+use Rattle.split_plan.specs.Plan.{IsNodePart, node_bytes, put_of, on_pages}
+use Rattle.cloud_facts.specs.Book.Book.{Book}
+use Rattle.cloud_facts.specs.Book.Effects.{after_page}
+use Rattle.cloud_facts.specs.Book.Tally.{Node, Leafy, Branch, Store}
+use Rattle.cloud_facts.specs.Book.Telling.{last_or, nodes_of, roots_of}
+use Rattle.cloud_facts.proofs.Tellings.Ready.{branch_first}
+use Rattle.cloud_facts.specs.Tellings.Told.{store_of}
+use Rattle.tree_parts.specs.Placing.{put_next, put_first, has_nothing}
+use Rattle.tree_parts.specs.Reserve.{version_spent}
+use Rattle.tree_rising.specs.declared.rising.Rising.{Rising}
+use Rattle.tree_rising.specs.Rising.{last_ask, rising_ask, rise, landed, put_next as put_then, after_put, put_landed}
+use Rattle.cloud_facts.specs.Calls.Links.{OwesLease}
+use Rattle.session_facts.specs.Machines.Risings.Knows.{RisesOn}
+
+-- ---- the put in hand
+
+pub reserving_asked : (r : Rising) (lease : Claim) (bytes : List ℕ) → r.placing.reserved ≡ Some bytes → rising_ask r lease ≡ PutHeld (object.Tree r.chart.tree) bytes lease None
+reserving_asked r lease bytes some =
+    ap (λ (o : Option (List ℕ)). unwrap_or (put_first r.chart.tree lease (put_next r.chart.tree lease None r.placing.puts) o) (last_ask r lease r.last)) some
+
+pub page_asked : (r : Rising) (lease : Claim) (x : PagePut) (xs : List PagePut) → r.placing.reserved ≡ None → r.placing.puts ≡ x ∷ xs
+    → rising_ask r lease ≡ PutHeld (object.Page r.chart.tree x.page) x.bytes lease None
+page_asked r lease x xs none puts =
+    ap (λ (o : Option (List ℕ)). unwrap_or (put_first r.chart.tree lease (put_next r.chart.tree lease None r.placing.puts) o) (last_ask r lease r.last)) none
+    ∙ ap (λ (l : List PagePut). unwrap_or (put_next r.chart.tree lease None l) (last_ask r lease r.last)) puts
+
+pub last_asked : (r : Rising) (lease : Claim) (bytes : List ℕ) → r.placing.reserved ≡ None → r.placing.puts ≡ [] → r.last ≡ Some bytes
+    → rising_ask r lease ≡ PutHeld (object.Tree r.chart.tree) bytes lease None
+last_asked r lease bytes none empty last =
+    ap (λ (o : Option (List ℕ)). unwrap_or (put_first r.chart.tree lease (put_next r.chart.tree lease None r.placing.puts) o) (last_ask r lease r.last)) none
+    ∙ (ap (λ (l : List PagePut). unwrap_or (put_next r.chart.tree lease None l) (last_ask r lease r.last)) empty ∙ ap (last_ask r lease) last)
+
+-- ---- where it leads
+
+pub some_left : (puts : List PagePut) → (puts ≡ [] → ⊥) → (length puts == 0) ≡ false
+some_left [] some = absurd (some refl)
+some_left (x ∷ xs) some = ne_eqb (length (x ∷ xs)) 0 (λ e. absurd (omega (arith, e)))
+
+pub has_page : (r : Rising) → (r.placing.puts ≡ [] → ⊥) → has_nothing r.placing ≡ false
+has_page r some = on (is_none r.placing.reserved)
+  where
+    on : (b : Bool) → (b && (length r.placing.puts == 0)) ≡ false
+    on true = some_left r.placing.puts some
+    on false = refl
+
+pub has_reservation : (r : Rising) (bytes : List ℕ) → r.placing.reserved ≡ Some bytes → has_nothing r.placing ≡ false
+has_reservation r bytes some = ap (λ (o : Option (List ℕ)). is_none o && (length r.placing.puts == 0)) some
+
+goes : (r : Rising) → has_nothing r.placing ≡ false → put_landed r ≡ after_put (landed r)
+goes r full = ap (λ (b : Bool). cond b (Ends r tt) (after_put (landed r))) full
+
+-- another page
+pub goes_on : (r : Rising) → has_nothing r.placing ≡ false → ((landed r).placing.puts ≡ [] → ⊥) → put_landed r ≡ Goes (landed r)
+goes_on r full more =
+    goes r full
+    ∙ ap (λ (b : Bool). cond (not b || is_some r.last) (cond (b && r.is_spent) (Stops (landed r) version_spent) (Goes (landed r))) (rise (landed r)))
+    (some_left (landed r).placing.puts more)
+
+-- what is left is put before the last root
+last_next : (r : Rising) (bytes : List ℕ) → has_nothing r.placing ≡ false → r.last ≡ Some bytes → put_landed r ≡ put_then (landed r)
+last_next r bytes full last =
+    goes r full
+    ∙ (ap (λ (o : Option (List ℕ)). cond (not (has_nothing (landed r).placing) || is_some o) (put_then (landed r)) (rise (landed r))) last ∙ either (not (has_nothing (landed r).placing)))
+  where
+    either : (b : Bool) → cond (b || true) (put_then (landed r)) (rise (landed r)) ≡ put_then (landed r)
+    either true = refl
+    either false = refl
+
+next_by : (r : Rising) (b : Bool) → (has_nothing (landed r).placing && r.is_spent) ≡ b → put_then (landed r) ≡ cond b (Stops (landed r) version_spent) (Goes (landed r))
+next_by r b e = ap (λ (c : Bool). cond c (Stops (landed r) version_spent) (Goes (landed r))) e
+
+pub goes_last : (r : Rising) (bytes : List ℕ) → has_nothing r.placing ≡ false → r.last ≡ Some bytes → (has_nothing (landed r).placing && r.is_spent) ≡ false → put_landed r ≡ Goes (landed r)
+goes_last r bytes full last more = last_next r bytes full last ∙ next_by r false more
+
+-- no version is left for it
+pub stops_last : (r : Rising) (bytes : List ℕ) → has_nothing r.placing ≡ false → r.last ≡ Some bytes → (has_nothing (landed r).placing && r.is_spent) ≡ true
+    → put_landed r ≡ Stops (landed r) version_spent
+stops_last r bytes full last none = last_next r bytes full last ∙ next_by r true none
+
+pub never_both : (b spent : Bool) → spent ≡ false → (b && spent) ≡ false
+never_both true spent e = e
+never_both false spent e = refl
+
+-- nothing is left of a node
+pub goes_up : (r : Rising) → has_nothing r.placing ≡ false → (landed r).placing.puts ≡ [] → r.last ≡ None → put_landed r ≡ rise (landed r)
+goes_up r full empty none =
+    goes r full
+    ∙ (ap (λ (l : List PagePut). cond (not (length l == 0) || is_some r.last) (cond ((length l == 0) && r.is_spent) (Stops (landed r) version_spent) (Goes (landed r))) (rise (landed r))) empty
+    ∙ ap (λ (o : Option (List ℕ)). cond (is_some o) (cond r.is_spent (Stops (landed r) version_spent) (Goes (landed r))) (rise (landed r))) none)
+
+-- nothing is left at all
+pub ends_now : (r : Rising) → r.placing.reserved ≡ None → r.placing.puts ≡ [] → put_landed r ≡ Ends r tt
+ends_now r none empty =
+    ap (λ (o : Option (List ℕ)). cond (is_none o && (length r.placing.puts == 0)) (Ends r tt) (after_put (landed r))) none
+    ∙ ap (λ (l : List PagePut). cond (length l == 0) (Ends r tt) (after_put (landed r))) empty
+
+-- the piece of a page is still to be put
+pub some_puts : (bytes : NodePart → List ℕ) (page first : ℕ) (front : NodePart) (middle : List NodePart) → reverse (map (put_of bytes) (on_pages page first (front ∷ middle))) ≡ [] → ⊥
+some_puts bytes page first front middle e =
+    let n = sym (length-reverse (map (put_of bytes) (on_pages page first (front ∷ middle)))) ∙ ap length e in
+    absurd (omega (arith, n))
+
+-- a list of some pieces has some puts
+pub no_puts : (bytes : NodePart → List ℕ) (page first : ℕ) (middle : List NodePart) → 1 ≤ length middle → reverse (map (put_of bytes) (on_pages page first middle)) ≡ [] → ⊥
+no_puts bytes page first [] some e = absurd (omega (arith, some))
+no_puts bytes page first (front ∷ middle) some e = some_puts bytes page first front middle e
+
+-- ---- where it lands
+
+-- the store after a put under the tree's lease, on what it rests, and where it leads; only the tree's objects change
+pub record RisingEffect (book : Book) (order : List Entry) (s : CloudState) (who : Caller) (own : Home) (mine : List Claim) (now : ℕ) (lease : Claim) (r : Rising) (ids : List ℕ) (name : ObjName)
+    (bytes : List ℕ) : Type 0 where
+  pub after : Store
+  pub lands : Landing who (store_of book order s) (PutHeld name bytes lease None) after
+  pub follows : Follows who (store_of book order s) (PutHeld name bytes lease None) after lands
+  pub commits : Commits who (store_of book order s) own (PutHeld name bytes lease None) after lands
+  pub owes : OwesLease mine now who (store_of book order s) (PutHeld name bytes lease None) after lands
+  pub heads : after.tally.head ≡ (store_of book order s).tally.head
+  pub logged : after.tally.logged ≡ (store_of book order s).tally.logged
+  pub noted : audit_of after.book after.order ≡ audit_of book order
+  pub known : (u : CloudState) → StandsUnder after.book after.order u → store_of after.book after.order u ≡ after → RisesOn after now lease ids (put_landed r)
+
+-- ---- a new piece
+
+pub inner_spelled : (n : Inner) → HasInnerSpelling n → IsInner (inner_bytes n) n
+unfolding inner_bytes
+inner_spelled n fits = record { fits = fits; is = refl }
+
+-- a page without a version holds no inner node
+pub no_branch : (nodes : ℕ → List Node) (page : ℕ) (n : Inner) → nodes page ≡ [] → newest_node nodes page ≡ Branch n → ⊥
+no_branch nodes page n none is =
+    let no : newest_node (λ p. []) page ≡ Branch n = ap (λ (ns : List Node). last_or (Leafy empty_leaf) ns) (sym none) ∙ is in
+    absurd (cc)
+
+module _ (book : Book) (order : List Entry) (s : CloudState) (stands : StandsUnder book order s) (tree : ℕ) (of_tree : IsTree tree) (number : ℕ) (p : NodePart) (fits : IsNodePart p)
+    (names : NodeNames (book.chain tree) (inner_node p)) (absent : nodes_of s tree number ≡ []) (above : 1 < number) (unlinked : IsUnlinked (book.chain tree) number)
+    (below : number < (top_of (roots_of s tree)).next) where
+  abbrev st : Store
+  st = store_of book order s
+
+  abbrev pub piece_after : Store
+  piece_after = after_page tree number (inner_node p) (landing.own_of number (inner_node p)) st
+
+  -- it lands as the first version of a page that is in no chain
+  abbrev pub piece_lands : (who : Caller) (one : Claim) (two : Option Claim) → Landing who st (PutHeld (object.Page tree number) (node_bytes p) one two) piece_after
+  piece_lands who one two =
+      puts_page tree number (inner_node p) (node_bytes p) one two of_tree (inner_spelled (node_of_part p) fits.fits)
+      (branch_first book order s tree of_tree stands.holds.chains stands.decodes number (node_of_part p) above unlinked)
+      (record { absent = absent; reserved = below; names = names })

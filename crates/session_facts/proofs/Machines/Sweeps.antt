@@ -1,0 +1,19 @@
+-- Sweeps: that others leave what the sweep of a tree knows, what its held gets and its listing bring, and that each of its calls keeps it.
+pub mod Asks
+pub mod Leases
+pub mod Noted
+pub mod Places
+pub mod Firsts
+pub mod Reads
+pub mod Onward
+pub mod Others
+pub mod Clears
+pub mod Nexts
+pub mod Outcome
+pub mod Hands
+pub mod Begins
+pub mod Swept
+pub mod Reached
+pub mod Remains
+pub mod Calls
+pub mod Same

@@ -1,0 +1,24 @@
+-- Checkpoints of trees of any height: what one knows at each of its calls, and what each call leaves of a cloud and of its leases.
+pub mod Begins
+pub mod Keys
+pub mod Reads
+pub mod Stops
+pub mod Nexts
+pub mod Onward
+pub mod Others
+pub mod Held
+pub mod Guards
+pub mod Hands
+pub mod Troubles
+pub mod RunLengths
+pub mod EntryCounts
+pub mod Spent
+pub mod Explains
+pub mod Outcome
+pub mod Nesting
+pub mod Noted
+pub mod NestingSteps
+pub mod Shortness
+pub mod PiecesNamed
+pub mod Landed
+pub mod Stays

@@ -1,0 +1,111 @@
+-- Why an answer, a plan or a way down stops a checkpoint: no damage does.
+use Rattle.std.proofs.Common.{◌≡◌, ◌+◌, ◌==◌, ℕ, Bool, true, false, cond, Some, None, Result, Ok, Err, refl, subst}
+use Rattle.std.specs.Prelude.{nat_lt}
+use Rattle.cloud_trait.specs.declared.answer.Answer.{Answer}
+use Rattle.cloud_trait.specs.declared.answer.Answer.TheVariants.{Got, Sent, Received, Listed, Done, Given, Held, Renewed, Late, Failed, Memory}
+use Rattle.cloud_trait.specs.Claim.{Claim}
+use Rattle.cloud_trait.specs.Machine.{Next, Goes, Ends, Stops}
+use Rattle.cloud_trait.specs.Views.{trouble_of, given_of, got_of, received_of, done_of}
+use Rattle.db_base.specs.declared.names.Lock.{Lock}
+use Rattle.db_base.specs.declared.trouble.Trouble.{Trouble}
+use Rattle.db_base.specs.declared.trouble.Trouble.TheVariants as trouble
+use Rattle.node_codec.specs.Tree.{Tree, tree_bytes}
+use Rattle.cloud_facts.specs.Book.Tally.{Store}
+use Rattle.session_facts.specs.Sessions.Spent.{IsOfFolding}
+use Rattle.session_facts.specs.Machines.TreeCheckpoints.Knows.{MayStopTree}
+use Rattle.tree_descent.specs.declared.descent.Descent.{Descent}
+use Rattle.session_facts.specs.Machines.Trees.Ways.{WayLeads}
+use Rattle.tree_parts.specs.declared.reserve.Reserved.{Reserved}
+use Rattle.tree_parts.specs.Reserve.{version_spent, pages_spent, next_tree, reserved, reserved_by, reservation}
+
+-- a step that stops does so for such a trouble
+abbrev pub StopsWell : {M A : Type 0} → Next M A → Type 0
+StopsWell (Goes m) = Unit {0}
+StopsWell (Ends m x) = Unit {0}
+StopsWell (Stops m t) = MayStopTree t
+
+-- a counter stands at its last value
+abbrev pub IsSpent : Trouble → Type 0
+IsSpent (trouble.Exhausted what) = IsOfFolding what
+IsSpent t = ⊥
+
+pub spent_may : (t : Trouble) → IsSpent t → MayStopTree t
+spent_may (trouble.Exhausted what) is = is
+spent_may t is = absurd is
+
+-- what it comes to is no other trouble
+abbrev pub IsFair : {X : Type 0} → Result X Trouble → Type 0
+IsFair (Ok x) = Unit {0}
+IsFair (Err t) = IsSpent t
+
+-- ---- answers that bring no value
+
+refused_may : (a : Answer) → MayStopTree (trouble_of a)
+refused_may (Got v) = tt
+refused_may (Sent id) = tt
+refused_may (Received ms) = tt
+refused_may (Listed pages) = tt
+refused_may Done = tt
+refused_may (Given l) = tt
+refused_may (Held until) = tt
+refused_may (Renewed e) = tt
+refused_may (Late e n) = tt
+refused_may Failed = tt
+refused_may Memory = tt
+
+refusal : {X : Type 0} (a b : Trouble) (g : Result X Trouble) → MayStopTree a → g ≡ Err a → g ≡ Err b → MayStopTree b
+refusal a b g may e f = let same : a ≡ b = cc in subst MayStopTree same may
+
+pub got_may : (a : Answer) (t : Trouble) → got_of a ≡ Err t → MayStopTree t
+got_may (Got v) t e = absurd (cc)
+got_may a t e = refusal (trouble_of a) t (got_of a) (refused_may a) refl e
+
+pub received_may : (a : Answer) (t : Trouble) → received_of a ≡ Err t → MayStopTree t
+received_may (Received ms) t e = absurd (cc)
+received_may a t e = refusal (trouble_of a) t (received_of a) (refused_may a) refl e
+
+pub done_may : (a : Answer) (t : Trouble) → done_of a ≡ Err t → MayStopTree t
+done_may Done t e = absurd (cc)
+done_may a t e = refusal (trouble_of a) t (done_of a) (refused_may a) refl e
+
+pub given_may : (k : Lock) (a : Answer) (t : Trouble) → given_of k a ≡ Err t → MayStopTree t
+given_may k (Given l) t e = absurd (cc)
+given_may k (Held until) t e = refusal (trouble.Busy k until) t (given_of k (Held until)) tt refl e
+given_may k a t e = refusal (trouble_of a) t (given_of k a) (refused_may a) refl e
+
+-- ---- numbers that are reserved
+
+pub next_fair : (t : Tree) → IsFair (next_tree t)
+next_fair t = on (t.version == 18446744073709551615)
+  where
+    on : (b : Bool) → (let kept : Result Tree Trouble = Ok (record t { version = t.version + 1 }) in IsFair (cond b (Err version_spent) kept))
+    on true = tt
+    on false = tt
+
+reserved_fair : (count : ℕ) (t : Tree) → IsFair (reserved count t)
+reserved_fair count t = on (nat_lt 18446744073709551615 (t.next + count))
+  where
+    on : (b : Bool)
+        → (let kept : Result Reserved Trouble = Ok (record { put = Some (tree_bytes (record t { next = t.next + count })); first = t.next }) in IsFair (cond b (Err pages_spent) kept))
+    on true = tt
+    on false = tt
+
+by_fair : (count : ℕ) (t : Result Tree Trouble) → IsFair t → IsFair (reserved_by count t)
+by_fair count (Ok t) may = reserved_fair count t
+by_fair count (Err t) may = may
+
+pub reservation_fair : (t : Tree) (page count : ℕ) → IsFair (reservation t page count)
+reservation_fair t page count = on (count == 0)
+  where
+    on : (b : Bool) → (let kept : Result Reserved Trouble = Ok (record { put = None; first = page }) in IsFair (cond b kept (reserved_by count (next_tree t))))
+    on true = tt
+    on false = by_fair count (next_tree t) (next_fair t)
+
+-- ---- the way down
+
+-- it stops for what it may
+pub descent_may : (st : Store) (now : ℕ) (lease : Claim) (May : Trouble → Type 0) → ((t : Trouble) → May t → MayStopTree t) → (next : Next Descent (Unit {0})) → WayLeads st now lease May next
+    → StopsWell next
+descent_may st now lease May may (Goes d) k = tt
+descent_may st now lease May may (Ends d x) k = tt
+descent_may st now lease May may (Stops d t) k = may t k

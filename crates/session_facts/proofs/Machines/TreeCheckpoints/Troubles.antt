@@ -1,0 +1,205 @@
+-- The troubles that the local work of a checkpoint meets: that of the answer in hand, or one of what was read or planned, which no call shows.
+use Rattle.std.proofs.Common.{◌≡◌, ◌==◌, ◌&&◌, ℕ, Bool, true, false, cond, List, Option, Some, None, Result, Ok, Err, refl, sym, ap, subst, ◌∙◌}
+use Rattle.std.specs.Prelude.{not, is_some}
+use Rattle.byte_format.specs.Order.{bytes_below, bytes_same}
+use Rattle.byte_format.specs.Whole.{offset}
+use Rattle.cloud_trait.specs.declared.answer.Answer.{Answer}
+use Rattle.cloud_trait.specs.Machine.{Next, Goes, Ends, Stops}
+use Rattle.cloud_trait.specs.Views.{got_of, done_of}
+use Rattle.db_base.specs.declared.trouble.Trouble.{Trouble}
+use Rattle.db_base.specs.declared.trouble.Trouble.TheVariants as trouble
+use Rattle.leaf_fold.specs.declared.folding.Folding.{Folding}
+use Rattle.leaf_fold.specs.declared.folding.Left.{Left}
+use Rattle.leaf_fold.specs.declared.plan.LeafPlan.{LeafPlan}
+use Rattle.leaf_fold.specs.Folding.{bad_low, leaf_got, leaf_put, folding_next}
+use Rattle.leaf_view.specs.Leaf.{Leaf, leaf as leaf_format}
+use Rattle.node_codec.specs.Inner.{Inner, inner_of, inner_format}
+use Rattle.session_facts.proofs.Sessions.Shows.{IsFree}
+use Rattle.tree_ckpt.proofs.Spent.{IsSpentFor, PlanTells, leaf_plan_tells, node_plan_tells, last_plan_tells}
+use Rattle.tree_ckpt.specs.Due.{Due, LeafDue, NodeDue, RootDue}
+use Rattle.tree_ckpt.specs.Working.{HoldsLeaf}
+use Rattle.tree_ckpt.proofs.LeafOutcomes.{reads, put_lands}
+use Rattle.tree_ckpt.proofs.LeafOutcomes as leaf
+use Rattle.tree_ckpt.proofs.RiseOutcomes as rise
+use Rattle.session_facts.proofs.Machines.Trees.Descents.{Arrives, arrives_at, Gets, gets}
+use Rattle.session_facts.proofs.Machines.Trees.Descents as way
+use Rattle.tree_descent.specs.declared.descent.Descent.{Descent}
+use Rattle.tree_descent.specs.declared.fork.Fork.{Fork}
+use Rattle.tree_descent.specs.Descent.{begun, forked, forked_by, fork_of, passed, arrive, absent_node, descent_got}
+use Rattle.tree_descent.specs.Fork.{bad_fence, forked_on}
+use Rattle.tree_moves.specs.Moves.{down_from, root_entry}
+use Rattle.tree_parts.specs.declared.chart.Chart.{Chart}
+use Rattle.tree_parts.specs.declared.kept.KeptNode.{KeptNode}
+use Rattle.tree_parts.specs.Placing.{has_nothing}
+use Rattle.tree_parts.specs.Read.{damaged, inner_or, inner_read, tree_held}
+use Rattle.tree_rising.specs.declared.node.NodePlan.{NodePlan}
+use Rattle.tree_rising.specs.declared.rising.Rising.{Rising}
+use Rattle.tree_rising.specs.declared.root.RootPlan.{RootPlan}
+use Rattle.tree_rising.specs.Nodes.{planned_of, linked_by, node_plan}
+use Rattle.tree_rising.specs.Rising.{touched_node, landed}
+use Rattle.tree_parts.specs.Reserve.{version_spent}
+
+-- what it comes to is no other trouble
+abbrev pub HasFree : {X : Type 0} → Result X Trouble → Type 0
+HasFree (Ok x) = Unit {0}
+HasFree (Err t) = IsFree t
+
+-- ---- what is read
+
+inner_free : (tree page at : ℕ) (o : Option Inner) → HasFree (inner_or tree page at o)
+inner_free tree page at (Some n) = tt
+inner_free tree page at None = tt
+
+forked_free : (d : Descent) (n : Inner) → HasFree (forked d n)
+forked_free d n = on (n.level == d.level)
+  where
+    fenced : (b : Bool) → (let kept : Result Fork Trouble = Ok (forked_on d.chart.key n) in HasFree (cond b kept (Err (bad_fence d.page d.low n.low))))
+    fenced true = tt
+    fenced false = tt
+
+    on : (b : Bool)
+        → (let kept : Result Fork Trouble = Ok (forked_on d.chart.key n) in
+        HasFree (cond b (cond (bytes_same n.low d.low && not (bytes_below d.chart.key n.low)) kept (Err (bad_fence d.page d.low n.low))) (Err (damaged d.chart.tree d.page 10))))
+    on true = fenced (bytes_same n.low d.low && not (bytes_below d.chart.key n.low))
+    on false = tt
+
+forked_by_free : (d : Descent) (r : Result Inner Trouble) → HasFree r → HasFree (forked_by d r)
+forked_by_free d (Ok n) is = forked_free d n
+forked_by_free d (Err t) is = is
+
+fork_free : (d : Descent) (bytes : List ℕ) → HasFree (fork_of d bytes)
+fork_free d bytes = forked_by_free d (inner_read d.chart.tree d.page bytes) (inner_free d.chart.tree d.page (offset inner_format bytes) (inner_of bytes))
+
+-- a step stops for such a trouble alone
+abbrev pub StopsFor : {M A : Type 0} → (Trouble → Type 0) → Next M A → Type 0
+StopsFor Met (Goes m) = Unit {0}
+StopsFor Met (Ends m x) = Unit {0}
+StopsFor Met (Stops m t) = Met t
+
+-- where the plan of what is due is spent, the trouble is met
+abbrev pub MeetsSpent : (Trouble → Type 0) → Due → Type 0
+MeetsSpent Met due = (t : Trouble) → IsSpentFor due t → Met t
+
+module _ (Met : Trouble → Type 0) (free : (t : Trouble) → IsFree t → Met t) where
+  -- ---- down
+
+  arrives_for : {n : ℕ} {d : Descent} {next : Next Descent (Unit {0})} → Arrives n d next → StopsFor Met next
+  arrives_for (way.round d seen) = free (trouble.Loop d.page) tt
+  arrives_for (way.breaks d k t new kept e) = free t (subst HasFree e (fork_free d k.bytes))
+  arrives_for (way.too_far d k fork p) = free (trouble.Loop (passed d fork).page) tt
+  arrives_for (way.further d k fork p on) = arrives_for on
+  arrives_for w = tt
+
+  arrive_for : (d : Descent) → StopsFor Met (arrive d)
+  arrive_for d = arrives_for (arrives_at d)
+
+  absent_for : (d : Descent) → Met (absent_node d)
+  absent_for d = on (d.page == 1)
+    where
+      on : (b : Bool) → Met (cond b (damaged d.chart.tree d.page 0) (trouble.Absent d.page))
+      on true = free (damaged d.chart.tree d.page 0) tt
+      on false = free (trouble.Absent d.page) tt
+
+  gets_for : {d : Descent} {g : Result (Option (List ℕ)) Trouble} {next : Next Descent (Unit {0})} → Gets d g next → ((t : Trouble) → g ≡ Err t → Met t) → StopsFor Met next
+  gets_for (way.leads bytes fork e on) refused = arrives_for on
+  gets_for {d = d} (way.wrong bytes t e) refused = free t (subst HasFree e (fork_free d bytes))
+  gets_for {d = d} way.absent refused = absent_for d
+  gets_for (way.refused t) refused = refused t refl
+
+  pub descent_for : (d : Descent) (g : Result (Option (List ℕ)) Trouble) → ((t : Trouble) → g ≡ Err t → Met t) → StopsFor Met (descent_got d g)
+  descent_for d g refused = gets_for (gets d g) refused
+
+  -- ---- a leaf
+
+  -- what is due at a leaf
+  abbrev pub leaf_due : Folding → Leaf → Due
+  leaf_due f l = LeafDue (tree_held f.chart.root) l f.chart.run.items
+
+  -- each leaf that the answer may be meets what is spent of it
+  abbrev pub SpendsLeaf : Folding → Option (List ℕ) → Type 0
+  SpendsLeaf f got = (l : Leaf) → HoldsLeaf f.page l got → MeetsSpent Met (leaf_due f l)
+
+  reads_for : (f : Folding) {g : Result (Option (List ℕ)) Trouble} {next : Next Folding Left} → ((t : Trouble) → g ≡ Err t → Met t) → ((got : Option (List ℕ)) → g ≡ Ok got → SpendsLeaf f got)
+      → leaf.Reads f g next → StopsFor Met next
+  reads_for f refused spent (leaf.refused t) = refused t refl
+  reads_for f refused spent (leaf.absent other) = free (trouble.Absent f.page) tt
+  reads_for f refused spent (leaf.wrong bytes left e) = free (damaged f.chart.tree f.page (offset leaf_format bytes)) tt
+  reads_for f refused spent (leaf.misled got l holds e) = free (bad_low f l.low) tt
+  reads_for f refused spent (leaf.loops got l high right behind e) = free (trouble.Loop right) tt
+  reads_for f refused spent (leaf.passes got l high right behind e) = tt
+  reads_for f refused spent (leaf.spares got l here none) = tt
+  reads_for f refused spent (leaf.plans got l x xs p here some e) = tt
+  reads_for f refused spent (leaf.unplanned got l x xs t here some e) =
+      spent got refl l here.holds t
+      (subst (λ (p : Result LeafPlan Trouble). PlanTells (leaf_due f l) p) e (leaf_plan_tells (tree_held f.chart.root) f.page l f.chart.run.items))
+
+  placed_for : (f : Folding) {g : Result (Unit {0}) Trouble} {next : Next Folding Left} → ((t : Trouble) → g ≡ Err t → Met t) → leaf.Lands f g next → StopsFor Met next
+  placed_for f refused (leaf.not_put t) = refused t refl
+  placed_for f refused (leaf.lands x e) = tt
+  placed_for f refused (leaf.is_put x e) = tt
+
+  -- the leaf is read while nothing is to be put
+  pub folding_for : (f : Folding) (a : Answer) → (has_nothing f.placing ≡ true → (t : Trouble) → got_of a ≡ Err t → Met t)
+      → (has_nothing f.placing ≡ false → (t : Trouble) → done_of a ≡ Err t → Met t)
+      → (has_nothing f.placing ≡ true → (got : Option (List ℕ)) → got_of a ≡ Ok got → SpendsLeaf f got) → StopsFor Met (folding_next f a)
+  folding_for f a unread unput spent = on (has_nothing f.placing) refl
+    where
+      on : (b : Bool) → has_nothing f.placing ≡ b → StopsFor Met (cond b (leaf_got f (got_of a)) (leaf_put f (done_of a)))
+      on true e = reads_for f (unread e) (spent e) (reads f (got_of a))
+      on false e = placed_for f (unput e) (put_lands f (done_of a))
+
+  -- ---- up
+
+  -- what is due on the way up: the next node, or the tree object
+  abbrev pub node_due : Rising → Inner → Due
+  node_due r n = NodeDue (tree_held r.chart.root) n r.chart.links
+
+  abbrev pub root_due : Rising → Due
+  root_due r = RootDue (tree_held r.chart.root) r.chart.links r.chart.run.top
+
+  -- whatever is due next meets what is spent of it
+  pub record SpendsUp (r : Rising) : Type 0 where
+    pub node : (k : KeptNode) → touched_node r ≡ Some k → (n : Inner) → inner_of k.bytes ≡ Some n → MeetsSpent Met (node_due r n)
+    pub root : MeetsSpent Met (root_due r)
+
+  -- a node that does not read as one is damaged
+  plan_for : (r : Rising) (k : KeptNode) (o : Option Inner) → inner_of k.bytes ≡ o → ((n : Inner) → inner_of k.bytes ≡ Some n → MeetsSpent Met (node_due r n)) → (t : Trouble)
+      → node_plan (tree_held r.chart.root) r.chart.tree k r.chart.links ≡ Err t → Met t
+  plan_for r k (Some n) reads spent t e =
+      spent n reads t (subst (λ (p : Result NodePlan Trouble). PlanTells (node_due r n) p) e (node_plan_tells (tree_held r.chart.root) r.chart.tree k n r.chart.links reads))
+  plan_for r k None reads spent t e =
+      subst Met (same (damaged r.chart.tree k.page (offset inner_format k.bytes)) none) (free (damaged r.chart.tree k.page (offset inner_format k.bytes)) tt)
+    where
+      planned : Option Inner → Result NodePlan Trouble
+      planned o = planned_of (tree_held r.chart.root) k.page (linked_by r.chart.links (inner_or r.chart.tree k.page (offset inner_format k.bytes) o))
+
+      none : planned None ≡ Err t
+      none = ap planned (sym reads) ∙ e
+
+      same : (u : Trouble) → ◌≡◌ {A = Result NodePlan Trouble} (Err u) (Err t) → u ≡ t
+      same u f = cc
+
+  pub rises_for : {r : Rising} {next : Next Rising (Unit {0})} → SpendsUp r → rise.Rises r next → StopsFor Met next
+  rises_for spent (rise.node_due k p at e) = tt
+  rises_for {r = r} spent (rise.no_node k t at e) = plan_for r k (inner_of k.bytes) refl (spent.node k at) t e
+  rises_for spent (rise.root_due p none e) = tt
+  rises_for {r = r} spent (rise.no_root t none e) =
+      spent.root t (subst (λ (p : Result RootPlan Trouble). PlanTells (root_due r) p) e (last_plan_tells (tree_held r.chart.root) r.chart.links r.chart.run.top))
+
+  -- behind a put: the last piece of a tree object for which no version is left, or what is due next where no last put is planned
+  pub record SpendsBehind (r : Rising) : Type 0 where
+    pub short : has_nothing r.placing ≡ false → has_nothing (landed r).placing ≡ true → is_some r.last ≡ true → r.is_spent ≡ true → Met version_spent
+    pub between : has_nothing (landed r).placing ≡ true → r.last ≡ None → SpendsUp (landed r)
+
+  pub lands_for : {r : Rising} {g : Result (Unit {0}) Trouble} {next : Next Rising (Unit {0})} → ((t : Trouble) → g ≡ Err t → Met t) → SpendsBehind r → rise.Lands r g next
+      → StopsFor Met next
+  lands_for refused spent (rise.not_put t) = refused t refl
+  lands_for refused spent (rise.is_last x e) = tt
+  lands_for refused spent (rise.more x some rising) = tt
+  lands_for refused spent (rise.cut_short x some nothing last is) = spent.short some nothing last is
+  lands_for refused spent (rise.goes_on x some nothing none next) = rises_for (spent.between nothing none) next
+
+  -- ---- from the tree object
+
+  pub down_for : (to : Chart) → StopsFor Met (down_from to (root_entry to))
+  down_for to = arrive_for (begun to (root_entry to).0 (root_entry to).1)

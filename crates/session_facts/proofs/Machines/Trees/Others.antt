@@ -1,0 +1,89 @@
+-- What a checkpoint knows of its tree survives the calls of others, and its own that touch neither root nor inner nodes.
+use Rattle.std.proofs.Common.{◌≡◌, ◌-◌, ◌≤◌, inl, inr, ℕ, List, ap, ◌∙◌, arith}
+use Rattle.cloud_facts.specs.Chains.Links.{newest_node, top_of}
+use Rattle.cloud_facts.proofs.Meanings.Steps.{at_stays, passed_stays}
+use Rattle.cloud_trait.specs.Claim.{Claim, Lasts}
+use Rattle.db_base.specs.declared.names.Lock.TheVariants as lock
+use Rattle.leaf_view.specs.Lookup.{empty_leaf}
+use Rattle.node_codec.specs.Inner.{Inner}
+use Rattle.node_codec.specs.Tree.{Tree}
+use Rattle.cloud_facts.specs.Book.Book.{Link}
+use Rattle.cloud_facts.specs.Book.Growth.{Grows}
+use Rattle.cloud_facts.specs.Book.Records.{IsIn}
+use Rattle.cloud_facts.specs.Book.Tally.{Node, Leafy, Branch, Store}
+use Rattle.cloud_facts.specs.Book.Telling.{last_or}
+use Rattle.tree_parts.specs.declared.chart.Chart.{Chart}
+use Rattle.tree_parts.specs.declared.kept.KeptNode.{KeptNode}
+use Rattle.tree_parts.specs.declared.link.Link.{Link as Found}
+use Rattle.tree_parts.specs.Read.{tree_held}
+use Rattle.session_facts.specs.Machines.Trees.Charts.{IsRootOf, KnowsRoot, KnowsNode, KnowsNodes, AreFound, KnowsChart}
+use Rattle.cloud_facts.specs.Calls.Others.{Others}
+use Rattle.session_facts.specs.Machines.Trees.Ways.{IsOnWay}
+use Rattle.session_facts.proofs.Machines.Walks.Caches.{in_grown}
+
+-- ---- by what grows, and by what the lease keeps
+
+pub root_stays : (st su : Store) (now later : ℕ) (lease : Claim) (tree : ℕ) (root : Tree) → now ≤ later → Grows st su
+    → (Lasts later lease → su.tally.roots tree ≡ st.tally.roots tree) → KnowsRoot st now lease tree root → KnowsRoot su later lease tree root
+root_stays st su now later lease tree root after grows same k = record {
+  landed = landed k.landed;
+  spelled = k.spelled;
+  newest = λ lasts. ap top_of (same lasts) ∙ k.newest (omega (arith, lasts, after));
+  covered = λ client is. let old = k.covered client is in let rises = grows.cursor tree 0 client is in omega (arith, old, rises);
+}
+  where
+    landed : IsRootOf (st.tally.roots tree) root → IsRootOf (su.tally.roots tree) root
+    landed (inl none) = inl none
+    landed (inr there) = inr (in_grown (st.tally.roots tree) (su.tally.roots tree) root (grows.roots tree) there)
+
+-- an inner node that is the newest of its page stays so
+abbrev pub KeepsNodes : Store → Store → ℕ → ℕ → Claim → Type 0
+KeepsNodes st su later tree lease =
+    Lasts later lease → (page : ℕ) (n : Inner) → newest_node (st.tally.nodes tree) page ≡ Branch n → su.tally.nodes tree page ≡ st.tally.nodes tree page
+
+pub nodes_stay : (st su : Store) (now later : ℕ) (lease : Claim) (tree : ℕ) (nodes : List KeptNode) → now ≤ later → Grows st su → KeepsNodes st su later tree lease
+    → KnowsNodes st now lease tree nodes → KnowsNodes su later lease tree nodes
+nodes_stay st su now later lease tree nodes after grows same k kept there = on (k kept there)
+  where
+    on : KnowsNode st now lease tree kept → KnowsNode su later lease tree kept
+    on a = record {
+      inner = a.inner;
+      spells = a.spells;
+      linked = grows.links tree kept.level (record { low = kept.low; page = kept.page }) a.linked;
+      landed = in_grown (st.tally.nodes tree kept.page) (su.tally.nodes tree kept.page) (Branch a.inner) (grows.nodes tree kept.page) a.landed;
+      newest = λ lasts.
+          let is = a.newest (omega (arith, lasts, after)) in
+          ap (λ (ns : List Node). last_or (Leafy empty_leaf) ns) (same lasts kept.page a.inner is) ∙ is;
+    }
+
+pub links_stay : (st su : Store) (tree : ℕ) (links : List Found) → Grows st su → AreFound (st.book.chain tree) links → AreFound (su.book.chain tree) links
+links_stay st su tree links grows found l there =
+    let f = found l there in
+    record { above = f.above; linked = grows.links tree (l.level - 1) (record { low = l.low; page = l.page }) f.linked }
+
+pub chart_stays : (st su : Store) (now later : ℕ) (lease : Claim) (c : Chart) → now ≤ later → Grows st su
+    → (Lasts later lease → su.tally.roots c.tree ≡ st.tally.roots c.tree) → KeepsNodes st su later c.tree lease → KnowsChart st now lease c → KnowsChart su later lease c
+chart_stays st su now later lease c after grows roots nodes k = record {
+  tree = k.tree;
+  root = root_stays st su now later lease c.tree (tree_held c.root) after grows roots k.root;
+  nodes = nodes_stay st su now later lease c.tree c.nodes after grows nodes k.nodes;
+  links = links_stay st su c.tree c.links grows k.links;
+}
+
+pub way_stays : (chain more : ℕ → List Link) (level page : ℕ) (low key : List ℕ) (visited : List ℕ) → ((l : ℕ) (a : Link) → IsIn (chain l) a → IsIn (more l) a)
+    → IsOnWay chain level page low key visited → IsOnWay more level page low key visited
+way_stays chain more level page low key visited stay w = record {
+  at = at_stays chain more stay level page low key w.at;
+  behind = λ p there. passed_stays chain more stay level low p (w.behind p there);
+}
+
+-- ---- others
+
+pub keeps_nodes : (mine : List Claim) (st su : Store) (later tree : ℕ) (lease : Claim) → IsIn mine lease → lease.lock ≡ lock.Tree tree → Others mine later st su
+    → KeepsNodes st su later tree lease
+keeps_nodes mine st su later tree lease held is o lasts page n newest = o.page lease tree page held is lasts (inr (n, newest))
+
+pub chart_others : (mine : List Claim) (st su : Store) (now later : ℕ) (lease : Claim) (c : Chart) → now ≤ later → IsIn mine lease → lease.lock ≡ lock.Tree c.tree
+    → Others mine later st su → KnowsChart st now lease c → KnowsChart su later lease c
+chart_others mine st su now later lease c after held is o k =
+    chart_stays st su now later lease c after o.passes.grows (o.roots lease c.tree held is) (keeps_nodes mine st su later c.tree lease held is o) k

@@ -1,0 +1,205 @@
+-- The one step of a close and of a renewal.
+use Rattle.std.proofs.Common.{◌≡◌, ◌≢◌, ◌≤◌, ◌⊎◌, inl, inr, ℕ, List, [], ◌∷◌, Some, Result, Ok, Err, refl, sym, ap, subst, ◌∙◌}
+use Rattle.std.proofs.lemmas.Bool.{cases_eq}
+use Rattle.client_work.specs.Session.{GivesBack, RenewsHome, StepsClosing, StepsRenewing, stopped_work}
+use Rattle.client_work.specs.declared.answer.Answer.{Answer}
+use Rattle.client_work.specs.declared.answer.Answer.TheVariants as answer
+use Rattle.client_work.specs.declared.work.Work.{Work}
+use Rattle.client_work.specs.declared.work.Work.TheVariants.{Closed, Idle, Closing, Renewing, Broken}
+use Rattle.cloud_facts.specs.Calls.Acting.{KnowsHome, Setting, Outcome, Handles}
+use Rattle.cloud_facts.specs.Calls.Call.{IsCall}
+use Rattle.cloud_facts.proofs.Calls.Calls.{call_of, permitted}
+use Rattle.cloud_facts.proofs.Calls.Outcomes.{quiet, gives_up}
+use Rattle.cloud_trait.specs.declared.answer.Answer.{Answer as Reply}
+use Rattle.cloud_trait.specs.declared.answer.Answer.TheVariants.{Renewed, Late, Failed, Memory}
+use Rattle.cloud_trait.specs.declared.turn.Turn.{Turn}
+use Rattle.cloud_trait.specs.declared.turn.Turn.TheVariants.{More, Ended, Stopped}
+use Rattle.cloud_trait.specs.Ask.{Ask, Renew, Release}
+use Rattle.cloud_trait.specs.Caller.{Caller}
+use Rattle.cloud_trait.specs.Claim.{Claim, Lasts, extended}
+use Rattle.cloud_trait.specs.Seen.{Seen}
+use Rattle.cloud_trait.specs.State.{CloudState, called}
+use Rattle.cloud_trait.specs.Weather.{RenewsBoth, RenewsLease}
+use Rattle.db_base.specs.declared.trouble.Trouble.{Trouble}
+use Rattle.db_base.specs.declared.trouble.Trouble.TheVariants as trouble
+use Rattle.history.specs.Audited.{Audited}
+use Rattle.cloud_facts.specs.Homes.Homes.{Part, Away, AtHome, Parts, HomesHold}
+use Rattle.cloud_facts.proofs.Homes.HomeLemmas.{renews_keeps}
+use Rattle.page_cache.specs.Cache.{Cache}
+use Rattle.recover_run.specs.declared.home.Home.{Home}
+use Rattle.report_types.specs.declared.entry.Entry.{Entry}
+use Rattle.session_facts.specs.Sessions.Knows.{leases_of, IsHome, KnowsWork}
+use Rattle.session_facts.proofs.Sessions.Kept.{KnowsBoth, with_cache}
+use Rattle.cloud_facts.specs.Book.Book.{Book}
+use Rattle.cloud_facts.specs.Book.Records.{IsIn}
+use Rattle.cloud_facts.specs.Book.Tally.{Store, at}
+use Rattle.cloud_facts.proofs.Book.Names.{at_same, at_other}
+use Rattle.cloud_facts.proofs.Book.Places.{get_single, in_none}
+use Rattle.cloud_facts.specs.Tellings.Told.{store_of}
+use Rattle.session_facts.specs.Machines.Walks.Caches.{KnowsCache}
+
+-- what a step of a session's work is, between two states, with the cache that it leaves
+pub record IsStepOf (who : Caller) (book : Book) (order : List Entry) (s t : CloudState) (parts : Parts) (ask : Ask) (note : Audited → Audited) (work after : Work) (c : Cache) : Type 0 where
+  pub reply : Reply
+  pub call : IsCall who ask reply s t
+  pub handles : Handles who s t ask reply (leases_of work) (leases_of after)
+  pub outcome : Outcome who book order s t parts (leases_of work) ask note (KnowsBoth c after)
+
+-- a session's part stays
+pub part_again : (parts : Parts) (session : ℕ) (part : Part) → parts session ≡ part → at session part parts ≡ parts
+part_again parts session part e = λ i n. same n (cases_eq n session) i
+  where
+    same : (n : ℕ) → (n ≡ session) ⊎ (n ≢ session) → at session part parts n ≡ parts n
+    same n (inl f) = at_same session part parts n f ∙ (sym e ∙ ap parts (sym f))
+    same n (inr ne) = at_other session part parts n ne
+
+-- ---- a close
+
+module _ (who : Caller) (before after : Seen) (book : Book) (order : List Entry) (s t : CloudState) (parts : Parts) (lease : Claim)
+    (setting : s.now ≤ t.now → Setting book order s t.now parts who.session (lease ∷ [])) (part_is : parts who.session ≡ Away) (c : Cache) (kept : KnowsCache (store_of book order s) c)
+    (e : before.state ≡ Some s) (f : after.state ≡ Some t) where
+  released : (work : Work) (result : Result (Unit {0}) Trouble) → GivesBack lease who before after result → work ≡ Closed
+      → IsStepOf who book order s t parts (Release lease) (λ a. a) (Closing lease) work c
+  released work result gives closed =
+      let call = call_of who (Release lease) gives.answer before after s t gives.made e f in
+      record {
+        reply = gives.answer;
+        call = call;
+        handles = record {
+          owns = (0, refl);
+          guarded = tt;
+          renewed = lease;
+          renews = tt;
+          own = λ x is. absurd (in_none [] x refl (subst (λ (w : Work). IsIn (leases_of w) x) closed is));
+        };
+        outcome = with_cache who book order s t parts (lease ∷ []) (Release lease) (λ a. a) c work kept
+            (quiet who book order s t parts (lease ∷ []) (Release lease) (λ a. a) (λ st now part. KnowsWork st now c work part) gives.answer call tt tt (setting call.later).cloud Away
+            (subst (HomesHold (store_of book order s).tally t.now) (sym (part_again parts who.session Away part_is)) (setting call.later).homes)
+            (subst (λ (w : Work). KnowsWork (store_of book order s) t.now c w Away) (sym closed) refl));
+      }
+
+  pub closing_step : (work : Work) (turn : Turn Answer) → StepsClosing lease who before after work turn → IsStepOf who book order s t parts (Release lease) (λ a. a) (Closing lease) work c
+  closing_step work (Ended answer.Closed) steps = released work (Ok tt) steps.0 steps.1
+  closing_step work (Ended (answer.Trouble k)) steps = released work (Err k) steps.0 steps.1
+  closing_step work More never = absurd never
+  closing_step work (Stopped k) never = absurd never
+  closing_step work (Ended (answer.Opened epoch)) never = absurd never
+  closing_step work (Ended (answer.Renewed end)) never = absurd never
+  closing_step work (Ended (answer.Commit a)) never = absurd never
+  closing_step work (Ended answer.Value) never = absurd never
+  closing_step work (Ended answer.Scan) never = absurd never
+  closing_step work (Ended (answer.Settled n)) never = absurd never
+  closing_step work (Ended (answer.Swept x)) never = absurd never
+  closing_step work (Ended (answer.Done n)) never = absurd never
+
+-- ---- a renewal
+
+-- what it leaves of the lease, between two states
+pub renews_both : (who : Caller) (l m : Claim) (reply : Reply) (before after : Seen) (s t : CloudState) → IsCall who (Renew l 600) reply s t → before.state ≡ Some s → after.state ≡ Some t
+    → RenewsLease who 600 l m reply before after → RenewsBoth who 600 l m (called who t.now s) t
+renews_both who l m (Renewed end) before after s t call e f is = inr (call.row.0, is ∙ ap (extended l) call.row.1)
+renews_both who l m Failed before after s t call e f is = is.1 s t e f
+renews_both who l m (Late end now) before after s t call e f is = inl (call.row.0, is)
+renews_both who l m Memory before after s t call e f is = inl (call.row, is)
+renews_both who l m reply before after s t call e f is = absurd call.row
+
+-- a lease that lasts then lasted before
+renewed_lasts : (who : Caller) (l m : Claim) (s t : CloudState) → RenewsBoth who 600 l m (called who t.now s) t → Lasts t.now m → Lasts t.now l
+renewed_lasts who l m s t (inl p) lasts = subst (Lasts t.now) p.1 lasts
+renewed_lasts who l m s t (inr p) lasts = permitted who (Renew l 600) (called who t.now s) t p.0
+
+renewed_lock : (who : Caller) (l m : Claim) (s t : CloudState) → RenewsBoth who 600 l m (called who t.now s) t → m.lock ≡ l.lock
+renewed_lock who l m s t (inl p) = ap (λ (x : Claim). x.lock) p.1
+renewed_lock who l m s t (inr p) = ap (λ (x : Claim). x.lock) p.1
+
+module _ (who : Caller) (before after : Seen) (book : Book) (order : List Entry) (s t : CloudState) (parts : Parts) (home : Home)
+    (set : s.now ≤ t.now → Setting book order s t.now parts who.session (home.lease ∷ [])) (knows_at : s.now ≤ t.now → IsHome (store_of book order s) t.now home (parts who.session))
+    (c : Cache) (kept : KnowsCache (store_of book order s) c) (e : before.state ≡ Some s) (f : after.state ≡ Some t) where
+  abbrev st : Store
+  st = store_of book order s
+
+  module _ (new : Home) (result : Result ℕ Trouble) (renews : RenewsHome home new who before after result) where
+    call : IsCall who (Renew home.lease 600) renews.answer s t
+    call = call_of who (Renew home.lease 600) renews.answer before after s t renews.made e f
+
+    setting : Setting book order s t.now parts who.session (home.lease ∷ [])
+    setting = set call.later
+
+    knows : KnowsHome st t.now home.client home.lease home.head home.attempt (parts who.session)
+    knows = (knows_at call.later).at
+
+    both : RenewsBoth who 600 home.lease new.lease (called who t.now s) t
+    both = renews_both who home.lease new.lease renews.answer before after s t call e f renews.lease
+
+    lasted : Lasts t.now new.lease → Lasts t.now home.lease
+    lasted = renewed_lasts who home.lease new.lease s t both
+
+    -- the part with the lease that is left
+    abbrev part : Part
+    part = AtHome (record knows.home { lease = new.lease })
+
+    homes : HomesHold st.tally t.now (at who.session part parts)
+    homes = renews_keeps st.tally t.now parts who.session knows.home new.lease knows.part_is (λ lasts. subst (Lasts t.now) (sym knows.lease_is) (lasted lasts)) setting.homes
+
+    home_after : IsHome st t.now (record home { lease = new.lease }) part
+    home_after = record {
+      at = record {
+        is_client = knows.is_client;
+        lock_is = renewed_lock who home.lease new.lease s t both ∙ knows.lock_is;
+        within = knows.within;
+        settled = knows.settled;
+        newest = λ lasts. knows.newest (lasted lasts);
+        home = record knows.home { lease = new.lease };
+        part_is = refl;
+        client_is = knows.client_is;
+        lease_is = refl;
+        epoch_is = knows.epoch_is;
+        begun = knows.begun;
+      };
+      trees = (knows_at call.later).trees;
+      of_records = (knows_at call.later).of_records;
+      counted = (knows_at call.later).counted;
+    }
+
+    open_outcome : Outcome who book order s t parts (home.lease ∷ []) (Renew home.lease 600) (λ a. a) (λ su now p. IsHome su now new p)
+    open_outcome =
+        quiet who book order s t parts (home.lease ∷ []) (Renew home.lease 600) (λ a. a) (λ su now p. IsHome su now new p) renews.answer call tt tt setting.cloud part homes
+        (subst (λ h. IsHome st t.now h part) (sym renews.home) home_after)
+
+    hands : (work : Work) → ((x : Claim) → IsIn (leases_of work) x → x ≡ new.lease) → Handles who s t (Renew home.lease 600) renews.answer (home.lease ∷ []) (leases_of work)
+    hands work only = record { owns = (0, refl); guarded = tt; renewed = new.lease; renews = both; own = λ x is. inr (only x is) }
+
+    stays_open : (work : Work) → work ≡ Idle new → IsStepOf who book order s t parts (Renew home.lease 600) (λ a. a) (Renewing home) work c
+    stays_open work is = subst (λ w. IsStepOf who book order s t parts (Renew home.lease 600) (λ a. a) (Renewing home) w c) (sym is) (record {
+      reply = renews.answer;
+      call = call;
+      handles = hands (Idle new) (λ x there. sym (get_single new.lease there.0 x there.1));
+      outcome = with_cache who book order s t parts (home.lease ∷ []) (Renew home.lease 600) (λ a. a) c (Idle new) kept open_outcome;
+    })
+
+    breaks : (work : Work) → work ≡ Broken new.lease → IsStepOf who book order s t parts (Renew home.lease 600) (λ a. a) (Renewing home) work c
+    breaks work is = subst (λ w. IsStepOf who book order s t parts (Renew home.lease 600) (λ a. a) (Renewing home) w c) (sym is) (record {
+      reply = renews.answer;
+      call = call;
+      handles = hands (Broken new.lease) (λ x there. sym (get_single new.lease there.0 x there.1));
+      outcome = with_cache who book order s t parts (home.lease ∷ []) (Renew home.lease 600) (λ a. a) c (Broken new.lease) kept
+          (gives_up who book order s t parts (home.lease ∷ []) (Renew home.lease 600) (λ a. a) (λ su now p. IsHome su now new p) open_outcome);
+    })
+
+    by_trouble : (k : Trouble) (work : Work) → work ≡ stopped_work k new → IsStepOf who book order s t parts (Renew home.lease 600) (λ a. a) (Renewing home) work c
+    by_trouble trouble.Memory work is = breaks work is
+    by_trouble k work is = stays_open work is
+
+  pub renewing_step : (work : Work) (turn : Turn Answer) → StepsRenewing home who before after work turn → IsStepOf who book order s t parts (Renew home.lease 600) (λ a. a) (Renewing home) work c
+  renewing_step work (Ended (answer.Renewed end)) (new, renews, is) = stays_open new (Ok end) renews work is
+  renewing_step work (Ended (answer.Trouble k)) (new, renews, is) = by_trouble new (Err k) renews k work is
+  renewing_step work More never = absurd never
+  renewing_step work (Stopped k) never = absurd never
+  renewing_step work (Ended (answer.Opened epoch)) never = absurd never
+  renewing_step work (Ended answer.Closed) never = absurd never
+  renewing_step work (Ended (answer.Commit a)) never = absurd never
+  renewing_step work (Ended answer.Value) never = absurd never
+  renewing_step work (Ended answer.Scan) never = absurd never
+  renewing_step work (Ended (answer.Settled n)) never = absurd never
+  renewing_step work (Ended (answer.Swept x)) never = absurd never
+  renewing_step work (Ended (answer.Done n)) never = absurd never

@@ -1,0 +1,21 @@
+-- Why a settling settles.
+pub mod Stories
+pub mod Frames
+pub mod Along
+pub mod Queues
+pub mod Lefts
+pub mod LeftParts
+pub mod Sums
+pub mod LeafPages
+pub mod Costs
+pub mod CostParts
+pub mod Recoveries
+pub mod Turns
+pub mod Begins
+pub mod Trees
+pub mod Drains
+pub mod Distinct
+pub mod Locks
+pub mod Pages
+pub mod Free
+pub mod Trails

@@ -1,9 +1,0 @@
--- Walks: what a session's cache and a walk beside it know of a cloud, in trees of any height, what the objects that they use show to be applied, and
--- why a walk stops.
-pub mod Caches
-pub mod Steps
-pub mod Turns
-pub mod Walks
-pub mod Beside
-pub mod Prunings
-pub mod Explaining

@@ -1,0 +1,77 @@
+-- What a read, a scan and a look-up show by the lines: the session's buffer is what its lines noted, and the pending entries of its head are records that its client
+-- committed.
+use Rattle.std.specs.Prelude.{ℕ, ◌≡◌, ◌⊎◌, List, [], unwrap_or}
+use Rattle.attr_index.specs.Look.{Look}
+use Rattle.client_work.specs.Session.{Acting, value_of, items_of}
+use Rattle.client_work.specs.Shows.{ShowsValue, ShowsRecords, ShowsFound}
+use Rattle.client_work.specs.declared.answer.Answer.{Answer}
+use Rattle.client_work.specs.declared.answer.Answer.TheVariants as answer
+use Rattle.client_work.specs.declared.listing.Listing.{Listing}
+use Rattle.client_work.specs.declared.work.Work.TheVariants as work
+use Rattle.cloud_facts.specs.Book.Messages.{IsLogMessage}
+use Rattle.cloud_facts.specs.Book.Records.{IsIn, entry_of}
+use Rattle.cloud_trait.specs.declared.turn.Turn.{Turn}
+use Rattle.cloud_trait.specs.declared.turn.Turn.TheVariants.{Ended}
+use Rattle.cloud_trait.specs.Caller.{Caller}
+use Rattle.cloud_trait.specs.Seen.{Seen}
+use Rattle.cloud_trait.specs.State.{CloudState}
+use Rattle.db_base.specs.declared.names.QueueName.TheVariants.{Atomic}
+use Rattle.head_codec.specs.declared.lists.Pending.{Pending}
+use Rattle.log_codec.specs.declared.record.AtomicRec.{AtomicRec}
+use Rattle.range_scan.specs.Meaning.{Range, range_of}
+use Rattle.recover_run.specs.declared.home.Home.{Home}
+use Rattle.replay_meaning.specs.Committed.{committed}
+use Rattle.replay_meaning.specs.Standing.{Line, Task, Working, Reading, Scanning, LookingUp, standing}
+use Rattle.route_plan.specs.Record.{pending_of}
+use Rattle.tree_walk.specs.Walk.{Walk, sought}
+use Rattle.txn_buffer.specs.Noted.{Noted}
+
+-- a pending entry is a record of the client: what it says was sent to the client's ATOMIC queue, and the lines committed it
+pub record IsOfCommitted (lines : List Line) (t : CloudState) (client : ℕ) (p : Pending) : Type 0 where
+  pub of : AtomicRec
+  pub own : of.client ≡ client
+  pub pending_is : p ≡ pending_of of
+  pub committed : IsIn (committed lines t) (entry_of of)
+  pub sent : (id : ℕ) × IsLogMessage (t.messages (Atomic client)) id of
+
+-- what a session shows by is what the lines say: it works on this task for this client, it noted these changes since its newest begin of a commit or
+-- abort, and each pending entry of its head is a record that its client committed
+pub record IsByLines (lines : List Line) (t : CloudState) (session : ℕ) (task : Task) (home : Home) (buffer : List Noted) : Type 0 where
+  pub works : (standing lines session).posture ≡ Working task
+  pub client : (standing lines session).client ≡ home.client
+  pub noted : buffer ≡ (standing lines session).buffer
+  pub pending : (p : Pending) → IsIn home.head.pending p → IsOfCommitted lines t home.client p
+
+-- a read ends with the value that its client sees in a leaf that landed, by what the lines say of the client
+pub record ReadsByLines (lines : List Line) (t : CloudState) (who : Caller) (before after : Seen) (old new : Acting) : Type 0 where
+  pub home : Home
+  pub walk : Walk
+  pub was : old.work ≡ work.Reading home walk
+  pub shows : ShowsValue who before after home new.buffer walk (value_of new)
+  pub by : IsByLines lines t who.session (Reading walk.tree (sought walk)) home new.buffer
+
+-- the scan of a range, as a task
+abbrev pub scan_task : Range → Task
+scan_task r = Scanning r.tree (unwrap_or r.from []) (unwrap_or r.to [])
+
+-- and a scan with the records that its client sees in its leaves
+pub record ScansByLines (lines : List Line) (t : CloudState) (who : Caller) (before after : Seen) (old new : Acting) : Type 0 where
+  pub home : Home
+  pub listing : Listing
+  pub was : old.work ≡ work.Scanning home listing
+  pub shows : ShowsRecords who before after home old.buffer listing old.cache (items_of new)
+  pub by : IsByLines lines t who.session (scan_task (range_of listing.scan)) home old.buffer
+
+-- and a look-up with the records that it found at the ends of its walks
+pub record LooksByLines (lines : List Line) (t : CloudState) (who : Caller) (before after : Seen) (old new : Acting) : Type 0 where
+  pub home : Home
+  pub look : Look
+  pub was : old.work ≡ work.Looking home look
+  pub shows : ShowsFound who before after home old.buffer look old.cache (items_of new)
+  pub by : IsByLines lines t who.session (LookingUp look.query.tree look.query.attr) home old.buffer
+
+-- a step that ends a read, a scan or a look-up shows it so, over the state before its call
+abbrev pub ShowsByLines : List Line → CloudState → Caller → Seen → Seen → Acting → Acting → Turn Answer → Type 0
+ShowsByLines lines t who before after old new (Ended answer.Value) = ReadsByLines lines t who before after old new
+ShowsByLines lines t who before after old new (Ended answer.Scan) = ScansByLines lines t who before after old new ⊎ LooksByLines lines t who before after old new
+ShowsByLines lines t who before after old new turn = Unit {0}

@@ -1,0 +1,23 @@
+-- What is known where the answer of a leaf's get or put leads, and what such a put adds to the audit.
+use Rattle.std.specs.Prelude.{ℕ, List, ◌++◌, map}
+use Rattle.cloud_trait.specs.Ask.{Ask, PutHeld}
+use Rattle.cloud_trait.specs.Claim.{Claim}
+use Rattle.cloud_trait.specs.Machine.{Goes, Ends, Stops}
+use Rattle.db_base.specs.declared.names.ObjName.TheVariants as object
+use Rattle.history.specs.Audited.{Audited, applied_entry}
+use Rattle.leaf_fold.specs.declared.folding.Folding.{Folding}
+use Rattle.leaf_fold.specs.declared.folding.Left.TheVariants.{Right, Handled}
+use Rattle.leaf_fold.specs.Folding.{FoldingStep, applying}
+use Rattle.cloud_facts.specs.Book.Tally.{Store}
+use Rattle.session_facts.specs.Machines.Trees.Leaves.{KnowsRest, IsCome, IsPutting}
+
+abbrev pub KnowsStep : Store → ℕ → Claim → List ℕ → FoldingStep → Type 0
+KnowsStep u now lease ids (Goes f) = IsPutting u now lease f ids
+KnowsStep u now lease ids (Ends f (Right low page)) = IsCome u now lease f.chart page low f.visited ids
+KnowsStep u now lease ids (Ends f Handled) = KnowsRest u now lease f.chart ids
+KnowsStep u now lease ids (Stops f t) = Unit {0}
+
+-- a put of a page adds the records that it applies, which are none but at the leaf's own
+abbrev pub fold_note : Folding → Ask → Audited → Audited
+fold_note f (PutHeld (object.Page tree page) bytes one two) a = record a { order = a.order ++ map (applied_entry tree) (applying f) }
+fold_note f ask a = a

@@ -1,0 +1,2 @@
+-- Runs: what a checkpoint knows of the messages that it received, of the run that it took of them, and of the leaf that takes it.
+pub mod Knows

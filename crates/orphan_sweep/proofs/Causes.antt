@@ -15,7 +15,7 @@ use Rattle.node_codec.specs.Inner.{Inner, inner_of, inner_format}
 use Rattle.node_codec.specs.Tree.{tree_of}
 use Rattle.cloud_trait.specs.declared.answer.Answer.TheVariants as call
 use Rattle.cloud_trait.specs.Ask.{Ask, GetHeld, ListHeld, RemoveHeld, Take}
-use Rattle.tree_parts.specs.Read.{damaged, leaf_or, inner_or}
+use Rattle.tree_phases.specs.Read.{damaged, leaf_or, inner_or}
 use Rattle.orphan_sweep.specs.Causes.{Matters, Shows, IsShown, Tells, HasLow, LeadsTo}
 use Rattle.orphan_sweep.specs.Pages.{root_damage, root_or, root_held, top_spot, leaf_paths, inner_paths, leaf_held, absent_inner, inner_held, fenced, leaf_at, inner_at, paths_of}
 use Rattle.orphan_sweep.specs.Leases.{HasOrphan, HoldsAt}

@@ -16,7 +16,7 @@ use Rattle.node_codec.specs.Inner.{Inner, inner_of, inner_format}
 use Rattle.node_codec.specs.Tree.{tree_of, tree_format}
 use Rattle.cloud_trait.specs.declared.answer.Answer.TheVariants as call
 use Rattle.cloud_trait.specs.Ask.{Take}
-use Rattle.tree_parts.specs.Read.{damaged, leaf_or, inner_or}
+use Rattle.tree_phases.specs.Read.{damaged, leaf_or, inner_or}
 use Rattle.orphan_sweep.specs.Causes.{BreaksLeaf, BreaksInner, BreaksLevel, HasLow, Shows, IsShown}
 use Rattle.orphan_sweep.specs.Demands.{Owes}
 use Rattle.orphan_sweep.specs.Pages.{root_or, root_held, top_spot, leaf_paths, inner_paths, leaf_held, inner_held, fenced, leaf_at, levelled, inner_at, paths_of, onward}

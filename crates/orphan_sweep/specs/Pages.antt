@@ -13,7 +13,7 @@ use Rattle.node_codec.specs.Node as node
 use Rattle.node_codec.specs.Inner.{Inner}
 use Rattle.node_codec.specs.Tree.{Tree, tree_of, tree_format, empty_tree}
 use Rattle.ckpt_parts.specs.Leaves.{absent_leaf}
-use Rattle.tree_parts.specs.Read.{damaged, inner_read, leaf_read}
+use Rattle.tree_phases.specs.Read.{damaged, inner_read, leaf_read}
 use Rattle.orphan_sweep.specs.declared.paths.Link.{Link}
 use Rattle.orphan_sweep.specs.declared.paths.Paths.{Paths}
 use Rattle.orphan_sweep.specs.declared.spot.Spot.{Spot}

@@ -2,7 +2,7 @@
 
 ghost use Rattle.std.specs.Prelude.{◌≡◌, Err};
 ghost use Rattle.db_base.specs.declared.trouble.Trouble.TheVariants.{BadFence};
-ghost use Rattle.tree_parts.specs.Going.{Finds};
+ghost use Rattle.tree_phases.specs.Going.{Finds};
 ghost use Rattle.orphan_sweep.specs.Pages.{root_read, root_held, leaf_paths, inner_paths, leaf_held, absent_inner, inner_held, fenced, leaf_at, levelled, inner_at, paths_of};
 
 use crate::paths::{Paths, inner_paths, leaf_paths};
@@ -16,7 +16,7 @@ use db_base::trouble::Trouble;
 use leaf_view::LeafView;
 use node_codec::{InnerView, TreeView};
 use std::alloc::Global;
-use tree_parts::read::{damaged, inner_view, leaf_view};
+use tree_phases::read::{damaged, inner_view, leaf_view};
 
 /// The tree object that bytes spell. Takes no memory.
 fn root_read(tree: TreeId, bytes: &[u8]) -> Result<TreeView<'_>, Trouble>

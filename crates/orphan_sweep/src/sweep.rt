@@ -7,7 +7,7 @@ ghost use Rattle.cloud_trait.specs.Ask.{Release};
 ghost use Rattle.cloud_trait.specs.Call.{ask_of, Lends};
 ghost use Rattle.cloud_trait.specs.Machine.{Took, Deed};
 ghost use Rattle.cloud_trait.specs.Weather.{Makes};
-ghost use Rattle.tree_parts.specs.Going.{Finds};
+ghost use Rattle.tree_phases.specs.Going.{Finds};
 ghost use Rattle.orphan_sweep.specs.declared.paths.Paths.{Paths};
 ghost use Rattle.orphan_sweep.specs.Pages.{top_spot};
 

@@ -9,9 +9,9 @@ use Rattle.leaf_view.specs.Lookup.{holds}
 use Rattle.node_codec.specs.Inner.{Inner, inner_of}
 use Rattle.split_plan.specs.Part.{Part}
 use Rattle.split_plan.specs.Plan.{entry_of, on_pages}
-use Rattle.tree_parts.specs.Kept.{links_at}
-use Rattle.tree_parts.specs.Placing.{landed_root}
-use Rattle.tree_parts.specs.Read.{tree_held}
+use Rattle.tree_phases.specs.Kept.{links_at}
+use Rattle.tree_phases.specs.Placing.{landed_root}
+use Rattle.tree_phases.specs.Read.{tree_held}
 use Rattle.tree_ckpt.specs.Causes.{Calls, WasGot}
 use Rattle.tree_ckpt.specs.Working.{IsAmong, PutsPieces, Outcome, Planned, Spared, Passed, Visit, AreVisits, IsLeft, placing_of, root_behind, links_from, links_behind, Climb, AreClimbs, root_above, links_above, IsFollowed, IsPieceOf, IsLeafPiece, IsNodePiece, Worked, last_root, last_links, looks_of, IsUnder, IsInRange, IsOfRoot, IsNamed, HasClimbed, HasRisen, HoldsLow, HoldsLeaf, HasLevel, IsNamedAbove, IsNewNamed, leaf_place, node_place, link_to, visits_over}
 use Rattle.tree_ckpt.proofs.Words.{Taken, Claim, NewEntry, Placing, Link}

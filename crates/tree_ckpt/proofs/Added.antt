@@ -7,8 +7,8 @@ use Rattle.leaf_edit.proofs.Ascends.{below_trans}
 use Rattle.node_codec.specs.Inner.{Inner}
 use Rattle.node_codec.specs.Node.{Entry, with_entry}
 use Rattle.node_codec.specs.Tree.{Tree, with_child}
-use Rattle.tree_rising.specs.Nodes.{goes_to, with_links}
-use Rattle.tree_rising.specs.Root.{is_named, with_named}
+use Rattle.tree_phases.specs.Nodes.{goes_to, with_links}
+use Rattle.tree_phases.specs.Root.{is_named, with_named}
 use Rattle.tree_ckpt.specs.Working.{IsAmong}
 use Rattle.tree_ckpt.proofs.Words.{Link}
 use Rattle.tree_ckpt.proofs.Keys.{not_itself}

@@ -9,10 +9,10 @@ use Rattle.leaf_view.specs.Leaf.{Leaf}
 use Rattle.node_codec.specs.Inner.{Inner}
 use Rattle.node_codec.specs.Tree.{Tree}
 use Rattle.run_cursor.specs.Covered.{is_seen}
-use Rattle.tree_parts.specs.Kept.{place_of, with_kept}
-use Rattle.tree_parts.specs.Read.{damaged, tree_held}
-use Rattle.tree_descent.specs.Descent.{forked}
-use Rattle.tree_descent.specs.Fork.{bad_fence, forked_on}
+use Rattle.tree_phases.specs.Kept.{place_of, with_kept}
+use Rattle.tree_phases.specs.Read.{damaged, tree_held}
+use Rattle.tree_phases.specs.Descent.{forked}
+use Rattle.tree_phases.specs.Fork.{bad_fence, forked_on}
 use Rattle.tree_ckpt.specs.Working.{HasLevel}
 use Rattle.tree_ckpt.specs.Causes.{Calls, WasGot, WasRoot, WasNode, WasLeaf, WasRead, IsLink}
 use Rattle.tree_ckpt.proofs.Words.{Answer, Ask, Chart, KeptNode, Descent, Fork}

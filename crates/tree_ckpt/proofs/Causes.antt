@@ -16,12 +16,12 @@ use Rattle.cloud_trait.specs.Ask.{Take, GetHeld, PutHeld, Receive, Release}
 use Rattle.ckpt_parts.specs.Intakes.{has_items, items_of, message_damage, TakesItems}
 use Rattle.ckpt_parts.specs.Leasing.{without_newest}
 use Rattle.run_cursor.specs.Covered.{is_seen}
-use Rattle.tree_parts.specs.Placing.{has_nothing}
-use Rattle.tree_parts.specs.Read.{tree_held}
-use Rattle.tree_descent.specs.Descent.{with_node, descent_next}
-use Rattle.leaf_fold.specs.declared.folding.Left.TheVariants.{Right, Handled}
-use Rattle.leaf_fold.specs.Folding.{folding_ask, folding_next, leaf_got, leaf_put, placed}
-use Rattle.tree_rising.specs.Rising as rise
+use Rattle.tree_phases.specs.Placing.{has_nothing}
+use Rattle.tree_phases.specs.Read.{tree_held}
+use Rattle.tree_phases.specs.Descent.{with_node, descent_next}
+use Rattle.tree_phases.specs.declared.folding.Left.TheVariants.{Right, Handled}
+use Rattle.tree_phases.specs.Folding.{folding_ask, folding_next, leaf_got, leaf_put, placed}
+use Rattle.tree_phases.specs.Rising as rise
 use Rattle.tree_moves.specs.declared.work.Onward.TheVariants as onward
 use Rattle.tree_moves.specs.declared.work.Work.TheVariants as work
 use Rattle.tree_moves.specs.Work.{work_ask, take_tree}

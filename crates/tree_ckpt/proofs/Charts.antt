@@ -1,9 +1,9 @@
 -- What is known of a tree only grows while a key is worked on.
 use Rattle.std.proofs.Common.{◌≡◌, ◌≤◌, ◌+◌, ℕ, Bool, true, false, cond, List, [], ◌∷◌, ◌++◌, length, length-append, Option, Some, None, Result, Ok, Err, refl, ◌∙◌, arith}
 use Rattle.std.proofs.lemmas.List.Edits.{length-insert}
-use Rattle.tree_parts.specs.Kept.{stands_before, place_of, with_kept}
-use Rattle.tree_descent.specs.declared.fork.Fork.TheVariants.{Right, Down}
-use Rattle.tree_descent.specs.Descent.{passed, fork_of, arrive, with_node, got_node, descent_got, descent_next}
+use Rattle.tree_phases.specs.Kept.{stands_before, place_of, with_kept}
+use Rattle.tree_phases.specs.declared.fork.Fork.TheVariants.{Right, Down}
+use Rattle.tree_phases.specs.Descent.{passed, fork_of, arrive, with_node, got_node, descent_got, descent_next}
 use Rattle.tree_ckpt.proofs.Words.{Trouble, Answer, Next, Goes, Ends, Stops, got_of, Chart, KeptNode, Descent, Fork}
 use Rattle.tree_ckpt.proofs.WayKeeps.{Arrives, arrive_keeps}
 

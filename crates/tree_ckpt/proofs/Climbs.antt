@@ -6,13 +6,13 @@ use Rattle.db_base.specs.declared.names.ObjName.TheVariants as object
 use Rattle.db_base.specs.declared.names.QueueName.TheVariants as queue
 use Rattle.cloud_trait.specs.declared.answer.Answer.TheVariants as call
 use Rattle.cloud_trait.specs.Ask.{GetHeld, PutHeld, Receive}
-use Rattle.tree_parts.specs.Kept.{links_at}
-use Rattle.tree_parts.specs.Placing.{put_in_hand, landed_root, landed_placing, has_nothing}
-use Rattle.tree_parts.specs.Read.{tree_held}
+use Rattle.tree_phases.specs.Kept.{links_at}
+use Rattle.tree_phases.specs.Placing.{put_in_hand, landed_root, landed_placing, has_nothing}
+use Rattle.tree_phases.specs.Read.{tree_held}
 use Rattle.node_codec.specs.Inner.{Inner, inner_of}
 use Rattle.node_codec.specs.Tree.{Tree}
-use Rattle.tree_rising.specs.Nodes.{node_plan, is_touched, touched_at}
-use Rattle.tree_rising.specs.Rising as rise
+use Rattle.tree_phases.specs.Nodes.{node_plan, is_touched, touched_at}
+use Rattle.tree_phases.specs.Rising as rise
 use Rattle.tree_moves.specs.Moves.{next_key}
 use Rattle.tree_moves.specs.Work.{take_tree}
 use Rattle.tree_ckpt.specs.Causes.{Calls, WasGot}

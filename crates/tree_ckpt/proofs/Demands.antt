@@ -21,17 +21,17 @@ use Rattle.ckpt_parts.specs.Deleting.{next_id}
 use Rattle.ckpt_parts.specs.Intakes.{has_items, message_damage, TakesItems}
 use Rattle.ckpt_parts.specs.Leasing.{newest_lease, without_newest}
 use Rattle.run_cursor.specs.Covered.{is_seen}
-use Rattle.tree_parts.specs.Placing.{has_nothing}
-use Rattle.tree_parts.specs.Read.{damaged, leaf_or, tree_held}
-use Rattle.tree_parts.specs.Reserve.{version_spent, pages_spent, next_tree}
-use Rattle.tree_descent.specs.Descent.{fork_of, arrive, absent_node, with_node, got_node, descent_got}
-use Rattle.leaf_fold.specs.declared.folding.Left.TheVariants.{Right}
-use Rattle.leaf_fold.specs.Plan.{leaf_plan}
-use Rattle.leaf_fold.specs.Folding.{folding_ask, turned, to_right, planned, handled_by, handle, leaf_got, leaf_put, leaf_at, leaf_side, leaf_found, bad_low}
-use Rattle.tree_rising.specs.Nodes.{node_plan}
-use Rattle.tree_rising.specs.Rising.{rising_ask, next_touched, touched_node, put_node, put_root, plan_of, last_plan, rise_at, rise, landed, after_put}
-use Rattle.tree_rising.specs.Rising as rising
-use Rattle.tree_rising.specs.Root.{risen_by}
+use Rattle.tree_phases.specs.Placing.{has_nothing}
+use Rattle.tree_phases.specs.Read.{damaged, leaf_or, tree_held}
+use Rattle.tree_phases.specs.Reserve.{version_spent, pages_spent, next_tree}
+use Rattle.tree_phases.specs.Descent.{fork_of, arrive, absent_node, with_node, got_node, descent_got}
+use Rattle.tree_phases.specs.declared.folding.Left.TheVariants.{Right}
+use Rattle.tree_phases.specs.Plan.{leaf_plan}
+use Rattle.tree_phases.specs.Folding.{folding_ask, turned, to_right, planned, handled_by, handle, leaf_got, leaf_put, leaf_at, leaf_side, leaf_found, bad_low}
+use Rattle.tree_phases.specs.Nodes.{node_plan}
+use Rattle.tree_phases.specs.Rising.{rising_ask, next_touched, touched_node, put_node, put_root, plan_of, last_plan, rise_at, rise, landed, after_put}
+use Rattle.tree_phases.specs.Rising as rising
+use Rattle.tree_phases.specs.Root.{risen_by}
 use Rattle.tree_moves.specs.declared.work.Onward.TheVariants as onward
 use Rattle.tree_moves.specs.declared.work.Work.TheVariants as work
 use Rattle.tree_moves.specs.Work.{work_ask, delete_ask, release_ask}

@@ -4,9 +4,9 @@ use Rattle.db_base.specs.declared.names.ObjName.TheVariants as object
 use Rattle.cloud_trait.specs.declared.answer.Answer.TheVariants as call
 use Rattle.cloud_trait.specs.Ask.{GetHeld}
 use Rattle.leaf_view.specs.Leaf.{Leaf}
-use Rattle.tree_parts.specs.Placing.{has_nothing}
-use Rattle.leaf_fold.specs.Folding.{folding_ask}
-use Rattle.tree_rising.specs.Rising.{rising_ask, landed, next_touched}
+use Rattle.tree_phases.specs.Placing.{has_nothing}
+use Rattle.tree_phases.specs.Folding.{folding_ask}
+use Rattle.tree_phases.specs.Rising.{rising_ask, landed, next_touched}
 use Rattle.tree_moves.specs.declared.work.Work.TheVariants as work
 use Rattle.tree_moves.specs.Work.{work_ask}
 use Rattle.tree_ckpt.specs.Making.{Making, making_ask}

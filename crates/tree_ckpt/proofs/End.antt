@@ -7,13 +7,13 @@ use Rattle.node_codec.specs.Tree.{Tree, tree_of}
 use Rattle.ckpt_parts.specs.Deleting.{next_id, tried}
 use Rattle.ckpt_parts.specs.Intakes.{has_items, TakesIn}
 use Rattle.ckpt_parts.specs.Leasing.{claims_of, newest_lease, without_newest}
-use Rattle.tree_parts.specs.Placing.{has_nothing, landed_placing}
-use Rattle.tree_parts.specs.Read.{tree_held}
-use Rattle.tree_descent.specs.Descent.{descent_next}
-use Rattle.tree_descent.specs.Descent as way
-use Rattle.leaf_fold.specs.declared.folding.Left.TheVariants.{Right, Handled}
-use Rattle.leaf_fold.specs.Folding as fold
-use Rattle.tree_rising.specs.Rising as rise
+use Rattle.tree_phases.specs.Placing.{has_nothing, landed_placing}
+use Rattle.tree_phases.specs.Read.{tree_held}
+use Rattle.tree_phases.specs.Descent.{descent_next}
+use Rattle.tree_phases.specs.Descent as way
+use Rattle.tree_phases.specs.declared.folding.Left.TheVariants.{Right, Handled}
+use Rattle.tree_phases.specs.Folding as fold
+use Rattle.tree_phases.specs.Rising as rise
 use Rattle.tree_moves.specs.declared.work.Onward.TheVariants as onward
 use Rattle.tree_moves.specs.declared.work.Work.TheVariants as work
 use Rattle.tree_moves.specs.Work.{work_ask, one_lease}

@@ -12,8 +12,8 @@ use Rattle.node_codec.specs.Tree.{Tree, with_child}
 use Rattle.split_plan.specs.Cut.{IsCut}
 use Rattle.split_plan.specs.Part.{NodePart, entry_key, part_of_node}
 use Rattle.split_plan.specs.Plan.{put_of, on_pages, node_bytes}
-use Rattle.tree_rising.specs.Nodes.{goes_to, with_links}
-use Rattle.tree_rising.specs.Root.{is_named, with_named}
+use Rattle.tree_phases.specs.Nodes.{goes_to, with_links}
+use Rattle.tree_phases.specs.Root.{is_named, with_named}
 use Rattle.tree_ckpt.specs.Working.{IsAmong, PutsEntry, PutsPieces, PutsRoot, HasRisen, IsNamed, IsInRange, IsOfRoot, linked_node, raised_root}
 use Rattle.tree_ckpt.proofs.Words.{PagePut, NewEntry, Placing, Link, RootPlan}
 

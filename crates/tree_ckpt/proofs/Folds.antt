@@ -11,13 +11,13 @@ use Rattle.split_plan.specs.Cut.{cut_by}
 use Rattle.split_plan.specs.Part.{LeafPart, record_key, part_of_leaf}
 use Rattle.split_plan.specs.Plan.{put_of, on_pages, leaf_bytes, leaf_pieces}
 use Rattle.split_plan.specs.Sizes.{count_of, cuts_of}
-use Rattle.tree_parts.specs.Kept.{links_at}
-use Rattle.tree_parts.specs.Placing.{has_nothing, has_one_page, puts_after}
-use Rattle.tree_parts.specs.Read.{tree_held}
-use Rattle.tree_parts.specs.Reserve.{reservation, version_spent}
-use Rattle.leaf_fold.specs.declared.folding.Left.TheVariants.{Right, Handled}
-use Rattle.leaf_fold.specs.Plan as plan
-use Rattle.leaf_fold.specs.Folding.{FoldingStep, leaf_got, landed, counted, leaf_put, folding_next}
+use Rattle.tree_phases.specs.Kept.{links_at}
+use Rattle.tree_phases.specs.Placing.{has_nothing, has_one_page, puts_after}
+use Rattle.tree_phases.specs.Read.{tree_held}
+use Rattle.tree_phases.specs.Reserve.{reservation, version_spent}
+use Rattle.tree_phases.specs.declared.folding.Left.TheVariants.{Right, Handled}
+use Rattle.tree_phases.specs.Plan as plan
+use Rattle.tree_phases.specs.Folding.{FoldingStep, leaf_got, landed, counted, leaf_put, folding_next}
 use Rattle.tree_ckpt.specs.End.{unhandled, behind_key, puts_left, from_on_or_none}
 use Rattle.tree_ckpt.specs.Leases.{IsPlanned}
 use Rattle.tree_ckpt.proofs.Words.{Trouble, PuItem, Answer, Goes, Ends, Stops, got_of, done_of, PagePut, Chart, Reserved, Folding, LeafPlan}

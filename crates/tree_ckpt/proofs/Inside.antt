@@ -24,8 +24,8 @@ use Rattle.split_plan.specs.Part.{Part, entry_key, record_key, part_of_leaf, par
 use Rattle.split_plan.specs.Plan.{entry_of, on_pages, node_bytes}
 use Rattle.split_plan.specs.Sizes.{count_of, sizes_of, cuts_of, CanCut}
 use Rattle.split_plan.proofs.Counting.{can-cuts, cuts-and-last}
-use Rattle.tree_parts.specs.Kept.{links_at}
-use Rattle.tree_rising.specs.Nodes.{goes_to, with_links}
+use Rattle.tree_phases.specs.Kept.{links_at}
+use Rattle.tree_phases.specs.Nodes.{goes_to, with_links}
 use Rattle.node_codec.specs.Tree.{Tree}
 use Rattle.tree_ckpt.specs.Working.{IsAmong, PutsPieces, PutsLeaf, HoldsLeaf, linked_node, HoldsLow}
 use Rattle.tree_ckpt.proofs.Fences.{seen_read, then_read, whole_read}

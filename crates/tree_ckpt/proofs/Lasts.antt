@@ -5,11 +5,11 @@ use Rattle.node_codec.specs.Node.{raised, with_entry}
 use Rattle.node_codec.specs.Tree.{Tree, tree_bytes, with_child}
 use Rattle.split_plan.specs.Plan.{root_above}
 use Rattle.split_plan.specs.Sizes.{count_of}
-use Rattle.tree_parts.specs.Read.{tree_held}
-use Rattle.tree_parts.specs.Reserve.{version_spent, pages_spent, reservation}
-use Rattle.tree_rising.specs.Root.{is_named, with_named, new_pages, lowered, cut_at, cut_by, cut_behind, root_cut, root_plan, uncut}
-use Rattle.tree_rising.specs.Root as root
-use Rattle.tree_rising.specs.Rising.{RisingStep, plan_of, last_plan, rise, landed, risen_by}
+use Rattle.tree_phases.specs.Read.{tree_held}
+use Rattle.tree_phases.specs.Reserve.{version_spent, pages_spent, reservation}
+use Rattle.tree_phases.specs.Root.{is_named, with_named, new_pages, lowered, cut_at, cut_by, cut_behind, root_cut, root_plan, uncut}
+use Rattle.tree_phases.specs.Root as root
+use Rattle.tree_phases.specs.Rising.{RisingStep, plan_of, last_plan, rise, landed, risen_by}
 use Rattle.tree_ckpt.proofs.Words.{Trouble, Taken, Goes, Ends, Stops, Link, Reserved, Rising, RootPlan}
 use Rattle.tree_ckpt.proofs.RiseOutcomes.{Rises, Lands, rises, lands}
 use Rattle.tree_ckpt.proofs.RiseOutcomes as step

@@ -9,11 +9,11 @@ use Rattle.leaf_view.specs.Leaf.{Leaf, leaf}
 use Rattle.leaf_view.specs.Lookup.{empty_leaf, page_at}
 use Rattle.leaf_edit.specs.Lacked.{lacked}
 use Rattle.run_cursor.specs.Covered.{is_seen}
-use Rattle.tree_parts.specs.Placing.{has_one_page}
-use Rattle.tree_parts.specs.Read.{damaged, leaf_or, tree_held}
-use Rattle.leaf_fold.specs.declared.folding.Left.TheVariants.{Right, Handled}
-use Rattle.leaf_fold.specs.Plan.{leaf_plan}
-use Rattle.leaf_fold.specs.Folding.{FoldingStep, turned, handled_to, put_planned, planned, handled_by, handle, to_right, leaf_side, leaf_at, leaf_found, leaf_got, bad_low, landed, counted, leaf_put}
+use Rattle.tree_phases.specs.Placing.{has_one_page}
+use Rattle.tree_phases.specs.Read.{damaged, leaf_or, tree_held}
+use Rattle.tree_phases.specs.declared.folding.Left.TheVariants.{Right, Handled}
+use Rattle.tree_phases.specs.Plan.{leaf_plan}
+use Rattle.tree_phases.specs.Folding.{FoldingStep, turned, handled_to, put_planned, planned, handled_by, handle, to_right, leaf_side, leaf_at, leaf_found, leaf_got, bad_low, landed, counted, leaf_put}
 use Rattle.tree_ckpt.specs.Causes.{GoesRight}
 use Rattle.tree_ckpt.specs.Working.{HoldsLeaf}
 use Rattle.tree_ckpt.proofs.Words.{Trouble, PuItem, Goes, Ends, Stops, Folding, LeafPlan}

@@ -7,9 +7,9 @@ use Rattle.cloud_trait.specs.declared.answer.Answer.TheVariants as call
 use Rattle.cloud_trait.specs.Ask.{Take, GetHeld}
 use Rattle.ckpt_parts.specs.Deleting.{next_id}
 use Rattle.ckpt_parts.specs.Leasing.{claims_of, newest_lease, without_newest, outstanding, outstanding_after}
-use Rattle.tree_parts.specs.Placing.{put_in_hand, put_first, put_next}
-use Rattle.leaf_fold.specs.Folding.{folding_ask, folding_next}
-use Rattle.tree_rising.specs.Rising.{last_ask}
+use Rattle.tree_phases.specs.Placing.{put_in_hand, put_first, put_next}
+use Rattle.tree_phases.specs.Folding.{folding_ask, folding_next}
+use Rattle.tree_phases.specs.Rising.{last_ask}
 use Rattle.tree_moves.specs.declared.work.Work.TheVariants as work
 use Rattle.tree_moves.specs.Work.{work_ask, delete_ask, release_ask, claims_in}
 use Rattle.tree_moves.specs.Moves.{Step, Leads}

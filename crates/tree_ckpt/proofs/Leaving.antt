@@ -1,7 +1,7 @@
 -- The lease and the page of a leaf stay while the leaf is worked on.
 use Rattle.std.proofs.Common.{◌≡◌, ℕ, Bool, true, false, cond, List, Option, Result, refl}
-use Rattle.tree_parts.specs.Placing.{has_nothing}
-use Rattle.leaf_fold.specs.Folding.{FoldingStep, leaf_got, leaf_put, folding_next}
+use Rattle.tree_phases.specs.Placing.{has_nothing}
+use Rattle.tree_phases.specs.Folding.{FoldingStep, leaf_got, leaf_put, folding_next}
 use Rattle.tree_ckpt.proofs.Words.{Trouble, Answer, Goes, Ends, Stops, got_of, done_of, Folding}
 use Rattle.tree_ckpt.proofs.LeafOutcomes.{Reads, Lands, reads, put_lands}
 use Rattle.tree_ckpt.proofs.LeafOutcomes as step

@@ -12,12 +12,12 @@ use Rattle.cloud_trait.specs.Ask.{GetHeld, Receive, Delete, Release, PutHeld}
 use Rattle.ckpt_parts.specs.Deleting.{Deleting, to_delete, next_id, tried}
 use Rattle.ckpt_parts.specs.Intakes.{has_items, items_of, intake_of, TakesItems}
 use Rattle.ckpt_parts.specs.Leasing.{newest_lease, without_newest}
-use Rattle.tree_parts.specs.Placing.{has_nothing, put_first, put_next}
-use Rattle.tree_parts.specs.Read.{tree_held}
-use Rattle.tree_descent.specs.Descent.{descent_ask, descent_next}
-use Rattle.leaf_fold.specs.Folding.{folding_ask, folding_next}
-use Rattle.leaf_fold.specs.Folding as fold
-use Rattle.tree_rising.specs.Rising as rise
+use Rattle.tree_phases.specs.Placing.{has_nothing, put_first, put_next}
+use Rattle.tree_phases.specs.Read.{tree_held}
+use Rattle.tree_phases.specs.Descent.{descent_ask, descent_next}
+use Rattle.tree_phases.specs.Folding.{folding_ask, folding_next}
+use Rattle.tree_phases.specs.Folding as fold
+use Rattle.tree_phases.specs.Rising as rise
 use Rattle.tree_moves.specs.declared.work.Onward.TheVariants as onward
 use Rattle.tree_moves.specs.declared.work.Work.TheVariants as work
 use Rattle.tree_moves.specs.Work.{work_ask, take_tree, one_lease, delete_ask, release_ask}
@@ -27,8 +27,8 @@ use Rattle.tree_ckpt.specs.Leases.{Went, HasIds}
 use Rattle.tree_ckpt.specs.Causes.{Calls}
 use Rattle.tree_ckpt.specs.Working.{Visit, Worked, WorksBy, leaf_place, below_root, IsLeftFor, applied_count}
 use Rattle.tree_ckpt.specs.Meaning.{Opening, opening_calls, IsOpened, IsAtWork, AreAtWork, IsRootPut, Works, Tried, deletes_over, tried_before, one_more, one_less, went_count, failed_count, IsDone, MeansDone}
-use Rattle.leaf_fold.specs.declared.folding.Left.TheVariants.{Right, Handled}
-use Rattle.tree_descent.specs.Descent.{begun}
+use Rattle.tree_phases.specs.declared.folding.Left.TheVariants.{Right, Handled}
+use Rattle.tree_phases.specs.Descent.{begun}
 use Rattle.tree_ckpt.proofs.Words.{Trouble, QueueName, PuItem, Taken, Answer, Message, CkptAnswer, Turn, More, Ended, Stopped, Claim, Next, Goes, Ends, Stops, Took, Deed, Came, calls_of, done_of, Ask, PagePut, Intake, Leases, Chart, Descent, Folding, Left, Rising, Coming, Held, Onward, Work}
 use Rattle.tree_ckpt.proofs.Outcomes.{Seeks, Descends, Ascends, Clears, Comes, comes, has_ids}
 use Rattle.tree_ckpt.proofs.Outcomes as step

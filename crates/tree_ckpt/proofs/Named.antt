@@ -5,10 +5,10 @@ use Rattle.std.specs.List.{AllByRecursion}
 use Rattle.node_codec.specs.Inner.{Inner, inner_of}
 use Rattle.node_codec.specs.Node.{Entry}
 use Rattle.split_plan.specs.declared.entry_list.NewEntry.{NewEntry}
-use Rattle.tree_parts.specs.declared.link.Link.{Link}
-use Rattle.tree_parts.specs.Kept.{links_at}
-use Rattle.tree_parts.specs.Read.{tree_held}
-use Rattle.tree_rising.specs.Nodes.{goes_to, is_touched}
+use Rattle.tree_phases.specs.declared.link.Link.{Link}
+use Rattle.tree_phases.specs.Kept.{links_at}
+use Rattle.tree_phases.specs.Read.{tree_held}
+use Rattle.tree_phases.specs.Nodes.{goes_to, is_touched}
 use Rattle.tree_ckpt.specs.Causes.{Calls}
 use Rattle.tree_ckpt.specs.Working.{Climb, AreClimbs, IsPut, PutsNode, IsAmong, PutsEntry, HasClimbed, IsNamed, IsInRange, links_above, root_above}
 use Rattle.tree_ckpt.proofs.Entries.{among_front, among_either, goes, node_names}

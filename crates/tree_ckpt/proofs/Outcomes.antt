@@ -9,12 +9,12 @@ use Rattle.cloud_trait.proofs.ViewLemmas.{given_of-ok, got_of-ok, received_of-ok
 use Rattle.ckpt_parts.specs.Deleting.{next_id, tried}
 use Rattle.ckpt_parts.specs.Intakes.{has_items, TakesIn}
 use Rattle.ckpt_parts.specs.Leasing.{newest_lease, without_newest}
-use Rattle.tree_parts.specs.Read.{tree_held}
-use Rattle.tree_descent.specs.Descent.{descent_next}
-use Rattle.leaf_fold.specs.Folding.{folding_next}
-use Rattle.leaf_fold.specs.Folding as fold
-use Rattle.tree_rising.specs.Rising.{rising_next}
-use Rattle.tree_rising.specs.Rising as rise
+use Rattle.tree_phases.specs.Read.{tree_held}
+use Rattle.tree_phases.specs.Descent.{descent_next}
+use Rattle.tree_phases.specs.Folding.{folding_next}
+use Rattle.tree_phases.specs.Folding as fold
+use Rattle.tree_phases.specs.Rising.{rising_next}
+use Rattle.tree_phases.specs.Rising as rise
 use Rattle.tree_moves.specs.declared.work.Onward.TheVariants as onward
 use Rattle.tree_moves.specs.declared.work.Work.TheVariants as work
 use Rattle.tree_moves.specs.Work.{one_lease, two_leases}

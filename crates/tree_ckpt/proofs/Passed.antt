@@ -4,7 +4,7 @@ use Rattle.std.specs.Prelude.{find}
 use Rattle.std.proofs.lemmas.Bool.{eq-eqb, eqb-true}
 use Rattle.std.proofs.lemmas.List.Folds.{list_any-append}
 use Rattle.run_cursor.specs.Covered.{is_seen}
-use Rattle.tree_parts.specs.declared.kept.KeptNode.{KeptNode}
+use Rattle.tree_phases.specs.declared.kept.KeptNode.{KeptNode}
 
 abbrev pub unseen : List ℕ → List KeptNode → ℕ
 unseen pages [] = 0

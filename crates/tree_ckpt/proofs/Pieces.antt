@@ -16,13 +16,13 @@ use Rattle.split_plan.specs.Plan.{put_of, entry_of, on_pages, leaf_bytes, node_b
 use Rattle.split_plan.specs.Sizes.{count_of, sizes_of, cuts_of}
 use Rattle.split_plan.proofs.Counting.{least-count, length-cuts}
 use Rattle.split_plan.proofs.Cutting.{pieces-are-a-cut}
-use Rattle.tree_parts.specs.Read.{inner_or}
-use Rattle.tree_parts.specs.Reserve.{reservation, reserved_by, next_tree, version_spent, pages_spent}
-use Rattle.leaf_fold.specs.Plan as fold
-use Rattle.tree_rising.specs.Nodes as nodes
-use Rattle.leaf_fold.specs.Folding.{no_placing}
-use Rattle.tree_rising.specs.Rising.{plan_of}
-use Rattle.tree_rising.specs.Root.{raised_root as planned_root, risen_by, lowered, cut_at, cut_behind, cut_by as cut_by_count, root_cut, root_plan, uncut}
+use Rattle.tree_phases.specs.Read.{inner_or}
+use Rattle.tree_phases.specs.Reserve.{reservation, reserved_by, next_tree, version_spent, pages_spent}
+use Rattle.tree_phases.specs.Plan as fold
+use Rattle.tree_phases.specs.Nodes as nodes
+use Rattle.tree_phases.specs.Folding.{no_placing}
+use Rattle.tree_phases.specs.Rising.{plan_of}
+use Rattle.tree_phases.specs.Root.{raised_root as planned_root, risen_by, lowered, cut_at, cut_behind, cut_by as cut_by_count, root_cut, root_plan, uncut}
 use Rattle.tree_ckpt.specs.Working.{Reserves, PutsPieces, PutsLeaf, PutsNode, linked_node, raised_root, PutsWhole, PutsBelow, PutsRoot}
 use Rattle.tree_ckpt.proofs.Words.{Trouble, PuItem, KeptNode, Link, Reserved, LeafPlan, NodePlan, RootPlan}
 use Rattle.tree_ckpt.proofs.Spent.{named_numbered}

@@ -12,10 +12,10 @@ use Rattle.leaf_edit.specs.Lacked.{lacked}
 use Rattle.cloud_trait.specs.declared.answer.Answer.TheVariants as call
 use Rattle.run_cursor.specs.Covered.{is_seen}
 use Rattle.ckpt_parts.specs.Intakes.{has_items}
-use Rattle.tree_parts.specs.Placing.{root_after, landed_root, has_one_page}
-use Rattle.tree_parts.specs.Read.{tree_held}
-use Rattle.leaf_fold.specs.declared.folding.Left.TheVariants.{Right, Handled}
-use Rattle.leaf_fold.specs.Folding.{FoldingStep, leaf_got, landed, counted, placed}
+use Rattle.tree_phases.specs.Placing.{root_after, landed_root, has_one_page}
+use Rattle.tree_phases.specs.Read.{tree_held}
+use Rattle.tree_phases.specs.declared.folding.Left.TheVariants.{Right, Handled}
+use Rattle.tree_phases.specs.Folding.{FoldingStep, leaf_got, landed, counted, placed}
 use Rattle.tree_ckpt.specs.Causes.{Calls, Brings, WasGot, WasPut, WasRoot, WasLeaf, WasRead, IsLink, Shows}
 use Rattle.tree_ckpt.specs.Working.{HoldsLeaf}
 use Rattle.tree_ckpt.specs.Due.{Due, LeafDue, GetsLeaf}

@@ -1,11 +1,11 @@
 -- What the way up comes to, whatever branches led there.
 use Rattle.std.proofs.Common.{◌≡◌, ◌+◌, Bool, true, false, cond, List, ℕ, Option, Some, None, Result, Ok, Err, refl, ap, ◌∙◌}
 use Rattle.std.specs.Prelude.{◌||◌, ◌&&◌, not, is_some}
-use Rattle.tree_parts.specs.Placing.{has_nothing}
-use Rattle.tree_parts.specs.Read.{tree_held}
-use Rattle.tree_parts.specs.Reserve.{version_spent}
-use Rattle.tree_rising.specs.Nodes.{node_plan}
-use Rattle.tree_rising.specs.Rising.{RisingStep, next_touched, touched_node, put_node, put_root, last_plan, rise_at, rise, landed, after_put, risen_by}
+use Rattle.tree_phases.specs.Placing.{has_nothing}
+use Rattle.tree_phases.specs.Read.{tree_held}
+use Rattle.tree_phases.specs.Reserve.{version_spent}
+use Rattle.tree_phases.specs.Nodes.{node_plan}
+use Rattle.tree_phases.specs.Rising.{RisingStep, next_touched, touched_node, put_node, put_root, last_plan, rise_at, rise, landed, after_put, risen_by}
 use Rattle.tree_ckpt.proofs.Words.{Trouble, Goes, Ends, Stops, KeptNode, Rising, NodePlan, RootPlan}
 
 -- something is to be put on the way up

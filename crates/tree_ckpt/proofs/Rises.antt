@@ -8,11 +8,11 @@ use Rattle.split_plan.specs.Cut.{cut_by as pieces_by}
 use Rattle.split_plan.specs.Part.{NodePart, entry_key, part_of_node}
 use Rattle.split_plan.specs.Plan.{put_of, on_pages, node_bytes, node_pieces}
 use Rattle.split_plan.specs.Sizes.{count_of, cuts_of}
-use Rattle.tree_parts.specs.Placing.{has_nothing}
-use Rattle.tree_parts.specs.Read.{inner_read, tree_held}
-use Rattle.tree_parts.specs.Reserve.{version_spent, reservation}
-use Rattle.tree_rising.specs.Nodes as nodes
-use Rattle.tree_rising.specs.Rising.{RisingStep, next_touched, touched_node, rise, landed, put_landed}
+use Rattle.tree_phases.specs.Placing.{has_nothing}
+use Rattle.tree_phases.specs.Read.{inner_read, tree_held}
+use Rattle.tree_phases.specs.Reserve.{version_spent, reservation}
+use Rattle.tree_phases.specs.Nodes as nodes
+use Rattle.tree_phases.specs.Rising.{RisingStep, next_touched, touched_node, rise, landed, put_landed}
 use Rattle.tree_ckpt.specs.Causes.{Calls, Shows}
 use Rattle.tree_ckpt.specs.Due.{NodeDue, RootDue, WasLastButOne}
 use Rattle.tree_ckpt.proofs.Words.{Trouble, Answer, Goes, Ends, Stops, Ask, KeptNode, Placing, Reserved, Rising, NodePlan, RootPlan}

@@ -10,8 +10,8 @@ use Rattle.node_codec.proofs.EntryLemmas.{fits_to_last}
 use Rattle.node_codec.proofs.NodeLemmas.{in_range_from, in_range_parts}
 use Rattle.node_codec.proofs.SpellingLaws.{tree_again}
 use Rattle.node_codec.proofs.TreeLemmas.{TreeFits, tree_fits, fit_tree}
-use Rattle.tree_parts.specs.Placing.{root_after}
-use Rattle.tree_parts.specs.Read.{tree_held}
+use Rattle.tree_phases.specs.Placing.{root_after}
+use Rattle.tree_phases.specs.Read.{tree_held}
 use Rattle.tree_ckpt.specs.Working.{Reserves}
 use Rattle.tree_ckpt.proofs.Fits.{tree_read_fits}
 use Rattle.tree_ckpt.proofs.Nodes.{and_both}

@@ -19,18 +19,18 @@ use Rattle.split_plan.specs.Cut.{cut_by as pieces_by}
 use Rattle.split_plan.specs.Part.{NodePart, entry_key, part_of_node}
 use Rattle.split_plan.specs.Plan.{put_of, on_pages, node_bytes, root_pieces}
 use Rattle.split_plan.specs.Sizes.{count_of, cuts_of}
-use Rattle.tree_parts.specs.declared.kept.KeptNode.{KeptNode}
-use Rattle.tree_parts.specs.declared.link.Link.{Link}
-use Rattle.tree_parts.specs.declared.reserve.Reserved.{Reserved}
-use Rattle.tree_parts.specs.Read.{inner_or}
-use Rattle.tree_parts.specs.Reserve.{version_spent, pages_spent, next_tree, reserved, reserved_by, reservation}
-use Rattle.leaf_fold.specs.declared.plan.LeafPlan.{LeafPlan}
-use Rattle.leaf_fold.specs.Plan as plan
-use Rattle.tree_rising.specs.declared.node.NodePlan.{NodePlan}
-use Rattle.tree_rising.specs.declared.root.RootPlan.{RootPlan}
-use Rattle.tree_rising.specs.Nodes as nodes
-use Rattle.tree_rising.specs.Rising.{plan_of}
-use Rattle.tree_rising.specs.Root.{is_named, with_named, risen_by, lowered, cut_at, cut_by, cut_behind, root_cut, root_plan, uncut}
+use Rattle.tree_phases.specs.declared.kept.KeptNode.{KeptNode}
+use Rattle.tree_phases.specs.declared.link.Link.{Link}
+use Rattle.tree_phases.specs.declared.reserve.Reserved.{Reserved}
+use Rattle.tree_phases.specs.Read.{inner_or}
+use Rattle.tree_phases.specs.Reserve.{version_spent, pages_spent, next_tree, reserved, reserved_by, reservation}
+use Rattle.tree_phases.specs.declared.plan.LeafPlan.{LeafPlan}
+use Rattle.tree_phases.specs.Plan as plan
+use Rattle.tree_phases.specs.declared.node.NodePlan.{NodePlan}
+use Rattle.tree_phases.specs.declared.root.RootPlan.{RootPlan}
+use Rattle.tree_phases.specs.Nodes as nodes
+use Rattle.tree_phases.specs.Rising.{plan_of}
+use Rattle.tree_phases.specs.Root.{is_named, with_named, risen_by, lowered, cut_at, cut_by, cut_behind, root_cut, root_plan, uncut}
 use Rattle.tree_ckpt.specs.Due.{Due, LeafDue, NodeDue, RootDue, raised, root_of, version_of, pages_of, Reserves, IsSpent, HasNoPages}
 
 -- so the trouble is for what is due

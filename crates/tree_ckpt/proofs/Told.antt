@@ -10,7 +10,7 @@ use Rattle.node_codec.specs.Inner.{Inner, inner_of}
 use Rattle.node_codec.specs.Tree.{Tree}
 use Rattle.split_plan.specs.Part.{Part}
 use Rattle.split_plan.specs.Plan.{put_of, entry_of, on_pages}
-use Rattle.tree_parts.specs.Kept.{links_at}
+use Rattle.tree_phases.specs.Kept.{links_at}
 use Rattle.tree_ckpt.specs.Causes.{Calls, WasGot}
 use Rattle.tree_ckpt.specs.Working.{IsAmong, done_over, page_puts, reserved_before, puts_of, PutsPieces, Outcome, Planned, Spared, Passed, Visit, placing_of, held_over, visits_over, IsTurn, AreTurns, IsLeft, AreVisits, links_from, links_behind, Climb, climbs_over, links_above, AreClimbs}
 use Rattle.tree_ckpt.proofs.Words.{Answer, Ask, Claim, NewEntry, PagePut, Placing, Link, Taken}

@@ -15,14 +15,14 @@ use Rattle.cloud_trait.specs.declared.answer.Answer.TheVariants as call
 use Rattle.cloud_trait.proofs.ViewLemmas.{got_of-ok}
 use Rattle.cloud_trait.specs.Ask.{GetHeld, Take, Release}
 use Rattle.ckpt_parts.specs.Intakes.{has_items}
-use Rattle.tree_parts.specs.Kept.{links_at, with_kept}
+use Rattle.tree_phases.specs.Kept.{links_at, with_kept}
 use Rattle.node_codec.specs.Inner.{Inner, inner_of, inner_format}
-use Rattle.tree_parts.specs.Placing.{put_in_hand, landed_root, landed_placing, has_nothing, has_one_page}
-use Rattle.tree_parts.specs.Read.{inner_or, tree_held}
-use Rattle.tree_descent.specs.Descent.{descent_ask, descent_got, descent_next, got_node, fork_of, forked_by}
-use Rattle.leaf_fold.specs.declared.folding.Left.TheVariants.{Right, Handled}
-use Rattle.leaf_fold.specs.Plan.{leaf_plan}
-use Rattle.leaf_fold.specs.Folding as fold
+use Rattle.tree_phases.specs.Placing.{put_in_hand, landed_root, landed_placing, has_nothing, has_one_page}
+use Rattle.tree_phases.specs.Read.{inner_or, tree_held}
+use Rattle.tree_phases.specs.Descent.{descent_ask, descent_got, descent_next, got_node, fork_of, forked_by}
+use Rattle.tree_phases.specs.declared.folding.Left.TheVariants.{Right, Handled}
+use Rattle.tree_phases.specs.Plan.{leaf_plan}
+use Rattle.tree_phases.specs.Folding as fold
 use Rattle.tree_ckpt.specs.Causes.{Calls, WasGot, GoesRight}
 use Rattle.tree_ckpt.specs.Meaning.{Opening}
 use Rattle.tree_ckpt.specs.Working.{done_over, puts_of, Visit, held_over, visits_over, AreLooks, HoldsLeaf, IsLeft, IsFor, IsVisit, Place, leaf_place, IsLeftFor, IsStart, IsCome, IsWay, IsOver, IsAmong, root_behind, links_behind, looks_of, AreVisits, lacked_on, IsSettled, PutsLeaf, AreTurns, Outcome, Planned, Spared, Passed}

@@ -9,12 +9,12 @@ use Rattle.byte_format.proofs.OrderLemmas.{same_is}
 use Rattle.db_base.specs.declared.names.ObjName.TheVariants as object
 use Rattle.node_codec.specs.Inner.{Inner, inner_of, inner_format}
 use Rattle.node_codec.specs.Node.{Entry, child_of, page_at}
-use Rattle.tree_parts.specs.Kept.{with_kept}
-use Rattle.tree_parts.specs.Read.{damaged, inner_or}
-use Rattle.tree_descent.specs.declared.fork.Fork.TheVariants.{Right, Down}
-use Rattle.tree_descent.specs.Fork.{bad_fence, down_to, fork_at, forked_on}
-use Rattle.tree_descent.specs.Fork as fork
-use Rattle.tree_descent.specs.Descent.{begun, forked, forked_by, passed, fork_of, kept_at, arrive, with_node, got_node}
+use Rattle.tree_phases.specs.Kept.{with_kept}
+use Rattle.tree_phases.specs.Read.{damaged, inner_or}
+use Rattle.tree_phases.specs.declared.fork.Fork.TheVariants.{Right, Down}
+use Rattle.tree_phases.specs.Fork.{bad_fence, down_to, fork_at, forked_on}
+use Rattle.tree_phases.specs.Fork as fork
+use Rattle.tree_phases.specs.Descent.{begun, forked, forked_by, passed, fork_of, kept_at, arrive, with_node, got_node}
 use Rattle.tree_moves.specs.Moves.{entry_or, root_entry}
 use Rattle.tree_ckpt.specs.Causes.{Calls, WasGot, WasNode, GoesRight}
 use Rattle.tree_ckpt.specs.Working.{IsAmong, AreTurns, Place, below_root, link_to, LeadsOn, IsWay}

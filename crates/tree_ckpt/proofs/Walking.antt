@@ -13,12 +13,12 @@ use Rattle.node_codec.specs.Inner.{Inner, inner_of, inner_format}
 use Rattle.node_codec.specs.Node.{Entry, child_of, page_at}
 use Rattle.node_codec.proofs.NodeLemmas.{not_below_empty}
 use Rattle.run_cursor.specs.Covered.{is_seen}
-use Rattle.tree_parts.specs.Read.{damaged, inner_or, tree_held}
-use Rattle.tree_descent.specs.declared.descent.Reach.{Reach}
-use Rattle.tree_descent.specs.declared.descent.Reach.TheVariants.{Leaf}
-use Rattle.tree_descent.specs.declared.fork.Fork.TheVariants.{Right, Down}
-use Rattle.tree_descent.specs.Fork.{bad_fence, down_to, fork_at, forked_on}
-use Rattle.tree_descent.specs.Descent.{forked, forked_by, fork_of, passed, go_on, stride_at, kept_at, stride, follow, walk, arrived, arrive}
+use Rattle.tree_phases.specs.Read.{damaged, inner_or, tree_held}
+use Rattle.tree_phases.specs.declared.descent.Reach.{Reach}
+use Rattle.tree_phases.specs.declared.descent.Reach.TheVariants.{Leaf}
+use Rattle.tree_phases.specs.declared.fork.Fork.TheVariants.{Right, Down}
+use Rattle.tree_phases.specs.Fork.{bad_fence, down_to, fork_at, forked_on}
+use Rattle.tree_phases.specs.Descent.{forked, forked_by, fork_of, passed, go_on, stride_at, kept_at, stride, follow, walk, arrived, arrive}
 use Rattle.tree_moves.specs.Moves.{entry_or}
 use Rattle.tree_ckpt.specs.Way.{IsFresh, WasKept, IsPromised, behind, LeadsOver, ComesOver, BreaksAt, BreaksFrom, from_root}
 use Rattle.tree_ckpt.proofs.Words.{Trouble, Next, Goes, Ends, Stops, Chart, KeptNode, Descent, Fork}

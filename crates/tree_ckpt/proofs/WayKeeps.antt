@@ -4,9 +4,9 @@ use Rattle.std.specs.Prelude.{◌==◌}
 use Rattle.std.proofs.lemmas.Bool.{eqb-true}
 use Rattle.db_base.specs.declared.trouble.Trouble.TheVariants as trouble
 use Rattle.run_cursor.specs.Covered.{is_seen}
-use Rattle.tree_descent.specs.declared.descent.Reach.{Reach}
-use Rattle.tree_descent.specs.declared.descent.Reach.TheVariants.{Node, Leaf}
-use Rattle.tree_descent.specs.Descent.{passed, fork_of, go_on, stride_at, kept_at, stride, follow, walk, arrived, arrive}
+use Rattle.tree_phases.specs.declared.descent.Reach.{Reach}
+use Rattle.tree_phases.specs.declared.descent.Reach.TheVariants.{Node, Leaf}
+use Rattle.tree_phases.specs.Descent.{passed, fork_of, go_on, stride_at, kept_at, stride, follow, walk, arrived, arrive}
 use Rattle.tree_ckpt.proofs.Words.{Trouble, Next, Goes, Ends, Stops, KeptNode, Descent, Fork}
 
 -- where a way down leads; it ends at a leaf

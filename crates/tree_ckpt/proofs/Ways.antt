@@ -13,12 +13,12 @@ use Rattle.node_codec.specs.Node.{Entry, child_of, later_of, page_at}
 use Rattle.node_codec.proofs.NodeLemmas.{not_below_empty}
 use Rattle.cloud_trait.specs.declared.answer.Answer.TheVariants as call
 use Rattle.run_cursor.specs.Covered.{is_seen}
-use Rattle.tree_parts.specs.Read.{damaged, inner_or, tree_held}
-use Rattle.tree_descent.specs.declared.descent.Reach.{Reach}
-use Rattle.tree_descent.specs.declared.descent.Reach.TheVariants.{Node, Leaf}
-use Rattle.tree_descent.specs.declared.fork.Fork.TheVariants.{Right, Down}
-use Rattle.tree_descent.specs.Fork.{bad_fence, down_to, fork_at, forked_on}
-use Rattle.tree_descent.specs.Descent.{begun, forked, forked_by, fork_of, passed, go_on, stride_at, kept_at, stride, follow, walk, arrived, arrive, absent_node, with_node, got_node, descent_got}
+use Rattle.tree_phases.specs.Read.{damaged, inner_or, tree_held}
+use Rattle.tree_phases.specs.declared.descent.Reach.{Reach}
+use Rattle.tree_phases.specs.declared.descent.Reach.TheVariants.{Node, Leaf}
+use Rattle.tree_phases.specs.declared.fork.Fork.TheVariants.{Right, Down}
+use Rattle.tree_phases.specs.Fork.{bad_fence, down_to, fork_at, forked_on}
+use Rattle.tree_phases.specs.Descent.{begun, forked, forked_by, fork_of, passed, go_on, stride_at, kept_at, stride, follow, walk, arrived, arrive, absent_node, with_node, got_node, descent_got}
 use Rattle.tree_moves.specs.Moves.{entry_or, root_entry, down_from}
 use Rattle.tree_ckpt.specs.Causes.{Calls, Brings, WasGot, WasNode, WasRead, Shows}
 use Rattle.tree_ckpt.specs.Way.{IsFresh, WasKept, IsPromised, behind, LeadsOver, ComesOver, BreaksAt, BreaksFrom, from_root}

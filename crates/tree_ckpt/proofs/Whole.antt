@@ -8,9 +8,9 @@ use Rattle.std.proofs.lemmas.List.Folds.{list_any-append}
 use Rattle.byte_format.specs.Order.{bytes_below, below_bound}
 use Rattle.byte_format.specs.Whole.{offset}
 use Rattle.node_codec.specs.Inner.{Inner, inner_of, inner_format}
-use Rattle.tree_parts.specs.Kept.{stands_before, place_of, with_kept, links_at}
-use Rattle.tree_parts.specs.Read.{inner_or, inner_read}
-use Rattle.tree_rising.specs.Nodes.{goes_to, is_touched, touched_by, touches, touched_at}
+use Rattle.tree_phases.specs.Kept.{stands_before, place_of, with_kept, links_at}
+use Rattle.tree_phases.specs.Read.{inner_or, inner_read}
+use Rattle.tree_phases.specs.Nodes.{goes_to, is_touched, touched_by, touches, touched_at}
 use Rattle.tree_ckpt.specs.Working.{Climb, links_above, IsPut, HasLevel}
 use Rattle.tree_ckpt.proofs.Words.{NewEntry, KeptNode, Link}
 

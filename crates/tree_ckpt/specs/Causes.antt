@@ -25,7 +25,7 @@ use Rattle.cloud_trait.specs.declared.message.Message.{Message}
 use Rattle.cloud_trait.specs.Ask.{Ask, GetHeld, PutHeld, Take}
 use Rattle.cloud_trait.specs.Claim.{Claim}
 use Rattle.ckpt_parts.specs.Intakes.{items_of}
-use Rattle.tree_parts.specs.Read.{tree_held}
+use Rattle.tree_phases.specs.Read.{tree_held}
 use Rattle.tree_moves.specs.declared.work.Work.{Work}
 use Rattle.tree_moves.specs.declared.work.Work.TheVariants.{Releasing}
 use Rattle.tree_moves.specs.Moves.{entry_or}

@@ -15,9 +15,9 @@ use Rattle.cloud_trait.specs.declared.answer.Answer.TheVariants as call
 use Rattle.cloud_trait.specs.Ask.{Ask, Delete, Take, Release}
 use Rattle.cloud_trait.specs.Claim.{Claim}
 use Rattle.run_cursor.specs.Covered.{is_seen}
-use Rattle.tree_parts.specs.Placing.{has_nothing}
-use Rattle.tree_descent.specs.declared.descent.Descent.{Descent}
-use Rattle.leaf_fold.specs.declared.folding.Folding.{Folding}
+use Rattle.tree_phases.specs.Placing.{has_nothing}
+use Rattle.tree_phases.specs.declared.descent.Descent.{Descent}
+use Rattle.tree_phases.specs.declared.folding.Folding.{Folding}
 use Rattle.tree_moves.specs.declared.work.Held.{Held}
 use Rattle.tree_moves.specs.declared.work.Work.{Work}
 use Rattle.tree_moves.specs.declared.work.Work.TheVariants as work

@@ -18,16 +18,16 @@ use Rattle.cloud_trait.specs.declared.answer.Answer.TheVariants as call
 use Rattle.cloud_trait.specs.Claim.{Claim}
 use Rattle.split_plan.specs.Sizes.{count_of}
 use Rattle.ckpt_parts.specs.Intakes.{has_items}
-use Rattle.tree_parts.specs.declared.chart.Chart.{Chart}
-use Rattle.tree_parts.specs.declared.kept.KeptNode.{KeptNode}
-use Rattle.tree_parts.specs.declared.link.Link.{Link}
-use Rattle.tree_parts.specs.Placing.{has_nothing}
-use Rattle.tree_parts.specs.Read.{tree_held}
-use Rattle.leaf_fold.specs.declared.folding.Folding.{Folding}
-use Rattle.tree_rising.specs.declared.rising.Rising.{Rising}
-use Rattle.tree_rising.specs.Nodes.{with_links}
-use Rattle.tree_rising.specs.Rising.{begun, touched_node, landed}
-use Rattle.tree_rising.specs.Root.{risen}
+use Rattle.tree_phases.specs.declared.chart.Chart.{Chart}
+use Rattle.tree_phases.specs.declared.kept.KeptNode.{KeptNode}
+use Rattle.tree_phases.specs.declared.link.Link.{Link}
+use Rattle.tree_phases.specs.Placing.{has_nothing}
+use Rattle.tree_phases.specs.Read.{tree_held}
+use Rattle.tree_phases.specs.declared.folding.Folding.{Folding}
+use Rattle.tree_phases.specs.declared.rising.Rising.{Rising}
+use Rattle.tree_phases.specs.Nodes.{with_links}
+use Rattle.tree_phases.specs.Rising.{begun, touched_node, landed}
+use Rattle.tree_phases.specs.Root.{risen}
 use Rattle.tree_moves.specs.declared.work.Held.{Held}
 use Rattle.tree_moves.specs.declared.work.Onward.TheVariants as onward
 use Rattle.tree_moves.specs.declared.work.Work.{Work}

@@ -4,9 +4,9 @@ use Rattle.byte_format.specs.Order.{bytes_below}
 use Rattle.db_base.specs.Change.{key_of}
 use Rattle.log_codec.specs.declared.record.PuItem.{PuItem}
 use Rattle.ckpt_parts.specs.Leasing.{claims_of}
-use Rattle.tree_parts.specs.declared.chart.Chart.{Chart}
-use Rattle.tree_parts.specs.declared.placing.Placing.{Placing}
-use Rattle.tree_rising.specs.declared.rising.Rising.{Rising as Up}
+use Rattle.tree_phases.specs.declared.chart.Chart.{Chart}
+use Rattle.tree_phases.specs.declared.placing.Placing.{Placing}
+use Rattle.tree_phases.specs.declared.rising.Rising.{Rising as Up}
 use Rattle.tree_moves.specs.declared.work.Onward.TheVariants as onward
 use Rattle.tree_moves.specs.declared.work.Held.{Held}
 use Rattle.tree_moves.specs.declared.work.Work.{Work}

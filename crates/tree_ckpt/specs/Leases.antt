@@ -10,8 +10,8 @@ use Rattle.cloud_trait.specs.Ask.{Ask, GetHeld, PutHeld, Receive, Delete, Take, 
 use Rattle.cloud_trait.specs.Claim.{Claim}
 use Rattle.cloud_trait.specs.Machine.{Deed, Came}
 use Rattle.ckpt_parts.specs.Leasing.{newest_lease, outstanding}
-use Rattle.tree_parts.specs.Placing.{has_nothing}
-use Rattle.leaf_fold.specs.declared.folding.Folding.{Folding as Leaf}
+use Rattle.tree_phases.specs.Placing.{has_nothing}
+use Rattle.tree_phases.specs.declared.folding.Folding.{Folding as Leaf}
 use Rattle.tree_moves.specs.declared.work.Work.{Work}
 use Rattle.tree_moves.specs.declared.work.Work.TheVariants.{TakingTree, GettingTree, Receiving, Descending, TakingPage, Folding, ReleasingPage, LeftPage, Rising, Deleting, Releasing, Finished}
 use Rattle.tree_moves.specs.Work.{claims_in}

@@ -28,18 +28,18 @@ use Rattle.cloud_trait.specs.declared.answer.Answer.TheVariants.{Got, Done, Give
 use Rattle.cloud_trait.specs.Ask.{Ask, GetHeld, PutHeld, Take, Release}
 use Rattle.cloud_trait.specs.Claim.{Claim}
 use Rattle.ckpt_parts.specs.Intakes.{has_items}
-use Rattle.tree_parts.specs.declared.kept.KeptNode.{KeptNode}
-use Rattle.tree_parts.specs.declared.link.Link.{Link}
-use Rattle.tree_parts.specs.declared.placing.Placing.{Placing}
-use Rattle.tree_parts.specs.Kept.{links_at}
-use Rattle.tree_parts.specs.Placing.{landed_root}
-use Rattle.tree_parts.specs.Read.{tree_held}
-use Rattle.leaf_fold.specs.declared.plan.LeafPlan.{LeafPlan}
-use Rattle.leaf_fold.specs.Folding.{no_placing}
-use Rattle.tree_rising.specs.declared.node.NodePlan.{NodePlan}
-use Rattle.tree_rising.specs.declared.root.RootPlan.{RootPlan}
-use Rattle.tree_rising.specs.Nodes.{with_links, is_touched}
-use Rattle.tree_rising.specs.Root.{risen}
+use Rattle.tree_phases.specs.declared.kept.KeptNode.{KeptNode}
+use Rattle.tree_phases.specs.declared.link.Link.{Link}
+use Rattle.tree_phases.specs.declared.placing.Placing.{Placing}
+use Rattle.tree_phases.specs.Kept.{links_at}
+use Rattle.tree_phases.specs.Placing.{landed_root}
+use Rattle.tree_phases.specs.Read.{tree_held}
+use Rattle.tree_phases.specs.declared.plan.LeafPlan.{LeafPlan}
+use Rattle.tree_phases.specs.Folding.{no_placing}
+use Rattle.tree_phases.specs.declared.node.NodePlan.{NodePlan}
+use Rattle.tree_phases.specs.declared.root.RootPlan.{RootPlan}
+use Rattle.tree_phases.specs.Nodes.{with_links, is_touched}
+use Rattle.tree_phases.specs.Root.{risen}
 use Rattle.tree_moves.specs.Moves.{entry_or}
 use Rattle.tree_ckpt.specs.Causes.{Calls, WasGot, WasNode, GoesRight}
 

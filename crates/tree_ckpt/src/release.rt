@@ -1,11 +1,11 @@
 //! Letting go of where a checkpoint stands, each part in one place.
 
-use leaf_fold::folding::Folding;
-use tree_descent::descent::Descent;
 use tree_moves::work::{Coming, Onward, Work};
-use tree_parts::chart::Chart;
-use tree_parts::placing::Placing;
-use tree_rising::rising::Rising;
+use tree_phases::chart::Chart;
+use tree_phases::descent::Descent;
+use tree_phases::folding::Folding;
+use tree_phases::placing::Placing;
+use tree_phases::rising::Rising;
 
 /// Lets go of where a checkpoint stands.
 pub(crate) fn let_go(work: Work) {

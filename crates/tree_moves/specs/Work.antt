@@ -9,9 +9,9 @@ use Rattle.ckpt_parts.specs.declared.leases.Leases.{Leases}
 use Rattle.ckpt_parts.specs.Deleting.{next_id}
 use Rattle.ckpt_parts.specs.Leasing.{newest_lease, without_newest, claims_of}
 use Rattle.log_codec.specs.declared.record.PuItem.{PuItem}
-use Rattle.tree_descent.specs.Descent.{descent_ask}
-use Rattle.leaf_fold.specs.Folding.{folding_ask, applying}
-use Rattle.tree_rising.specs.Rising.{rising_ask}
+use Rattle.tree_phases.specs.Descent.{descent_ask}
+use Rattle.tree_phases.specs.Folding.{folding_ask, applying}
+use Rattle.tree_phases.specs.Rising.{rising_ask}
 use Rattle.tree_moves.specs.declared.work.Work.{Work}
 use Rattle.tree_moves.specs.declared.work.Work.TheVariants.{TakingTree, GettingTree, Receiving, Descending, TakingPage, Folding, ReleasingPage, LeftPage, Rising, Deleting, Releasing, Finished}
 

@@ -3,12 +3,12 @@
 ghost use Rattle.std.specs.Prelude.{◌≡◌, [], ◌∷◌};
 ghost use Rattle.cloud_trait.specs.Machine.{Next};
 ghost use Rattle.cloud_trait.specs.Views.{given_of};
-ghost use Rattle.tree_parts.specs.Going.{Went};
-ghost use Rattle.leaf_fold.specs.declared.folding.Folding.{Folding};
-ghost use Rattle.leaf_fold.specs.declared.folding.Left.{Left};
-ghost use Rattle.leaf_fold.specs.Folding.{folding_next};
-ghost use Rattle.tree_descent.specs.Descent.{descent_next};
-ghost use Rattle.tree_rising.specs.Rising.{rising_next};
+ghost use Rattle.tree_phases.specs.Going.{Went};
+ghost use Rattle.tree_phases.specs.declared.folding.Folding.{Folding};
+ghost use Rattle.tree_phases.specs.declared.folding.Left.{Left};
+ghost use Rattle.tree_phases.specs.Folding.{folding_next};
+ghost use Rattle.tree_phases.specs.Descent.{descent_next};
+ghost use Rattle.tree_phases.specs.Rising.{rising_next};
 ghost use Rattle.tree_moves.specs.Work.{claims_in};
 ghost use Rattle.tree_moves.specs.Moves.{Moves, MovesOn, descending_on, page_taken, folding_on, onward_from, page_left, rising_on, Absorbs};
 
@@ -26,11 +26,11 @@ use cloud_trait::turn::Turn;
 use db_base::ids::TreeId;
 use db_base::names::Lock;
 use db_base::trouble::Trouble;
-use leaf_fold::folding::{Folding, Left};
 use std::alloc::Global;
-use tree_descent::descent::Descent;
-use tree_parts::pace::Pace;
-use tree_rising::rising::Rising;
+use tree_phases::descent::Descent;
+use tree_phases::folding::{Folding, Left};
+use tree_phases::pace::Pace;
+use tree_phases::rising::Rising;
 
 /// An inner node was got.
 fn descended(alloc: Global, held: Held, descent: Descent, answer: Answer) -> Moved

@@ -4,9 +4,9 @@ ghost use Rattle.std.specs.Prelude.{◌≡◌, [], ◌∷◌, Some, IfOk};
 ghost use Rattle.std.specs.Option.{option_copied};
 ghost use Rattle.cloud_trait.specs.declared.answer.Answer.{Answer};
 ghost use Rattle.cloud_trait.specs.Machine.{Next};
-ghost use Rattle.tree_parts.specs.Going.{Went};
-ghost use Rattle.tree_descent.specs.declared.descent.Descent.{Descent};
-ghost use Rattle.tree_rising.specs.declared.rising.Rising.{Rising};
+ghost use Rattle.tree_phases.specs.Going.{Went};
+ghost use Rattle.tree_phases.specs.declared.descent.Descent.{Descent};
+ghost use Rattle.tree_phases.specs.declared.rising.Rising.{Rising};
 ghost use Rattle.tree_moves.specs.Moves.{MovesOn, descending_on, rising_on, root_entry, going_down, key_from, next_key, going, going_by, leaf_of};
 
 use crate::ending::delete_next;
@@ -18,11 +18,11 @@ use db_base::blob::Blob;
 use db_base::ids::PageId;
 use log_codec::record::PuItem;
 use std::alloc::{AllocError, Global};
-use tree_descent::descent::Descent;
-use tree_parts::chart::Chart;
-use tree_parts::pace::Pace;
-use tree_parts::read::tree_view;
-use tree_rising::rising::Rising;
+use tree_phases::chart::Chart;
+use tree_phases::descent::Descent;
+use tree_phases::pace::Pace;
+use tree_phases::read::tree_view;
+use tree_phases::rising::Rising;
 
 /// The leaf to which the way down leads.
 fn leaf_of(descent: Descent) -> Coming

@@ -3,7 +3,7 @@
 ghost use Rattle.std.specs.Prelude.{◌≡◌, [], ◌∷◌, Ok, Some};
 ghost use Rattle.ckpt_parts.specs.Intakes.{TakesIn};
 ghost use Rattle.ckpt_parts.specs.Unless.{UnlessMemory};
-ghost use Rattle.tree_parts.specs.Read.{tree_held};
+ghost use Rattle.tree_phases.specs.Read.{tree_held};
 ghost use Rattle.tree_moves.specs.Moves.{Moves, MovesOn, tree_taken, tree_got, tree_read, chart_of, intake_taken, ReceivedBy, damage_of};
 ghost use Rattle.node_codec.specs.Tree.{tree_of};
 
@@ -21,10 +21,10 @@ use db_base::trouble::Trouble;
 use node_codec::{TreeView, whole_cursor};
 use run_cursor::run::Run;
 use std::alloc::Global;
-use tree_parts::chart::Chart;
-use tree_parts::kept::KeptList;
-use tree_parts::link::LinkList;
-use tree_parts::read::tree_view;
+use tree_phases::chart::Chart;
+use tree_phases::kept::KeptList;
+use tree_phases::link::LinkList;
+use tree_phases::read::tree_view;
 
 /// The tree's lease was given, or it was not.
 pub(crate) fn tree_taken(given: Result<Lease, Trouble>) -> Moved

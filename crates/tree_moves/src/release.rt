@@ -6,11 +6,11 @@ ghost use Rattle.tree_moves.specs.Work.{one_lease, two_leases};
 use crate::work::{Coming, Held, Onward, one_lease, two_leases};
 use ckpt_parts::Leases;
 use cloud_trait::answer::Answer;
-use leaf_fold::folding::Folding;
-use tree_descent::descent::Descent;
-use tree_parts::chart::Chart;
-use tree_parts::placing::Placing;
-use tree_rising::rising::Rising;
+use tree_phases::chart::Chart;
+use tree_phases::descent::Descent;
+use tree_phases::folding::Folding;
+use tree_phases::placing::Placing;
+use tree_phases::rising::Rising;
 
 /// The tree's lease alone; the messages that the run covers are let go.
 pub(crate) fn tree_lease(held: Held) -> Leases

@@ -14,11 +14,11 @@ use db_base::blob::Blob;
 use db_base::ids::{MsgId, PageId, TreeId};
 use db_base::names::{Lock, ObjName, QueueName};
 use db_base::trouble::Trouble;
-use leaf_fold::folding::Folding;
-use tree_descent::descent::Descent;
-use tree_parts::chart::Chart;
-use tree_parts::pages::PageList;
-use tree_rising::rising::Rising;
+use tree_phases::chart::Chart;
+use tree_phases::descent::Descent;
+use tree_phases::folding::Folding;
+use tree_phases::pages::PageList;
+use tree_phases::rising::Rising;
 
 /// How long a tree's lease is given for, in ticks.
 pub const TREE_TICKS: u64 = 60;

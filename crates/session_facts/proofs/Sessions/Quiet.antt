@@ -22,9 +22,9 @@ use Rattle.tree_ckpt.specs.Making.{Making, making_ask}
 use Rattle.tree_moves.specs.Work.{delete_ask, release_ask, work_ask}
 use Rattle.tree_moves.specs.declared.work.Work.{Work}
 use Rattle.tree_moves.specs.declared.work.Work.TheVariants as work
-use Rattle.tree_parts.specs.Placing.{put_in_hand}
-use Rattle.tree_rising.specs.Rising.{last_ask}
-use Rattle.tree_rising.specs.declared.rising.Rising.{Rising}
+use Rattle.tree_phases.specs.Placing.{put_in_hand}
+use Rattle.tree_phases.specs.Rising.{last_ask}
+use Rattle.tree_phases.specs.declared.rising.Rising.{Rising}
 
 module _ (held : List Claim) (now : ℕ) where
   -- it is no such receive under a lease that is over

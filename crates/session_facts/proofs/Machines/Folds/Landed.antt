@@ -11,8 +11,8 @@ use Rattle.cloud_trait.specs.Claim.{Claim, Lasts}
 use Rattle.cloud_trait.specs.State.{CloudState}
 use Rattle.db_base.specs.declared.names.ObjName.TheVariants as object
 use Rattle.leaf_edit.specs.Applied.{applied}
-use Rattle.leaf_fold.specs.declared.folding.Folding.{Folding}
-use Rattle.leaf_fold.specs.Folding.{landed, counted}
+use Rattle.tree_phases.specs.declared.folding.Folding.{Folding}
+use Rattle.tree_phases.specs.Folding.{landed, counted}
 use Rattle.leaf_view.specs.Leaf.{Leaf}
 use Rattle.log_codec.specs.declared.record.PuItem.{PuItem}
 use Rattle.node_codec.specs.Inner.{Inner}
@@ -30,10 +30,10 @@ use Rattle.cloud_facts.specs.Book.Telling.{nodes_of, roots_of}
 use Rattle.cloud_facts.proofs.Tellings.Names.{at2_same, at2_beside}
 use Rattle.cloud_facts.specs.Tellings.Pieces.{right_of}
 use Rattle.cloud_facts.specs.Tellings.Told.{store_of}
-use Rattle.tree_parts.specs.declared.link.Link.{Link as Found}
-use Rattle.tree_parts.specs.Kept.{links_at}
-use Rattle.tree_parts.specs.Placing.{root_after}
-use Rattle.tree_parts.specs.Read.{tree_held}
+use Rattle.tree_phases.specs.declared.link.Link.{Link as Found}
+use Rattle.tree_phases.specs.Kept.{links_at}
+use Rattle.tree_phases.specs.Placing.{root_after}
+use Rattle.tree_phases.specs.Read.{tree_held}
 use Rattle.session_facts.specs.Machines.Trees.Charts.{KnowsRoot, IsFound, AreFound}
 use Rattle.session_facts.specs.Machines.Trees.Leaves.{KnowsRest, IsPutting}
 use Rattle.session_facts.proofs.Machines.Trees.Others.{root_stays, nodes_stay, links_stay}

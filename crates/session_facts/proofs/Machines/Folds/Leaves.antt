@@ -31,8 +31,8 @@ use Rattle.cloud_facts.proofs.Book.Places.{in_front, in_behind}
 use Rattle.cloud_facts.specs.Tellings.Taking.{IsLinked}
 use Rattle.cloud_facts.specs.Tellings.Told.{store_of}
 use Rattle.cloud_facts.proofs.Tellings.Finding.{found_before}
-use Rattle.tree_parts.proofs.Reading.{leaf_is}
-use Rattle.tree_parts.specs.Read.{leaf_read}
+use Rattle.tree_phases.proofs.Reading.{leaf_is}
+use Rattle.tree_phases.specs.Read.{leaf_read}
 use Rattle.session_facts.specs.Machines.Trees.Ways.{IsOnWay}
 use Rattle.session_facts.proofs.Machines.Trees.Forks.{in_more}
 use Rattle.cloud_facts.proofs.Calls.Pages.{none_landed}

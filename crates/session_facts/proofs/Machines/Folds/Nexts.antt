@@ -10,11 +10,11 @@ use Rattle.db_base.specs.declared.names.ObjName.TheVariants as object
 use Rattle.db_base.specs.declared.trouble.Trouble.{Trouble}
 use Rattle.db_base.specs.declared.trouble.Trouble.TheVariants as trouble
 use Rattle.leaf_edit.specs.Lacked.{lacked}
-use Rattle.leaf_fold.specs.declared.folding.Folding.{Folding}
-use Rattle.leaf_fold.specs.declared.folding.Left.TheVariants.{Right}
-use Rattle.leaf_fold.specs.declared.plan.LeafPlan.{LeafPlan}
-use Rattle.leaf_fold.specs.Folding.{FoldingStep, bad_low, turned, to_right, planned, handled_by, handle, leaf_side, leaf_at, leaf_found, leaf_got}
-use Rattle.leaf_fold.specs.Plan.{leaf_plan}
+use Rattle.tree_phases.specs.declared.folding.Folding.{Folding}
+use Rattle.tree_phases.specs.declared.folding.Left.TheVariants.{Right}
+use Rattle.tree_phases.specs.declared.plan.LeafPlan.{LeafPlan}
+use Rattle.tree_phases.specs.Folding.{FoldingStep, bad_low, turned, to_right, planned, handled_by, handle, leaf_side, leaf_at, leaf_found, leaf_got}
+use Rattle.tree_phases.specs.Plan.{leaf_plan}
 use Rattle.leaf_view.specs.Leaf.{Leaf}
 use Rattle.leaf_view.specs.Lookup.{empty_leaf, page_at}
 use Rattle.log_codec.specs.declared.record.PuItem.{PuItem}
@@ -25,8 +25,8 @@ use Rattle.cloud_facts.specs.Book.Records.{IsIn}
 use Rattle.cloud_facts.specs.Book.Tally.{Store}
 use Rattle.cloud_facts.specs.Book.Telling.{nodes_of, newest_leaf}
 use Rattle.cloud_facts.specs.Tellings.Told.{store_of}
-use Rattle.tree_parts.specs.declared.link.Link.{Link as Found}
-use Rattle.tree_parts.specs.Read.{tree_held}
+use Rattle.tree_phases.specs.declared.link.Link.{Link as Found}
+use Rattle.tree_phases.specs.Read.{tree_held}
 use Rattle.session_facts.specs.Machines.Trees.Charts.{IsFound, AreFound}
 use Rattle.session_facts.specs.Machines.Folds.Nexts.{KnowsStep}
 use Rattle.session_facts.specs.Machines.Trees.Leaves.{IsCome, IsReading}

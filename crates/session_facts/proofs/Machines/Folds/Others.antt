@@ -7,7 +7,7 @@ use Rattle.cloud_trait.specs.Claim.{Claim, Lasts}
 use Rattle.db_base.specs.Change.{key_of}
 use Rattle.db_base.specs.Ids.{IsClient}
 use Rattle.db_base.specs.declared.names.Lock.TheVariants as lock
-use Rattle.leaf_fold.specs.declared.folding.Folding.{Folding}
+use Rattle.tree_phases.specs.declared.folding.Folding.{Folding}
 use Rattle.leaf_view.specs.Lookup.{empty_leaf, holds}
 use Rattle.log_codec.specs.declared.record.PuItem.{PuItem}
 use Rattle.session_facts.proofs.Machines.Runs.Marks.{run_stays}
@@ -18,9 +18,9 @@ use Rattle.cloud_facts.specs.Book.Records.{IsIn}
 use Rattle.cloud_facts.specs.Book.Tally.{Node, Leafy, Store}
 use Rattle.cloud_facts.specs.Book.Telling.{last_or}
 use Rattle.cloud_facts.specs.Tellings.Taking.{IsLinked}
-use Rattle.tree_descent.specs.declared.descent.Descent.{Descent}
-use Rattle.tree_parts.specs.declared.chart.Chart.{Chart}
-use Rattle.tree_parts.specs.Read.{tree_held}
+use Rattle.tree_phases.specs.declared.descent.Descent.{Descent}
+use Rattle.tree_phases.specs.declared.chart.Chart.{Chart}
+use Rattle.tree_phases.specs.Read.{tree_held}
 use Rattle.session_facts.specs.Machines.Folds.Knows.{IsDone, KnowsRun, IsAtLeaf, IsNewestLeaf, Reserves, PutsPieces}
 use Rattle.session_facts.specs.Machines.Trees.Leaves.{KnowsRest, IsGetting, IsCome, IsReading, IsPutting}
 use Rattle.cloud_facts.specs.Calls.Links.{SameLinks}

@@ -26,9 +26,9 @@ use Rattle.history.specs.Audited.{applied_entry}
 use Rattle.cloud_facts.specs.Homes.Homes.{Part, Parts, HomesHold}
 use Rattle.cloud_facts.proofs.Homes.HomeLemmas.{keeps_part, aside_keeps}
 use Rattle.leaf_edit.specs.Lacked.{is_lacked, lacked}
-use Rattle.leaf_fold.specs.declared.folding.Folding.{Folding}
-use Rattle.leaf_fold.specs.Folding.{folding_ask, folding_next, leaf_got, leaf_put, placed, landed, counted}
-use Rattle.leaf_fold.specs.declared.folding.Left.TheVariants.{Handled}
+use Rattle.tree_phases.specs.declared.folding.Folding.{Folding}
+use Rattle.tree_phases.specs.Folding.{folding_ask, folding_next, leaf_got, leaf_put, placed, landed, counted}
+use Rattle.tree_phases.specs.declared.folding.Left.TheVariants.{Handled}
 use Rattle.cloud_trait.specs.Machine.{Goes, Ends}
 use Rattle.leaf_view.specs.Leaf.{Leaf}
 use Rattle.leaf_view.specs.Lookup.{holds, number_of as done_number}
@@ -44,8 +44,8 @@ use Rattle.cloud_facts.specs.Book.Tally.{Store, at}
 use Rattle.cloud_facts.specs.Book.Telling.{leaf_in, nodes_of, roots_of, newest_leaf, newest_root}
 use Rattle.cloud_facts.proofs.Tellings.Finding.{found_before}
 use Rattle.cloud_facts.specs.Tellings.Told.{store_of}
-use Rattle.tree_parts.specs.Placing.{has_nothing, has_one_page}
-use Rattle.tree_parts.specs.Read.{tree_held}
+use Rattle.tree_phases.specs.Placing.{has_nothing, has_one_page}
+use Rattle.tree_phases.specs.Read.{tree_held}
 use Rattle.session_facts.specs.Machines.Folds.Knows.{PutsPieces}
 use Rattle.session_facts.specs.Machines.Folds.Nexts.{fold_note, KnowsStep}
 use Rattle.cloud_facts.specs.Calls.Links.{HasTreeLease}

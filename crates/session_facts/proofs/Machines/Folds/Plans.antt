@@ -22,10 +22,10 @@ use Rattle.cloud_trait.specs.declared.state.Version.{Version}
 use Rattle.leaf_edit.proofs.Whole.{applied-formed}
 use Rattle.leaf_edit.specs.Applied.{applied}
 use Rattle.leaf_edit.specs.Lacked.{lacked}
-use Rattle.leaf_fold.specs.declared.folding.Folding.{Folding}
-use Rattle.leaf_fold.specs.declared.plan.LeafPlan.{LeafPlan}
-use Rattle.leaf_fold.specs.Folding.{handled_to, put_planned}
-use Rattle.leaf_fold.specs.Plan.{in_pieces, planned_by, planned, leaf_plan}
+use Rattle.tree_phases.specs.declared.folding.Folding.{Folding}
+use Rattle.tree_phases.specs.declared.plan.LeafPlan.{LeafPlan}
+use Rattle.tree_phases.specs.Folding.{handled_to, put_planned}
+use Rattle.tree_phases.specs.Plan.{in_pieces, planned_by, planned, leaf_plan}
 use Rattle.leaf_view.specs.Fits.{IsWellFormed, IsVersion}
 use Rattle.leaf_view.specs.Leaf.{Leaf}
 use Rattle.leaf_view.specs.Lookup.{empty_leaf, holds}
@@ -45,9 +45,9 @@ use Rattle.cloud_facts.specs.Book.Records.{IsIn}
 use Rattle.cloud_facts.specs.Book.Tally.{Node, Leafy, Branch, Store}
 use Rattle.cloud_facts.specs.Book.Telling.{last_or, leaf_in, node_in, with_bytes, nodes_of, gone_of, roots_of, newest_leaf}
 use Rattle.cloud_facts.specs.Tellings.Told.{store_of}
-use Rattle.tree_parts.specs.declared.reserve.Reserved.{Reserved}
-use Rattle.tree_parts.specs.Read.{tree_held}
-use Rattle.tree_parts.specs.Reserve.{version_spent, reservation}
+use Rattle.tree_phases.specs.declared.reserve.Reserved.{Reserved}
+use Rattle.tree_phases.specs.Read.{tree_held}
+use Rattle.tree_phases.specs.Reserve.{version_spent, reservation}
 use Rattle.session_facts.specs.Machines.Folds.Knows.{IsDone, AreDoneTo, KnowsRun, IsLeast, IsAtLeaf, Reserves, PutsPieces}
 use Rattle.session_facts.specs.Machines.Trees.Leaves.{IsPutting}
 use Rattle.session_facts.specs.Machines.Trees.Placings.{AreReserved, IsReservation}

@@ -16,8 +16,8 @@ use Rattle.db_base.specs.declared.names.ObjName.TheVariants as object
 use Rattle.cloud_facts.specs.Landings.Landing.{Landing}
 use Rattle.cloud_facts.specs.Landings.Landing as landing
 use Rattle.leaf_edit.specs.Applied.{applied}
-use Rattle.leaf_fold.specs.declared.folding.Folding.{Folding}
-use Rattle.leaf_fold.specs.Folding.{folding_ask, landed}
+use Rattle.tree_phases.specs.declared.folding.Folding.{Folding}
+use Rattle.tree_phases.specs.Folding.{folding_ask, landed}
 use Rattle.leaf_view.specs.Leaf.{Leaf}
 use Rattle.leaf_view.specs.Lookup.{empty_leaf, holds}
 use Rattle.log_codec.specs.declared.record.PuItem.{PuItem}
@@ -34,8 +34,8 @@ use Rattle.cloud_facts.specs.Book.Tally.{Node, Leafy, Store}
 use Rattle.cloud_facts.specs.Book.Telling.{last_or, leaf_in, nodes_of, gone_of, roots_of, newest_leaf}
 use Rattle.cloud_facts.proofs.Tellings.Names.{at2_same, at2_beside}
 use Rattle.cloud_facts.specs.Tellings.Told.{store_of}
-use Rattle.tree_parts.specs.Placing.{put_next, put_first, puts_after}
-use Rattle.tree_parts.specs.Read.{tree_held}
+use Rattle.tree_phases.specs.Placing.{put_next, put_first, puts_after}
+use Rattle.tree_phases.specs.Read.{tree_held}
 use Rattle.session_facts.specs.Machines.Folds.Knows.{IsDone, AreDoneTo, Reserves, PutsPieces}
 use Rattle.session_facts.specs.Machines.Trees.Placings.{AreReserved}
 use Rattle.session_facts.proofs.Machines.Folds.Pieces.{taken, piece_landing, piece_version, leaf_landing, is_taken, run_applied, still_applied}

@@ -4,8 +4,8 @@ use Rattle.std.proofs.lemmas.Bool.{eqb-true, eqb-false, ltb-false}
 use Rattle.byte_format.specs.Format.{greatest}
 use Rattle.db_base.specs.declared.trouble.Trouble.{Trouble}
 use Rattle.node_codec.specs.Tree.{Tree, tree_bytes, empty_tree, HasTreeSpelling}
-use Rattle.tree_parts.specs.declared.reserve.Reserved.{Reserved}
-use Rattle.tree_parts.specs.Reserve.{version_spent, pages_spent, next_tree, reserved_by, reservation}
+use Rattle.tree_phases.specs.declared.reserve.Reserved.{Reserved}
+use Rattle.tree_phases.specs.Reserve.{version_spent, pages_spent, next_tree, reserved_by, reservation}
 use Rattle.session_facts.specs.Machines.Trees.Placings.{reserving, IsReservation}
 use Rattle.session_facts.proofs.Machines.Trees.Reserves.{reserving_fits}
 

@@ -12,8 +12,8 @@ use Rattle.db_base.specs.Ids.{IsTree}
 use Rattle.db_base.specs.declared.names.ObjName.TheVariants as object
 use Rattle.cloud_facts.specs.Landings.Landing.{Landing}
 use Rattle.leaf_edit.specs.Applied.{applied}
-use Rattle.leaf_fold.specs.declared.folding.Folding.{Folding}
-use Rattle.leaf_fold.specs.Folding.{landed}
+use Rattle.tree_phases.specs.declared.folding.Folding.{Folding}
+use Rattle.tree_phases.specs.Folding.{landed}
 use Rattle.log_codec.specs.declared.record.PuItem.{PuItem}
 use Rattle.node_codec.specs.Tree.{Tree}
 use Rattle.report_types.specs.declared.entry.Entry.{Entry}
@@ -23,8 +23,8 @@ use Rattle.cloud_facts.specs.Book.Effects.{after_root}
 use Rattle.cloud_facts.specs.Book.Tally.{Store}
 use Rattle.cloud_facts.specs.Book.Telling.{roots_of}
 use Rattle.cloud_facts.specs.Tellings.Told.{store_of}
-use Rattle.tree_parts.specs.Placing.{root_after, puts_after}
-use Rattle.tree_parts.specs.Read.{tree_held}
+use Rattle.tree_phases.specs.Placing.{root_after, puts_after}
+use Rattle.tree_phases.specs.Read.{tree_held}
 use Rattle.session_facts.specs.Machines.Trees.Charts.{KnowsRoot}
 use Rattle.session_facts.specs.Machines.Folds.Knows.{Reserves, PutsPieces}
 use Rattle.session_facts.specs.Machines.Trees.Placings.{AreReserved, IsReservation, reserving}

@@ -14,11 +14,11 @@ use Rattle.cloud_trait.specs.Views.{got_of, done_of}
 use Rattle.db_base.specs.declared.names.ObjName.TheVariants as object
 use Rattle.db_base.specs.declared.trouble.Trouble.{Trouble}
 use Rattle.leaf_edit.specs.Applied.{applied}
-use Rattle.leaf_fold.specs.declared.folding.Folding.{Folding}
-use Rattle.leaf_fold.specs.declared.plan.LeafPlan.{LeafPlan}
-use Rattle.leaf_fold.specs.Folding.{FoldingStep, leaf_got, leaf_put, folding_next}
-use Rattle.leaf_fold.specs.Plan.{planned_by, leaf_plan}
-use Rattle.leaf_fold.specs.Plan as plan
+use Rattle.tree_phases.specs.declared.folding.Folding.{Folding}
+use Rattle.tree_phases.specs.declared.plan.LeafPlan.{LeafPlan}
+use Rattle.tree_phases.specs.Folding.{FoldingStep, leaf_got, leaf_put, folding_next}
+use Rattle.tree_phases.specs.Plan.{planned_by, leaf_plan}
+use Rattle.tree_phases.specs.Plan as plan
 use Rattle.leaf_view.specs.Leaf.{Leaf, leaf as leaf_format}
 use Rattle.leaf_view.specs.Lookup.{page_at}
 use Rattle.log_codec.specs.declared.record.PuItem.{PuItem}
@@ -38,10 +38,10 @@ use Rattle.tree_ckpt.specs.Causes.{GoesRight}
 use Rattle.tree_ckpt.specs.Working.{HoldsLeaf}
 use Rattle.tree_ckpt.proofs.LeafOutcomes.{Reads, Lands, came_to, reads, put_lands}
 use Rattle.tree_ckpt.proofs.LeafOutcomes as step
-use Rattle.tree_parts.specs.declared.reserve.Reserved.{Reserved}
-use Rattle.tree_parts.specs.Placing.{has_nothing}
-use Rattle.tree_parts.specs.Read.{leaf_or, tree_held}
-use Rattle.tree_parts.specs.Reserve.{version_spent}
+use Rattle.tree_phases.specs.declared.reserve.Reserved.{Reserved}
+use Rattle.tree_phases.specs.Placing.{has_nothing}
+use Rattle.tree_phases.specs.Read.{leaf_or, tree_held}
+use Rattle.tree_phases.specs.Reserve.{version_spent}
 
 -- ---- the plan of a leaf
 

@@ -31,10 +31,10 @@ use Rattle.cloud_facts.specs.Book.Tally.{Node, Leafy, Branch, Store}
 use Rattle.cloud_facts.specs.Book.Telling.{last_or, nodes_of, roots_of}
 use Rattle.cloud_facts.proofs.Tellings.Ready.{branch_first}
 use Rattle.cloud_facts.specs.Tellings.Told.{store_of}
-use Rattle.tree_parts.specs.Placing.{put_next, put_first, has_nothing}
-use Rattle.tree_parts.specs.Reserve.{version_spent}
-use Rattle.tree_rising.specs.declared.rising.Rising.{Rising}
-use Rattle.tree_rising.specs.Rising.{last_ask, rising_ask, rise, landed, put_next as put_then, after_put, put_landed}
+use Rattle.tree_phases.specs.Placing.{put_next, put_first, has_nothing}
+use Rattle.tree_phases.specs.Reserve.{version_spent}
+use Rattle.tree_phases.specs.declared.rising.Rising.{Rising}
+use Rattle.tree_phases.specs.Rising.{last_ask, rising_ask, rise, landed, put_next as put_then, after_put, put_landed}
 use Rattle.cloud_facts.specs.Calls.Links.{OwesLease}
 use Rattle.session_facts.specs.Machines.Risings.Knows.{RisesOn}
 

@@ -27,8 +27,8 @@ use Rattle.cloud_facts.specs.Book.Tally.{Store}
 use Rattle.cloud_facts.specs.Book.Telling.{last_or, root_in, nodes_of, roots_of}
 use Rattle.cloud_facts.proofs.Book.Places.{in_behind}
 use Rattle.cloud_facts.specs.Tellings.Told.{store_of}
-use Rattle.tree_parts.specs.declared.kept.KeptNode.{KeptNode}
-use Rattle.tree_parts.specs.declared.link.Link.{Link as Found}
+use Rattle.tree_phases.specs.declared.kept.KeptNode.{KeptNode}
+use Rattle.tree_phases.specs.declared.link.Link.{Link as Found}
 use Rattle.session_facts.specs.Machines.Trees.Charts.{AreFound}
 use Rattle.session_facts.specs.Machines.Risings.Knows.{AreApart}
 use Rattle.session_facts.proofs.Machines.Risings.Spells.{ArePages, root_sound, root_next}

@@ -23,9 +23,9 @@ use Rattle.cloud_facts.specs.Calls.Pages.{IsTreePage}
 use Rattle.session_facts.proofs.Machines.Trees.Placings.{last_cases, puts_more}
 use Rattle.session_facts.proofs.Machines.Risings.Effects.{reserving_asked, page_asked, last_asked}
 use Rattle.cloud_facts.proofs.Calls.Guarding.{tree_guard}
-use Rattle.tree_parts.specs.Read.{tree_held}
-use Rattle.tree_rising.specs.declared.rising.Rising.{Rising}
-use Rattle.tree_rising.specs.Rising.{rising_ask}
+use Rattle.tree_phases.specs.Read.{tree_held}
+use Rattle.tree_phases.specs.declared.rising.Rising.{Rising}
+use Rattle.tree_phases.specs.Rising.{rising_ask}
 
 module _ (book : Book) (order : List Entry) (s : CloudState) (stands : StandsUnder book order s) (now : ℕ) (lease : Claim) (r : Rising) (ids : List ℕ)
     (lock_is : lease.lock ≡ lock.Tree r.chart.tree) (none : r.placing.reserved ≡ None) where

@@ -35,11 +35,11 @@ use Rattle.cloud_facts.specs.Book.Telling.{nodes_of, gone_of, roots_of}
 use Rattle.cloud_facts.proofs.Book.Places.{in_front, in_behind}
 use Rattle.cloud_facts.proofs.Tellings.Names.{at2_same, at2_beside}
 use Rattle.cloud_facts.specs.Tellings.Told.{store_of}
-use Rattle.tree_parts.specs.Placing.{puts_after, has_nothing}
-use Rattle.tree_parts.specs.Read.{tree_held}
-use Rattle.tree_rising.specs.declared.rising.Rising.{Rising}
-use Rattle.tree_rising.specs.Rising.{landed, put_landed}
-use Rattle.tree_rising.specs.Root.{new_pages}
+use Rattle.tree_phases.specs.Placing.{puts_after, has_nothing}
+use Rattle.tree_phases.specs.Read.{tree_held}
+use Rattle.tree_phases.specs.declared.rising.Rising.{Rising}
+use Rattle.tree_phases.specs.Rising.{landed, put_landed}
+use Rattle.tree_phases.specs.Root.{new_pages}
 use Rattle.session_facts.specs.Machines.Trees.Placings.{AreReserved}
 use Rattle.session_facts.specs.Machines.Risings.Knows.{IsLastVersion, ReservesRoot, IsRaised, PutsWhole, PutsCut, cut, PutsOf, KnowsRising, RisesOn}
 use Rattle.session_facts.proofs.Machines.Risings.LastRoot.{last_landing, raise_landing, may_delete}

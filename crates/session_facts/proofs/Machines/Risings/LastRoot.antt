@@ -38,7 +38,7 @@ use Rattle.cloud_facts.proofs.Tellings.Names.{at2_same}
 use Rattle.cloud_facts.proofs.Tellings.Sound.{nodes_rise}
 use Rattle.cloud_facts.specs.Tellings.Pieces.{right_of}
 use Rattle.cloud_facts.specs.Tellings.Told.{store_of}
-use Rattle.tree_rising.specs.Root.{new_pages}
+use Rattle.tree_phases.specs.Root.{new_pages}
 use Rattle.session_facts.specs.Machines.Risings.Knows.{IsRaised}
 use Rattle.session_facts.proofs.Machines.Risings.Covers.{covers, raised_number}
 

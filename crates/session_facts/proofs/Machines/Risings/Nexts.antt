@@ -6,10 +6,10 @@ use Rattle.cloud_trait.specs.State.{CloudState}
 use Rattle.report_types.specs.declared.entry.Entry.{Entry}
 use Rattle.cloud_facts.specs.Book.Book.{Book}
 use Rattle.cloud_facts.specs.Tellings.Told.{store_of}
-use Rattle.tree_parts.specs.declared.chart.Chart.{Chart}
-use Rattle.tree_parts.specs.declared.kept.KeptNode.{KeptNode}
-use Rattle.tree_rising.specs.declared.rising.Rising.{Rising}
-use Rattle.tree_rising.specs.Rising.{begun, next_touched, touched_node, rise_at, rise}
+use Rattle.tree_phases.specs.declared.chart.Chart.{Chart}
+use Rattle.tree_phases.specs.declared.kept.KeptNode.{KeptNode}
+use Rattle.tree_phases.specs.declared.rising.Rising.{Rising}
+use Rattle.tree_phases.specs.Rising.{begun, next_touched, touched_node, rise_at, rise}
 use Rattle.session_facts.specs.Machines.Trees.Charts.{KnowsChart}
 use Rattle.session_facts.specs.Machines.Risings.Knows.{AreApart, AppliesRun, KnowsUpward, RisesOn}
 use Rattle.session_facts.proofs.Machines.Risings.Nodes.{node_leads}

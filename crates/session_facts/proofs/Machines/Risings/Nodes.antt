@@ -20,17 +20,17 @@ use Rattle.cloud_facts.specs.Book.Records.{IsIn}
 use Rattle.cloud_facts.specs.Book.Tally.{Store}
 use Rattle.cloud_facts.specs.Book.Telling.{nodes_of, gone_of, roots_of}
 use Rattle.cloud_facts.specs.Tellings.Told.{store_of}
-use Rattle.tree_parts.proofs.Reading.{inner_is}
-use Rattle.tree_parts.specs.declared.kept.KeptNode.{KeptNode}
-use Rattle.tree_parts.specs.declared.link.Link.{Link as Found}
-use Rattle.tree_parts.specs.declared.reserve.Reserved.{Reserved}
-use Rattle.tree_parts.specs.Kept.{links_at}
-use Rattle.tree_parts.specs.Read.{tree_held}
-use Rattle.tree_parts.specs.Reserve.{version_spent, reservation}
-use Rattle.tree_rising.specs.declared.node.NodePlan.{NodePlan}
-use Rattle.tree_rising.specs.declared.rising.Rising.{Rising}
-use Rattle.tree_rising.specs.Nodes.{touched_at, in_pieces, planned_by, planned_of, linked_by, node_plan}
-use Rattle.tree_rising.specs.Rising.{next_touched, touched_node, put_node}
+use Rattle.tree_phases.proofs.Reading.{inner_is}
+use Rattle.tree_phases.specs.declared.kept.KeptNode.{KeptNode}
+use Rattle.tree_phases.specs.declared.link.Link.{Link as Found}
+use Rattle.tree_phases.specs.declared.reserve.Reserved.{Reserved}
+use Rattle.tree_phases.specs.Kept.{links_at}
+use Rattle.tree_phases.specs.Read.{tree_held}
+use Rattle.tree_phases.specs.Reserve.{version_spent, reservation}
+use Rattle.tree_phases.specs.declared.node.NodePlan.{NodePlan}
+use Rattle.tree_phases.specs.declared.rising.Rising.{Rising}
+use Rattle.tree_phases.specs.Nodes.{touched_at, in_pieces, planned_by, planned_of, linked_by, node_plan}
+use Rattle.tree_phases.specs.Rising.{next_touched, touched_node, put_node}
 use Rattle.session_facts.specs.Machines.Trees.Charts.{KnowsNode}
 use Rattle.session_facts.specs.Machines.Trees.Placings.{AreReserved, IsReservation}
 use Rattle.session_facts.specs.Machines.Risings.Knows.{AreApart, KnowsUpward, ReservesNodes, PutsOf, RisesOn, risen_node}

@@ -28,8 +28,8 @@ use Rattle.cloud_facts.specs.Book.Records.{IsIn}
 use Rattle.cloud_facts.specs.Book.Tally.{Store, at}
 use Rattle.cloud_facts.proofs.Tellings.Asks.{told_store}
 use Rattle.cloud_facts.specs.Tellings.Told.{store_of}
-use Rattle.tree_rising.specs.declared.rising.Rising.{Rising}
-use Rattle.tree_rising.specs.Rising.{rising_ask, rising_next, risen_by, put_landed as risen}
+use Rattle.tree_phases.specs.declared.rising.Rising.{Rising}
+use Rattle.tree_phases.specs.Rising.{rising_ask, rising_next, risen_by, put_landed as risen}
 use Rattle.session_facts.specs.Machines.Risings.Knows.{PutsNode, PutsWhole, PutsCut, PutsRoot, whole, cut, PutsOf, KnowsRising, RisesOn}
 use Rattle.session_facts.proofs.Machines.Trees.Placings.{last_cases, puts_more}
 use Rattle.session_facts.proofs.Machines.Risings.Effects.{RisingEffect, reserving_asked, page_asked, last_asked}

@@ -26,9 +26,9 @@ use Rattle.cloud_facts.proofs.Tellings.Ready.{inner_lands}
 use Rattle.cloud_facts.specs.Tellings.Pieces.{right_of, node_parts, left_inner, node_links}
 use Rattle.cloud_facts.specs.Tellings.Taking.{IsLinked}
 use Rattle.cloud_facts.specs.Tellings.Told.{store_of}
-use Rattle.tree_parts.specs.declared.kept.KeptNode.{KeptNode}
-use Rattle.tree_parts.specs.declared.link.Link.{Link as Found}
-use Rattle.tree_rising.specs.Nodes.{with_links}
+use Rattle.tree_phases.specs.declared.kept.KeptNode.{KeptNode}
+use Rattle.tree_phases.specs.declared.link.Link.{Link as Found}
+use Rattle.tree_phases.specs.Nodes.{with_links}
 use Rattle.session_facts.specs.Machines.Trees.Charts.{AreFound, KnowsNode}
 use Rattle.session_facts.proofs.Machines.Trees.Names.{links_name}
 

@@ -39,12 +39,12 @@ use Rattle.cloud_facts.proofs.Tellings.Fences.{cut_common, cut_version}
 use Rattle.cloud_facts.proofs.Tellings.Names.{at2_same, at2_beside}
 use Rattle.cloud_facts.specs.Tellings.Pieces.{first_part, right_of, node_parts, left_inner, node_links}
 use Rattle.cloud_facts.specs.Tellings.Told.{store_of}
-use Rattle.tree_parts.specs.declared.link.Link.{Link as Found}
-use Rattle.tree_parts.specs.Kept.{links_at}
-use Rattle.tree_parts.specs.Placing.{root_after, puts_after}
-use Rattle.tree_parts.specs.Read.{tree_held}
-use Rattle.tree_rising.specs.declared.rising.Rising.{Rising}
-use Rattle.tree_rising.specs.Rising.{rise, landed, put_landed}
+use Rattle.tree_phases.specs.declared.link.Link.{Link as Found}
+use Rattle.tree_phases.specs.Kept.{links_at}
+use Rattle.tree_phases.specs.Placing.{root_after, puts_after}
+use Rattle.tree_phases.specs.Read.{tree_held}
+use Rattle.tree_phases.specs.declared.rising.Rising.{Rising}
+use Rattle.tree_phases.specs.Rising.{rise, landed, put_landed}
 use Rattle.session_facts.specs.Machines.Trees.Charts.{KnowsRoot, IsFound, AreFound}
 use Rattle.session_facts.specs.Machines.Trees.Placings.{AreReserved}
 use Rattle.session_facts.specs.Machines.Risings.Knows.{AppliesRun, KnowsUpward, ReservesNodes, PutsNode, PutsOf, KnowsRising, RisesOn, risen_node, piece_links}

@@ -28,11 +28,11 @@ use Rattle.cloud_facts.specs.Book.Growth.{Grows}
 use Rattle.cloud_facts.specs.Book.Tally.{Store}
 use Rattle.cloud_facts.specs.Book.Telling.{nodes_of, roots_of}
 use Rattle.cloud_facts.specs.Tellings.Told.{store_of}
-use Rattle.tree_parts.specs.Placing.{root_after, puts_after, has_nothing}
-use Rattle.tree_parts.specs.Read.{tree_held}
-use Rattle.tree_rising.specs.declared.rising.Rising.{Rising}
-use Rattle.tree_rising.specs.Nodes.{with_links}
-use Rattle.tree_rising.specs.Rising.{landed, put_landed}
+use Rattle.tree_phases.specs.Placing.{root_after, puts_after, has_nothing}
+use Rattle.tree_phases.specs.Read.{tree_held}
+use Rattle.tree_phases.specs.declared.rising.Rising.{Rising}
+use Rattle.tree_phases.specs.Nodes.{with_links}
+use Rattle.tree_phases.specs.Rising.{landed, put_landed}
 use Rattle.session_facts.specs.Machines.Trees.Charts.{KnowsRoot}
 use Rattle.session_facts.specs.Machines.Trees.Placings.{AreReserved, IsReservation, reserving}
 use Rattle.session_facts.specs.Machines.Risings.Knows.{IsLastVersion, AppliesRun, ReservesNodes, ReservesRoot, PutsNode, IsRaised, PutsCut, cut, PutsOf, risen_node, KnowsRising, RisesOn}

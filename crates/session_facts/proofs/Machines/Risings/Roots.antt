@@ -22,13 +22,13 @@ use Rattle.cloud_facts.specs.Book.Book.{Book}
 use Rattle.cloud_facts.specs.Book.Tally.{Store}
 use Rattle.cloud_facts.specs.Book.Telling.{nodes_of, roots_of}
 use Rattle.cloud_facts.specs.Tellings.Told.{store_of}
-use Rattle.tree_parts.specs.declared.reserve.Reserved.{Reserved}
-use Rattle.tree_parts.specs.Read.{tree_held}
-use Rattle.tree_parts.specs.Reserve.{version_spent, pages_spent, next_tree, reservation}
-use Rattle.tree_rising.specs.declared.rising.Rising.{Rising}
-use Rattle.tree_rising.specs.declared.root.RootPlan.{RootPlan}
-use Rattle.tree_rising.specs.Rising.{plan_of, put_root, finish}
-use Rattle.tree_rising.specs.Root.{with_named, risen_by, lowered, cut_at, cut_by, cut_behind, root_cut, uncut, root_plan}
+use Rattle.tree_phases.specs.declared.reserve.Reserved.{Reserved}
+use Rattle.tree_phases.specs.Read.{tree_held}
+use Rattle.tree_phases.specs.Reserve.{version_spent, pages_spent, next_tree, reservation}
+use Rattle.tree_phases.specs.declared.rising.Rising.{Rising}
+use Rattle.tree_phases.specs.declared.root.RootPlan.{RootPlan}
+use Rattle.tree_phases.specs.Rising.{plan_of, put_root, finish}
+use Rattle.tree_phases.specs.Root.{with_named, risen_by, lowered, cut_at, cut_by, cut_behind, root_cut, uncut, root_plan}
 use Rattle.session_facts.specs.Machines.Trees.Placings.{IsReservation}
 use Rattle.session_facts.specs.Machines.Risings.Knows.{KnowsUpward, IsRaised, PutsCut, PutsRoot, whole, cut, RisesOn}
 use Rattle.session_facts.proofs.Machines.TreeCheckpoints.EntryCounts.{all_ascend}

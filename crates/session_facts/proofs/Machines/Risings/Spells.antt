@@ -29,9 +29,9 @@ use Rattle.split_plan.specs.Part.{NodePart, entry_key, part_of_node}
 use Rattle.split_plan.specs.Plan.{IsNodePart, on_pages, entry_of, node_pieces, root_pieces, root_above, with_children}
 use Rattle.split_plan.specs.Sizes.{CanCut, count_of, cuts_of}
 use Rattle.cloud_facts.specs.Book.Records.{IsIn}
-use Rattle.tree_parts.specs.declared.link.Link.{Link as Found}
-use Rattle.tree_rising.specs.Nodes.{goes_to, with_links}
-use Rattle.tree_rising.specs.Root.{is_named, with_named, new_pages}
+use Rattle.tree_phases.specs.declared.link.Link.{Link as Found}
+use Rattle.tree_phases.specs.Nodes.{goes_to, with_links}
+use Rattle.tree_phases.specs.Root.{is_named, with_named, new_pages}
 use Rattle.session_facts.specs.Machines.Risings.Knows.{risen_node}
 
 -- the pages of links are numbers that may stand in an entry

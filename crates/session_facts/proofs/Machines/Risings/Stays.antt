@@ -4,9 +4,9 @@ use Rattle.cloud_trait.specs.declared.answer.Answer.{Answer}
 use Rattle.cloud_trait.specs.Machine.{Goes, Ends, Stops}
 use Rattle.cloud_trait.specs.Views.{done_of}
 use Rattle.db_base.specs.declared.trouble.Trouble.{Trouble}
-use Rattle.tree_rising.specs.declared.rising.Rising.{Rising}
-use Rattle.tree_rising.specs.Rising.{RisingStep}
-use Rattle.tree_rising.specs.Rising as up
+use Rattle.tree_phases.specs.declared.rising.Rising.{Rising}
+use Rattle.tree_phases.specs.Rising.{RisingStep}
+use Rattle.tree_phases.specs.Rising as up
 use Rattle.tree_ckpt.proofs.RiseOutcomes.{rises, lands}
 use Rattle.tree_ckpt.proofs.RiseOutcomes as rise
 

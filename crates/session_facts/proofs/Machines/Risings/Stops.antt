@@ -15,21 +15,21 @@ use Rattle.session_facts.proofs.Machines.TreeCheckpoints.Stops.{StopsWell, IsFai
 use Rattle.session_facts.specs.Machines.Trees.Charts.{KnowsNode, KnowsNodes}
 use Rattle.session_facts.specs.Machines.Risings.Knows.{PutsOf, KnowsRising}
 use Rattle.session_facts.proofs.Machines.Risings.Grounds.{get_dropped}
-use Rattle.tree_parts.proofs.Reading.{inner_is}
-use Rattle.tree_parts.specs.declared.kept.KeptNode.{KeptNode}
-use Rattle.tree_parts.specs.declared.link.Link.{Link as Found}
-use Rattle.tree_parts.specs.declared.reserve.Reserved.{Reserved}
-use Rattle.tree_parts.specs.Read.{tree_held}
-use Rattle.tree_parts.specs.Reserve.{version_spent, pages_spent, next_tree, reservation}
-use Rattle.tree_rising.specs.declared.node.NodePlan.{NodePlan}
-use Rattle.tree_rising.specs.declared.rising.Rising.{Rising}
-use Rattle.tree_rising.specs.declared.root.RootPlan.{RootPlan}
-use Rattle.tree_rising.specs.Nodes.{touched_at, with_links, planned_by, planned_of, linked_by, node_plan}
-use Rattle.tree_rising.specs.Rising.{plan_of, last_plan, landed}
-use Rattle.tree_rising.specs.Rising as up
+use Rattle.tree_phases.proofs.Reading.{inner_is}
+use Rattle.tree_phases.specs.declared.kept.KeptNode.{KeptNode}
+use Rattle.tree_phases.specs.declared.link.Link.{Link as Found}
+use Rattle.tree_phases.specs.declared.reserve.Reserved.{Reserved}
+use Rattle.tree_phases.specs.Read.{tree_held}
+use Rattle.tree_phases.specs.Reserve.{version_spent, pages_spent, next_tree, reservation}
+use Rattle.tree_phases.specs.declared.node.NodePlan.{NodePlan}
+use Rattle.tree_phases.specs.declared.rising.Rising.{Rising}
+use Rattle.tree_phases.specs.declared.root.RootPlan.{RootPlan}
+use Rattle.tree_phases.specs.Nodes.{touched_at, with_links, planned_by, planned_of, linked_by, node_plan}
+use Rattle.tree_phases.specs.Rising.{plan_of, last_plan, landed}
+use Rattle.tree_phases.specs.Rising as up
 use Rattle.tree_ckpt.proofs.RiseOutcomes.{Rises, Lands, rises, lands}
 use Rattle.tree_ckpt.proofs.RiseOutcomes as step
-use Rattle.tree_rising.specs.Root.{risen_by as root_risen, lowered, cut_at, cut_by, cut_behind, root_cut, uncut, root_plan}
+use Rattle.tree_phases.specs.Root.{risen_by as root_risen, lowered, cut_at, cut_by, cut_behind, root_cut, uncut, root_plan}
 
 -- ---- the plan of a node
 

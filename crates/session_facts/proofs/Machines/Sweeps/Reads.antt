@@ -35,8 +35,8 @@ use Rattle.orphan_sweep.specs.Pages.{root_or, root_held, first_page, link_by, le
 use Rattle.report_types.specs.declared.entry.Entry.{Entry}
 use Rattle.session_facts.specs.Machines.Sweeps.Places.{IsReading}
 use Rattle.session_facts.proofs.Machines.Sweeps.Firsts.{begin_of, first_below}
-use Rattle.tree_parts.proofs.Reading.{leaf_is, inner_is}
-use Rattle.tree_parts.specs.Read.{damaged}
+use Rattle.tree_phases.proofs.Reading.{leaf_is, inner_is}
+use Rattle.tree_phases.specs.Read.{damaged}
 
 -- ---- the right page
 

@@ -28,11 +28,11 @@ use Rattle.session_facts.specs.Machines.Risings.Knows.{piece_links}
 use Rattle.split_plan.specs.Part.{NodePart, entry_key, part_of_node}
 use Rattle.split_plan.specs.Plan.{entry_of, node_pieces, on_pages}
 use Rattle.split_plan.specs.Sizes.{count_of}
-use Rattle.tree_parts.specs.Kept.{link_at}
-use Rattle.tree_parts.specs.declared.kept.KeptNode.{KeptNode}
-use Rattle.tree_parts.specs.declared.link.Link.{Link as Found}
-use Rattle.tree_rising.specs.Nodes.{goes_to, with_links}
-use Rattle.tree_rising.specs.Root.{is_named, with_named}
+use Rattle.tree_phases.specs.Kept.{link_at}
+use Rattle.tree_phases.specs.declared.kept.KeptNode.{KeptNode}
+use Rattle.tree_phases.specs.declared.link.Link.{Link as Found}
+use Rattle.tree_phases.specs.Nodes.{goes_to, with_links}
+use Rattle.tree_phases.specs.Root.{is_named, with_named}
 
 -- ---- entries that fit
 

@@ -27,8 +27,8 @@ use Rattle.db_base.specs.declared.names.QueueName.{QueueName}
 use Rattle.db_base.specs.declared.names.QueueName.TheVariants as queue
 use Rattle.db_base.specs.declared.trouble.Counter.{Counter}
 use Rattle.db_base.specs.declared.trouble.Trouble.{Trouble}
-use Rattle.leaf_fold.specs.declared.folding.Folding.{Folding}
-use Rattle.leaf_fold.specs.Folding.{folding_ask, folding_next}
+use Rattle.tree_phases.specs.declared.folding.Folding.{Folding}
+use Rattle.tree_phases.specs.Folding.{folding_ask, folding_next}
 use Rattle.log_codec.specs.declared.record.PuItem.{PuItem}
 use Rattle.session_facts.specs.Sessions.Explains.{trouble_of_ending, ending_of, trouble_of_making, left_in_tree, MeetsNext, IsShown}
 use Rattle.session_facts.specs.Sessions.Spent.{IsSpentInTree}
@@ -45,18 +45,18 @@ use Rattle.tree_ckpt.specs.Leases.{HasIds}
 use Rattle.tree_ckpt.proofs.Outcomes.{Seeks, Descends, Ascends, Clears, Fails, Comes, comes}
 use Rattle.tree_ckpt.proofs.Outcomes as step
 use Rattle.tree_ckpt.proofs.RiseOutcomes.{rises, lands}
-use Rattle.tree_descent.specs.declared.descent.Descent.{Descent}
+use Rattle.tree_phases.specs.declared.descent.Descent.{Descent}
 use Rattle.tree_moves.specs.declared.work.Held.{Held}
 use Rattle.tree_moves.specs.declared.work.Work.{Work}
 use Rattle.tree_moves.specs.declared.work.Work.TheVariants as work
 use Rattle.tree_moves.specs.Moves.{Step, released_by, went, tree_damage, Leads}
 use Rattle.tree_moves.specs.Work.{take_tree, delete_ask, work_ask}
-use Rattle.tree_parts.specs.declared.chart.Chart.{Chart}
-use Rattle.tree_parts.specs.Placing.{has_nothing}
-use Rattle.tree_parts.specs.Read.{tree_held}
-use Rattle.tree_rising.specs.declared.rising.Rising.{Rising}
-use Rattle.tree_rising.specs.Rising.{rising_ask}
-use Rattle.tree_rising.specs.Rising as up
+use Rattle.tree_phases.specs.declared.chart.Chart.{Chart}
+use Rattle.tree_phases.specs.Placing.{has_nothing}
+use Rattle.tree_phases.specs.Read.{tree_held}
+use Rattle.tree_phases.specs.declared.rising.Rising.{Rising}
+use Rattle.tree_phases.specs.Rising.{rising_ask}
+use Rattle.tree_phases.specs.Rising as up
 
 -- ---- the put in hand on the way up
 

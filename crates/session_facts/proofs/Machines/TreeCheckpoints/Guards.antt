@@ -6,8 +6,8 @@ use Rattle.cloud_facts.specs.Calls.Standing.{StandsUnder}
 use Rattle.cloud_trait.specs.Claim.{Claim, Lasts}
 use Rattle.cloud_trait.specs.State.{CloudState}
 use Rattle.db_base.specs.declared.names.Lock.TheVariants as lock
-use Rattle.leaf_fold.specs.declared.folding.Folding.{Folding}
-use Rattle.leaf_fold.specs.Folding.{folding_ask}
+use Rattle.tree_phases.specs.declared.folding.Folding.{Folding}
+use Rattle.tree_phases.specs.Folding.{folding_ask}
 use Rattle.cloud_facts.specs.Leases.Guards.{IsGuarded}
 use Rattle.report_types.specs.declared.entry.Entry.{Entry}
 use Rattle.split_plan.specs.Part.{Part, LeafPart}
@@ -24,7 +24,7 @@ use Rattle.session_facts.proofs.Machines.Folds.Puts.{page_asked, root_asked}
 use Rattle.session_facts.proofs.Machines.Trees.Placings.{last_cases, puts_more}
 use Rattle.cloud_facts.proofs.Calls.Guarding.{leaf_guard, tree_guard}
 use Rattle.session_facts.proofs.Machines.Runs.Leaves.{linked_kept}
-use Rattle.tree_parts.specs.Read.{tree_held}
+use Rattle.tree_phases.specs.Read.{tree_held}
 
 -- a number that is reserved and was not put yet is a page of the tree's, and was not removed
 pub reserved_page : {A X : Type 0} (node : Part A X → Node) (chain : ℕ → List Link) (nodes : ℕ → List Node) (gone : ℕ → Bool) (next first : ℕ) (middle : List (Part A X)) (last : Part A X)

@@ -17,8 +17,8 @@ use Rattle.db_base.specs.declared.names.Lock.TheVariants as lock
 use Rattle.db_base.specs.declared.names.ObjName.TheVariants as object
 use Rattle.db_base.specs.declared.trouble.Trouble.{Trouble}
 use Rattle.cloud_facts.specs.Homes.Homes.{Parts}
-use Rattle.leaf_fold.specs.declared.folding.Folding.{Folding}
-use Rattle.leaf_fold.specs.Folding.{folding_ask}
+use Rattle.tree_phases.specs.declared.folding.Folding.{Folding}
+use Rattle.tree_phases.specs.Folding.{folding_ask}
 use Rattle.cloud_facts.specs.Leases.Guards.{IsGuarded}
 use Rattle.cloud_facts.specs.Leases.Leases.{KeptBy, Owns, RenewedTo}
 use Rattle.report_types.specs.declared.entry.Entry.{Entry}
@@ -46,10 +46,10 @@ use Rattle.tree_moves.specs.declared.work.Work.{Work}
 use Rattle.tree_moves.specs.declared.work.Work.TheVariants as work
 use Rattle.tree_moves.specs.Moves.{Step, Leads}
 use Rattle.tree_moves.specs.Work.{delete_ask, release_ask, work_ask, claims_in}
-use Rattle.tree_parts.specs.declared.placing.Placing.{Placing}
-use Rattle.tree_parts.specs.Placing.{put_in_hand, put_first, put_next}
-use Rattle.tree_rising.specs.declared.rising.Rising.{Rising}
-use Rattle.tree_rising.specs.Rising.{last_ask, rising_ask}
+use Rattle.tree_phases.specs.declared.placing.Placing.{Placing}
+use Rattle.tree_phases.specs.Placing.{put_in_hand, put_first, put_next}
+use Rattle.tree_phases.specs.declared.rising.Rising.{Rising}
+use Rattle.tree_phases.specs.Rising.{last_ask, rising_ask}
 
 -- ---- locks apart
 

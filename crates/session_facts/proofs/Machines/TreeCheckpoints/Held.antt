@@ -13,9 +13,9 @@ use Rattle.cloud_trait.specs.Claim.{Claim}
 use Rattle.cloud_trait.specs.Machine.{Next, Goes, Ends, Stops}
 use Rattle.db_base.specs.declared.names.Lock.TheVariants as lock
 use Rattle.db_base.specs.declared.trouble.Trouble.{Trouble}
-use Rattle.leaf_fold.specs.declared.folding.Folding.{Folding}
-use Rattle.leaf_fold.specs.declared.folding.Left.{Left}
-use Rattle.leaf_fold.specs.Folding.{folding_ask, folding_next}
+use Rattle.tree_phases.specs.declared.folding.Folding.{Folding}
+use Rattle.tree_phases.specs.declared.folding.Left.{Left}
+use Rattle.tree_phases.specs.Folding.{folding_ask, folding_next}
 use Rattle.session_facts.specs.Machines.TreeCheckpoints.Knows.{HoldsLast, KnowsWork}
 use Rattle.session_facts.proofs.Settling.Locks.{HoldsNext, quiet_after, not_given}
 use Rattle.split_plan.specs.declared.put_list.PagePut.{PagePut}
@@ -23,15 +23,15 @@ use Rattle.tree_ckpt.specs.Leases.{HasIds}
 use Rattle.tree_ckpt.proofs.Leaving.{SameLeaf, LeavesLeaf, next_leaves}
 use Rattle.tree_ckpt.proofs.Outcomes.{Seeks, Descends, Ascends, Clears, Fails, Comes}
 use Rattle.tree_ckpt.proofs.Outcomes as step
-use Rattle.tree_descent.specs.declared.descent.Descent.{Descent}
+use Rattle.tree_phases.specs.declared.descent.Descent.{Descent}
 use Rattle.tree_moves.specs.declared.work.Held.{Held}
 use Rattle.tree_moves.specs.declared.work.Work.{Work}
 use Rattle.tree_moves.specs.declared.work.Work.TheVariants as work
 use Rattle.tree_moves.specs.Moves.{Step}
 use Rattle.tree_moves.specs.Work.{delete_ask, work_ask, claims_in}
-use Rattle.tree_parts.specs.declared.chart.Chart.{Chart}
-use Rattle.tree_rising.specs.declared.rising.Rising.{Rising}
-use Rattle.tree_rising.specs.Rising.{rising_ask}
+use Rattle.tree_phases.specs.declared.chart.Chart.{Chart}
+use Rattle.tree_phases.specs.declared.rising.Rising.{Rising}
+use Rattle.tree_phases.specs.Rising.{rising_ask}
 
 -- the leases that are held where a step leads
 abbrev pub claims_next : Step → List Claim

@@ -29,7 +29,7 @@ use Rattle.tree_ckpt.specs.Causes.{Calls}
 use Rattle.tree_ckpt.specs.Making.{Making, making_ask, MakingLeads}
 use Rattle.tree_ckpt.specs.Meaning.{Tried, deletes_over}
 use Rattle.tree_ckpt.specs.Working.{IsAmong, Climb, Worked, PutsEntry, HasClimbed, HasRisen, done_over, page_puts, reserved_before, puts_of, climbs_over, fold_calls, worked_calls}
-use Rattle.tree_parts.specs.declared.placing.Placing.{Placing}
+use Rattle.tree_phases.specs.declared.placing.Placing.{Placing}
 
 -- ---- a put that was done landed
 

@@ -32,8 +32,8 @@ use Rattle.db_base.specs.Ids.{IsTree}
 use Rattle.db_base.specs.declared.names.Lock.TheVariants as lock
 use Rattle.db_base.specs.declared.names.ObjName.{ObjName}
 use Rattle.db_base.specs.declared.names.ObjName.TheVariants as object
-use Rattle.leaf_fold.specs.declared.folding.Folding.{Folding as Leafing}
-use Rattle.leaf_fold.specs.Folding.{folding_ask}
+use Rattle.tree_phases.specs.declared.folding.Folding.{Folding as Leafing}
+use Rattle.tree_phases.specs.Folding.{folding_ask}
 use Rattle.leaf_view.proofs.Exact.{leaf_exact}
 use Rattle.leaf_view.specs.Fits.{IsWellFormed, IsEntryIn}
 use Rattle.leaf_view.specs.Leaf.{Leaf, Entry as Rec, leaf}
@@ -59,17 +59,17 @@ use Rattle.tree_ckpt.proofs.Whole.{IsNoted}
 use Rattle.tree_ckpt.specs.Causes.{Calls, Brings, WasGot, WasNode}
 use Rattle.tree_ckpt.specs.Meaning.{Opening, opening_calls}
 use Rattle.tree_ckpt.specs.Working.{HoldsLeaf, leaf_place}
-use Rattle.tree_descent.specs.declared.descent.Descent.{Descent}
-use Rattle.tree_descent.specs.Descent.{descent_ask}
+use Rattle.tree_phases.specs.declared.descent.Descent.{Descent}
+use Rattle.tree_phases.specs.Descent.{descent_ask}
 use Rattle.tree_moves.specs.declared.work.Held.{Held}
 use Rattle.tree_moves.specs.declared.work.Work.{Work}
 use Rattle.tree_moves.specs.declared.work.Work.TheVariants as work
 use Rattle.tree_moves.specs.Work.{work_ask, delete_ask, release_ask}
-use Rattle.tree_parts.specs.declared.kept.KeptNode.{KeptNode}
-use Rattle.tree_parts.specs.declared.placing.Placing.{Placing}
-use Rattle.tree_parts.specs.Placing.{put_next, put_first, put_in_hand}
-use Rattle.tree_rising.specs.declared.rising.Rising.{Rising}
-use Rattle.tree_rising.specs.Rising.{last_ask, rising_ask}
+use Rattle.tree_phases.specs.declared.kept.KeptNode.{KeptNode}
+use Rattle.tree_phases.specs.declared.placing.Placing.{Placing}
+use Rattle.tree_phases.specs.Placing.{put_next, put_first, put_in_hand}
+use Rattle.tree_phases.specs.declared.rising.Rising.{Rising}
+use Rattle.tree_phases.specs.Rising.{last_ask, rising_ask}
 
 -- a call that is no get of a page brings none
 abbrev GetsNone : ℕ → Ask → Type 0

@@ -7,9 +7,9 @@ use Rattle.cloud_trait.specs.Claim.{Claim}
 use Rattle.cloud_trait.specs.Machine.{Next, Goes, Ends, Stops}
 use Rattle.db_base.specs.declared.names.Lock.TheVariants as lock
 use Rattle.db_base.specs.declared.trouble.Trouble.{Trouble}
-use Rattle.leaf_fold.specs.declared.folding.Folding.{Folding}
-use Rattle.leaf_fold.specs.declared.folding.Left.{Left}
-use Rattle.leaf_fold.specs.declared.folding.Left.TheVariants as left
+use Rattle.tree_phases.specs.declared.folding.Folding.{Folding}
+use Rattle.tree_phases.specs.declared.folding.Left.{Left}
+use Rattle.tree_phases.specs.declared.folding.Left.TheVariants as left
 use Rattle.session_facts.specs.Machines.Runs.Knows.{MayDelete}
 use Rattle.cloud_facts.specs.Book.Records.{IsIn}
 use Rattle.cloud_facts.specs.Book.Tally.{Store}
@@ -18,7 +18,7 @@ use Rattle.tree_ckpt.proofs.Leaving.{SameLeaf, LeavesLeaf}
 use Rattle.session_facts.specs.Machines.TreeCheckpoints.Knows.{IsUnder, OfPage, HoldsLast, MayStopTree, EndsWell, KnowsWorkNext}
 use Rattle.session_facts.proofs.Machines.TreeCheckpoints.Stops.{StopsWell}
 use Rattle.session_facts.proofs.Machines.Risings.Stays.{StaysIn}
-use Rattle.tree_descent.specs.declared.descent.Descent.{Descent}
+use Rattle.tree_phases.specs.declared.descent.Descent.{Descent}
 use Rattle.session_facts.specs.Machines.Folds.Nexts.{KnowsStep}
 use Rattle.session_facts.specs.Machines.Trees.Leaves.{IsCome}
 use Rattle.session_facts.specs.Machines.Risings.Knows.{RisesOn}
@@ -26,8 +26,8 @@ use Rattle.session_facts.proofs.Machines.Trees.WayCharts.{LeadsApart, KnowsDesce
 use Rattle.tree_moves.specs.declared.work.Coming.{Coming}
 use Rattle.tree_moves.specs.declared.work.Held.{Held}
 use Rattle.tree_moves.specs.Moves.{Step, deleting, deleting_by, deleted_by, went, rising_on, descending_on, page_taken, folding_on, tree_taken, finished, released_by}
-use Rattle.tree_parts.specs.declared.chart.Chart.{Chart}
-use Rattle.tree_rising.specs.declared.rising.Rising.{Rising}
+use Rattle.tree_phases.specs.declared.chart.Chart.{Chart}
+use Rattle.tree_phases.specs.declared.rising.Rising.{Rising}
 
 module _ (u : Store) (now tree : ℕ) where
   abbrev Known : Step → Type 0

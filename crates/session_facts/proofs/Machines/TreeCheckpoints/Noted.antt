@@ -15,8 +15,8 @@ use Rattle.tree_ckpt.proofs.Whole.{IsNoted}
 use Rattle.tree_ckpt.specs.Causes.{Calls, WasGot}
 use Rattle.tree_ckpt.specs.Meaning.{Opening, opening_calls}
 use Rattle.tree_ckpt.specs.Working.{Place, looks_of}
-use Rattle.tree_parts.specs.declared.chart.Chart.{Chart}
-use Rattle.tree_parts.specs.declared.kept.KeptNode.{KeptNode}
+use Rattle.tree_phases.specs.declared.chart.Chart.{Chart}
+use Rattle.tree_phases.specs.declared.kept.KeptNode.{KeptNode}
 
 -- ---- gets among calls
 

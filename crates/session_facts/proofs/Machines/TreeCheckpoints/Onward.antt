@@ -43,7 +43,7 @@ use Rattle.session_facts.proofs.Machines.TreeCheckpoints.Reads.{root_read, run_t
 use Rattle.session_facts.proofs.Machines.TreeCheckpoints.Stops.{descent_may}
 use Rattle.session_facts.proofs.Machines.Risings.Stops.{rise_may}
 use Rattle.session_facts.proofs.Machines.Risings.Stays.{StaysIn, rise_stays}
-use Rattle.tree_descent.specs.Descent.{begun, arrive}
+use Rattle.tree_phases.specs.Descent.{begun, arrive}
 use Rattle.session_facts.specs.Machines.Trees.Charts.{KnowsRoot, KnowsChart}
 use Rattle.session_facts.specs.Machines.Folds.Knows.{IsDone, KnowsRun, IsLeast}
 use Rattle.session_facts.specs.Machines.Trees.Leaves.{KnowsRest}
@@ -56,9 +56,9 @@ use Rattle.tree_moves.specs.declared.work.Held.{Held}
 use Rattle.tree_moves.specs.declared.work.Onward.{Onward}
 use Rattle.tree_moves.specs.declared.work.Onward.TheVariants as onward
 use Rattle.tree_moves.specs.Moves.{Step, descending_on, down_from, entry_or, root_entry, going_by, going, next_key, key_from, page_left, tree_read, tree_got, chart_of, started, intake_taken, ReceivedBy}
-use Rattle.tree_parts.specs.declared.chart.Chart.{Chart}
-use Rattle.tree_parts.specs.Read.{tree_held}
-use Rattle.tree_rising.specs.Rising as up
+use Rattle.tree_phases.specs.declared.chart.Chart.{Chart}
+use Rattle.tree_phases.specs.Read.{tree_held}
+use Rattle.tree_phases.specs.Rising as up
 
 -- the run ascends by key
 rises : (st : Store) (c : Chart) (ids : List ℕ) → KnowsRun st c ids → Rises c.run.items

@@ -2,7 +2,7 @@
 use Rattle.std.proofs.Common.{◌≡◌, ◌≤◌, inl, inr, ℕ, zero, suc, List, [], ◌∷◌, refl, sym, ap, ◌∙◌}
 use Rattle.cloud_trait.specs.Claim.{Claim}
 use Rattle.db_base.specs.declared.names.Lock.TheVariants as lock
-use Rattle.leaf_fold.specs.declared.folding.Folding.{Folding}
+use Rattle.tree_phases.specs.declared.folding.Folding.{Folding}
 use Rattle.session_facts.proofs.Machines.Runs.Marks.{delete_stays}
 use Rattle.cloud_facts.specs.Book.Records.{IsIn}
 use Rattle.cloud_facts.specs.Book.Tally.{Store}
@@ -20,7 +20,7 @@ use Rattle.tree_moves.specs.declared.work.Onward.TheVariants as onward
 use Rattle.tree_moves.specs.declared.work.Work.{Work}
 use Rattle.tree_moves.specs.declared.work.Work.TheVariants.{TakingTree, GettingTree, Receiving, Descending, TakingPage, Folding as FoldingLeaf, ReleasingPage, LeftPage, Rising, Deleting, Releasing, Finished}
 use Rattle.tree_moves.specs.Work.{claims_in}
-use Rattle.tree_parts.specs.Read.{tree_held}
+use Rattle.tree_phases.specs.Read.{tree_held}
 
 -- the lock of the tree that is known of
 pub lock_of : (tree known : ℕ) (lease : Claim) → IsUnder tree lease known → lease.lock ≡ lock.Tree known

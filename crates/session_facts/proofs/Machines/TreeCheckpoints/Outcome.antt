@@ -29,8 +29,8 @@ use Rattle.history.specs.Audited.{Audited}
 use Rattle.cloud_facts.specs.Homes.Homes.{Part, Parts, HomesHold}
 use Rattle.cloud_facts.proofs.Homes.HomeLemmas.{keeps_part, aside_keeps}
 use Rattle.cloud_facts.specs.Landings.Landing.{Landing, marks_post}
-use Rattle.leaf_fold.specs.declared.folding.Folding.{Folding}
-use Rattle.leaf_fold.specs.Folding.{folding_ask, folding_next, leaf_got, leaf_put}
+use Rattle.tree_phases.specs.declared.folding.Folding.{Folding}
+use Rattle.tree_phases.specs.Folding.{folding_ask, folding_next, leaf_got, leaf_put}
 use Rattle.report_types.specs.declared.entry.Entry.{Entry}
 use Rattle.session_facts.specs.Machines.Runs.Knows.{MayDelete}
 use Rattle.session_facts.proofs.Machines.Runs.Marks.{delete_stays, may_mark}
@@ -52,8 +52,8 @@ use Rattle.session_facts.proofs.Machines.TreeCheckpoints.Stops.{StopsWell, desce
 use Rattle.session_facts.proofs.Machines.TreeCheckpoints.Reads.{received_sent}
 use Rattle.session_facts.proofs.Machines.Risings.Stops.{rising_may}
 use Rattle.session_facts.proofs.Machines.Risings.Stays.{StaysIn, rising_stays_in}
-use Rattle.tree_descent.specs.declared.descent.Descent.{Descent}
-use Rattle.tree_descent.specs.Descent.{descent_next}
+use Rattle.tree_phases.specs.declared.descent.Descent.{Descent}
+use Rattle.tree_phases.specs.Descent.{descent_next}
 use Rattle.session_facts.specs.Machines.Folds.Nexts.{fold_note, KnowsStep}
 use Rattle.session_facts.specs.Machines.Trees.Leaves.{IsGetting, IsReading, IsPutting, KnowsLeaf}
 use Rattle.session_facts.specs.Machines.Risings.Knows.{KnowsRising, RisesOn}
@@ -69,10 +69,10 @@ use Rattle.tree_moves.specs.declared.work.Work.{Work}
 use Rattle.tree_moves.specs.declared.work.Work.TheVariants as work
 use Rattle.tree_moves.specs.Moves.{Step, Leads}
 use Rattle.tree_moves.specs.Work.{take_tree, delete_ask, release_ask, work_ask, claims_in}
-use Rattle.tree_parts.specs.declared.placing.Placing.{Placing}
-use Rattle.tree_parts.specs.Placing.{put_in_hand, has_nothing}
-use Rattle.tree_rising.specs.declared.rising.Rising.{Rising}
-use Rattle.tree_rising.specs.Rising.{rising_ask, rising_next}
+use Rattle.tree_phases.specs.declared.placing.Placing.{Placing}
+use Rattle.tree_phases.specs.Placing.{put_in_hand, has_nothing}
+use Rattle.tree_phases.specs.declared.rising.Rising.{Rising}
+use Rattle.tree_phases.specs.Rising.{rising_ask, rising_next}
 
 -- less is known
 pub less_known : (who : Caller) (book : Book) (order : List Entry) (s t : CloudState) (parts : Parts) (mine : List Claim) (ask : Ask) (note : Audited → Audited) (K L : Store → ℕ → Type 0)

@@ -26,9 +26,9 @@ use Rattle.tree_ckpt.proofs.Under.{on_ways, visits_level, leaves_under, climbs_l
 use Rattle.tree_ckpt.specs.Causes.{Calls, WasGot, WasNode}
 use Rattle.tree_ckpt.specs.Meaning.{Tried, deletes_over, IsDone, opening_calls}
 use Rattle.tree_ckpt.specs.Working.{IsAmong, Visit, Outcome, Planned, Spared, Passed, AreVisits, IsPieceOf, IsLeafPiece, IsNodePiece, IsUnder, Climb, AreClimbs, HasLevel, Worked, IsWorked, WorksBy, HoldsLow, leaf_place, node_place, link_to, done_over, puts_of, placing_of, visits_over, looks_of, root_behind, links_behind, climbs_over, fold_calls, worked_calls, last_root, last_links}
-use Rattle.tree_parts.specs.declared.link.Link.{Link}
-use Rattle.tree_parts.specs.Kept.{links_at}
-use Rattle.tree_parts.specs.Read.{tree_held}
+use Rattle.tree_phases.specs.declared.link.Link.{Link}
+use Rattle.tree_phases.specs.Kept.{links_at}
+use Rattle.tree_phases.specs.Read.{tree_held}
 
 -- ---- earlier calls nest too
 

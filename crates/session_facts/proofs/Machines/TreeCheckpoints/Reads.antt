@@ -39,7 +39,7 @@ use Rattle.cloud_facts.specs.Tellings.Told.{store_of}
 use Rattle.session_facts.specs.Machines.Trees.Charts.{KnowsRoot}
 use Rattle.cloud_facts.proofs.Calls.Pages.{no_root}
 use Rattle.session_facts.proofs.Machines.Trees.Reserves.{newest_root_of}
-use Rattle.tree_parts.specs.Read.{tree_held}
+use Rattle.tree_phases.specs.Read.{tree_held}
 
 -- ---- the tree object
 

@@ -23,8 +23,8 @@ use Rattle.split_plan.specs.Plan.{entry_of, on_pages}
 use Rattle.tree_ckpt.proofs.Keyed.{edited_by-keys}
 use Rattle.tree_ckpt.specs.Meaning.{Opening, IsOpened}
 use Rattle.tree_ckpt.specs.Working.{IsAmong, Outcome, Planned, Spared, Passed, IsLeft, IsPieceOf}
-use Rattle.tree_parts.specs.declared.link.Link.{Link}
-use Rattle.tree_parts.specs.Kept.{links_at}
+use Rattle.tree_phases.specs.declared.link.Link.{Link}
+use Rattle.tree_phases.specs.Kept.{links_at}
 
 -- ---- the run
 

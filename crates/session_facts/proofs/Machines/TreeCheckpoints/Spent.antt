@@ -20,7 +20,7 @@ use Rattle.db_base.specs.declared.trouble.Counter.TheVariants as counter
 use Rattle.db_base.specs.declared.trouble.Trouble.{Trouble}
 use Rattle.db_base.specs.declared.trouble.Trouble.TheVariants as trouble
 use Rattle.leaf_edit.specs.Applied.{applied}
-use Rattle.leaf_fold.specs.declared.folding.Folding.{Folding}
+use Rattle.tree_phases.specs.declared.folding.Folding.{Folding}
 use Rattle.leaf_view.specs.Leaf.{Leaf}
 use Rattle.leaf_view.specs.Lookup.{empty_leaf}
 use Rattle.log_codec.specs.declared.record.PuItem.{PuItem}
@@ -49,16 +49,16 @@ use Rattle.split_plan.specs.Sizes.{count_of}
 use Rattle.tree_ckpt.specs.Working.{HoldsLeaf}
 use Rattle.tree_ckpt.specs.Due.{Due, LeafDue, NodeDue, RootDue, IsSpent, pages_of, pages_of_root, raised, root_of, version_of}
 use Rattle.tree_moves.specs.Moves.{chart_of}
-use Rattle.tree_parts.specs.declared.chart.Chart.{Chart}
-use Rattle.tree_parts.specs.declared.kept.KeptNode.{KeptNode}
-use Rattle.tree_parts.specs.declared.link.Link.{Link as Found}
-use Rattle.tree_parts.specs.Placing.{root_after, puts_after, has_nothing}
-use Rattle.tree_parts.specs.Read.{tree_held}
-use Rattle.tree_parts.specs.Reserve.{version_spent}
-use Rattle.tree_rising.specs.declared.rising.Rising.{Rising}
-use Rattle.tree_rising.specs.Nodes.{touched_at, with_links}
-use Rattle.tree_rising.specs.Rising.{landed, next_touched, touched_node}
-use Rattle.tree_rising.specs.Rising as up
+use Rattle.tree_phases.specs.declared.chart.Chart.{Chart}
+use Rattle.tree_phases.specs.declared.kept.KeptNode.{KeptNode}
+use Rattle.tree_phases.specs.declared.link.Link.{Link as Found}
+use Rattle.tree_phases.specs.Placing.{root_after, puts_after, has_nothing}
+use Rattle.tree_phases.specs.Read.{tree_held}
+use Rattle.tree_phases.specs.Reserve.{version_spent}
+use Rattle.tree_phases.specs.declared.rising.Rising.{Rising}
+use Rattle.tree_phases.specs.Nodes.{touched_at, with_links}
+use Rattle.tree_phases.specs.Rising.{landed, next_touched, touched_node}
+use Rattle.tree_phases.specs.Rising as up
 
 -- no reservation is in hand where pages are put and the put in hand is the last
 none_reserved : (r : Rising) → 1 ≤ length r.placing.puts → has_nothing (landed r).placing ≡ true → r.placing.reserved ≡ None

@@ -2,15 +2,15 @@
 use Rattle.std.proofs.Common.{◌≡◌, ◌∙◌, ℕ, refl, sym, subst}
 use Rattle.cloud_trait.specs.declared.answer.Answer.{Answer}
 use Rattle.cloud_trait.specs.Machine.{Next, Goes, Ends, Stops}
-use Rattle.leaf_fold.specs.declared.folding.Folding.{Folding}
-use Rattle.leaf_fold.specs.declared.folding.Left.{Left}
-use Rattle.leaf_fold.specs.declared.folding.Left.TheVariants as left
+use Rattle.tree_phases.specs.declared.folding.Folding.{Folding}
+use Rattle.tree_phases.specs.declared.folding.Left.{Left}
+use Rattle.tree_phases.specs.declared.folding.Left.TheVariants as left
 use Rattle.session_facts.proofs.Machines.Risings.Stays.{StaysIn, rise_stays, rising_stays_in}
-use Rattle.tree_parts.specs.declared.chart.Chart.{Chart}
-use Rattle.tree_descent.specs.declared.descent.Descent.{Descent}
-use Rattle.tree_descent.specs.Descent.{begun, descent_next}
-use Rattle.tree_rising.specs.declared.rising.Rising.{Rising as Up}
-use Rattle.tree_rising.specs.Rising.{begun as up_begun, rise, rising_next}
+use Rattle.tree_phases.specs.declared.chart.Chart.{Chart}
+use Rattle.tree_phases.specs.declared.descent.Descent.{Descent}
+use Rattle.tree_phases.specs.Descent.{begun, descent_next}
+use Rattle.tree_phases.specs.declared.rising.Rising.{Rising as Up}
+use Rattle.tree_phases.specs.Rising.{begun as up_begun, rise, rising_next}
 use Rattle.tree_moves.specs.declared.work.Held.{Held}
 use Rattle.tree_moves.specs.declared.work.Work.{Work}
 use Rattle.tree_moves.specs.Moves.{Step, down_from, root_entry, onward_from}

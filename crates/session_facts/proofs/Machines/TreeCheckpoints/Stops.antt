@@ -13,10 +13,10 @@ use Rattle.node_codec.specs.Tree.{Tree, tree_bytes}
 use Rattle.cloud_facts.specs.Book.Tally.{Store}
 use Rattle.session_facts.specs.Sessions.Spent.{IsOfFolding}
 use Rattle.session_facts.specs.Machines.TreeCheckpoints.Knows.{MayStopTree}
-use Rattle.tree_descent.specs.declared.descent.Descent.{Descent}
+use Rattle.tree_phases.specs.declared.descent.Descent.{Descent}
 use Rattle.session_facts.specs.Machines.Trees.Ways.{WayLeads}
-use Rattle.tree_parts.specs.declared.reserve.Reserved.{Reserved}
-use Rattle.tree_parts.specs.Reserve.{version_spent, pages_spent, next_tree, reserved, reserved_by, reservation}
+use Rattle.tree_phases.specs.declared.reserve.Reserved.{Reserved}
+use Rattle.tree_phases.specs.Reserve.{version_spent, pages_spent, next_tree, reserved, reserved_by, reservation}
 
 -- a step that stops does so for such a trouble
 abbrev pub StopsWell : {M A : Type 0} → Next M A → Type 0

@@ -8,10 +8,10 @@ use Rattle.cloud_trait.specs.Machine.{Next, Goes, Ends, Stops}
 use Rattle.cloud_trait.specs.Views.{got_of, done_of}
 use Rattle.db_base.specs.declared.trouble.Trouble.{Trouble}
 use Rattle.db_base.specs.declared.trouble.Trouble.TheVariants as trouble
-use Rattle.leaf_fold.specs.declared.folding.Folding.{Folding}
-use Rattle.leaf_fold.specs.declared.folding.Left.{Left}
-use Rattle.leaf_fold.specs.declared.plan.LeafPlan.{LeafPlan}
-use Rattle.leaf_fold.specs.Folding.{bad_low, leaf_got, leaf_put, folding_next}
+use Rattle.tree_phases.specs.declared.folding.Folding.{Folding}
+use Rattle.tree_phases.specs.declared.folding.Left.{Left}
+use Rattle.tree_phases.specs.declared.plan.LeafPlan.{LeafPlan}
+use Rattle.tree_phases.specs.Folding.{bad_low, leaf_got, leaf_put, folding_next}
 use Rattle.leaf_view.specs.Leaf.{Leaf, leaf as leaf_format}
 use Rattle.node_codec.specs.Inner.{Inner, inner_of, inner_format}
 use Rattle.session_facts.proofs.Sessions.Shows.{IsFree}
@@ -23,21 +23,21 @@ use Rattle.tree_ckpt.proofs.LeafOutcomes as leaf
 use Rattle.tree_ckpt.proofs.RiseOutcomes as rise
 use Rattle.session_facts.proofs.Machines.Trees.Descents.{Arrives, arrives_at, Gets, gets}
 use Rattle.session_facts.proofs.Machines.Trees.Descents as way
-use Rattle.tree_descent.specs.declared.descent.Descent.{Descent}
-use Rattle.tree_descent.specs.declared.fork.Fork.{Fork}
-use Rattle.tree_descent.specs.Descent.{begun, forked, forked_by, fork_of, passed, arrive, absent_node, descent_got}
-use Rattle.tree_descent.specs.Fork.{bad_fence, forked_on}
+use Rattle.tree_phases.specs.declared.descent.Descent.{Descent}
+use Rattle.tree_phases.specs.declared.fork.Fork.{Fork}
+use Rattle.tree_phases.specs.Descent.{begun, forked, forked_by, fork_of, passed, arrive, absent_node, descent_got}
+use Rattle.tree_phases.specs.Fork.{bad_fence, forked_on}
 use Rattle.tree_moves.specs.Moves.{down_from, root_entry}
-use Rattle.tree_parts.specs.declared.chart.Chart.{Chart}
-use Rattle.tree_parts.specs.declared.kept.KeptNode.{KeptNode}
-use Rattle.tree_parts.specs.Placing.{has_nothing}
-use Rattle.tree_parts.specs.Read.{damaged, inner_or, inner_read, tree_held}
-use Rattle.tree_rising.specs.declared.node.NodePlan.{NodePlan}
-use Rattle.tree_rising.specs.declared.rising.Rising.{Rising}
-use Rattle.tree_rising.specs.declared.root.RootPlan.{RootPlan}
-use Rattle.tree_rising.specs.Nodes.{planned_of, linked_by, node_plan}
-use Rattle.tree_rising.specs.Rising.{touched_node, landed}
-use Rattle.tree_parts.specs.Reserve.{version_spent}
+use Rattle.tree_phases.specs.declared.chart.Chart.{Chart}
+use Rattle.tree_phases.specs.declared.kept.KeptNode.{KeptNode}
+use Rattle.tree_phases.specs.Placing.{has_nothing}
+use Rattle.tree_phases.specs.Read.{damaged, inner_or, inner_read, tree_held}
+use Rattle.tree_phases.specs.declared.node.NodePlan.{NodePlan}
+use Rattle.tree_phases.specs.declared.rising.Rising.{Rising}
+use Rattle.tree_phases.specs.declared.root.RootPlan.{RootPlan}
+use Rattle.tree_phases.specs.Nodes.{planned_of, linked_by, node_plan}
+use Rattle.tree_phases.specs.Rising.{touched_node, landed}
+use Rattle.tree_phases.specs.Reserve.{version_spent}
 
 -- what it comes to is no other trouble
 abbrev pub HasFree : {X : Type 0} → Result X Trouble → Type 0

@@ -5,12 +5,12 @@ use Rattle.cloud_trait.specs.Machine.{Next, Goes, Ends, Stops}
 use Rattle.db_base.specs.declared.trouble.Trouble.{Trouble}
 use Rattle.db_base.specs.declared.trouble.Trouble.TheVariants as trouble
 use Rattle.run_cursor.specs.Covered.{is_seen}
-use Rattle.tree_descent.specs.declared.descent.Descent.{Descent}
-use Rattle.tree_descent.specs.declared.descent.Reach.{Reach}
-use Rattle.tree_descent.specs.declared.descent.Reach.TheVariants.{Leaf}
-use Rattle.tree_descent.specs.declared.fork.Fork.{Fork}
-use Rattle.tree_descent.specs.Descent.{fork_of, passed, go_on, stride_at, kept_at, stride, follow, walk, arrived, arrive, absent_node, with_node, got_node, descent_got}
-use Rattle.tree_parts.specs.declared.kept.KeptNode.{KeptNode}
+use Rattle.tree_phases.specs.declared.descent.Descent.{Descent}
+use Rattle.tree_phases.specs.declared.descent.Reach.{Reach}
+use Rattle.tree_phases.specs.declared.descent.Reach.TheVariants.{Leaf}
+use Rattle.tree_phases.specs.declared.fork.Fork.{Fork}
+use Rattle.tree_phases.specs.Descent.{fork_of, passed, go_on, stride_at, kept_at, stride, follow, walk, arrived, arrive, absent_node, with_node, got_node, descent_got}
+use Rattle.tree_phases.specs.declared.kept.KeptNode.{KeptNode}
 
 -- at an inner node that the way did not come to before
 pub record IsNew (d : Descent) : Type 0 where

@@ -15,14 +15,14 @@ use Rattle.cloud_facts.specs.Book.Book.{Link}
 use Rattle.cloud_facts.specs.Book.Records.{IsIn}
 use Rattle.cloud_facts.specs.Book.Tally.{Node, Branch, Store}
 use Rattle.cloud_facts.proofs.Book.Places.{in_either, in_none}
-use Rattle.tree_descent.specs.declared.descent.Descent.{Descent}
-use Rattle.tree_descent.specs.declared.fork.Fork.{Fork}
-use Rattle.tree_descent.specs.declared.fork.Fork.TheVariants.{Right, Down}
-use Rattle.tree_descent.specs.Descent.{forked, passed}
-use Rattle.tree_descent.specs.Fork.{bad_fence, down_to, down_from, fork_at, forked_on}
+use Rattle.tree_phases.specs.declared.descent.Descent.{Descent}
+use Rattle.tree_phases.specs.declared.fork.Fork.{Fork}
+use Rattle.tree_phases.specs.declared.fork.Fork.TheVariants.{Right, Down}
+use Rattle.tree_phases.specs.Descent.{forked, passed}
+use Rattle.tree_phases.specs.Fork.{bad_fence, down_to, down_from, fork_at, forked_on}
 use Rattle.replay_meaning.specs.Index.{IsRightOf}
-use Rattle.tree_parts.specs.declared.link.Link.{Link as Found}
-use Rattle.tree_parts.specs.Read.{damaged}
+use Rattle.tree_phases.specs.declared.link.Link.{Link as Found}
+use Rattle.tree_phases.specs.Read.{damaged}
 use Rattle.session_facts.specs.Machines.Trees.Charts.{KnowsChart, IsFound, AreFound}
 use Rattle.session_facts.specs.Machines.Trees.Ways.{IsOnWay, KnowsWay}
 

@@ -11,9 +11,9 @@ use Rattle.node_codec.specs.Node.{Entry, with_entry}
 use Rattle.node_codec.specs.Tree.{Tree, with_child}
 use Rattle.cloud_facts.specs.Book.Book.{Link}
 use Rattle.cloud_facts.specs.Book.Records.{IsIn}
-use Rattle.tree_parts.specs.declared.link.Link.{Link as Found}
-use Rattle.tree_rising.specs.Nodes.{goes_to, with_links}
-use Rattle.tree_rising.specs.Root.{is_named, with_named}
+use Rattle.tree_phases.specs.declared.link.Link.{Link as Found}
+use Rattle.tree_phases.specs.Nodes.{goes_to, with_links}
+use Rattle.tree_phases.specs.Root.{is_named, with_named}
 use Rattle.session_facts.specs.Machines.Trees.Charts.{IsFound, AreFound}
 
 -- ---- one more entry

@@ -12,10 +12,10 @@ use Rattle.cloud_facts.specs.Book.Growth.{Grows}
 use Rattle.cloud_facts.specs.Book.Records.{IsIn}
 use Rattle.cloud_facts.specs.Book.Tally.{Node, Leafy, Branch, Store}
 use Rattle.cloud_facts.specs.Book.Telling.{last_or}
-use Rattle.tree_parts.specs.declared.chart.Chart.{Chart}
-use Rattle.tree_parts.specs.declared.kept.KeptNode.{KeptNode}
-use Rattle.tree_parts.specs.declared.link.Link.{Link as Found}
-use Rattle.tree_parts.specs.Read.{tree_held}
+use Rattle.tree_phases.specs.declared.chart.Chart.{Chart}
+use Rattle.tree_phases.specs.declared.kept.KeptNode.{KeptNode}
+use Rattle.tree_phases.specs.declared.link.Link.{Link as Found}
+use Rattle.tree_phases.specs.Read.{tree_held}
 use Rattle.session_facts.specs.Machines.Trees.Charts.{IsRootOf, KnowsRoot, KnowsNode, KnowsNodes, AreFound, KnowsChart}
 use Rattle.cloud_facts.specs.Calls.Others.{Others}
 use Rattle.session_facts.specs.Machines.Trees.Ways.{IsOnWay}

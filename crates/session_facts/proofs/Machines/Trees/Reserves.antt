@@ -34,11 +34,11 @@ use Rattle.cloud_facts.proofs.Book.Names.{at_same}
 use Rattle.cloud_facts.proofs.Book.Places.{in_behind}
 use Rattle.cloud_facts.proofs.Tellings.Names.{at2_same}
 use Rattle.cloud_facts.specs.Tellings.Told.{store_of}
-use Rattle.tree_parts.specs.Read.{tree_held}
+use Rattle.tree_phases.specs.Read.{tree_held}
 use Rattle.session_facts.specs.Machines.Trees.Charts.{IsRootOf, KnowsRoot}
 use Rattle.session_facts.specs.Machines.Trees.Placings.{AreReserved, reserving, IsReservation}
 use Rattle.session_facts.proofs.Machines.Trees.Placings.{fresh_reserved}
-use Rattle.tree_rising.proofs.Held.{held_spelled}
+use Rattle.tree_phases.proofs.Held.{held_spelled}
 
 -- ---- roots
 

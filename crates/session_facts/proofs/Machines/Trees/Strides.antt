@@ -11,13 +11,13 @@ use Rattle.node_codec.specs.Inner.{Inner}
 use Rattle.run_cursor.specs.Covered.{is_seen}
 use Rattle.cloud_facts.specs.Book.Records.{IsIn}
 use Rattle.cloud_facts.specs.Book.Tally.{Branch, Store}
-use Rattle.tree_descent.specs.declared.descent.Descent.{Descent}
-use Rattle.tree_descent.specs.declared.fork.Fork.{Fork}
-use Rattle.tree_descent.specs.Descent.{forked_by, fork_of, passed, kept_at, arrive}
-use Rattle.tree_descent.specs.Fork.{forked_on}
-use Rattle.tree_parts.proofs.Reading.{inner_is}
-use Rattle.tree_parts.specs.declared.kept.KeptNode.{KeptNode}
-use Rattle.tree_parts.specs.Read.{inner_read}
+use Rattle.tree_phases.specs.declared.descent.Descent.{Descent}
+use Rattle.tree_phases.specs.declared.fork.Fork.{Fork}
+use Rattle.tree_phases.specs.Descent.{forked_by, fork_of, passed, kept_at, arrive}
+use Rattle.tree_phases.specs.Fork.{forked_on}
+use Rattle.tree_phases.proofs.Reading.{inner_is}
+use Rattle.tree_phases.specs.declared.kept.KeptNode.{KeptNode}
+use Rattle.tree_phases.specs.Read.{inner_read}
 use Rattle.session_facts.proofs.Machines.Trees.Descents.{Passes, Arrives, arrives_at}
 use Rattle.session_facts.proofs.Machines.Trees.Descents as way
 use Rattle.session_facts.specs.Machines.Trees.Charts.{KnowsNode}

@@ -4,7 +4,7 @@ use Rattle.std.proofs.lemmas.Bool.{eq-eqb, eqb-true}
 use Rattle.std.proofs.lemmas.List.Folds.{list_any-append}
 use Rattle.run_cursor.specs.Covered.{is_seen}
 use Rattle.cloud_facts.specs.Book.Records.{IsIn}
-use Rattle.tree_parts.specs.declared.kept.KeptNode.{KeptNode}
+use Rattle.tree_phases.specs.declared.kept.KeptNode.{KeptNode}
 
 -- a page that is seen is in the list
 pub seen_in : (pages : List ℕ) (page : ℕ) → is_seen pages page ≡ true → IsIn pages page

@@ -11,13 +11,13 @@ use Rattle.db_base.specs.declared.trouble.Trouble.{Trouble}
 use Rattle.cloud_facts.specs.Book.Records.{IsIn}
 use Rattle.cloud_facts.specs.Book.Tally.{Store}
 use Rattle.cloud_facts.proofs.Book.Places.{in_either, in_front, in_behind}
-use Rattle.tree_descent.specs.declared.descent.Descent.{Descent}
-use Rattle.tree_descent.specs.declared.fork.Fork.{Fork}
-use Rattle.tree_descent.specs.declared.fork.Fork.TheVariants.{Right, Down}
-use Rattle.tree_descent.specs.Descent.{passed, arrive, with_node, descent_next}
-use Rattle.tree_parts.specs.declared.chart.Chart.{Chart}
-use Rattle.tree_parts.specs.declared.kept.KeptNode.{KeptNode}
-use Rattle.tree_parts.specs.Kept.{place_of}
+use Rattle.tree_phases.specs.declared.descent.Descent.{Descent}
+use Rattle.tree_phases.specs.declared.fork.Fork.{Fork}
+use Rattle.tree_phases.specs.declared.fork.Fork.TheVariants.{Right, Down}
+use Rattle.tree_phases.specs.Descent.{passed, arrive, with_node, descent_next}
+use Rattle.tree_phases.specs.declared.chart.Chart.{Chart}
+use Rattle.tree_phases.specs.declared.kept.KeptNode.{KeptNode}
+use Rattle.tree_phases.specs.Kept.{place_of}
 use Rattle.session_facts.proofs.Machines.Trees.Descents.{Arrives, arrives_at, Gets, gets}
 use Rattle.session_facts.proofs.Machines.Trees.Descents as way
 use Rattle.session_facts.specs.Machines.Folds.Knows.{KnowsRun, IsLeast}

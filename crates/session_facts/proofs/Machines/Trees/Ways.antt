@@ -25,14 +25,14 @@ use Rattle.cloud_facts.specs.Book.Tally.{Node, Leafy, Branch, Store}
 use Rattle.cloud_facts.specs.Book.Telling.{nodes_of, roots_of, newest_root}
 use Rattle.cloud_facts.proofs.Book.Places.{in_either, in_front, in_behind, in_none}
 use Rattle.cloud_facts.specs.Tellings.Told.{store_of}
-use Rattle.tree_descent.specs.declared.descent.Descent.{Descent}
-use Rattle.tree_descent.specs.Descent.{begun, fork_of, passed, with_node, got_node, descent_got}
-use Rattle.tree_descent.specs.Fork.{forked_on}
-use Rattle.tree_parts.proofs.Reading.{inner_is}
-use Rattle.tree_parts.specs.declared.chart.Chart.{Chart}
-use Rattle.tree_parts.specs.declared.kept.KeptNode.{KeptNode}
-use Rattle.tree_parts.specs.Kept.{place_of, with_kept}
-use Rattle.tree_parts.specs.Read.{tree_held}
+use Rattle.tree_phases.specs.declared.descent.Descent.{Descent}
+use Rattle.tree_phases.specs.Descent.{begun, fork_of, passed, with_node, got_node, descent_got}
+use Rattle.tree_phases.specs.Fork.{forked_on}
+use Rattle.tree_phases.proofs.Reading.{inner_is}
+use Rattle.tree_phases.specs.declared.chart.Chart.{Chart}
+use Rattle.tree_phases.specs.declared.kept.KeptNode.{KeptNode}
+use Rattle.tree_phases.specs.Kept.{place_of, with_kept}
+use Rattle.tree_phases.specs.Read.{tree_held}
 use Rattle.session_facts.specs.Machines.Trees.Charts.{IsRootOf, KnowsNode, KnowsNodes, KnowsChart}
 use Rattle.session_facts.specs.Machines.Trees.Ways.{KnowsWay, WayLeads}
 use Rattle.cloud_facts.proofs.Calls.Pages.{none_landed}

@@ -18,11 +18,11 @@ use Rattle.db_base.specs.Change.{key_of}
 use Rattle.db_base.specs.declared.names.Lock.TheVariants as lock
 use Rattle.db_base.specs.declared.names.QueueName.TheVariants as queue
 use Rattle.db_base.specs.declared.trouble.Trouble.{Trouble}
-use Rattle.leaf_fold.specs.declared.folding.Folding.{Folding}
-use Rattle.leaf_fold.specs.declared.folding.Left.{Left}
-use Rattle.leaf_fold.specs.declared.folding.Left.TheVariants.{Right, Handled}
-use Rattle.leaf_fold.specs.Folding as fold
-use Rattle.leaf_fold.specs.Folding.{no_placing}
+use Rattle.tree_phases.specs.declared.folding.Folding.{Folding}
+use Rattle.tree_phases.specs.declared.folding.Left.{Left}
+use Rattle.tree_phases.specs.declared.folding.Left.TheVariants.{Right, Handled}
+use Rattle.tree_phases.specs.Folding as fold
+use Rattle.tree_phases.specs.Folding.{no_placing}
 use Rattle.log_codec.specs.declared.record.PuItem.{PuItem}
 use Rattle.node_codec.specs.Tree.{Tree, tree_of}
 use Rattle.run_cursor.specs.Run.{Taken}
@@ -34,9 +34,9 @@ use Rattle.tree_ckpt.proofs.Tours.{page_left as has_page}
 use Rattle.tree_ckpt.proofs.Outcomes.{Seeks, Descends, Ascends, Clears, Fails, Comes, comes}
 use Rattle.tree_ckpt.proofs.Outcomes as step
 use Rattle.tree_ckpt.specs.End.{from_on, from_on_or_none, above, unhandled, behind_key, ids_in}
-use Rattle.tree_descent.specs.declared.descent.Descent.{Descent}
-use Rattle.tree_descent.specs.Descent.{descent_next}
-use Rattle.tree_descent.specs.Descent as way
+use Rattle.tree_phases.specs.declared.descent.Descent.{Descent}
+use Rattle.tree_phases.specs.Descent.{descent_next}
+use Rattle.tree_phases.specs.Descent as way
 use Rattle.tree_moves.specs.declared.work.Coming.{Coming}
 use Rattle.tree_moves.specs.declared.work.Held.{Held}
 use Rattle.tree_moves.specs.declared.work.Onward.{Onward}
@@ -45,18 +45,18 @@ use Rattle.tree_moves.specs.declared.work.Work.{Work}
 use Rattle.tree_moves.specs.declared.work.Work.TheVariants as work
 use Rattle.tree_moves.specs.Moves.{Step, stopping, went, descending_on, root_entry, down_from, key_from_or_none, folding_on, Leads}
 use Rattle.tree_moves.specs.Work.{one_lease}
-use Rattle.tree_parts.specs.declared.chart.Chart.{Chart}
-use Rattle.tree_parts.specs.declared.kept.KeptNode.{KeptNode}
-use Rattle.tree_parts.specs.declared.placing.Placing.{Placing}
-use Rattle.tree_parts.specs.Kept.{links_at}
-use Rattle.tree_parts.specs.Placing.{has_nothing, has_one_page, landed_placing, landed_root}
-use Rattle.tree_parts.specs.Read.{tree_held}
-use Rattle.tree_rising.specs.declared.node.NodePlan.{NodePlan}
-use Rattle.tree_rising.specs.declared.rising.Rising.{Rising}
-use Rattle.tree_rising.specs.declared.root.RootPlan.{RootPlan}
-use Rattle.tree_rising.specs.Nodes.{node_plan}
-use Rattle.tree_parts.specs.Reserve.{version_spent}
-use Rattle.tree_rising.specs.Rising as rise
+use Rattle.tree_phases.specs.declared.chart.Chart.{Chart}
+use Rattle.tree_phases.specs.declared.kept.KeptNode.{KeptNode}
+use Rattle.tree_phases.specs.declared.placing.Placing.{Placing}
+use Rattle.tree_phases.specs.Kept.{links_at}
+use Rattle.tree_phases.specs.Placing.{has_nothing, has_one_page, landed_placing, landed_root}
+use Rattle.tree_phases.specs.Read.{tree_held}
+use Rattle.tree_phases.specs.declared.node.NodePlan.{NodePlan}
+use Rattle.tree_phases.specs.declared.rising.Rising.{Rising}
+use Rattle.tree_phases.specs.declared.root.RootPlan.{RootPlan}
+use Rattle.tree_phases.specs.Nodes.{node_plan}
+use Rattle.tree_phases.specs.Reserve.{version_spent}
+use Rattle.tree_phases.specs.Rising as rise
 use Rattle.session_facts.specs.Machines.TreeCheckpoints.Counting.{piece_calls, for_keys, next_of, around, at_leaves, up_left, calls_left}
 use Rattle.session_facts.proofs.Settling.Trees.Pieces.{node_few, last_few, GotLeaf, got_leaf}
 

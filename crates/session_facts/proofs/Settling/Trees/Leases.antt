@@ -8,7 +8,7 @@ use Rattle.cloud_trait.specs.declared.turn.CkptAnswer.{CkptAnswer}
 use Rattle.cloud_trait.specs.Claim.{Claim}
 use Rattle.cloud_trait.specs.Machine.{Next, Goes, Ends, Stops}
 use Rattle.db_base.specs.declared.names.Lock.TheVariants as lock
-use Rattle.leaf_fold.specs.Folding.{folding_ask}
+use Rattle.tree_phases.specs.Folding.{folding_ask}
 use Rattle.session_facts.specs.Settling.Locks.{UsesOwn}
 use Rattle.session_facts.specs.Machines.TreeCheckpoints.Knows.{HoldsLast, KnowsWork, KnowsMaking, leases_of_making}
 use Rattle.session_facts.proofs.Settling.Locks.{HoldsNext, quiet_uses, none_of, one_of}
@@ -19,7 +19,7 @@ use Rattle.tree_ckpt.proofs.Outcomes.{comes}
 use Rattle.tree_moves.specs.declared.work.Work.{Work}
 use Rattle.tree_moves.specs.declared.work.Work.TheVariants as work
 use Rattle.tree_moves.specs.Work.{delete_ask, release_ask, work_ask, claims_in}
-use Rattle.tree_rising.specs.Rising.{rising_ask}
+use Rattle.tree_phases.specs.Rising.{rising_ask}
 
 -- ---- the call in hand
 

@@ -3,11 +3,11 @@ use Rattle.std.proofs.Common.{◌≡◌, ◌+◌, ◌-◌, ◌≤◌, ◌⊎◌,
 use Rattle.std.proofs.lemmas.List.{length-map, length-reverse}
 use Rattle.cloud_trait.specs.Machine.{Goes, Ends, Stops}
 use Rattle.db_base.specs.declared.trouble.Trouble.{Trouble}
-use Rattle.leaf_fold.specs.declared.folding.Folding.{Folding}
-use Rattle.leaf_fold.specs.declared.folding.Left.TheVariants.{Right, Handled}
-use Rattle.leaf_fold.specs.declared.plan.LeafPlan.{LeafPlan}
-use Rattle.leaf_fold.specs.Plan.{leaf_plan}
-use Rattle.leaf_fold.specs.Folding.{FoldingStep, no_placing, leaf_got}
+use Rattle.tree_phases.specs.declared.folding.Folding.{Folding}
+use Rattle.tree_phases.specs.declared.folding.Left.TheVariants.{Right, Handled}
+use Rattle.tree_phases.specs.declared.plan.LeafPlan.{LeafPlan}
+use Rattle.tree_phases.specs.Plan.{leaf_plan}
+use Rattle.tree_phases.specs.Folding.{FoldingStep, no_placing, leaf_got}
 use Rattle.leaf_view.specs.Leaf.{Leaf}
 use Rattle.log_codec.specs.declared.record.PuItem.{PuItem}
 use Rattle.node_codec.specs.Tree.{Tree}
@@ -19,15 +19,15 @@ use Rattle.tree_ckpt.proofs.Pieces.{PutsParts, leaf_puts, node_puts, root_places
 use Rattle.tree_ckpt.proofs.LeafOutcomes.{Reads, reads}
 use Rattle.tree_ckpt.proofs.LeafOutcomes as step
 use Rattle.tree_ckpt.specs.Working.{Reserves, PutsPieces, raised_root}
-use Rattle.tree_parts.specs.declared.kept.KeptNode.{KeptNode}
-use Rattle.tree_parts.specs.declared.link.Link.{Link}
-use Rattle.tree_parts.specs.declared.placing.Placing.{Placing}
-use Rattle.tree_parts.specs.Read.{tree_held}
-use Rattle.tree_rising.specs.declared.node.NodePlan.{NodePlan}
-use Rattle.tree_rising.specs.declared.root.RootPlan.{RootPlan}
-use Rattle.tree_rising.specs.Nodes.{node_plan}
-use Rattle.tree_rising.specs.Rising.{plan_of}
-use Rattle.tree_rising.specs.Root.{raised_root as planned_root}
+use Rattle.tree_phases.specs.declared.kept.KeptNode.{KeptNode}
+use Rattle.tree_phases.specs.declared.link.Link.{Link}
+use Rattle.tree_phases.specs.declared.placing.Placing.{Placing}
+use Rattle.tree_phases.specs.Read.{tree_held}
+use Rattle.tree_phases.specs.declared.node.NodePlan.{NodePlan}
+use Rattle.tree_phases.specs.declared.root.RootPlan.{RootPlan}
+use Rattle.tree_phases.specs.Nodes.{node_plan}
+use Rattle.tree_phases.specs.Rising.{plan_of}
+use Rattle.tree_phases.specs.Root.{raised_root as planned_root}
 
 -- ---- pieces
 

@@ -4,10 +4,10 @@ use Rattle.cloud_trait.specs.declared.answer.Answer.{Answer}
 use Rattle.cloud_trait.specs.Machine.{Next, Goes, Ends, Stops}
 use Rattle.cloud_trait.specs.Views.{got_of, done_of}
 use Rattle.db_base.specs.declared.trouble.Trouble.{Trouble}
-use Rattle.leaf_fold.specs.declared.folding.Folding.{Folding}
-use Rattle.leaf_fold.specs.declared.folding.Left.{Left}
-use Rattle.leaf_fold.specs.declared.folding.Left.TheVariants.{Right, Handled}
-use Rattle.leaf_fold.specs.Folding as fold
+use Rattle.tree_phases.specs.declared.folding.Folding.{Folding}
+use Rattle.tree_phases.specs.declared.folding.Left.{Left}
+use Rattle.tree_phases.specs.declared.folding.Left.TheVariants.{Right, Handled}
+use Rattle.tree_phases.specs.Folding as fold
 use Rattle.session_facts.specs.Machines.TreeCheckpoints.Counting.{HasRoot}
 use Rattle.tree_ckpt.proofs.Charts.{GoesFurther, arrive_further, descent_further}
 use Rattle.tree_ckpt.proofs.LeafOutcomes.{reads, put_lands}
@@ -16,16 +16,16 @@ use Rattle.tree_ckpt.proofs.Outcomes.{Seeks, Descends, Ascends, Comes, comes}
 use Rattle.tree_ckpt.proofs.Outcomes as step
 use Rattle.tree_ckpt.proofs.RiseOutcomes.{rises, lands}
 use Rattle.tree_ckpt.proofs.RiseOutcomes as rise
-use Rattle.tree_descent.specs.declared.descent.Descent.{Descent}
-use Rattle.tree_descent.specs.Descent as way
+use Rattle.tree_phases.specs.declared.descent.Descent.{Descent}
+use Rattle.tree_phases.specs.Descent as way
 use Rattle.tree_moves.specs.declared.work.Held.{Held}
 use Rattle.tree_moves.specs.declared.work.Work.{Work}
 use Rattle.tree_moves.specs.declared.work.Work.TheVariants as work
 use Rattle.tree_moves.specs.Moves.{Step, root_entry, down_from, onward_from, Leads}
-use Rattle.tree_parts.specs.declared.chart.Chart.{Chart}
-use Rattle.tree_parts.specs.Placing.{has_nothing, landed_root}
-use Rattle.tree_rising.specs.declared.rising.Rising.{Rising}
-use Rattle.tree_rising.specs.Rising as up
+use Rattle.tree_phases.specs.declared.chart.Chart.{Chart}
+use Rattle.tree_phases.specs.Placing.{has_nothing, landed_root}
+use Rattle.tree_phases.specs.declared.rising.Rising.{Rising}
+use Rattle.tree_phases.specs.Rising as up
 
 -- and wherever a step leads
 abbrev pub RootNext : Option (List ℕ) → Step → Type 0

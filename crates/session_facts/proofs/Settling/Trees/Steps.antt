@@ -27,10 +27,10 @@ use Rattle.tree_ckpt.proofs.Tours.{page_left as has_page}
 use Rattle.tree_moves.specs.Work.{delete_ask, release_ask, work_ask}
 use Rattle.tree_moves.specs.declared.work.Work.{Work}
 use Rattle.tree_moves.specs.declared.work.Work.TheVariants as work
-use Rattle.tree_parts.specs.Placing.{put_first, put_next, put_in_hand, has_nothing, landed_root}
-use Rattle.tree_parts.specs.declared.placing.Placing.{Placing}
-use Rattle.tree_rising.specs.Rising.{last_ask}
-use Rattle.tree_rising.specs.declared.rising.Rising.{Rising}
+use Rattle.tree_phases.specs.Placing.{put_first, put_next, put_in_hand, has_nothing, landed_root}
+use Rattle.tree_phases.specs.declared.placing.Placing.{Placing}
+use Rattle.tree_phases.specs.Rising.{last_ask}
+use Rattle.tree_phases.specs.declared.rising.Rising.{Rising}
 
 -- ---- the newest version behind a call
 

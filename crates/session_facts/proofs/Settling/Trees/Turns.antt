@@ -32,9 +32,9 @@ use Rattle.tree_moves.specs.Moves.{Leads}
 use Rattle.tree_moves.specs.Work.{work_ask}
 use Rattle.tree_moves.specs.declared.work.Work.{Work}
 use Rattle.tree_moves.specs.declared.work.Work.TheVariants as work
-use Rattle.tree_parts.specs.declared.placing.Placing.{Placing}
-use Rattle.tree_parts.specs.Placing.{has_nothing, root_after, landed_root}
-use Rattle.tree_parts.specs.Read.{tree_held}
+use Rattle.tree_phases.specs.declared.placing.Placing.{Placing}
+use Rattle.tree_phases.specs.Placing.{has_nothing, root_after, landed_root}
+use Rattle.tree_phases.specs.Read.{tree_held}
 
 -- before its first call
 pub first_few : (tree : ℕ) (s : CloudState) → MadeFew tree 0 s work.TakingTree []

@@ -8,10 +8,10 @@ use Rattle.cloud_trait.specs.declared.answer.Answer.{Answer}
 use Rattle.cloud_trait.specs.Machine.{Next, Goes, Ends, Stops}
 use Rattle.cloud_trait.specs.Views.{got_of, done_of}
 use Rattle.db_base.specs.declared.trouble.Trouble.{Trouble}
-use Rattle.leaf_fold.specs.declared.folding.Folding.{Folding}
-use Rattle.leaf_fold.specs.declared.folding.Left.{Left}
-use Rattle.leaf_fold.specs.declared.folding.Left.TheVariants.{Right, Handled}
-use Rattle.leaf_fold.specs.Folding as fold
+use Rattle.tree_phases.specs.declared.folding.Folding.{Folding}
+use Rattle.tree_phases.specs.declared.folding.Left.{Left}
+use Rattle.tree_phases.specs.declared.folding.Left.TheVariants.{Right, Handled}
+use Rattle.tree_phases.specs.Folding as fold
 use Rattle.run_cursor.specs.Covered.{is_seen}
 use Rattle.session_facts.proofs.Settling.Trees.Lists.{apart_more}
 use Rattle.session_facts.specs.Machines.TreeCheckpoints.Counting.{Once}
@@ -21,16 +21,16 @@ use Rattle.tree_ckpt.proofs.LeafOutcomes.{reads, put_lands}
 use Rattle.tree_ckpt.proofs.LeafOutcomes as leaf
 use Rattle.tree_ckpt.proofs.Outcomes.{Descends, Comes, comes}
 use Rattle.tree_ckpt.proofs.Outcomes as step
-use Rattle.tree_descent.specs.declared.descent.Descent.{Descent}
-use Rattle.tree_descent.specs.declared.fork.Fork.{Fork}
-use Rattle.tree_descent.specs.declared.fork.Fork.TheVariants as fork
-use Rattle.tree_descent.specs.Descent.{passed, begun, with_node}
+use Rattle.tree_phases.specs.declared.descent.Descent.{Descent}
+use Rattle.tree_phases.specs.declared.fork.Fork.{Fork}
+use Rattle.tree_phases.specs.declared.fork.Fork.TheVariants as fork
+use Rattle.tree_phases.specs.Descent.{passed, begun, with_node}
 use Rattle.tree_moves.specs.declared.work.Held.{Held}
 use Rattle.tree_moves.specs.declared.work.Work.{Work}
 use Rattle.tree_moves.specs.declared.work.Work.TheVariants as work
 use Rattle.tree_moves.specs.Moves.{Step, root_entry, onward_from, Leads}
-use Rattle.tree_parts.specs.declared.chart.Chart.{Chart}
-use Rattle.tree_parts.specs.Placing.{has_nothing}
+use Rattle.tree_phases.specs.declared.chart.Chart.{Chart}
+use Rattle.tree_phases.specs.Placing.{has_nothing}
 
 abbrev pub OnceNext : Step → Type 0
 OnceNext (Goes w) = Once w

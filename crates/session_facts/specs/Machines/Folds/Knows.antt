@@ -9,7 +9,7 @@ use Rattle.db_base.specs.Change.{key_of}
 use Rattle.db_base.specs.declared.names.Lock.TheVariants as lock
 use Rattle.leaf_edit.specs.Applied.{applied}
 use Rattle.leaf_edit.specs.Lacked.{lacked}
-use Rattle.leaf_fold.specs.declared.folding.Folding.{Folding}
+use Rattle.tree_phases.specs.declared.folding.Folding.{Folding}
 use Rattle.leaf_view.specs.Leaf.{Leaf}
 use Rattle.leaf_view.specs.Lookup.{holds}
 use Rattle.log_codec.specs.declared.record.PuItem.{PuItem}
@@ -20,8 +20,8 @@ use Rattle.split_plan.specs.Plan.{IsLeafPart, leaf_bytes, leaf_pieces}
 use Rattle.cloud_facts.specs.Book.Records.{IsIn}
 use Rattle.cloud_facts.specs.Book.Tally.{Node, Leafy, Store}
 use Rattle.cloud_facts.specs.Tellings.Taking.{IsLinked}
-use Rattle.tree_parts.specs.declared.chart.Chart.{Chart}
-use Rattle.tree_parts.specs.Read.{tree_held}
+use Rattle.tree_phases.specs.declared.chart.Chart.{Chart}
+use Rattle.tree_phases.specs.Read.{tree_held}
 use Rattle.session_facts.specs.Machines.Trees.Charts.{KnowsChart}
 use Rattle.session_facts.specs.Machines.Trees.Placings.{IsPlacing, AreReserved, IsReservation}
 use Rattle.session_facts.specs.Machines.Trees.Ways.{IsOnWay}

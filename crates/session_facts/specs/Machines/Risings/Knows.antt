@@ -17,14 +17,14 @@ use Rattle.split_plan.specs.Plan.{IsNodePart, put_of, entry_of, on_pages, node_b
 use Rattle.cloud_facts.specs.Book.Book.{Link}
 use Rattle.cloud_facts.specs.Book.Records.{IsIn}
 use Rattle.cloud_facts.specs.Book.Tally.{Store}
-use Rattle.tree_parts.specs.declared.chart.Chart.{Chart}
-use Rattle.tree_parts.specs.declared.kept.KeptNode.{KeptNode}
-use Rattle.tree_parts.specs.declared.link.Link.{Link as Found}
-use Rattle.tree_parts.specs.Kept.{links_at}
-use Rattle.tree_parts.specs.Read.{tree_held}
-use Rattle.tree_rising.specs.declared.rising.Rising.{Rising}
-use Rattle.tree_rising.specs.Nodes.{with_links}
-use Rattle.tree_rising.specs.Root.{new_pages}
+use Rattle.tree_phases.specs.declared.chart.Chart.{Chart}
+use Rattle.tree_phases.specs.declared.kept.KeptNode.{KeptNode}
+use Rattle.tree_phases.specs.declared.link.Link.{Link as Found}
+use Rattle.tree_phases.specs.Kept.{links_at}
+use Rattle.tree_phases.specs.Read.{tree_held}
+use Rattle.tree_phases.specs.declared.rising.Rising.{Rising}
+use Rattle.tree_phases.specs.Nodes.{with_links}
+use Rattle.tree_phases.specs.Root.{new_pages}
 use Rattle.session_facts.specs.Machines.Trees.Charts.{KnowsRoot, KnowsNode, KnowsNodes, AreFound}
 use Rattle.session_facts.specs.Machines.Folds.Knows.{IsDone}
 use Rattle.session_facts.specs.Machines.Trees.Placings.{IsPlacing, AreReserved, IsReservation}

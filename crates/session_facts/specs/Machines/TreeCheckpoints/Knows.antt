@@ -26,7 +26,7 @@ use Rattle.tree_moves.specs.declared.work.Work.{Work}
 use Rattle.tree_moves.specs.declared.work.Work.TheVariants.{TakingTree, GettingTree, Receiving, Descending, TakingPage, Folding, ReleasingPage, LeftPage, Rising, Deleting, Releasing, Finished}
 use Rattle.tree_moves.specs.Moves.{Step}
 use Rattle.tree_moves.specs.Work.{applying_in, claims_in}
-use Rattle.tree_parts.specs.Read.{tree_held}
+use Rattle.tree_phases.specs.Read.{tree_held}
 
 -- ---- leases
 

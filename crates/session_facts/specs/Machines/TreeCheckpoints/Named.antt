@@ -19,7 +19,7 @@ use Rattle.tree_ckpt.specs.Making.{Making, making_ask}
 use Rattle.tree_ckpt.specs.Meaning.{IsDone}
 use Rattle.tree_ckpt.specs.Leases.{Went}
 use Rattle.tree_ckpt.specs.Working.{IsAmong, Worked, IsInRange, IsNamed, HasClimbed, HasRisen, IsFollowed, IsLeafPiece, IsNodePiece, IsNamedAbove, last_root, last_links, looks_of}
-use Rattle.tree_parts.specs.declared.link.Link.{Link}
+use Rattle.tree_phases.specs.declared.link.Link.{Link}
 
 -- ---- the calls
 

@@ -9,10 +9,10 @@ use Rattle.node_codec.specs.Tree.{Tree, HasTreeSpelling, empty_tree}
 use Rattle.cloud_facts.specs.Book.Book.{Link}
 use Rattle.cloud_facts.specs.Book.Records.{IsIn}
 use Rattle.cloud_facts.specs.Book.Tally.{Branch, Store}
-use Rattle.tree_parts.specs.declared.chart.Chart.{Chart}
-use Rattle.tree_parts.specs.declared.kept.KeptNode.{KeptNode}
-use Rattle.tree_parts.specs.declared.link.Link.{Link as Found}
-use Rattle.tree_parts.specs.Read.{tree_held}
+use Rattle.tree_phases.specs.declared.chart.Chart.{Chart}
+use Rattle.tree_phases.specs.declared.kept.KeptNode.{KeptNode}
+use Rattle.tree_phases.specs.declared.link.Link.{Link as Found}
+use Rattle.tree_phases.specs.Read.{tree_held}
 
 -- a root landed, or it is that of a tree that was never put
 abbrev pub IsRootOf : List Tree → Tree → Type 0

@@ -4,20 +4,20 @@ use Rattle.cloud_trait.specs.Claim.{Claim}
 use Rattle.db_base.specs.Ids.{IsTree}
 use Rattle.db_base.specs.declared.names.Lock.TheVariants as lock
 use Rattle.leaf_edit.specs.Applied.{applied}
-use Rattle.leaf_fold.specs.declared.folding.Folding.{Folding}
-use Rattle.leaf_fold.specs.Folding.{no_placing}
+use Rattle.tree_phases.specs.declared.folding.Folding.{Folding}
+use Rattle.tree_phases.specs.Folding.{no_placing}
 use Rattle.leaf_view.specs.Leaf.{Leaf}
 use Rattle.session_facts.specs.Machines.Runs.Knows.{TookRun}
 use Rattle.split_plan.specs.Plan.{entry_of, on_pages, leaf_pieces}
 use Rattle.cloud_facts.specs.Book.Book.{Link}
 use Rattle.cloud_facts.specs.Book.Records.{IsIn}
 use Rattle.cloud_facts.specs.Book.Tally.{Store}
-use Rattle.tree_descent.specs.declared.descent.Descent.{Descent}
-use Rattle.tree_parts.specs.declared.chart.Chart.{Chart}
-use Rattle.tree_parts.specs.declared.kept.KeptNode.{KeptNode}
-use Rattle.tree_parts.specs.declared.link.Link.{Link as Found}
-use Rattle.tree_parts.specs.Kept.{links_at}
-use Rattle.tree_parts.specs.Read.{tree_held}
+use Rattle.tree_phases.specs.declared.descent.Descent.{Descent}
+use Rattle.tree_phases.specs.declared.chart.Chart.{Chart}
+use Rattle.tree_phases.specs.declared.kept.KeptNode.{KeptNode}
+use Rattle.tree_phases.specs.declared.link.Link.{Link as Found}
+use Rattle.tree_phases.specs.Kept.{links_at}
+use Rattle.tree_phases.specs.Read.{tree_held}
 use Rattle.session_facts.specs.Machines.Trees.Charts.{KnowsRoot, KnowsNodes, AreFound, KnowsChart}
 use Rattle.session_facts.specs.Machines.Folds.Knows.{KnowsRun, IsLeast, IsAtLeaf, PutsPieces}
 use Rattle.session_facts.specs.Machines.Risings.Knows.{AreApart}

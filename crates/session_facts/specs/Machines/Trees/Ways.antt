@@ -7,7 +7,7 @@ use Rattle.db_base.specs.declared.trouble.Trouble.{Trouble}
 use Rattle.cloud_facts.specs.Book.Book.{Link}
 use Rattle.cloud_facts.specs.Book.Records.{IsIn}
 use Rattle.cloud_facts.specs.Book.Tally.{Store}
-use Rattle.tree_descent.specs.declared.descent.Descent.{Descent}
+use Rattle.tree_phases.specs.declared.descent.Descent.{Descent}
 use Rattle.session_facts.specs.Machines.Trees.Charts.{KnowsChart}
 
 -- it stands at a link of its level that is not above the key, and the pages that it passed are behind it

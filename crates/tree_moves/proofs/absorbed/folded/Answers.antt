@@ -1,6 +1,6 @@
 use Rattle.std.proofs.Common.{subst, [], ◌∷◌}
 use Rattle.cloud_trait.specs.Claim.{Claim}
-use Rattle.leaf_fold.specs.Folding.{folding_next}
+use Rattle.tree_phases.specs.Folding.{folding_next}
 use Rattle.tree_moves.specs.Moves.{MovesOn, folding_on}
 use Rattle.tree_moves.proofs.absorbed.folded.Goals as goal
 

@@ -1,8 +1,8 @@
 use Rattle.std.proofs.Common.{subst, ap, ◌∙◌}
 use Rattle.node_codec.specs.Node.{Entry}
-use Rattle.tree_parts.specs.Going.{Went}
-use Rattle.tree_descent.specs.declared.descent.Descent.{Descent}
-use Rattle.tree_descent.specs.Descent.{arrive, begun}
+use Rattle.tree_phases.specs.Going.{Went}
+use Rattle.tree_phases.specs.declared.descent.Descent.{Descent}
+use Rattle.tree_phases.specs.Descent.{arrive, begun}
 use Rattle.tree_moves.proofs.going.go_down.Goals as goal
 
 pub returns-in-Ok : goal.returns-in-Ok

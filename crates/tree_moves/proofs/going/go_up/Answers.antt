@@ -1,7 +1,7 @@
 use Rattle.std.proofs.Common.{subst}
-use Rattle.tree_parts.specs.Going.{Went}
-use Rattle.tree_rising.specs.declared.rising.Rising.{Rising}
-use Rattle.tree_rising.specs.Rising.{rise}
+use Rattle.tree_phases.specs.Going.{Went}
+use Rattle.tree_phases.specs.declared.rising.Rising.{Rising}
+use Rattle.tree_phases.specs.Rising.{rise}
 use Rattle.tree_moves.proofs.going.go_up.Goals as goal
 
 pub returns : goal.returns

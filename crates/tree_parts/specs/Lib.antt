@@ -1,5 +1,0 @@
-pub mod Going
-pub mod Kept
-pub mod Read
-pub mod Reserve
-pub mod Placing

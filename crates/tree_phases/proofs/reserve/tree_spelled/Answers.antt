@@ -1,0 +1,5 @@
+use Rattle.tree_phases.proofs.Reading.{tree_spelling}
+use Rattle.tree_phases.proofs.reserve.tree_spelled.Goals as goal
+
+pub returns-in-Ok : goal.returns-in-Ok
+returns-in-Ok c = tree_spelling c.in-Ok.bytes c.args.buf.now c.in-Ok.ensures.ok

@@ -1,0 +1,12 @@
+pub mod Going
+pub mod Kept
+pub mod Read
+pub mod Reserve
+pub mod Placing
+pub mod Descent
+pub mod Fork
+pub mod Folding
+pub mod Plan
+pub mod Nodes
+pub mod Rising
+pub mod Root

@@ -1,3 +1,0 @@
-pub mod Nodes
-pub mod Rising
-pub mod Root

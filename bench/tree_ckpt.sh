@@ -9,7 +9,7 @@ set -eu
 rounds=${1:-20}
 . "$(dirname "$0")/beside.sh"
 beside checkpoints 'byte_format db_base change_codec cloud_trait leaf_view node_codec log_codec memory_cloud leaf_edit run_cursor ckpt_parts split_plan
-tree_phases tree_moves tree_ckpt' 'db_base cloud_trait memory_cloud tree_ckpt'
+tree_phases tree_ckpt' 'db_base cloud_trait memory_cloud tree_ckpt'
 cat > src/main.rt <<RT
 #![tactic(auto)]
 

@@ -50,7 +50,7 @@ use Rattle.attr_index.specs.Look.{Query, Look, look_ask, look_ready}
 use Rattle.attr_index.specs.Stepped.{Stepped as StepsLook}
 use Rattle.page_ckpt.specs.End.{calls_left as paging_left}
 use Rattle.page_ckpt.specs.Paging.{new_paging, paging_ask, PagingLeads, KeepsLeases as KeepsPageLeases, Paging as Page}
-use Rattle.tree_moves.specs.Work.{applying_in}
+use Rattle.tree_ckpt.specs.Work.{applying_in}
 use Rattle.tree_ckpt.specs.End.{calls_in}
 use Rattle.tree_ckpt.specs.Making.{Making, new_making, making_ask, MakingLeads, KeepsLeases as KeepsTreeLeases}
 use Rattle.settle_run.specs.End.{calls_left as settling_left}

@@ -9,7 +9,7 @@ use Rattle.recover_run.specs.Leases.{leases_of, outstanding as recovery_outstand
 use Rattle.ckpt_parts.specs.Leasing.{claims_of, outstanding}
 use Rattle.page_ckpt.specs.Paging.{paging_ask}
 use Rattle.page_ckpt.specs.Leases.{Names as PageNames}
-use Rattle.tree_moves.specs.Work.{claims_in}
+use Rattle.tree_ckpt.specs.Work.{claims_in}
 use Rattle.tree_ckpt.specs.Making.{making_ask}
 use Rattle.tree_ckpt.specs.Leases.{Names as TreeNames}
 use Rattle.settle_run.specs.declared.part.Part.{Part}

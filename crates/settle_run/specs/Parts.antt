@@ -10,7 +10,7 @@ use Rattle.cloud_trait.specs.Machine.{Next, Goes, Ends, Stops, LeadsBy, Deed, Ca
 use Rattle.recover_run.specs.declared.stage.Aim.TheVariants as aim
 use Rattle.recover_run.specs.declared.stage.RecoverAnswer.{RecoverAnswer}
 use Rattle.recover_run.specs.Recovery.{Recovery, new_recovery, recovery_ask, recovery_next, KeepsLeases as KeepsRecovery, IsSound}
-use Rattle.tree_moves.specs.Work.{applying_in}
+use Rattle.tree_ckpt.specs.Work.{applying_in}
 use Rattle.tree_ckpt.specs.Making.{Making, new_making, making_ask, MakingLeads, KeepsLeases as KeepsMaking}
 use Rattle.page_ckpt.specs.Paging.{Paging, new_paging, paging_ask, PagingLeads, KeepsLeases as KeepsPaging}
 use Rattle.settle_run.specs.declared.part.Part.{Part}

@@ -8,7 +8,7 @@ use Rattle.cloud_trait.specs.Ask.{Delete}
 use Rattle.cloud_trait.specs.Calm.{GoesWell, AreCalm}
 use Rattle.cloud_trait.specs.Plenty.{HadMemory}
 use Rattle.cloud_trait.proofs.CalmLemmas.{goes_well}
-use Rattle.tree_moves.specs.Moves.{went}
+use Rattle.tree_ckpt.specs.Moves.{went}
 use Rattle.tree_ckpt.specs.Making.{Making, new_making, making_ask, MakingLeads}
 use Rattle.tree_ckpt.specs.Leases.{Went}
 use Rattle.tree_ckpt.specs.Causes.{Calls, Shows, kept_trouble}

@@ -22,10 +22,10 @@ use Rattle.tree_phases.specs.Descent.{with_node, descent_next}
 use Rattle.tree_phases.specs.declared.folding.Left.TheVariants.{Right, Handled}
 use Rattle.tree_phases.specs.Folding.{folding_ask, folding_next, leaf_got, leaf_put, placed}
 use Rattle.tree_phases.specs.Rising as rise
-use Rattle.tree_moves.specs.declared.work.Onward.TheVariants as onward
-use Rattle.tree_moves.specs.declared.work.Work.TheVariants as work
-use Rattle.tree_moves.specs.Work.{work_ask, take_tree}
-use Rattle.tree_moves.specs.Moves.{Step, leaf_of, root_entry, down_from, key_from, next_key, onward_from, chart_of, Leads}
+use Rattle.tree_ckpt.specs.declared.work.Onward.TheVariants as onward
+use Rattle.tree_ckpt.specs.declared.work.Work.TheVariants as work
+use Rattle.tree_ckpt.specs.Work.{work_ask, take_tree}
+use Rattle.tree_ckpt.specs.Moves.{Step, leaf_of, root_entry, down_from, key_from, next_key, onward_from, chart_of, Leads}
 use Rattle.tree_ckpt.specs.Making.{Making, new_making, making_ask, MakingLeads, KeepsLeases}
 use Rattle.tree_ckpt.specs.Leases.{Went}
 use Rattle.tree_ckpt.specs.Causes.{Calls, Brings, WasPut, WasRoot, Shows, BreaksMessage, ticks_of, kept_trouble}

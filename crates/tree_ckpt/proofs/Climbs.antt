@@ -13,8 +13,8 @@ use Rattle.node_codec.specs.Inner.{Inner, inner_of}
 use Rattle.node_codec.specs.Tree.{Tree}
 use Rattle.tree_phases.specs.Nodes.{node_plan, is_touched, touched_at}
 use Rattle.tree_phases.specs.Rising as rise
-use Rattle.tree_moves.specs.Moves.{next_key}
-use Rattle.tree_moves.specs.Work.{take_tree}
+use Rattle.tree_ckpt.specs.Moves.{next_key}
+use Rattle.tree_ckpt.specs.Work.{take_tree}
 use Rattle.tree_ckpt.specs.Causes.{Calls, WasGot}
 use Rattle.tree_ckpt.specs.Meaning.{Opening, opening_calls}
 use Rattle.tree_ckpt.specs.Working.{done_over, puts_of, Visit, visits_over, root_behind, links_behind, looks_of, AreVisits, lacked_on, Climb, climbs_over, root_above, links_above, AreClimbs, HasLevel, PutsNode, raised_root, PutsRoot, IsAmong, IsUnder, link_to, leaf_place, node_place, IsInRange, IsNamed, HasClimbed, HasRisen, IsOfRoot, IsPut, Worked, worked_calls, IsWorked}

@@ -10,7 +10,7 @@ use Rattle.leaf_view.specs.Lookup.{holds}
 use Rattle.leaf_edit.specs.Merging.{Rises}
 use Rattle.leaf_edit.proofs.InOrder.{below_upto}
 use Rattle.log_codec.specs.declared.record.PuItem.{PuItem}
-use Rattle.tree_moves.specs.Moves.{key_from, key_from_or_none}
+use Rattle.tree_ckpt.specs.Moves.{key_from, key_from_or_none}
 use Rattle.tree_ckpt.specs.Working.{Visit, IsSettled, IsHandled}
 use Rattle.tree_ckpt.proofs.Keys.{not_itself}
 use Rattle.tree_ckpt.proofs.Lows.{IsUpto}

@@ -32,10 +32,10 @@ use Rattle.tree_phases.specs.Nodes.{node_plan}
 use Rattle.tree_phases.specs.Rising.{rising_ask, next_touched, touched_node, put_node, put_root, plan_of, last_plan, rise_at, rise, landed, after_put}
 use Rattle.tree_phases.specs.Rising as rising
 use Rattle.tree_phases.specs.Root.{risen_by}
-use Rattle.tree_moves.specs.declared.work.Onward.TheVariants as onward
-use Rattle.tree_moves.specs.declared.work.Work.TheVariants as work
-use Rattle.tree_moves.specs.Work.{work_ask, delete_ask, release_ask}
-use Rattle.tree_moves.specs.Moves.{Step, released_by, rising_on, descending_on, going_by, page_taken, folding_on, tree_taken, tree_damage, tree_read, tree_got, intake_taken, ReceivedBy, Leads}
+use Rattle.tree_ckpt.specs.declared.work.Onward.TheVariants as onward
+use Rattle.tree_ckpt.specs.declared.work.Work.TheVariants as work
+use Rattle.tree_ckpt.specs.Work.{work_ask, delete_ask, release_ask}
+use Rattle.tree_ckpt.specs.Moves.{Step, released_by, rising_on, descending_on, going_by, page_taken, folding_on, tree_taken, tree_damage, tree_read, tree_got, intake_taken, ReceivedBy, Leads}
 use Rattle.tree_ckpt.specs.Making.{Making, making_ask, MakingLeads, KeepsLeases}
 use Rattle.tree_ckpt.specs.Leases.{HasIds, HoldsOne, HoldsAt, Stands}
 use Rattle.tree_ckpt.specs.Causes.{Calls, GoesRight, ticks_of, kept_trouble}

@@ -7,8 +7,8 @@ use Rattle.leaf_view.specs.Leaf.{Leaf}
 use Rattle.tree_phases.specs.Placing.{has_nothing}
 use Rattle.tree_phases.specs.Folding.{folding_ask}
 use Rattle.tree_phases.specs.Rising.{rising_ask, landed, next_touched}
-use Rattle.tree_moves.specs.declared.work.Work.TheVariants as work
-use Rattle.tree_moves.specs.Work.{work_ask}
+use Rattle.tree_ckpt.specs.declared.work.Work.TheVariants as work
+use Rattle.tree_ckpt.specs.Work.{work_ask}
 use Rattle.tree_ckpt.specs.Making.{Making, making_ask}
 use Rattle.tree_ckpt.specs.Causes.{Calls, WasGot, WasRoot, WasLeaf}
 use Rattle.tree_ckpt.specs.Due.{Due, LeafDue, NodeDue, RootDue, GetsLeaf, IsUp, IsDue, IsCutShort, WasBrought, WasLastButOne}

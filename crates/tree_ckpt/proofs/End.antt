@@ -14,10 +14,10 @@ use Rattle.tree_phases.specs.Descent as way
 use Rattle.tree_phases.specs.declared.folding.Left.TheVariants.{Right, Handled}
 use Rattle.tree_phases.specs.Folding as fold
 use Rattle.tree_phases.specs.Rising as rise
-use Rattle.tree_moves.specs.declared.work.Onward.TheVariants as onward
-use Rattle.tree_moves.specs.declared.work.Work.TheVariants as work
-use Rattle.tree_moves.specs.Work.{work_ask, one_lease}
-use Rattle.tree_moves.specs.Moves.{Step, stopping, finished, released_by, deleting, deleting_by, deleted_by, went, rising_on, descending_on, root_entry, down_from, key_from_or_none, next_key, going, going_by, page_taken, folding_on, page_left, tree_taken, tree_read, tree_got, chart_of, started, intake_taken, ReceivedBy, Leads}
+use Rattle.tree_ckpt.specs.declared.work.Onward.TheVariants as onward
+use Rattle.tree_ckpt.specs.declared.work.Work.TheVariants as work
+use Rattle.tree_ckpt.specs.Work.{work_ask, one_lease}
+use Rattle.tree_ckpt.specs.Moves.{Step, stopping, finished, released_by, deleting, deleting_by, deleted_by, went, rising_on, descending_on, root_entry, down_from, key_from_or_none, next_key, going, going_by, page_taken, folding_on, page_left, tree_taken, tree_read, tree_got, chart_of, started, intake_taken, ReceivedBy, Leads}
 use Rattle.tree_ckpt.specs.End.{most, above, unhandled, behind_key, from_on_or_none, a_key, puts_left, up_by, up_left, the_end, ids_in, on_the_way, calls_in, IsShort}
 use Rattle.tree_ckpt.specs.Making.{Making, making_ask, MakingLeads, KeepsLeases}
 use Rattle.tree_ckpt.proofs.Words.{Trouble, PuItem, Answer, Message, CkptAnswer, Turn, More, Claim, Next, Goes, Ends, Stops, Took, given_of, got_of, received_of, done_of, Fits, PagePut, Intake, Chart, KeptNode, Placing, Descent, Folding, Left, Rising, Coming, Held, Onward, Work}

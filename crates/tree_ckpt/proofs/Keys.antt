@@ -7,7 +7,7 @@ use Rattle.db_base.specs.Change.{key_of}
 use Rattle.leaf_edit.proofs.Ascends.{below_trans}
 use Rattle.leaf_edit.proofs.InOrder.{below_upto}
 use Rattle.log_codec.specs.declared.record.PuItem.{PuItem}
-use Rattle.tree_moves.specs.Moves.{key_from}
+use Rattle.tree_ckpt.specs.Moves.{key_from}
 use Rattle.tree_ckpt.specs.End.{above, from_on}
 
 abbrev key : PuItem → List ℕ

@@ -1,8 +1,8 @@
 -- A step of the code is one of the machine.
 use Rattle.std.proofs.Common.{◌≡◌, ℕ, refl, sym, subst, ap, ◌∙◌}
-use Rattle.tree_moves.specs.declared.work.Work.TheVariants.{Finished}
-use Rattle.tree_moves.specs.Work.{claims_in, handed}
-use Rattle.tree_moves.specs.Moves.{Absorbs, MovesTo}
+use Rattle.tree_ckpt.specs.declared.work.Work.TheVariants.{Finished}
+use Rattle.tree_ckpt.specs.Work.{claims_in, handed}
+use Rattle.tree_ckpt.specs.Moves.{Absorbs, MovesTo}
 use Rattle.tree_ckpt.specs.Making.{Making, with_received, with_work, handed_over, AbsorbsBy, WentBy, SameLeases, MakingLeads, KeepsLeases}
 use Rattle.tree_ckpt.proofs.Words.{Answer, CkptAnswer, Turn, More, Ended, Stopped, Goes, Ends, Stops, Took, Work}
 

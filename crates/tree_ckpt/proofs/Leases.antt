@@ -10,9 +10,9 @@ use Rattle.ckpt_parts.specs.Leasing.{claims_of, newest_lease, without_newest, ou
 use Rattle.tree_phases.specs.Placing.{put_in_hand, put_first, put_next}
 use Rattle.tree_phases.specs.Folding.{folding_ask, folding_next}
 use Rattle.tree_phases.specs.Rising.{last_ask}
-use Rattle.tree_moves.specs.declared.work.Work.TheVariants as work
-use Rattle.tree_moves.specs.Work.{work_ask, delete_ask, release_ask, claims_in}
-use Rattle.tree_moves.specs.Moves.{Step, Leads}
+use Rattle.tree_ckpt.specs.declared.work.Work.TheVariants as work
+use Rattle.tree_ckpt.specs.Work.{work_ask, delete_ask, release_ask, claims_in}
+use Rattle.tree_ckpt.specs.Moves.{Step, Leads}
 use Rattle.tree_ckpt.specs.Making.{Making, new_making, making_ask, MakingLeads, KeepsLeases}
 use Rattle.tree_ckpt.specs.Leases.{Went, OfTree, OfLeaf, HasIds, HoldsOne, HoldsAt, StandsAt, Stands, Names, GivesBack, AreReturned}
 use Rattle.tree_ckpt.proofs.Words.{Trouble, Lock, Answer, CkptAnswer, Turn, More, Ended, Stopped, Claim, Next, Goes, Ends, Stops, Took, Deed, Came, given_of, Fits, Ask, PagePut, Leases, Chart, Placing, Descent, Folding, Left, Rising, Held, Work}

@@ -1,3 +1,5 @@
+pub mod Calling
+pub mod Reading
 pub mod Leading
 pub mod Leaving
 pub mod Words

@@ -9,7 +9,7 @@ use Rattle.tree_phases.specs.declared.fork.Fork.TheVariants.{Right, Down}
 use Rattle.tree_phases.specs.Fork.{bad_fence, down_to, fork_at, forked_on}
 use Rattle.tree_phases.specs.Fork as fork
 use Rattle.tree_phases.specs.Descent.{begun, forked_by, passed, fork_of, arrive, with_node, got_node, descent_got, descent_next}
-use Rattle.tree_moves.specs.Moves.{entry_or, root_entry}
+use Rattle.tree_ckpt.specs.Moves.{entry_or, root_entry}
 use Rattle.tree_ckpt.proofs.Words.{Trouble, Answer, Next, Goes, Ends, Stops, got_of, Chart, Descent, Fork}
 use Rattle.tree_ckpt.proofs.WayKeeps.{Arrives, arrive_keeps}
 

@@ -18,10 +18,10 @@ use Rattle.tree_phases.specs.Descent.{descent_ask, descent_next}
 use Rattle.tree_phases.specs.Folding.{folding_ask, folding_next}
 use Rattle.tree_phases.specs.Folding as fold
 use Rattle.tree_phases.specs.Rising as rise
-use Rattle.tree_moves.specs.declared.work.Onward.TheVariants as onward
-use Rattle.tree_moves.specs.declared.work.Work.TheVariants as work
-use Rattle.tree_moves.specs.Work.{work_ask, take_tree, one_lease, delete_ask, release_ask}
-use Rattle.tree_moves.specs.Moves.{Step, answer_of, went, leaf_of, root_entry, down_from, onward_from, chart_of, Leads}
+use Rattle.tree_ckpt.specs.declared.work.Onward.TheVariants as onward
+use Rattle.tree_ckpt.specs.declared.work.Work.TheVariants as work
+use Rattle.tree_ckpt.specs.Work.{work_ask, take_tree, one_lease, delete_ask, release_ask}
+use Rattle.tree_ckpt.specs.Moves.{Step, answer_of, went, leaf_of, root_entry, down_from, onward_from, chart_of, Leads}
 use Rattle.tree_ckpt.specs.Making.{Making, new_making, making_ask, MakingLeads, KeepsLeases}
 use Rattle.tree_ckpt.specs.Leases.{Went, HasIds}
 use Rattle.tree_ckpt.specs.Causes.{Calls}

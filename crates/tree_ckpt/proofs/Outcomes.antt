@@ -15,10 +15,10 @@ use Rattle.tree_phases.specs.Folding.{folding_next}
 use Rattle.tree_phases.specs.Folding as fold
 use Rattle.tree_phases.specs.Rising.{rising_next}
 use Rattle.tree_phases.specs.Rising as rise
-use Rattle.tree_moves.specs.declared.work.Onward.TheVariants as onward
-use Rattle.tree_moves.specs.declared.work.Work.TheVariants as work
-use Rattle.tree_moves.specs.Work.{one_lease, two_leases}
-use Rattle.tree_moves.specs.Moves.{Step, stopping, released_by, answer_of, deleting_by, went, rising_on, leaf_of, descending_on, root_entry, down_from, next_key, going_by, page_taken, onward_from, folding_on, tree_taken, tree_damage, tree_read, tree_got, chart_of, started, intake_taken, ReceivedBy, Leads}
+use Rattle.tree_ckpt.specs.declared.work.Onward.TheVariants as onward
+use Rattle.tree_ckpt.specs.declared.work.Work.TheVariants as work
+use Rattle.tree_ckpt.specs.Work.{one_lease, two_leases}
+use Rattle.tree_ckpt.specs.Moves.{Step, stopping, released_by, answer_of, deleting_by, went, rising_on, leaf_of, descending_on, root_entry, down_from, next_key, going_by, page_taken, onward_from, folding_on, tree_taken, tree_damage, tree_read, tree_got, chart_of, started, intake_taken, ReceivedBy, Leads}
 use Rattle.tree_ckpt.specs.Leases.{HasIds}
 use Rattle.tree_ckpt.proofs.Words.{Trouble, Answer, Message, CkptAnswer, Claim, Next, Goes, Ends, Stops, given_of, got_of, received_of, done_of, Intake, Leases, Chart, Descent, Folding, Left, Rising, Coming, Held, Work}
 

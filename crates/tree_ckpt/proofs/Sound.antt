@@ -15,7 +15,7 @@ use Rattle.node_codec.specs.Inner.{Inner, inner_of, inner_format, inner_fields, 
 use Rattle.node_codec.specs.Node as node
 use Rattle.node_codec.specs.Node.{Entry, entry, child_of}
 use Rattle.node_codec.proofs.NodeLemmas.{has_child}
-use Rattle.tree_moves.specs.Moves.{entry_or}
+use Rattle.tree_ckpt.specs.Moves.{entry_or}
 use Rattle.tree_ckpt.specs.Working.{HoldsLeaf}
 use Rattle.tree_ckpt.proofs.Fences.{HasSides, bound, seen_read, behind_read, then_read, whole_read, option_read}
 use Rattle.tree_ckpt.proofs.Fits.{entries_fit}

@@ -10,7 +10,7 @@ use Rattle.node_codec.specs.Tree.{Tree}
 use Rattle.split_plan.specs.Sizes.{count_of}
 use Rattle.tree_phases.specs.Placing.{has_nothing, landed_placing}
 use Rattle.tree_phases.specs.Read.{tree_held}
-use Rattle.tree_moves.specs.declared.work.Work.TheVariants as work
+use Rattle.tree_ckpt.specs.declared.work.Work.TheVariants as work
 use Rattle.tree_ckpt.specs.Causes.{Calls}
 use Rattle.tree_ckpt.specs.Due.{Due, LeafDue, NodeDue, RootDue, IsUp, IsDue, NeedsFew, raised}
 use Rattle.tree_ckpt.specs.Making.{Making, new_making, making_ask, MakingLeads}

@@ -15,7 +15,7 @@ use Rattle.tree_phases.specs.declared.fork.Fork.TheVariants.{Right, Down}
 use Rattle.tree_phases.specs.Fork.{bad_fence, down_to, fork_at, forked_on}
 use Rattle.tree_phases.specs.Fork as fork
 use Rattle.tree_phases.specs.Descent.{begun, forked, forked_by, passed, fork_of, kept_at, arrive, with_node, got_node}
-use Rattle.tree_moves.specs.Moves.{entry_or, root_entry}
+use Rattle.tree_ckpt.specs.Moves.{entry_or, root_entry}
 use Rattle.tree_ckpt.specs.Causes.{Calls, WasGot, WasNode, GoesRight}
 use Rattle.tree_ckpt.specs.Working.{IsAmong, AreTurns, Place, below_root, link_to, LeadsOn, IsWay}
 use Rattle.tree_ckpt.proofs.Words.{Trouble, Answer, Next, Ask, Chart, KeptNode, Link, Descent, Fork}

@@ -10,7 +10,7 @@ use Rattle.node_codec.specs.Tree.{Tree}
 use Rattle.node_codec.proofs.NodeLemmas.{in_range_parts}
 use Rattle.cloud_trait.specs.declared.answer.Answer.TheVariants as call
 use Rattle.cloud_trait.specs.Ask.{GetHeld, PutHeld, Take, Release}
-use Rattle.tree_moves.specs.Moves.{entry_or}
+use Rattle.tree_ckpt.specs.Moves.{entry_or}
 use Rattle.tree_phases.specs.Read.{tree_held}
 use Rattle.tree_ckpt.specs.Causes.{Calls, WasGot, WasNode}
 use Rattle.tree_ckpt.specs.Working.{Place, child_place, below_root, leaf_place, link_to, LeadsOn, IsWay, IsLeftFor, IsStart, IsCome, Visit, Outcome, Planned, Spared, Passed, IsVisit, AreVisits, IsAmong, IsOver, node_place, IsUnder, IsFollowed, HoldsLeaf, IsLeft, IsFor, placing_of, root_behind, looks_of, visits_over, done_over, page_puts, reserved_before, Climb, AreClimbs, root_above}

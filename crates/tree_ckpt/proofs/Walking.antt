@@ -19,7 +19,7 @@ use Rattle.tree_phases.specs.declared.descent.Reach.TheVariants.{Leaf}
 use Rattle.tree_phases.specs.declared.fork.Fork.TheVariants.{Right, Down}
 use Rattle.tree_phases.specs.Fork.{bad_fence, down_to, fork_at, forked_on}
 use Rattle.tree_phases.specs.Descent.{forked, forked_by, fork_of, passed, go_on, stride_at, kept_at, stride, follow, walk, arrived, arrive}
-use Rattle.tree_moves.specs.Moves.{entry_or}
+use Rattle.tree_ckpt.specs.Moves.{entry_or}
 use Rattle.tree_ckpt.specs.Way.{IsFresh, WasKept, IsPromised, behind, LeadsOver, ComesOver, BreaksAt, BreaksFrom, from_root}
 use Rattle.tree_ckpt.proofs.Words.{Trouble, Next, Goes, Ends, Stops, Chart, KeptNode, Descent, Fork}
 use Rattle.tree_ckpt.proofs.Passed.{unseen, unseen_most, unseen_less}

@@ -19,7 +19,7 @@ use Rattle.tree_phases.specs.declared.descent.Reach.TheVariants.{Node, Leaf}
 use Rattle.tree_phases.specs.declared.fork.Fork.TheVariants.{Right, Down}
 use Rattle.tree_phases.specs.Fork.{bad_fence, down_to, fork_at, forked_on}
 use Rattle.tree_phases.specs.Descent.{begun, forked, forked_by, fork_of, passed, go_on, stride_at, kept_at, stride, follow, walk, arrived, arrive, absent_node, with_node, got_node, descent_got}
-use Rattle.tree_moves.specs.Moves.{entry_or, root_entry, down_from}
+use Rattle.tree_ckpt.specs.Moves.{entry_or, root_entry, down_from}
 use Rattle.tree_ckpt.specs.Causes.{Calls, Brings, WasGot, WasNode, WasRead, Shows}
 use Rattle.tree_ckpt.specs.Way.{IsFresh, WasKept, IsPromised, behind, LeadsOver, ComesOver, BreaksAt, BreaksFrom, from_root}
 use Rattle.tree_ckpt.specs.Demands.{BreaksNode}

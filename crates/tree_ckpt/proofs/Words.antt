@@ -32,7 +32,7 @@ pub use Rattle.tree_phases.specs.declared.plan.LeafPlan.{LeafPlan}
 pub use Rattle.tree_phases.specs.declared.rising.Rising.{Rising}
 pub use Rattle.tree_phases.specs.declared.node.NodePlan.{NodePlan}
 pub use Rattle.tree_phases.specs.declared.root.RootPlan.{RootPlan}
-pub use Rattle.tree_moves.specs.declared.work.Coming.{Coming}
-pub use Rattle.tree_moves.specs.declared.work.Held.{Held}
-pub use Rattle.tree_moves.specs.declared.work.Onward.{Onward}
-pub use Rattle.tree_moves.specs.declared.work.Work.{Work}
+pub use Rattle.tree_ckpt.specs.declared.work.Coming.{Coming}
+pub use Rattle.tree_ckpt.specs.declared.work.Held.{Held}
+pub use Rattle.tree_ckpt.specs.declared.work.Onward.{Onward}
+pub use Rattle.tree_ckpt.specs.declared.work.Work.{Work}

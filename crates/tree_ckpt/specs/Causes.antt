@@ -26,9 +26,9 @@ use Rattle.cloud_trait.specs.Ask.{Ask, GetHeld, PutHeld, Take}
 use Rattle.cloud_trait.specs.Claim.{Claim}
 use Rattle.ckpt_parts.specs.Intakes.{items_of}
 use Rattle.tree_phases.specs.Read.{tree_held}
-use Rattle.tree_moves.specs.declared.work.Work.{Work}
-use Rattle.tree_moves.specs.declared.work.Work.TheVariants.{Releasing}
-use Rattle.tree_moves.specs.Moves.{entry_or}
+use Rattle.tree_ckpt.specs.declared.work.Work.{Work}
+use Rattle.tree_ckpt.specs.declared.work.Work.TheVariants.{Releasing}
+use Rattle.tree_ckpt.specs.Moves.{entry_or}
 
 -- calls with their answers, the newest first
 abbrev pub Calls : Type 0

@@ -18,10 +18,10 @@ use Rattle.run_cursor.specs.Covered.{is_seen}
 use Rattle.tree_phases.specs.Placing.{has_nothing}
 use Rattle.tree_phases.specs.declared.descent.Descent.{Descent}
 use Rattle.tree_phases.specs.declared.folding.Folding.{Folding}
-use Rattle.tree_moves.specs.declared.work.Held.{Held}
-use Rattle.tree_moves.specs.declared.work.Work.{Work}
-use Rattle.tree_moves.specs.declared.work.Work.TheVariants as work
-use Rattle.tree_moves.specs.Work.{work_ask}
+use Rattle.tree_ckpt.specs.declared.work.Held.{Held}
+use Rattle.tree_ckpt.specs.declared.work.Work.{Work}
+use Rattle.tree_ckpt.specs.declared.work.Work.TheVariants as work
+use Rattle.tree_ckpt.specs.Work.{work_ask}
 use Rattle.tree_ckpt.specs.Causes.{GoesRight, BreaksMessage, ticks_of}
 use Rattle.tree_ckpt.specs.Way.{BreaksWay}
 use Rattle.tree_ckpt.specs.Due.{GetsLeaf, Spends}

@@ -28,11 +28,11 @@ use Rattle.tree_phases.specs.declared.rising.Rising.{Rising}
 use Rattle.tree_phases.specs.Nodes.{with_links}
 use Rattle.tree_phases.specs.Rising.{begun, touched_node, landed}
 use Rattle.tree_phases.specs.Root.{risen}
-use Rattle.tree_moves.specs.declared.work.Held.{Held}
-use Rattle.tree_moves.specs.declared.work.Onward.TheVariants as onward
-use Rattle.tree_moves.specs.declared.work.Work.{Work}
-use Rattle.tree_moves.specs.declared.work.Work.TheVariants as work
-use Rattle.tree_moves.specs.Moves.{next_key}
+use Rattle.tree_ckpt.specs.declared.work.Held.{Held}
+use Rattle.tree_ckpt.specs.declared.work.Onward.TheVariants as onward
+use Rattle.tree_ckpt.specs.declared.work.Work.{Work}
+use Rattle.tree_ckpt.specs.declared.work.Work.TheVariants as work
+use Rattle.tree_ckpt.specs.Moves.{next_key}
 use Rattle.tree_ckpt.specs.Causes.{Calls, WasRoot, WasNode, WasLeaf}
 
 -- What is to be put while a tree object stands: a leaf with a run applied, an inner node with links, or the tree object itself with links and a

@@ -7,10 +7,10 @@ use Rattle.ckpt_parts.specs.Leasing.{claims_of}
 use Rattle.tree_phases.specs.declared.chart.Chart.{Chart}
 use Rattle.tree_phases.specs.declared.placing.Placing.{Placing}
 use Rattle.tree_phases.specs.declared.rising.Rising.{Rising as Up}
-use Rattle.tree_moves.specs.declared.work.Onward.TheVariants as onward
-use Rattle.tree_moves.specs.declared.work.Held.{Held}
-use Rattle.tree_moves.specs.declared.work.Work.{Work}
-use Rattle.tree_moves.specs.declared.work.Work.TheVariants.{TakingTree, GettingTree, Receiving, Descending, TakingPage, Folding, ReleasingPage, LeftPage, Rising, Deleting, Releasing, Finished}
+use Rattle.tree_ckpt.specs.declared.work.Onward.TheVariants as onward
+use Rattle.tree_ckpt.specs.declared.work.Held.{Held}
+use Rattle.tree_ckpt.specs.declared.work.Work.{Work}
+use Rattle.tree_ckpt.specs.declared.work.Work.TheVariants.{TakingTree, GettingTree, Receiving, Descending, TakingPage, Folding, ReleasingPage, LeftPage, Rising, Deleting, Releasing, Finished}
 
 -- how long a list may be
 abbrev pub most : ℕ

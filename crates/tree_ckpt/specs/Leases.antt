@@ -12,9 +12,9 @@ use Rattle.cloud_trait.specs.Machine.{Deed, Came}
 use Rattle.ckpt_parts.specs.Leasing.{newest_lease, outstanding}
 use Rattle.tree_phases.specs.Placing.{has_nothing}
 use Rattle.tree_phases.specs.declared.folding.Folding.{Folding as Leaf}
-use Rattle.tree_moves.specs.declared.work.Work.{Work}
-use Rattle.tree_moves.specs.declared.work.Work.TheVariants.{TakingTree, GettingTree, Receiving, Descending, TakingPage, Folding, ReleasingPage, LeftPage, Rising, Deleting, Releasing, Finished}
-use Rattle.tree_moves.specs.Work.{claims_in}
+use Rattle.tree_ckpt.specs.declared.work.Work.{Work}
+use Rattle.tree_ckpt.specs.declared.work.Work.TheVariants.{TakingTree, GettingTree, Receiving, Descending, TakingPage, Folding, ReleasingPage, LeftPage, Rising, Deleting, Releasing, Finished}
+use Rattle.tree_ckpt.specs.Work.{claims_in}
 use Rattle.tree_ckpt.specs.Making.{Making, new_making, making_ask, MakingLeads}
 
 -- the checkpoint of the same tree before its first call

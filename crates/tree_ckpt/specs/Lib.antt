@@ -1,3 +1,5 @@
+pub mod Work
+pub mod Moves
 pub mod Making
 pub mod Leases
 pub mod End

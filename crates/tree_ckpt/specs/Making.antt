@@ -7,10 +7,10 @@ use Rattle.cloud_trait.specs.declared.turn.Turn.{Turn}
 use Rattle.cloud_trait.specs.Ask.{Ask}
 use Rattle.cloud_trait.specs.Machine.{Next, Goes, Ends, Stops}
 use Rattle.ckpt_parts.specs.Intakes.{ids_of}
-use Rattle.tree_moves.specs.declared.work.Work.{Work}
-use Rattle.tree_moves.specs.declared.work.Work.TheVariants.{TakingTree}
-use Rattle.tree_moves.specs.Work.{work_ask, claims_in, handed}
-use Rattle.tree_moves.specs.Moves.{Absorbs, MovesTo}
+use Rattle.tree_ckpt.specs.declared.work.Work.{Work}
+use Rattle.tree_ckpt.specs.declared.work.Work.TheVariants.{TakingTree}
+use Rattle.tree_ckpt.specs.Work.{work_ask, claims_in, handed}
+use Rattle.tree_ckpt.specs.Moves.{Absorbs, MovesTo}
 
 -- its tree, what its receive answered, and where it stands
 pub record Making : Type 0 where

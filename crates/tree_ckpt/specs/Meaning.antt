@@ -19,8 +19,8 @@ use Rattle.cloud_trait.specs.Machine.{Deed, calls_of}
 use Rattle.cloud_trait.specs.Views.{done_of}
 use Rattle.ckpt_parts.specs.Intakes.{ids_of, items_of, has_items}
 use Rattle.tree_phases.specs.Read.{tree_held}
-use Rattle.tree_moves.specs.Work.{take_tree}
-use Rattle.tree_moves.specs.Moves.{went}
+use Rattle.tree_ckpt.specs.Work.{take_tree}
+use Rattle.tree_ckpt.specs.Moves.{went}
 use Rattle.tree_ckpt.specs.Making.{Making}
 use Rattle.tree_ckpt.specs.Causes.{Calls}
 use Rattle.tree_ckpt.specs.Working.{Worked, WorksBy, applied_count}

@@ -15,11 +15,11 @@ use Rattle.tree_phases.specs.declared.kept.KeptNode.{KeptNode}
 use Rattle.tree_phases.specs.declared.descent.Descent.{Descent}
 use Rattle.tree_phases.specs.Fork.{forked_on}
 use Rattle.tree_phases.specs.Descent.{begun, passed, kept_at, with_node}
-use Rattle.tree_moves.specs.declared.work.Held.{Held}
-use Rattle.tree_moves.specs.declared.work.Onward.TheVariants as onward
-use Rattle.tree_moves.specs.declared.work.Work.{Work}
-use Rattle.tree_moves.specs.declared.work.Work.TheVariants as work
-use Rattle.tree_moves.specs.Moves.{root_entry, next_key}
+use Rattle.tree_ckpt.specs.declared.work.Held.{Held}
+use Rattle.tree_ckpt.specs.declared.work.Onward.TheVariants as onward
+use Rattle.tree_ckpt.specs.declared.work.Work.{Work}
+use Rattle.tree_ckpt.specs.declared.work.Work.TheVariants as work
+use Rattle.tree_ckpt.specs.Moves.{root_entry, next_key}
 
 -- ---- over a node
 

@@ -40,7 +40,7 @@ use Rattle.tree_phases.specs.declared.node.NodePlan.{NodePlan}
 use Rattle.tree_phases.specs.declared.root.RootPlan.{RootPlan}
 use Rattle.tree_phases.specs.Nodes.{with_links, is_touched}
 use Rattle.tree_phases.specs.Root.{risen}
-use Rattle.tree_moves.specs.Moves.{entry_or}
+use Rattle.tree_ckpt.specs.Moves.{entry_or}
 use Rattle.tree_ckpt.specs.Causes.{Calls, WasGot, WasNode, GoesRight}
 
 -- ---- lists

@@ -5,8 +5,12 @@ ghost use Rattle.cloud_trait.specs.Call.{ask_of};
 ghost use Rattle.cloud_trait.specs.Weather.{Makes};
 ghost use Rattle.cloud_trait.specs.Machine.{Took, Deed};
 
+use crate::absorbed::absorbed;
+use crate::called::{Called, make_call};
+use crate::moved::Moved;
 use crate::release::let_go;
 use crate::short::work_is_short;
+use crate::work::Work;
 use ckpt_parts::ids_of;
 use cloud_trait::answer::Answer;
 use cloud_trait::call::Call;
@@ -19,10 +23,6 @@ use log_codec::record::PuItem;
 use std::alloc::{AllocError, Global};
 use std::marker::Model;
 use std::mem;
-use tree_moves::absorbed::absorbed;
-use tree_moves::called::{Called, make_call};
-use tree_moves::moved::Moved;
-use tree_moves::work::Work;
 
 /// A checkpoint of a tree (the right links and the cuts after Lehman and Yao, 1981).
 pub struct TreeCkpt {
@@ -53,7 +53,7 @@ impl Model for TreeCkpt {
 
 impl TreeCkpt {
     ghost use Rattle.ckpt_parts.specs.Leasing.{outstanding};
-    ghost use Rattle.tree_moves.specs.Work.{applying_in, claims_in};
+    ghost use Rattle.tree_ckpt.specs.Work.{applying_in, claims_in};
     ghost use Rattle.tree_ckpt.specs.End.{calls_in, IsShort};
     ghost use Rattle.tree_ckpt.specs.Leases.{Went, Names, GivesBack};
     ghost use Rattle.tree_ckpt.specs.Stepped.{Stepped};

@@ -1,11 +1,58 @@
-//! Letting go of where a checkpoint stands, each part in one place.
+//! Letting go of what a checkpoint has in hand, each part in one place.
 
-use tree_moves::work::{Coming, Onward, Work};
+ghost use Rattle.std.specs.Prelude.{◌≡◌};
+ghost use Rattle.tree_ckpt.specs.Work.{one_lease, two_leases};
+
+use crate::work::{Coming, Held, Onward, Work, one_lease, two_leases};
+use ckpt_parts::Leases;
+use cloud_trait::answer::Answer;
 use tree_phases::chart::Chart;
 use tree_phases::descent::Descent;
 use tree_phases::folding::Folding;
 use tree_phases::placing::Placing;
 use tree_phases::rising::Rising;
+
+/// The tree's lease alone; the messages that the run covers are let go.
+pub(crate) fn tree_lease(held: Held) -> Leases
+    ensures { result ≡ one_lease held.lease }
+{
+    one_lease(held.lease)
+}
+
+/// The tree's lease and then a leaf's; all else is let go.
+pub(crate) fn both_leases(held: Held, folding: Folding) -> Leases
+    ensures { result ≡ two_leases held.lease folding.lease }
+{
+    drop_chart(folding.chart);
+    drop_placing(folding.placing);
+    two_leases(held.lease, folding.lease)
+}
+
+pub(crate) fn drop_answer(_answer: Answer) {}
+
+pub(crate) fn drop_chart(_chart: Chart) {}
+
+pub(crate) fn drop_placing(_placing: Placing) {}
+
+pub(crate) fn drop_descent(descent: Descent) {
+    drop_chart(descent.chart);
+}
+
+pub(crate) fn drop_coming(coming: Coming) {
+    drop_chart(coming.chart);
+}
+
+pub(crate) fn drop_rising(rising: Rising) {
+    drop_chart(rising.chart);
+    drop_placing(rising.placing);
+}
+
+pub(crate) fn drop_onward(onward: Onward) {
+    match onward {
+        Onward::Right(coming) => drop_coming(coming),
+        Onward::Handled(chart) => drop_chart(chart),
+    }
+}
 
 /// Lets go of where a checkpoint stands.
 pub(crate) fn let_go(work: Work) {
@@ -25,31 +72,7 @@ pub(crate) fn let_go(work: Work) {
     }
 }
 
-fn drop_chart(_chart: Chart) {}
-
-fn drop_placing(_placing: Placing) {}
-
-fn drop_descent(descent: Descent) {
-    drop_chart(descent.chart);
-}
-
-fn drop_coming(coming: Coming) {
-    drop_chart(coming.chart);
-}
-
 fn drop_folding(folding: Folding) {
     drop_chart(folding.chart);
     drop_placing(folding.placing);
-}
-
-fn drop_onward(onward: Onward) {
-    match onward {
-        Onward::Right(coming) => drop_coming(coming),
-        Onward::Handled(chart) => drop_chart(chart),
-    }
-}
-
-fn drop_rising(rising: Rising) {
-    drop_chart(rising.chart);
-    drop_placing(rising.placing);
 }

@@ -2,7 +2,7 @@
 
 ghost use Rattle.tree_ckpt.specs.End.{IsShortChart, IsShort};
 
-use tree_moves::work::{Onward, Work};
+use crate::work::{Onward, Work};
 use tree_phases::chart::Chart;
 
 fn chart_is_short(chart: &Chart)

@@ -32,9 +32,9 @@ use Rattle.tree_phases.specs.declared.placing.Placing.{Placing}
 use Rattle.tree_phases.specs.Placing.{put_first, put_next, put_in_hand}
 use Rattle.tree_phases.specs.declared.rising.Rising.{Rising as Up}
 use Rattle.tree_phases.specs.Rising.{last_ask}
-use Rattle.tree_moves.specs.declared.work.Work.{Work as TreeWork}
-use Rattle.tree_moves.specs.declared.work.Work.TheVariants as tree_work
-use Rattle.tree_moves.specs.Work.{delete_ask, release_ask, work_ask}
+use Rattle.tree_ckpt.specs.declared.work.Work.{Work as TreeWork}
+use Rattle.tree_ckpt.specs.declared.work.Work.TheVariants as tree_work
+use Rattle.tree_ckpt.specs.Work.{delete_ask, release_ask, work_ask}
 use Rattle.tree_ckpt.specs.Making.{Making as TreeState, making_ask}
 use Rattle.settle_run.specs.declared.part.Part.{Part}
 use Rattle.settle_run.specs.declared.part.Part.TheVariants.{Client, Tree, Page}

@@ -49,9 +49,9 @@ use Rattle.session_facts.specs.Settling.Locks.{IsOwn, HoldsAlone, UsesOwn}
 use Rattle.std.specs.Prelude.{slice_get, unwrap_or}
 use Rattle.split_plan.specs.declared.put_list.PagePut.{PagePut}
 use Rattle.tree_ckpt.specs.Making.{Making, making_ask}
-use Rattle.tree_moves.specs.declared.work.Work.{Work as TreeWork}
-use Rattle.tree_moves.specs.declared.work.Work.TheVariants as work
-use Rattle.tree_moves.specs.Work.{delete_ask, release_ask, work_ask}
+use Rattle.tree_ckpt.specs.declared.work.Work.{Work as TreeWork}
+use Rattle.tree_ckpt.specs.declared.work.Work.TheVariants as work
+use Rattle.tree_ckpt.specs.Work.{delete_ask, release_ask, work_ask}
 use Rattle.tree_phases.specs.Placing.{put_in_hand}
 use Rattle.tree_phases.specs.declared.rising.Rising.{Rising}
 use Rattle.tree_phases.specs.Rising.{last_ask}

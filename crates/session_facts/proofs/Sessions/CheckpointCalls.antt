@@ -49,9 +49,9 @@ use Rattle.session_facts.specs.Machines.TreeCheckpoints.Counting.{MadeFew, IsCou
 use Rattle.session_facts.specs.Machines.TreeCheckpoints.Named.{CameTold, NamesPieces}
 use Rattle.tree_ckpt.specs.End.{calls_in}
 use Rattle.tree_ckpt.specs.Making.{Making, new_making, making_ask}
-use Rattle.tree_moves.specs.Work.{work_ask}
-use Rattle.tree_moves.specs.declared.work.Work.{Work as Moving}
-use Rattle.tree_moves.specs.declared.work.Work.TheVariants as moving
+use Rattle.tree_ckpt.specs.Work.{work_ask}
+use Rattle.tree_ckpt.specs.declared.work.Work.{Work as Moving}
+use Rattle.tree_ckpt.specs.declared.work.Work.TheVariants as moving
 use Rattle.txn_buffer.specs.Noted.{Noted}
 use Rattle.std.proofs.lemmas.Option.{same_Some}
 

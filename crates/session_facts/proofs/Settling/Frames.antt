@@ -40,9 +40,9 @@ use Rattle.settle_run.specs.Parts.{part_again, part_ask}
 use Rattle.settle_run.specs.declared.part.Part.{Part}
 use Rattle.settle_run.specs.declared.part.Part.TheVariants.{Client, Tree, Page}
 use Rattle.split_plan.specs.declared.put_list.PagePut.{PagePut}
-use Rattle.tree_moves.specs.Work.{delete_ask, release_ask, work_ask}
-use Rattle.tree_moves.specs.declared.work.Work.{Work as TreeWork}
-use Rattle.tree_moves.specs.declared.work.Work.TheVariants.{TakingTree, GettingTree, Receiving, Descending, TakingPage, Folding, ReleasingPage, LeftPage, Rising, Deleting, Releasing, Finished}
+use Rattle.tree_ckpt.specs.Work.{delete_ask, release_ask, work_ask}
+use Rattle.tree_ckpt.specs.declared.work.Work.{Work as TreeWork}
+use Rattle.tree_ckpt.specs.declared.work.Work.TheVariants.{TakingTree, GettingTree, Receiving, Descending, TakingPage, Folding, ReleasingPage, LeftPage, Rising, Deleting, Releasing, Finished}
 use Rattle.tree_phases.specs.Placing.{put_first, put_next, put_in_hand}
 use Rattle.tree_phases.specs.declared.placing.Placing.{Placing}
 use Rattle.tree_phases.specs.Rising.{last_ask}

@@ -14,10 +14,10 @@ use Rattle.commit_writes.specs.Writing.{Writing}
 use Rattle.commit_run.specs.declared.hand.Hand.{Hand}
 use Rattle.commit_run.specs.declared.hand.Hand.TheVariants.{Writes, First, Change}
 use Rattle.commit_run.specs.Run.{Run}
-use Rattle.tree_moves.specs.declared.work.Onward.{Onward}
-use Rattle.tree_moves.specs.declared.work.Onward.TheVariants as onward
-use Rattle.tree_moves.specs.declared.work.Work.{Work}
-use Rattle.tree_moves.specs.declared.work.Work.TheVariants as work
+use Rattle.tree_ckpt.specs.declared.work.Onward.{Onward}
+use Rattle.tree_ckpt.specs.declared.work.Onward.TheVariants as onward
+use Rattle.tree_ckpt.specs.declared.work.Work.{Work}
+use Rattle.tree_ckpt.specs.declared.work.Work.TheVariants as work
 use Rattle.settle_run.specs.declared.part.Part.{Part}
 use Rattle.settle_run.specs.declared.part.Part.TheVariants.{Client, Tree, Page}
 

@@ -19,9 +19,9 @@ use Rattle.session_facts.specs.Machines.Settlings.Knows.{KnowsAtWork, KnowsSettl
 use Rattle.split_plan.specs.declared.put_list.PagePut.{PagePut}
 use Rattle.cloud_facts.specs.Book.Tally.{Store}
 use Rattle.tree_ckpt.specs.Making.{Making, making_ask}
-use Rattle.tree_moves.specs.declared.work.Work.{Work}
-use Rattle.tree_moves.specs.declared.work.Work.TheVariants.{TakingTree, GettingTree, Receiving, Descending, TakingPage, Folding, ReleasingPage, LeftPage, Rising, Deleting, Releasing, Finished}
-use Rattle.tree_moves.specs.Work.{delete_ask, release_ask, work_ask}
+use Rattle.tree_ckpt.specs.declared.work.Work.{Work}
+use Rattle.tree_ckpt.specs.declared.work.Work.TheVariants.{TakingTree, GettingTree, Receiving, Descending, TakingPage, Folding, ReleasingPage, LeftPage, Rising, Deleting, Releasing, Finished}
+use Rattle.tree_ckpt.specs.Work.{delete_ask, release_ask, work_ask}
 use Rattle.tree_phases.specs.declared.placing.Placing.{Placing}
 use Rattle.tree_phases.specs.Placing.{put_first, put_next, put_in_hand}
 use Rattle.tree_phases.specs.declared.rising.Rising.{Rising as Up}

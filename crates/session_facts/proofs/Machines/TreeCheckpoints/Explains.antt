@@ -46,11 +46,11 @@ use Rattle.tree_ckpt.proofs.Outcomes.{Seeks, Descends, Ascends, Clears, Fails, C
 use Rattle.tree_ckpt.proofs.Outcomes as step
 use Rattle.tree_ckpt.proofs.RiseOutcomes.{rises, lands}
 use Rattle.tree_phases.specs.declared.descent.Descent.{Descent}
-use Rattle.tree_moves.specs.declared.work.Held.{Held}
-use Rattle.tree_moves.specs.declared.work.Work.{Work}
-use Rattle.tree_moves.specs.declared.work.Work.TheVariants as work
-use Rattle.tree_moves.specs.Moves.{Step, released_by, went, tree_damage, Leads}
-use Rattle.tree_moves.specs.Work.{take_tree, delete_ask, work_ask}
+use Rattle.tree_ckpt.specs.declared.work.Held.{Held}
+use Rattle.tree_ckpt.specs.declared.work.Work.{Work}
+use Rattle.tree_ckpt.specs.declared.work.Work.TheVariants as work
+use Rattle.tree_ckpt.specs.Moves.{Step, released_by, went, tree_damage, Leads}
+use Rattle.tree_ckpt.specs.Work.{take_tree, delete_ask, work_ask}
 use Rattle.tree_phases.specs.declared.chart.Chart.{Chart}
 use Rattle.tree_phases.specs.Placing.{has_nothing}
 use Rattle.tree_phases.specs.Read.{tree_held}

@@ -39,13 +39,13 @@ use Rattle.session_facts.proofs.Machines.TreeCheckpoints.Held.{claims_next, with
 use Rattle.session_facts.proofs.Machines.TreeCheckpoints.Others.{lock_of, making_later}
 use Rattle.session_facts.proofs.Machines.Risings.Guards.{rising_guarded}
 use Rattle.session_facts.specs.Machines.Trees.Leaves.{IsReading, KnowsLeaf}
-use Rattle.tree_moves.specs.declared.work.Held.{Held}
-use Rattle.tree_moves.specs.declared.work.Onward.{Onward}
-use Rattle.tree_moves.specs.declared.work.Onward.TheVariants as onward
-use Rattle.tree_moves.specs.declared.work.Work.{Work}
-use Rattle.tree_moves.specs.declared.work.Work.TheVariants as work
-use Rattle.tree_moves.specs.Moves.{Step, Leads}
-use Rattle.tree_moves.specs.Work.{delete_ask, release_ask, work_ask, claims_in}
+use Rattle.tree_ckpt.specs.declared.work.Held.{Held}
+use Rattle.tree_ckpt.specs.declared.work.Onward.{Onward}
+use Rattle.tree_ckpt.specs.declared.work.Onward.TheVariants as onward
+use Rattle.tree_ckpt.specs.declared.work.Work.{Work}
+use Rattle.tree_ckpt.specs.declared.work.Work.TheVariants as work
+use Rattle.tree_ckpt.specs.Moves.{Step, Leads}
+use Rattle.tree_ckpt.specs.Work.{delete_ask, release_ask, work_ask, claims_in}
 use Rattle.tree_phases.specs.declared.placing.Placing.{Placing}
 use Rattle.tree_phases.specs.Placing.{put_in_hand, put_first, put_next}
 use Rattle.tree_phases.specs.declared.rising.Rising.{Rising}

@@ -24,11 +24,11 @@ use Rattle.tree_ckpt.proofs.Leaving.{SameLeaf, LeavesLeaf, next_leaves}
 use Rattle.tree_ckpt.proofs.Outcomes.{Seeks, Descends, Ascends, Clears, Fails, Comes}
 use Rattle.tree_ckpt.proofs.Outcomes as step
 use Rattle.tree_phases.specs.declared.descent.Descent.{Descent}
-use Rattle.tree_moves.specs.declared.work.Held.{Held}
-use Rattle.tree_moves.specs.declared.work.Work.{Work}
-use Rattle.tree_moves.specs.declared.work.Work.TheVariants as work
-use Rattle.tree_moves.specs.Moves.{Step}
-use Rattle.tree_moves.specs.Work.{delete_ask, work_ask, claims_in}
+use Rattle.tree_ckpt.specs.declared.work.Held.{Held}
+use Rattle.tree_ckpt.specs.declared.work.Work.{Work}
+use Rattle.tree_ckpt.specs.declared.work.Work.TheVariants as work
+use Rattle.tree_ckpt.specs.Moves.{Step}
+use Rattle.tree_ckpt.specs.Work.{delete_ask, work_ask, claims_in}
 use Rattle.tree_phases.specs.declared.chart.Chart.{Chart}
 use Rattle.tree_phases.specs.declared.rising.Rising.{Rising}
 use Rattle.tree_phases.specs.Rising.{rising_ask}

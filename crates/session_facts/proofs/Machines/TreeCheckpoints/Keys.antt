@@ -7,7 +7,7 @@ use Rattle.leaf_edit.specs.Merging.{Rises}
 use Rattle.log_codec.specs.declared.record.PuItem.{PuItem}
 use Rattle.session_facts.proofs.Machines.Runs.Received.{each_in}
 use Rattle.cloud_facts.specs.Book.Records.{IsIn}
-use Rattle.tree_moves.specs.Moves.{key_from}
+use Rattle.tree_ckpt.specs.Moves.{key_from}
 
 abbrev key : PuItem → List ℕ
 key x = key_of x.rec.change

@@ -61,10 +61,10 @@ use Rattle.tree_ckpt.specs.Meaning.{Opening, opening_calls}
 use Rattle.tree_ckpt.specs.Working.{HoldsLeaf, leaf_place}
 use Rattle.tree_phases.specs.declared.descent.Descent.{Descent}
 use Rattle.tree_phases.specs.Descent.{descent_ask}
-use Rattle.tree_moves.specs.declared.work.Held.{Held}
-use Rattle.tree_moves.specs.declared.work.Work.{Work}
-use Rattle.tree_moves.specs.declared.work.Work.TheVariants as work
-use Rattle.tree_moves.specs.Work.{work_ask, delete_ask, release_ask}
+use Rattle.tree_ckpt.specs.declared.work.Held.{Held}
+use Rattle.tree_ckpt.specs.declared.work.Work.{Work}
+use Rattle.tree_ckpt.specs.declared.work.Work.TheVariants as work
+use Rattle.tree_ckpt.specs.Work.{work_ask, delete_ask, release_ask}
 use Rattle.tree_phases.specs.declared.kept.KeptNode.{KeptNode}
 use Rattle.tree_phases.specs.declared.placing.Placing.{Placing}
 use Rattle.tree_phases.specs.Placing.{put_next, put_first, put_in_hand}

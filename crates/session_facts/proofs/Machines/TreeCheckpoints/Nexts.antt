@@ -23,9 +23,9 @@ use Rattle.session_facts.specs.Machines.Folds.Nexts.{KnowsStep}
 use Rattle.session_facts.specs.Machines.Trees.Leaves.{IsCome}
 use Rattle.session_facts.specs.Machines.Risings.Knows.{RisesOn}
 use Rattle.session_facts.proofs.Machines.Trees.WayCharts.{LeadsApart, KnowsDescent}
-use Rattle.tree_moves.specs.declared.work.Coming.{Coming}
-use Rattle.tree_moves.specs.declared.work.Held.{Held}
-use Rattle.tree_moves.specs.Moves.{Step, deleting, deleting_by, deleted_by, went, rising_on, descending_on, page_taken, folding_on, tree_taken, finished, released_by}
+use Rattle.tree_ckpt.specs.declared.work.Coming.{Coming}
+use Rattle.tree_ckpt.specs.declared.work.Held.{Held}
+use Rattle.tree_ckpt.specs.Moves.{Step, deleting, deleting_by, deleted_by, went, rising_on, descending_on, page_taken, folding_on, tree_taken, finished, released_by}
 use Rattle.tree_phases.specs.declared.chart.Chart.{Chart}
 use Rattle.tree_phases.specs.declared.rising.Rising.{Rising}
 

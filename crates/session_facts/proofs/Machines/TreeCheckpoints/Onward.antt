@@ -52,10 +52,10 @@ use Rattle.session_facts.proofs.Machines.Risings.Nexts.{rises_from}
 use Rattle.session_facts.proofs.Machines.Trees.Strides.{arrives}
 use Rattle.session_facts.proofs.Machines.Trees.Ways.{way_begins}
 use Rattle.session_facts.proofs.Machines.Trees.WayCharts.{arrive_apart, descent_known}
-use Rattle.tree_moves.specs.declared.work.Held.{Held}
-use Rattle.tree_moves.specs.declared.work.Onward.{Onward}
-use Rattle.tree_moves.specs.declared.work.Onward.TheVariants as onward
-use Rattle.tree_moves.specs.Moves.{Step, descending_on, down_from, entry_or, root_entry, going_by, going, next_key, key_from, page_left, tree_read, tree_got, chart_of, started, intake_taken, ReceivedBy}
+use Rattle.tree_ckpt.specs.declared.work.Held.{Held}
+use Rattle.tree_ckpt.specs.declared.work.Onward.{Onward}
+use Rattle.tree_ckpt.specs.declared.work.Onward.TheVariants as onward
+use Rattle.tree_ckpt.specs.Moves.{Step, descending_on, down_from, entry_or, root_entry, going_by, going, next_key, key_from, page_left, tree_read, tree_got, chart_of, started, intake_taken, ReceivedBy}
 use Rattle.tree_phases.specs.declared.chart.Chart.{Chart}
 use Rattle.tree_phases.specs.Read.{tree_held}
 use Rattle.tree_phases.specs.Rising as up

@@ -14,12 +14,12 @@ use Rattle.session_facts.proofs.Machines.Trees.Others.{root_stays}
 use Rattle.session_facts.proofs.Machines.Folds.Others.{reading_others, putting_others, rest_others, come_others, getting_others}
 use Rattle.session_facts.proofs.Machines.Risings.Others.{rising_others}
 use Rattle.cloud_facts.proofs.Calls.Guarding.{others_itself}
-use Rattle.tree_moves.specs.declared.work.Held.{Held}
-use Rattle.tree_moves.specs.declared.work.Onward.{Onward}
-use Rattle.tree_moves.specs.declared.work.Onward.TheVariants as onward
-use Rattle.tree_moves.specs.declared.work.Work.{Work}
-use Rattle.tree_moves.specs.declared.work.Work.TheVariants.{TakingTree, GettingTree, Receiving, Descending, TakingPage, Folding as FoldingLeaf, ReleasingPage, LeftPage, Rising, Deleting, Releasing, Finished}
-use Rattle.tree_moves.specs.Work.{claims_in}
+use Rattle.tree_ckpt.specs.declared.work.Held.{Held}
+use Rattle.tree_ckpt.specs.declared.work.Onward.{Onward}
+use Rattle.tree_ckpt.specs.declared.work.Onward.TheVariants as onward
+use Rattle.tree_ckpt.specs.declared.work.Work.{Work}
+use Rattle.tree_ckpt.specs.declared.work.Work.TheVariants.{TakingTree, GettingTree, Receiving, Descending, TakingPage, Folding as FoldingLeaf, ReleasingPage, LeftPage, Rising, Deleting, Releasing, Finished}
+use Rattle.tree_ckpt.specs.Work.{claims_in}
 use Rattle.tree_phases.specs.Read.{tree_held}
 
 -- the lock of the tree that is known of

@@ -64,11 +64,11 @@ use Rattle.session_facts.proofs.Machines.Risings.Outcome.{known_outcome}
 use Rattle.cloud_facts.proofs.Calls.Outcomes.{stays, other_landed, quiet}
 use Rattle.session_facts.proofs.Machines.Trees.Ways as walks
 use Rattle.session_facts.proofs.Machines.Trees.WayCharts.{LeadsApart, descent_apart, descent_known}
-use Rattle.tree_moves.specs.declared.work.Held.{Held}
-use Rattle.tree_moves.specs.declared.work.Work.{Work}
-use Rattle.tree_moves.specs.declared.work.Work.TheVariants as work
-use Rattle.tree_moves.specs.Moves.{Step, Leads}
-use Rattle.tree_moves.specs.Work.{take_tree, delete_ask, release_ask, work_ask, claims_in}
+use Rattle.tree_ckpt.specs.declared.work.Held.{Held}
+use Rattle.tree_ckpt.specs.declared.work.Work.{Work}
+use Rattle.tree_ckpt.specs.declared.work.Work.TheVariants as work
+use Rattle.tree_ckpt.specs.Moves.{Step, Leads}
+use Rattle.tree_ckpt.specs.Work.{take_tree, delete_ask, release_ask, work_ask, claims_in}
 use Rattle.tree_phases.specs.declared.placing.Placing.{Placing}
 use Rattle.tree_phases.specs.Placing.{put_in_hand, has_nothing}
 use Rattle.tree_phases.specs.declared.rising.Rising.{Rising}

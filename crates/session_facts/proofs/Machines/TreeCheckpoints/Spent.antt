@@ -48,7 +48,7 @@ use Rattle.split_plan.specs.Plan.{put_of, on_pages, node_bytes}
 use Rattle.split_plan.specs.Sizes.{count_of}
 use Rattle.tree_ckpt.specs.Working.{HoldsLeaf}
 use Rattle.tree_ckpt.specs.Due.{Due, LeafDue, NodeDue, RootDue, IsSpent, pages_of, pages_of_root, raised, root_of, version_of}
-use Rattle.tree_moves.specs.Moves.{chart_of}
+use Rattle.tree_ckpt.specs.Moves.{chart_of}
 use Rattle.tree_phases.specs.declared.chart.Chart.{Chart}
 use Rattle.tree_phases.specs.declared.kept.KeptNode.{KeptNode}
 use Rattle.tree_phases.specs.declared.link.Link.{Link as Found}

@@ -11,9 +11,9 @@ use Rattle.tree_phases.specs.declared.descent.Descent.{Descent}
 use Rattle.tree_phases.specs.Descent.{begun, descent_next}
 use Rattle.tree_phases.specs.declared.rising.Rising.{Rising as Up}
 use Rattle.tree_phases.specs.Rising.{begun as up_begun, rise, rising_next}
-use Rattle.tree_moves.specs.declared.work.Held.{Held}
-use Rattle.tree_moves.specs.declared.work.Work.{Work}
-use Rattle.tree_moves.specs.Moves.{Step, down_from, root_entry, onward_from}
+use Rattle.tree_ckpt.specs.declared.work.Held.{Held}
+use Rattle.tree_ckpt.specs.declared.work.Work.{Work}
+use Rattle.tree_ckpt.specs.Moves.{Step, down_from, root_entry, onward_from}
 use Rattle.tree_ckpt.specs.Making.{Making, MakingLeads}
 use Rattle.tree_ckpt.proofs.Charts.{GoesFurther, arrive_further, descent_further}
 use Rattle.tree_ckpt.proofs.Leaving.{LeavesLeaf, next_leaves}

@@ -27,7 +27,7 @@ use Rattle.tree_phases.specs.declared.descent.Descent.{Descent}
 use Rattle.tree_phases.specs.declared.fork.Fork.{Fork}
 use Rattle.tree_phases.specs.Descent.{begun, forked, forked_by, fork_of, passed, arrive, absent_node, descent_got}
 use Rattle.tree_phases.specs.Fork.{bad_fence, forked_on}
-use Rattle.tree_moves.specs.Moves.{down_from, root_entry}
+use Rattle.tree_ckpt.specs.Moves.{down_from, root_entry}
 use Rattle.tree_phases.specs.declared.chart.Chart.{Chart}
 use Rattle.tree_phases.specs.declared.kept.KeptNode.{KeptNode}
 use Rattle.tree_phases.specs.Placing.{has_nothing}

@@ -37,14 +37,14 @@ use Rattle.tree_ckpt.specs.End.{from_on, from_on_or_none, above, unhandled, behi
 use Rattle.tree_phases.specs.declared.descent.Descent.{Descent}
 use Rattle.tree_phases.specs.Descent.{descent_next}
 use Rattle.tree_phases.specs.Descent as way
-use Rattle.tree_moves.specs.declared.work.Coming.{Coming}
-use Rattle.tree_moves.specs.declared.work.Held.{Held}
-use Rattle.tree_moves.specs.declared.work.Onward.{Onward}
-use Rattle.tree_moves.specs.declared.work.Onward.TheVariants as onward
-use Rattle.tree_moves.specs.declared.work.Work.{Work}
-use Rattle.tree_moves.specs.declared.work.Work.TheVariants as work
-use Rattle.tree_moves.specs.Moves.{Step, stopping, went, descending_on, root_entry, down_from, key_from_or_none, folding_on, Leads}
-use Rattle.tree_moves.specs.Work.{one_lease}
+use Rattle.tree_ckpt.specs.declared.work.Coming.{Coming}
+use Rattle.tree_ckpt.specs.declared.work.Held.{Held}
+use Rattle.tree_ckpt.specs.declared.work.Onward.{Onward}
+use Rattle.tree_ckpt.specs.declared.work.Onward.TheVariants as onward
+use Rattle.tree_ckpt.specs.declared.work.Work.{Work}
+use Rattle.tree_ckpt.specs.declared.work.Work.TheVariants as work
+use Rattle.tree_ckpt.specs.Moves.{Step, stopping, went, descending_on, root_entry, down_from, key_from_or_none, folding_on, Leads}
+use Rattle.tree_ckpt.specs.Work.{one_lease}
 use Rattle.tree_phases.specs.declared.chart.Chart.{Chart}
 use Rattle.tree_phases.specs.declared.kept.KeptNode.{KeptNode}
 use Rattle.tree_phases.specs.declared.placing.Placing.{Placing}

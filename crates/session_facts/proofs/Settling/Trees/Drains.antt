@@ -43,8 +43,8 @@ use Rattle.std.specs.List.{AllByRecursion}
 use Rattle.tree_ckpt.proofs.Answers.{done_is}
 use Rattle.tree_ckpt.specs.Causes.{Calls}
 use Rattle.tree_ckpt.specs.Meaning.{Opening, opening_calls, IsOpened, IsAtWork, AreAtWork, Works, Tried, deletes_over, tried_before, one_less, failed_count}
-use Rattle.tree_moves.specs.Moves.{went}
-use Rattle.tree_moves.specs.Work.{take_tree}
+use Rattle.tree_ckpt.specs.Moves.{went}
+use Rattle.tree_ckpt.specs.Work.{take_tree}
 use Rattle.tree_phases.specs.Read.{tree_held}
 
 -- ---- calls between states

@@ -16,9 +16,9 @@ use Rattle.session_facts.proofs.Machines.TreeCheckpoints.Held.{leaf_quiet, up_qu
 use Rattle.tree_ckpt.specs.Making.{Making, making_ask, MakingLeads}
 use Rattle.tree_ckpt.specs.Leases.{OfTree}
 use Rattle.tree_ckpt.proofs.Outcomes.{comes}
-use Rattle.tree_moves.specs.declared.work.Work.{Work}
-use Rattle.tree_moves.specs.declared.work.Work.TheVariants as work
-use Rattle.tree_moves.specs.Work.{delete_ask, release_ask, work_ask, claims_in}
+use Rattle.tree_ckpt.specs.declared.work.Work.{Work}
+use Rattle.tree_ckpt.specs.declared.work.Work.TheVariants as work
+use Rattle.tree_ckpt.specs.Work.{delete_ask, release_ask, work_ask, claims_in}
 use Rattle.tree_phases.specs.Rising.{rising_ask}
 
 -- ---- the call in hand

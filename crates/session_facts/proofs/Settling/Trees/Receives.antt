@@ -37,9 +37,9 @@ use Rattle.session_facts.specs.Machines.TreeCheckpoints.Few.{distinct}
 use Rattle.session_facts.specs.Machines.Runs.Knows.{IsSentItem}
 use Rattle.session_facts.proofs.Settling.Trees.Steps.{TouchesNoQueue, TouchesQueue, work_quiet}
 use Rattle.tree_ckpt.specs.Making.{received_after}
-use Rattle.tree_moves.specs.Work.{delete_ask, work_ask}
-use Rattle.tree_moves.specs.declared.work.Work.{Work}
-use Rattle.tree_moves.specs.declared.work.Work.TheVariants as work
+use Rattle.tree_ckpt.specs.Work.{delete_ask, work_ask}
+use Rattle.tree_ckpt.specs.declared.work.Work.{Work}
+use Rattle.tree_ckpt.specs.declared.work.Work.TheVariants as work
 
 -- ---- a run has no item twice
 

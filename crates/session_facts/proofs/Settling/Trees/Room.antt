@@ -39,10 +39,10 @@ use Rattle.session_facts.specs.Machines.Trees.Ways.{IsOnWay}
 use Rattle.split_plan.specs.Part.{LeafPart, NodePart}
 use Rattle.split_plan.specs.Plan.{leaf_bytes, node_bytes}
 use Rattle.tree_ckpt.proofs.Tours.{page_left as has_page}
-use Rattle.tree_moves.specs.declared.work.Held.{Held}
-use Rattle.tree_moves.specs.declared.work.Onward.TheVariants as onward
-use Rattle.tree_moves.specs.declared.work.Work.{Work}
-use Rattle.tree_moves.specs.declared.work.Work.TheVariants as work
+use Rattle.tree_ckpt.specs.declared.work.Held.{Held}
+use Rattle.tree_ckpt.specs.declared.work.Onward.TheVariants as onward
+use Rattle.tree_ckpt.specs.declared.work.Work.{Work}
+use Rattle.tree_ckpt.specs.declared.work.Work.TheVariants as work
 use Rattle.tree_phases.specs.declared.chart.Chart.{Chart}
 use Rattle.tree_phases.specs.declared.kept.KeptNode.{KeptNode}
 use Rattle.tree_phases.specs.declared.placing.Placing.{Placing}

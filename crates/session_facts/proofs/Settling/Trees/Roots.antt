@@ -18,10 +18,10 @@ use Rattle.tree_ckpt.proofs.RiseOutcomes.{rises, lands}
 use Rattle.tree_ckpt.proofs.RiseOutcomes as rise
 use Rattle.tree_phases.specs.declared.descent.Descent.{Descent}
 use Rattle.tree_phases.specs.Descent as way
-use Rattle.tree_moves.specs.declared.work.Held.{Held}
-use Rattle.tree_moves.specs.declared.work.Work.{Work}
-use Rattle.tree_moves.specs.declared.work.Work.TheVariants as work
-use Rattle.tree_moves.specs.Moves.{Step, root_entry, down_from, onward_from, Leads}
+use Rattle.tree_ckpt.specs.declared.work.Held.{Held}
+use Rattle.tree_ckpt.specs.declared.work.Work.{Work}
+use Rattle.tree_ckpt.specs.declared.work.Work.TheVariants as work
+use Rattle.tree_ckpt.specs.Moves.{Step, root_entry, down_from, onward_from, Leads}
 use Rattle.tree_phases.specs.declared.chart.Chart.{Chart}
 use Rattle.tree_phases.specs.Placing.{has_nothing, landed_root}
 use Rattle.tree_phases.specs.declared.rising.Rising.{Rising}

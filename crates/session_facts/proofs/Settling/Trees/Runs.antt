@@ -38,10 +38,10 @@ use Rattle.tree_ckpt.specs.Causes.{Calls}
 use Rattle.tree_ckpt.specs.Making.{Making, new_making, making_ask, MakingLeads}
 use Rattle.tree_ckpt.specs.Meaning.{IsDone}
 use Rattle.tree_ckpt.specs.Leases.{Went}
-use Rattle.tree_moves.specs.Moves.{Leads}
-use Rattle.tree_moves.specs.Work.{delete_ask, work_ask}
-use Rattle.tree_moves.specs.declared.work.Work.{Work}
-use Rattle.tree_moves.specs.declared.work.Work.TheVariants as work
+use Rattle.tree_ckpt.specs.Moves.{Leads}
+use Rattle.tree_ckpt.specs.Work.{delete_ask, work_ask}
+use Rattle.tree_ckpt.specs.declared.work.Work.{Work}
+use Rattle.tree_ckpt.specs.declared.work.Work.TheVariants as work
 
 -- ---- what leads to a checkpoint of a tree
 

@@ -24,9 +24,9 @@ use Rattle.session_facts.proofs.Settling.Trees.Roots.{NewestBy}
 use Rattle.session_facts.specs.Machines.TreeCheckpoints.Knows.{KnowsWork}
 use Rattle.split_plan.specs.declared.put_list.PagePut.{PagePut}
 use Rattle.tree_ckpt.proofs.Tours.{page_left as has_page}
-use Rattle.tree_moves.specs.Work.{delete_ask, release_ask, work_ask}
-use Rattle.tree_moves.specs.declared.work.Work.{Work}
-use Rattle.tree_moves.specs.declared.work.Work.TheVariants as work
+use Rattle.tree_ckpt.specs.Work.{delete_ask, release_ask, work_ask}
+use Rattle.tree_ckpt.specs.declared.work.Work.{Work}
+use Rattle.tree_ckpt.specs.declared.work.Work.TheVariants as work
 use Rattle.tree_phases.specs.Placing.{put_first, put_next, put_in_hand, has_nothing, landed_root}
 use Rattle.tree_phases.specs.declared.placing.Placing.{Placing}
 use Rattle.tree_phases.specs.Rising.{last_ask}

@@ -28,10 +28,10 @@ use Rattle.session_facts.specs.Machines.TreeCheckpoints.Knows.{KnowsWork}
 use Rattle.session_facts.specs.Machines.TreeCheckpoints.Counting.{calls_left, HasRoot, Once, MadeFew}
 use Rattle.tree_ckpt.proofs.Answers.{received_is}
 use Rattle.tree_ckpt.specs.Making.{received_after}
-use Rattle.tree_moves.specs.Moves.{Leads}
-use Rattle.tree_moves.specs.Work.{work_ask}
-use Rattle.tree_moves.specs.declared.work.Work.{Work}
-use Rattle.tree_moves.specs.declared.work.Work.TheVariants as work
+use Rattle.tree_ckpt.specs.Moves.{Leads}
+use Rattle.tree_ckpt.specs.Work.{work_ask}
+use Rattle.tree_ckpt.specs.declared.work.Work.{Work}
+use Rattle.tree_ckpt.specs.declared.work.Work.TheVariants as work
 use Rattle.tree_phases.specs.declared.placing.Placing.{Placing}
 use Rattle.tree_phases.specs.Placing.{has_nothing, root_after, landed_root}
 use Rattle.tree_phases.specs.Read.{tree_held}

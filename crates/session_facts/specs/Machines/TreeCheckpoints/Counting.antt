@@ -6,10 +6,10 @@ use Rattle.cloud_trait.specs.State.{CloudState}
 use Rattle.session_facts.specs.Machines.TreeCheckpoints.Few.{distinct, next_page}
 use Rattle.tree_ckpt.specs.End.{unhandled, behind_key, ids_in, calls_in}
 use Rattle.tree_ckpt.specs.Making.{Making}
-use Rattle.tree_moves.specs.declared.work.Held.{Held}
-use Rattle.tree_moves.specs.declared.work.Onward.TheVariants as onward
-use Rattle.tree_moves.specs.declared.work.Work.{Work}
-use Rattle.tree_moves.specs.declared.work.Work.TheVariants as work
+use Rattle.tree_ckpt.specs.declared.work.Held.{Held}
+use Rattle.tree_ckpt.specs.declared.work.Onward.TheVariants as onward
+use Rattle.tree_ckpt.specs.declared.work.Work.{Work}
+use Rattle.tree_ckpt.specs.declared.work.Work.TheVariants as work
 use Rattle.tree_phases.specs.declared.chart.Chart.{Chart}
 use Rattle.tree_phases.specs.declared.placing.Placing.{Placing}
 use Rattle.tree_phases.specs.Read.{tree_held}

@@ -19,13 +19,13 @@ use Rattle.tree_ckpt.specs.Leases.{OfTree, HasIds}
 use Rattle.session_facts.specs.Machines.Trees.Charts.{KnowsRoot}
 use Rattle.session_facts.specs.Machines.Trees.Leaves.{KnowsRest, IsGetting, IsCome, KnowsLeaf}
 use Rattle.session_facts.specs.Machines.Risings.Knows.{KnowsRising}
-use Rattle.tree_moves.specs.declared.work.Onward.{Onward}
-use Rattle.tree_moves.specs.declared.work.Onward.TheVariants.{Right, Handled}
-use Rattle.tree_moves.specs.declared.work.Held.{Held}
-use Rattle.tree_moves.specs.declared.work.Work.{Work}
-use Rattle.tree_moves.specs.declared.work.Work.TheVariants.{TakingTree, GettingTree, Receiving, Descending, TakingPage, Folding, ReleasingPage, LeftPage, Rising, Deleting, Releasing, Finished}
-use Rattle.tree_moves.specs.Moves.{Step}
-use Rattle.tree_moves.specs.Work.{applying_in, claims_in}
+use Rattle.tree_ckpt.specs.declared.work.Onward.{Onward}
+use Rattle.tree_ckpt.specs.declared.work.Onward.TheVariants.{Right, Handled}
+use Rattle.tree_ckpt.specs.declared.work.Held.{Held}
+use Rattle.tree_ckpt.specs.declared.work.Work.{Work}
+use Rattle.tree_ckpt.specs.declared.work.Work.TheVariants.{TakingTree, GettingTree, Receiving, Descending, TakingPage, Folding, ReleasingPage, LeftPage, Rising, Deleting, Releasing, Finished}
+use Rattle.tree_ckpt.specs.Moves.{Step}
+use Rattle.tree_ckpt.specs.Work.{applying_in, claims_in}
 use Rattle.tree_phases.specs.Read.{tree_held}
 
 -- ---- leases

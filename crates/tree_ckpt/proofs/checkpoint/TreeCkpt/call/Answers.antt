@@ -1,7 +1,7 @@
 use Rattle.std.proofs.Common.{ℕ, subst}
 use Rattle.cloud_trait.specs.Weather.{Makes}
-use Rattle.tree_moves.specs.declared.work.Work.{Work}
-use Rattle.tree_moves.specs.Work.{work_ask}
+use Rattle.tree_ckpt.specs.declared.work.Work.{Work}
+use Rattle.tree_ckpt.specs.Work.{work_ask}
 use Rattle.tree_ckpt.proofs.Leading.{called_left}
 use Rattle.tree_ckpt.proofs.checkpoint.TreeCkpt.call.Goals as goal
 

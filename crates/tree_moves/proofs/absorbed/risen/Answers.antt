@@ -1,4 +1,0 @@
-use Rattle.tree_moves.proofs.absorbed.risen.Goals as goal
-
-pub returns : goal.returns
-returns c = c.ascend.ensures _ c.absorb-pace.ensures

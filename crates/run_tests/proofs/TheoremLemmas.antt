@@ -9,7 +9,7 @@ use Rattle.db_io.specs.Content.{Told}
 use Rattle.db_io.specs.Writes.{Written}
 use Rattle.db_io.specs.declared.input.InputFault.{InputFault}
 use Rattle.db_io.specs.declared.input.InputFault.TheVariants as input
-use Rattle.run_text.specs.Written.{replies}
+use Rattle.schedule_run.specs.Written.{replies}
 use Rattle.schedule_run.specs.Replayed.{AreSpelled, WentThrough}
 use Rattle.schedule_run.specs.Run.{Ran, Replays, replay_unread, replay_went}
 use Rattle.schedule_run.specs.Status.{status_of_input, status_of_line}

@@ -4,7 +4,7 @@ use Rattle.cloud_trait.specs.State.{CloudState}
 use Rattle.cloud_trait.specs.Traced.{IsTraced}
 use Rattle.db_io.specs.Lines.{lines_of}
 use Rattle.replay_meaning.specs.Standing.{Line}
-use Rattle.run_text.specs.Written.{replies}
+use Rattle.schedule_run.specs.Written.{replies}
 use Rattle.schedule_run.specs.Answered.{ReportsAreRight, RepliesAreSound, ActsByTheLines, AcknowledgedStay}
 use Rattle.schedule_run.specs.Replayed.{AreSpelled}
 

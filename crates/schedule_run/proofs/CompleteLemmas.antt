@@ -31,7 +31,7 @@ use Rattle.schedule_run.specs.Run.{IsOfShape, limit_of, Replays, replay_unread, 
 use Rattle.schedule_run.specs.Loading.{SpellsNoDump, FillEnded, fill_went, fill_bad, fill_unread}
 use Rattle.schedule_run.specs.declared.loading.LoadingFault.{LoadingFault}
 use Rattle.schedule_run.specs.declared.loading.LoadingFault.TheVariants as load
-use Rattle.run_text.specs.Written.{bad_line}
+use Rattle.schedule_run.specs.Written.{bad_line}
 use Rattle.schedule_run.proofs.FallenLemmas.{Falls, Fallen, fallen}
 use Rattle.schedule_run.specs.Complete.{WentInOrder, ReadBadLine, IsKnown, EndsWith, IsComplete, StopsAtBadLine}
 

@@ -14,7 +14,7 @@ use Rattle.db_io.specs.declared.output.OutputFault.{OutputFault}
 use Rattle.db_io.specs.declared.output.OutputFault.TheVariants as output
 use Rattle.db_io.specs.Output.{WasWritten}
 use Rattle.reply_text.specs.declared.reply.Reply.TheVariants as reply
-use Rattle.run_text.specs.Written.{name_line, plain_line}
+use Rattle.schedule_run.specs.Written.{name_line, plain_line}
 use Rattle.schedule_run.specs.declared.dumping.DumpingFault.{DumpingFault}
 use Rattle.schedule_run.specs.declared.dumping.DumpingFault.TheVariants.{NotQuiet, Stopped, WriteFault, Memory}
 use Rattle.schedule_run.specs.Dumping.{is_memory, taken_text, IsTold, DumpEnded, end_of}

@@ -16,7 +16,7 @@ use Rattle.schedule_run.specs.InPlay.{Play}
 use Rattle.schedule_run.specs.Play.{IsFresh, IsNext, RanOut}
 use Rattle.schedule_run.specs.Answered.{events_of, OpensNoneTwice}
 use Rattle.schedule_run.specs.Generated.{Handles, StopsAmong, HandlesAll, HandlesFirst, GenEnded, out_before, out_handling, out_writing}
-use Rattle.run_text.specs.Summary.{summary}
+use Rattle.schedule_run.specs.Summary.{summary}
 use Rattle.sched_gen.specs.Schedule.{next_state, drawn, key_of, change_event, checkpoint_events, round_events, state_after, rounds, openings, closings, schedule}
 use Rattle.schedule_run.specs.Run.{Generates}
 use Rattle.schedule_run.specs.Status.{status_of_output, ended_as}

@@ -39,7 +39,7 @@ use Rattle.schedule_run.proofs.SeeingLemmas.{went_comes}
 use Rattle.schedule_run.proofs.CausedLemmas.{lines_caused}
 use Rattle.schedule_run.proofs.OnceLemmas.{went_adds, lines_once, unanswered_short, unanswered_kinds, unanswered_once}
 use Rattle.schedule_run.proofs.StayLemmas.{stay_upto, went_stay}
-use Rattle.run_text.specs.Written.{reply_line, replies_from, replies, bad_line}
+use Rattle.schedule_run.specs.Written.{reply_line, replies_from, replies, bad_line}
 use Rattle.schedule_run.specs.Replayed.{AreSpelled, WroteFront, reply_cut, refusal_cut, EndedBy, between, writing, handling, Ended, WentThrough, Handles, HasHandledLines, IsAnswered, LineWent, event_handled, refused, unread}
 
 -- ---- lines and their texts

@@ -23,7 +23,7 @@ use Rattle.schedule_run.specs.InPlay.{Play}
 use Rattle.schedule_run.specs.declared.settling.SettleFault.TheVariants.{NotSettled}
 use Rattle.schedule_run.specs.Play.{IsFresh, IsNext, RanOut, Played, StoppedAt}
 use Rattle.schedule_run.specs.Settling.{is_settled, settled_by, settle_end_of, OpensNothing, WasSettled, ShowsSettling, out_writing, SettleEnded}
-use Rattle.run_text.specs.Written.{reply_line}
+use Rattle.schedule_run.specs.Written.{reply_line}
 use Rattle.world_core.specs.Handled.{Handled}
 use Rattle.txn_buffer.specs.Noted.{Noted}
 use Rattle.schedule_run.proofs.PlayLemmas.{played_nothing, played_more, stopped_at}

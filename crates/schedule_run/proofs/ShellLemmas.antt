@@ -19,7 +19,7 @@ use Rattle.schedule_run.specs.InPlay.{Play}
 use Rattle.schedule_run.specs.declared.shell.ShellFault.{ShellFault}
 use Rattle.schedule_run.specs.declared.shell.ShellFault.TheVariants.{NotOpened, BadLine, WriteFault, Memory}
 use Rattle.schedule_run.specs.Play.{IsFresh, IsRun, answered, answered_run, StopsRun, stops_event, stops_run, Played}
-use Rattle.run_text.specs.Written.{AddsFront, NothingRan, reply_line, shown_from, bad_line}
+use Rattle.schedule_run.specs.Written.{AddsFront, NothingRan, reply_line, shown_from, bad_line}
 use Rattle.schedule_run.specs.Shell.{AreShellLines, IsBad, alone, with_run, no_events, more_events, WereRun, in_event, in_run, WereStopped, OpensFirst, WasCut, cut_opening, cut_line, cut_closing, cut_refusal, ShellRanOut, out_before, out_writing, out_between, out_opening, out_next, ShellEnded, ShellWent, HasRunLines, RanOutAt, out_reply, out_event, EventRan, shown_by, ended, is_opened, opened_by, OpeningRan, ClosingRan, LineRefused, LineRan, event_run, refused, unread}
 use Rattle.schedule_run.specs.Answered.{IsNoReport, OpensNoneTwice}
 use Rattle.schedule_run.proofs.OnceLemmas.{OpenNone, none_more, one_none, once_nothing}

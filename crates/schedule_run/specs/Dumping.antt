@@ -13,7 +13,7 @@ use Rattle.dump_text.specs.Text.{dump_text}
 use Rattle.db_io.specs.declared.output.OutputFault.{OutputFault}
 use Rattle.db_io.specs.declared.output.OutputFault.TheVariants as output
 use Rattle.reply_text.specs.declared.reply.Reply.TheVariants as reply
-use Rattle.run_text.specs.Written.{name_line, plain_line}
+use Rattle.schedule_run.specs.Written.{name_line, plain_line}
 use Rattle.schedule_run.specs.declared.dumping.DumpingFault.{DumpingFault}
 use Rattle.schedule_run.specs.declared.dumping.DumpingFault.TheVariants.{NotQuiet, Stopped, WriteFault, Memory}
 use Rattle.world_audit.specs.Look.{Looked}

@@ -12,8 +12,8 @@ use Rattle.world_core.specs.declared.world.WorldFault.{WorldFault}
 use Rattle.schedule_run.specs.Answered.{events_of}
 use Rattle.schedule_run.specs.InPlay.{Play}
 use Rattle.schedule_run.specs.Play.{Played, StoppedAt}
-use Rattle.run_text.specs.Summary.{summary}
-use Rattle.run_text.specs.Written.{NothingRan}
+use Rattle.schedule_run.specs.Summary.{summary}
+use Rattle.schedule_run.specs.Written.{NothingRan}
 
 -- these events were handled from a new world on
 pub record Handles (events : List Event) (start now : Seen) (play : Play) : Type 0 where

@@ -1,3 +1,5 @@
+pub mod Summary
+pub mod Written
 pub mod Answered
 pub mod Replayed
 pub mod Play

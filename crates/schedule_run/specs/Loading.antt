@@ -9,7 +9,7 @@ use Rattle.dump_text.specs.Text.{IsDump}
 use Rattle.db_io.specs.declared.output.OutputFault.{OutputFault}
 use Rattle.db_io.specs.declared.output.OutputFault.TheVariants as output
 use Rattle.reply_text.specs.declared.reply.Reply.TheVariants as reply
-use Rattle.run_text.specs.Written.{NothingRan, bad_line, count_line, name_line, plain_line}
+use Rattle.schedule_run.specs.Written.{NothingRan, bad_line, count_line, name_line, plain_line}
 use Rattle.schedule_run.specs.Load.{LoadEnded}
 use Rattle.schedule_run.specs.LoadLeft.{LeavesLoaded}
 use Rattle.schedule_run.specs.PlainCalls.{CallsPlainly}

@@ -17,7 +17,7 @@ use Rattle.world_core.specs.Stands.{WorldStands, StandsOn}
 use Rattle.schedule_run.specs.declared.replay.LineFault.{LineFault}
 use Rattle.schedule_run.specs.declared.replay.LineFault.TheVariants.{BadLine, WriteFault, Memory}
 use Rattle.schedule_run.specs.Answered.{WentOn, AreAnswered, IsUnanswered, ReportsAreRight, KeepsTheTheorem}
-use Rattle.run_text.specs.Written.{AddsFront, NothingRan, reply_line, bad_line, replies}
+use Rattle.schedule_run.specs.Written.{AddsFront, NothingRan, reply_line, bad_line, replies}
 
 -- each text spells the event of its line
 abbrev pub AreSpelled : List (List ℕ) → List Line → Type 0

@@ -22,7 +22,7 @@ use Rattle.schedule_run.specs.Loading.{FillEnded, SpellsNoDump}
 use Rattle.schedule_run.specs.Replayed.{HasBadLine, ReplayWent}
 use Rattle.schedule_run.specs.Settling.{SettleEnded}
 use Rattle.schedule_run.specs.Shell.{HasBadShellLine, ShellWent}
-use Rattle.run_text.specs.Written.{NothingRan}
+use Rattle.schedule_run.specs.Written.{NothingRan}
 use Rattle.schedule_run.specs.declared.status.Status.{Status}
 use Rattle.schedule_run.specs.declared.status.Status.TheVariants as status
 use Rattle.schedule_run.specs.Status.{status_of_input, status_of_line, status_of_output, status_of_shell, status_of_settle, status_of_dump, status_of_load, ended_as}

@@ -16,7 +16,7 @@ use Rattle.schedule_run.specs.InPlay.{Play}
 use Rattle.schedule_run.specs.declared.settling.SettleFault.{SettleFault}
 use Rattle.schedule_run.specs.declared.settling.SettleFault.TheVariants.{NotSettled, WriteFault, Memory}
 use Rattle.schedule_run.specs.Play.{Played, StoppedAt}
-use Rattle.run_text.specs.Written.{NothingRan, reply_line}
+use Rattle.schedule_run.specs.Written.{NothingRan, reply_line}
 use Rattle.world_core.specs.Handled.{Handled}
 use Rattle.world_core.specs.World.{World}
 

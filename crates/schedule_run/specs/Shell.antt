@@ -16,7 +16,7 @@ use Rattle.schedule_run.specs.InPlay.{Play}
 use Rattle.schedule_run.specs.declared.shell.ShellFault.{ShellFault}
 use Rattle.schedule_run.specs.declared.shell.ShellFault.TheVariants.{NotOpened, BadLine, WriteFault, Memory}
 use Rattle.schedule_run.specs.Play.{Played, StoppedAt, IsRun, StopsRun}
-use Rattle.run_text.specs.Written.{AddsFront, NothingRan, reply_line, shown_from, bad_line}
+use Rattle.schedule_run.specs.Written.{AddsFront, NothingRan, reply_line, shown_from, bad_line}
 
 -- ---- the lines of a shell
 

@@ -3,6 +3,7 @@ ghost use Rattle.dump_take.specs.declared.stop.DumpStop.TheVariants as stop;
 ghost use Rattle.dump_text.specs.Dump.{IsDumpable};
 ghost use Rattle.schedule_run.specs.Dumping.{DumpEnded, IsTold, end_of, is_memory};
 
+use crate::writing::{let_go, write_name, write_plain};
 use cloud_trait::cloud::Bench;
 use db_base::trouble::Trouble;
 use db_io::output::{OutputFault, write_text};
@@ -11,7 +12,6 @@ use dump_take::stop::DumpStop;
 use dump_take::take::take_dump;
 use dump_text::dump::Dump;
 use reply_text::reply::Reply;
-use run_text::writing::{let_go, write_name, write_plain};
 use std::alloc::Global;
 
 /// Why a dump did not end well.

@@ -1,11 +1,13 @@
 ghost use Rattle.std.specs.Prelude.{◌≡◌, ◌≤◌, ◌<◌, ◌+◌, ◌⊎◌, false, [], ◌∷◌, ◌++◌, Err};
 ghost use Rattle.db_io.specs.Output.{WasWritten};
 ghost use Rattle.schedule_run.specs.Play.{IsFresh};
-ghost use Rattle.run_text.specs.Summary.{summary};
+ghost use Rattle.schedule_run.specs.Summary.{summary};
 ghost use Rattle.sched_gen.specs.Schedule.{schedule};
 ghost use Rattle.schedule_run.specs.Generated.{GenEnded, TakesAll, TakesEach};
 
 use crate::play::Play;
+use crate::summary::summary;
+use crate::writing::let_go;
 use client_session::session::Session;
 use client_work::calls::SessionCalls;
 use cloud_trait::cloud::Bench;
@@ -13,8 +15,6 @@ use db_io::output::{OutputFault, write_text};
 use db_io::sink::Sink;
 use event_text::event::Event;
 use reply_text::reply::Reply;
-use run_text::summary::summary;
-use run_text::writing::let_go;
 use sched_gen::make::make;
 use std::alloc::Global;
 use world_core::world::WorldFault;

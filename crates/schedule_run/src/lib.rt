@@ -12,3 +12,5 @@ pub mod run;
 pub mod settling;
 pub mod shell;
 pub mod status;
+pub mod summary;
+pub mod writing;

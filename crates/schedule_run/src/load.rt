@@ -10,6 +10,7 @@ ghost use Rattle.schedule_run.specs.LoadLeft.{LeavesLoaded};
 ghost use Rattle.schedule_run.specs.PlainCalls.{CallsPlainly};
 
 use crate::play::{Play, let_event_go};
+use crate::writing::let_go;
 use client_session::session::Session;
 use client_work::calls::SessionCalls;
 use cloud_trait::cloud::Bench;
@@ -22,7 +23,6 @@ use load_plan::insert::{count_records, insert_of};
 use load_plan::remaining::Remaining;
 use reply_text::reply::Reply;
 use report_types::stored::Stored;
-use run_text::writing::let_go;
 use std::alloc::Global;
 
 /// How many records a transaction takes.

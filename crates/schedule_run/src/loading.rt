@@ -1,17 +1,17 @@
 ghost use Rattle.std.specs.Prelude.{◌≡◌, ◌<◌, ◌⊎◌, Ok, Err};
 ghost use Rattle.dump_text.specs.Dump.{IsDumpable};
 ghost use Rattle.db_io.specs.Output.{WasWritten};
-ghost use Rattle.run_text.specs.Written.{bad_line, plain_line};
+ghost use Rattle.schedule_run.specs.Written.{bad_line, plain_line};
 ghost use Rattle.schedule_run.specs.Loading.{FillEnded, FillWent, SpellsNoDump, TellsLoad, end_of, load_end, load_text};
 
 use crate::load::{LoadStop, Loaded, MOST_CALLS, load};
+use crate::writing::{let_go, refuse, write_name, write_plain};
 use cloud_trait::cloud::Bench;
 use db_io::output::{OutputFault, write_text};
 use db_io::sink::Sink;
 use dump_text::dump::Dump;
 use dump_text::fault::DumpFault;
 use reply_text::reply::Reply;
-use run_text::writing::{let_go, refuse, write_name, write_plain};
 use std::alloc::Global;
 
 /// Why a load did not end well.

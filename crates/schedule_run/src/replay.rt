@@ -6,6 +6,7 @@ ghost use Rattle.schedule_run.specs.Answered.{IsNew};
 ghost use Rattle.schedule_run.specs.Replayed.{HasBadLine, LineWent, LineHandled, ReplayWent, WentThrough};
 
 use crate::play::let_event_go;
+use crate::writing::{let_go, refuse, write_reply};
 use client_session::session::Session;
 use client_work::calls::SessionCalls;
 use cloud_trait::cloud::Bench;
@@ -13,7 +14,6 @@ use db_io::lines::next_line;
 use db_io::output::OutputFault;
 use db_io::sink::Sink;
 use event_text::event::Event;
-use run_text::writing::{let_go, refuse, write_reply};
 use std::alloc::Global;
 use words::fault::TextFault;
 use world_core::quota::Quota;

@@ -3,6 +3,7 @@ ghost use Rattle.schedule_run.specs.Play.{IsFresh};
 ghost use Rattle.schedule_run.specs.Settling.{settled_by, settle_end_of, SettleEnded};
 
 use crate::play::Play;
+use crate::writing::{let_go, write_reply};
 use client_session::session::Session;
 use client_work::calls::SessionCalls;
 use cloud_trait::cloud::Bench;
@@ -10,7 +11,6 @@ use db_io::output::OutputFault;
 use db_io::sink::Sink;
 use event_text::event::Event;
 use reply_text::reply::Reply;
-use run_text::writing::{let_go, write_reply};
 use std::alloc::Global;
 
 /// Why a settling did not end well.

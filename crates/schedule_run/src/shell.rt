@@ -5,6 +5,7 @@ ghost use Rattle.schedule_run.specs.Play.{IsFresh};
 ghost use Rattle.schedule_run.specs.Shell.{HasBadShellLine, ShellWent, OpeningRan, ClosingRan, LineRan, EventRan, ended, opened_by, shown_by};
 
 use crate::play::{Play, let_event_go};
+use crate::writing::{let_go, refuse, write_reply};
 use client_session::session::Session;
 use client_work::calls::SessionCalls;
 use cloud_trait::cloud::Bench;
@@ -14,7 +15,6 @@ use db_io::output::OutputFault;
 use db_io::sink::Sink;
 use event_text::event::Event;
 use reply_text::reply::Reply;
-use run_text::writing::{let_go, refuse, write_reply};
 use std::alloc::Global;
 use words::fault::TextFault;
 

@@ -2,7 +2,7 @@
 
 ghost use Rattle.std.specs.Prelude.{◌≡◌, IfOk};
 ghost use Rattle.db_io.specs.Output.{WasWritten};
-ghost use Rattle.run_text.specs.Written.{reply_line, bad_line, name_line, plain_line};
+ghost use Rattle.schedule_run.specs.Written.{reply_line, bad_line, name_line, plain_line};
 
 use db_base::blob::Blob;
 use db_base::refusal::Refused;

@@ -2,7 +2,7 @@
 
 ghost use Rattle.std.specs.Prelude.{◌≡◌, [], ◌∷◌, ◌++◌, codes, IfOk, OnOk};
 ghost use Rattle.std.specs.Fmt.{decimal};
-ghost use Rattle.run_text.specs.Summary.{labelled, committed_word, order_word, contents_word, left_words, summary};
+ghost use Rattle.schedule_run.specs.Summary.{labelled, committed_word, order_word, contents_word, left_words, summary};
 ghost use Rattle.reply_text.specs.Reply.{reply_text};
 
 use db_base::blob::Blob;

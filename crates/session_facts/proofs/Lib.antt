@@ -5,3 +5,4 @@ pub mod Rows
 pub mod Lines
 pub mod Reports
 pub mod Index
+pub mod Writers

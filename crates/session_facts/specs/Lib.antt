@@ -4,3 +4,4 @@ pub mod Sessions
 pub mod Rows
 pub mod Lines
 pub mod Index
+pub mod Writers

@@ -38,8 +38,8 @@ use Rattle.session_notes.specs.declared.notebook.Notebook.{Notebook}
 use Rattle.session_notes.specs.Metered.{IsMetered, SendNoMore}
 use Rattle.session_notes.specs.Notebook.{note_of_ask, with_note}
 use Rattle.tree_ckpt.specs.Making.{Making, making_ask, MakingLeads}
-use Rattle.writer_bound.proofs.Coming.{Comes, comes_on}
-use Rattle.writer_bound.proofs.Emptying.{is_no_send}
+use Rattle.session_facts.proofs.Writers.Coming.{Comes, comes_on}
+use Rattle.session_facts.proofs.Writers.Emptying.{is_no_send}
 use Rattle.world_core.proofs.Ledgers.{book_after, book_before, queue_stays, writer_keeps, writer_steps}
 use Rattle.world_core.proofs.MeteredSteps.{own_is, own_was, told_wished}
 use Rattle.world_core.specs.EachStep.{EachCome, EachWent}

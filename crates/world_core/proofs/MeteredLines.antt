@@ -37,8 +37,8 @@ use Rattle.session_notes.specs.declared.notebook.Notebook.{Notebook}
 use Rattle.session_notes.specs.Metered.{IsMetered, sent_since, waiting_at}
 use Rattle.session_notes.specs.Notebook.{IsDue}
 use Rattle.txn_buffer.specs.Noted.{Noted}
-use Rattle.writer_bound.proofs.WorkSends.{IsWritersOp, MaySend, begin_sends}
-use Rattle.writer_bound.specs.Sending.{SendsAtMost}
+use Rattle.session_facts.proofs.Writers.WorkSends.{IsWritersOp, MaySend, begin_sends}
+use Rattle.session_facts.specs.Writers.Sending.{SendsAtMost}
 use Rattle.world_core.proofs.Ledgers.{book_after, ledger_changed, writer_same}
 use Rattle.world_core.proofs.MeteredSteps.{MetersSeen, meter_comes, meter_step}
 use Rattle.world_core.proofs.MeteredWork.{works_down_few}

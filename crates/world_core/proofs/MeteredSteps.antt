@@ -21,8 +21,8 @@ use Rattle.session_facts.specs.Lines.Facts.{session_at}
 use Rattle.session_notes.proofs.MeterLemmas.{adds_sends, call_metered}
 use Rattle.session_notes.specs.Metered.{IsMetered, sent_since}
 use Rattle.session_notes.specs.Notebook.{with_note}
-use Rattle.writer_bound.proofs.WorkSends.{IsNoDone, SendsOn, step_spends}
-use Rattle.writer_bound.specs.Sending.{SendsAtMost, ask_sends, hand_sends}
+use Rattle.session_facts.proofs.Writers.WorkSends.{IsNoDone, SendsOn, step_spends}
+use Rattle.session_facts.specs.Writers.Sending.{SendsAtMost, ask_sends, hand_sends}
 use Rattle.world_core.proofs.Ledgers.{ledger_changed, writer_steps}
 use Rattle.world_core.proofs.StandsLemmas.{changed_at, changed_was}
 use Rattle.world_core.specs.Handled.{ComesTo, NotesStep, StepsLooked, Went, further, is_done, note_of_hand, start}

@@ -36,9 +36,9 @@ use Rattle.session_notes.specs.declared.notebook.Notebook.{Notebook}
 use Rattle.session_notes.specs.Metered.{AllKept, IsMetered, SendNoMore, sent_since, waiting_at}
 use Rattle.session_notes.specs.Notebook.{AreDue, IsDue}
 use Rattle.tree_ckpt.specs.Making.{new_making, making_ask, MakingLeads}
-use Rattle.writer_bound.proofs.Coming.{comes_first}
-use Rattle.writer_bound.proofs.Emptying.{page_empties, page_sends, tree_empties, tree_sends}
-use Rattle.writer_bound.specs.Sending.{SendsAtMost}
+use Rattle.session_facts.proofs.Writers.Coming.{comes_first}
+use Rattle.session_facts.proofs.Writers.Emptying.{page_empties, page_sends, tree_empties, tree_sends}
+use Rattle.session_facts.specs.Writers.Sending.{SendsAtMost}
 use Rattle.world_core.proofs.Ledgers.{book_after, book_before, writer_same}
 use Rattle.world_core.proofs.MeteredCheckpoints.{AtItsEnd, OnCheckpoint, comes_through, folding_ends, folding_more, more_less, paging_ends, paging_more}
 use Rattle.world_core.proofs.MeteredSteps.{MetersSeen}

@@ -12,7 +12,7 @@ use Rattle.reply_text.specs.declared.reply.Reply.{Reply}
 use Rattle.session_facts.specs.Lines.Facts.{session_at}
 use Rattle.session_notes.specs.declared.notebook.Notebook.{Notebook}
 use Rattle.session_notes.specs.Metered.{IsMetered, sent_since, waiting_at}
-use Rattle.writer_bound.specs.Sending.{SendsAtMost}
+use Rattle.session_facts.specs.Writers.Sending.{SendsAtMost}
 use Rattle.world_core.specs.EachStep.{StepFact, EachStep}
 use Rattle.world_core.specs.Handled.{Handled}
 use Rattle.world_core.specs.Stands.{WorldStands}

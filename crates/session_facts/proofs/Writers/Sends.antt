@@ -33,7 +33,7 @@ use Rattle.session_notes.specs.Metered.{sends_of}
 use Rattle.session_notes.specs.Notebook.{note_of_send}
 use Rattle.tree_walk.specs.Walk.{Walk, new_walk, object_of, walk_ready, walk_next}
 use Rattle.txn_buffer.specs.Noted.{Noted}
-use Rattle.writer_bound.specs.Sending.{ask_sends, sends_at, sends_left}
+use Rattle.session_facts.specs.Writers.Sending.{ask_sends, sends_at, sends_left}
 
 -- ---- what a call sends
 

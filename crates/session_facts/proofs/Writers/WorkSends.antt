@@ -28,8 +28,8 @@ use Rattle.range_scan.specs.Scan.{scan_object}
 use Rattle.recover_run.specs.declared.home.Home.{Home}
 use Rattle.tree_walk.specs.Walk.{Walk, new_walk, object_of}
 use Rattle.txn_buffer.specs.Noted.{Noted}
-use Rattle.writer_bound.specs.Sending.{SendsAtMost, hand_sends, sends_left}
-use Rattle.writer_bound.proofs.Sends.{RunsLeft, get_none, run_begins_left, run_spends}
+use Rattle.session_facts.specs.Writers.Sending.{SendsAtMost, hand_sends, sends_left}
+use Rattle.session_facts.proofs.Writers.Sends.{RunsLeft, get_none, run_begins_left, run_spends}
 
 -- ---- works that send nothing
 

@@ -37,8 +37,8 @@ use Rattle.tree_ckpt.specs.Making.{Making, new_making, making_ask, MakingLeads}
 use Rattle.tree_ckpt.specs.Meaning.{IsDone as IsTreeDone, deletes_over, failed_count, one_less, Tried}
 use Rattle.tree_ckpt.specs.Leases.{Went}
 use Rattle.tree_ckpt.specs.Moves.{went}
-use Rattle.writer_bound.specs.Alone.{AreAnswered}
-use Rattle.writer_bound.proofs.Coming.{Comes}
+use Rattle.session_facts.specs.Writers.Alone.{AreAnswered}
+use Rattle.session_facts.proofs.Writers.Coming.{Comes}
 
 -- ---- deletions that were answered went
 

@@ -8,7 +8,7 @@ use Rattle.cloud_trait.specs.Machine.{Next, Goes, Deed, Came, Follows}
 use Rattle.cloud_trait.specs.State.{CloudState}
 use Rattle.session_facts.proofs.Settling.Trails.{IsBetween, Trail}
 use Rattle.session_facts.specs.Settling.Runs.{AreDelivered}
-use Rattle.writer_bound.specs.Alone.{AreAnswered}
+use Rattle.session_facts.specs.Writers.Alone.{AreAnswered}
 use Rattle.std.proofs.lemmas.Option.{same_Some}
 
 -- it came from its begin at a state to where it stands at another, by calls that delivered and were answered

@@ -1,4 +1,0 @@
-pub mod Sends
-pub mod WorkSends
-pub mod Coming
-pub mod Emptying

@@ -26,3 +26,4 @@ pub mod LoadLogged
 pub mod LoadLeaves
 pub mod LoadAgain
 pub mod LoadCompleting
+pub mod Loads

@@ -19,8 +19,8 @@ use Rattle.load_plan.proofs.EventLemmas.{Each, each_first, each_last, before_set
 use Rattle.reply_text.specs.declared.reply.Reply.{Reply}
 use Rattle.reply_text.specs.declared.reply.Reply.TheVariants as reply
 use Rattle.replay_meaning.specs.Standing.{Line, Standing, Posture, session_of, standing, after_line, after_own}
-use Rattle.load_facts.proofs.Numbered.{AtMost, IsLoadEvent, own_work, line_at_most}
-use Rattle.load_facts.proofs.Unspent.{commit_spent, run_unspent}
+use Rattle.schedule_run.proofs.Loads.Numbered.{AtMost, IsLoadEvent, own_work, line_at_most}
+use Rattle.schedule_run.proofs.Loads.Unspent.{commit_spent, run_unspent}
 use Rattle.session_facts.proofs.Machines.CommitRuns.Attempts.{no_attempt}
 use Rattle.session_facts.proofs.Lines.Committed.{standing_line}
 use Rattle.session_facts.proofs.Lines.Start.{closed_at}

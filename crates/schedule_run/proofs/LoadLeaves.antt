@@ -13,16 +13,16 @@ use Rattle.dump_text.specs.Dump.{IsDumpable}
 use Rattle.dump_text.specs.declared.dump.DumpedTree.{DumpedTree}
 use Rattle.event_text.specs.declared.event.Event.{Event}
 use Rattle.event_text.specs.declared.event.Event.TheVariants as event
-use Rattle.load_facts.proofs.AtOnce.{FairLine, AllFair, fair_front, fair_next}
-use Rattle.load_facts.proofs.Commits.{load_commits}
-use Rattle.load_facts.proofs.Course.{Goes, goes_none, goes_alone, goes_run, IsGood, IsThrough, load_goes}
-use Rattle.load_facts.proofs.Dumps.{dump_parts}
-use Rattle.load_facts.proofs.Fair.{handled_fair}
-use Rattle.load_facts.proofs.Kept.{AllKept}
-use Rattle.load_facts.proofs.Lines.{with_run}
-use Rattle.load_facts.proofs.Loaded.{load_contents}
-use Rattle.load_facts.proofs.Withheld.{Withholds, withholds_on, handled_withholds, settle_delivers}
-use Rattle.load_facts.specs.Loaded.{HasContents, AreLogged}
+use Rattle.schedule_run.proofs.Loads.AtOnce.{FairLine, AllFair, fair_front, fair_next}
+use Rattle.schedule_run.proofs.Loads.Commits.{load_commits}
+use Rattle.schedule_run.proofs.Loads.Course.{Goes, goes_none, goes_alone, goes_run, IsGood, IsThrough, load_goes}
+use Rattle.schedule_run.proofs.Loads.Dumps.{dump_parts}
+use Rattle.schedule_run.proofs.Loads.Fair.{handled_fair}
+use Rattle.schedule_run.proofs.Loads.Kept.{AllKept}
+use Rattle.schedule_run.proofs.Loads.Lines.{with_run}
+use Rattle.schedule_run.proofs.Loads.Loaded.{load_contents}
+use Rattle.schedule_run.proofs.Loads.Withheld.{Withholds, withholds_on, handled_withholds, settle_delivers}
+use Rattle.schedule_run.specs.Loads.Loaded.{HasContents, AreLogged}
 use Rattle.load_plan.specs.Events.{load_events, parts_of, records_of}
 use Rattle.replay_meaning.specs.Committed.{committed}
 use Rattle.replay_meaning.specs.Standing.{Line, session_of, standing}

@@ -15,14 +15,14 @@ use Rattle.dump_text.specs.Dump.{IsDumpable}
 use Rattle.dump_text.specs.declared.dump.DumpedTree.{DumpedTree}
 use Rattle.event_text.specs.declared.event.Event.{Event}
 use Rattle.event_text.specs.declared.event.Event.TheVariants as event
-use Rattle.load_facts.proofs.Behind.{transaction_later, all_bounded}
-use Rattle.load_facts.proofs.Course.{changes_of, all_changes}
-use Rattle.load_facts.proofs.Dumps.{dump_parts, distinct_all, parts_enough, parts_count}
-use Rattle.load_facts.proofs.Lines.{AllLoad, IsLoading, WasCommitted, LoadLine, numbers, numbers-push, number_by, number_stays, all_load_front, all_load_last, all_load_taken}
-use Rattle.load_facts.proofs.Messages.{IsSent, AllBounded, are_logged}
-use Rattle.load_facts.proofs.Numbered.{Numbered, own_work, line_numbered}
-use Rattle.load_facts.proofs.Sent.{WasSent, SentAt, line_sends, sent_numbered}
-use Rattle.load_facts.specs.Loaded.{AreLogged}
+use Rattle.schedule_run.proofs.Loads.Behind.{transaction_later, all_bounded}
+use Rattle.schedule_run.proofs.Loads.Course.{changes_of, all_changes}
+use Rattle.schedule_run.proofs.Loads.Dumps.{dump_parts, distinct_all, parts_enough, parts_count}
+use Rattle.schedule_run.proofs.Loads.Lines.{AllLoad, IsLoading, WasCommitted, LoadLine, numbers, numbers-push, number_by, number_stays, all_load_front, all_load_last, all_load_taken}
+use Rattle.schedule_run.proofs.Loads.Messages.{IsSent, AllBounded, are_logged}
+use Rattle.schedule_run.proofs.Loads.Numbered.{Numbered, own_work, line_numbered}
+use Rattle.schedule_run.proofs.Loads.Sent.{WasSent, SentAt, line_sends, sent_numbered}
+use Rattle.schedule_run.specs.Loads.Loaded.{AreLogged}
 use Rattle.load_plan.specs.Events.{Placed, records_of, parts, parts_of, transactions, insert_of, checkpoint_at, checkpoints_from, checkpoints_of, part_events, later_events, commit_events, load_events}
 use Rattle.replay_meaning.specs.Committed.{committed}
 use Rattle.replay_meaning.specs.Standing.{Line, Posture, Working, Committing, Standing, session_of, standing}

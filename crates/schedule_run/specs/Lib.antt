@@ -18,3 +18,4 @@ pub mod Arguments
 pub mod Run
 pub mod Complete
 pub mod LoadLeft
+pub mod Loads

@@ -6,7 +6,7 @@ use Rattle.db_io.specs.Writes.{Written, AddsOne}
 use Rattle.dump_take.specs.Taken.{AreDumped}
 use Rattle.dump_text.specs.Text.{dump_text}
 use Rattle.dump_text.specs.declared.dump.DumpedTree.{DumpedTree}
-use Rattle.load_facts.specs.Loaded.{HasContents, AreLogged, commits_in}
+use Rattle.schedule_run.specs.Loads.Loaded.{HasContents, AreLogged, commits_in}
 use Rattle.load_plan.specs.Events.{records_of, transactions, load_events}
 use Rattle.schedule_run.specs.Dumping.{DumpEnded}
 use Rattle.world_core.specs.Settled.{LeavesNothing}

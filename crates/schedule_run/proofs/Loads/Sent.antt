@@ -47,9 +47,9 @@ use Rattle.world_core.proofs.StandsLemmas.{IsUnderWay, told_under, call, steps_o
 use Rattle.world_core.specs.Handled.{StepsLooked, Handled}
 use Rattle.world_core.specs.Stands.{WorldStands}
 use Rattle.world_core.specs.World.{World}
-use Rattle.load_facts.proofs.Messages.{IsSent}
-use Rattle.load_facts.proofs.Numbered.{Numbered}
-use Rattle.load_facts.proofs.Records.{InLog, HasRecords, HasFor, session_records}
+use Rattle.schedule_run.proofs.Loads.Messages.{IsSent}
+use Rattle.schedule_run.proofs.Loads.Numbered.{Numbered}
+use Rattle.schedule_run.proofs.Loads.Records.{InLog, HasRecords, HasFor, session_records}
 use Rattle.std.proofs.lemmas.Option.{same_Some}
 
 -- ---- what is left of a commit

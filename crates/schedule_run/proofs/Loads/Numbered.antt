@@ -50,8 +50,8 @@ use Rattle.world_core.specs.declared.asked.Asked.TheVariants.{Session, Wait, Rep
 use Rattle.world_core.specs.declared.asked.Noting.{Noting}
 use Rattle.world_core.specs.declared.asked.Request.{Request}
 use Rattle.world_core.specs.declared.asked.Request.TheVariants.{Begin, Note, Abort, Policy, Work as WorksDue, Step, Run, Crash}
-use Rattle.load_facts.proofs.Fair.{declined_not}
-use Rattle.load_facts.proofs.Lines.{LoadLine, number_by}
+use Rattle.schedule_run.proofs.Loads.Fair.{declined_not}
+use Rattle.schedule_run.proofs.Loads.Lines.{LoadLine, number_by}
 
 -- so many transactions were begun since the client of what is at work was opened; of one that is not open nothing is said
 abbrev pub Numbered : ℕ → Work → Type 0

@@ -18,10 +18,10 @@ use Rattle.replay_meaning.specs.Right.{stored_below}
 use Rattle.txn_buffer.specs.Noted.{Noted, is_of, found_in, AreDistinct}
 use Rattle.txn_buffer.proofs.NotedLemmas.{is_of-Decides}
 use Rattle.load_plan.specs.Events.{Placed, placed_in, records_of, parts, transactions, parts_of}
-use Rattle.load_facts.specs.Inserts.{insert_of}
-use Rattle.load_facts.proofs.Course.{noted_of, changes_of, all_changes, AreAllParts}
-use Rattle.load_facts.proofs.Parts.{AreParts, AreOf}
-use Rattle.load_facts.proofs.SameRecords.{never, below_behind, not_above}
+use Rattle.schedule_run.specs.Loads.Inserts.{insert_of}
+use Rattle.schedule_run.proofs.Loads.Course.{noted_of, changes_of, all_changes, AreAllParts}
+use Rattle.schedule_run.proofs.Loads.Parts.{AreParts, AreOf}
+use Rattle.schedule_run.proofs.Loads.SameRecords.{never, below_behind, not_above}
 use Rattle.cloud_facts.proofs.Chains.Pieces.{not_itself}
 
 -- ---- each tree and key once

@@ -40,8 +40,8 @@ use Rattle.world_core.specs.declared.world.WorldFault.{WorldFault}
 use Rattle.world_core.specs.declared.asked.Asked.{Asked}
 use Rattle.world_core.specs.declared.asked.Asked.TheVariants.{Session, Wait, Report, Settle, Sweep}
 use Rattle.world_core.specs.declared.asked.Request.TheVariants.{Begin, Run}
-use Rattle.load_facts.proofs.Fair.{declined_not}
-use Rattle.load_facts.proofs.Numbered.{AtMost, own_work, changes_work}
+use Rattle.schedule_run.proofs.Loads.Fair.{declined_not}
+use Rattle.schedule_run.proofs.Loads.Numbered.{AtMost, own_work, changes_work}
 
 -- ---- replies
 

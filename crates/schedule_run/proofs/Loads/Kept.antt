@@ -10,9 +10,9 @@ use Rattle.report_types.specs.declared.entry.Entry.{Entry}
 use Rattle.reply_text.specs.declared.reply.Reply.TheVariants as reply
 use Rattle.session_facts.specs.Lines.Acknowledged.{HasEntries, IsKeptReply}
 use Rattle.txn_buffer.specs.Noted.{Noted}
-use Rattle.load_facts.proofs.Lines.{WasCommitted, IsLoading}
-use Rattle.load_facts.proofs.Parts.{AreCommitted}
-use Rattle.load_facts.proofs.Transactions.{committed_of}
+use Rattle.schedule_run.proofs.Loads.Lines.{WasCommitted, IsLoading}
+use Rattle.schedule_run.proofs.Loads.Parts.{AreCommitted}
+use Rattle.schedule_run.proofs.Loads.Transactions.{committed_of}
 
 -- what any of the lines acknowledged is among the entries
 abbrev pub AllKept : List Line → List Entry → Type 0

@@ -7,7 +7,7 @@ use Rattle.leaf_view.specs.Fits.{Ascend}
 use Rattle.node_codec.proofs.EntryLemmas.{above, below_chain}
 use Rattle.report_types.specs.declared.stored.Stored.{Stored}
 use Rattle.replay_meaning.specs.Right.{stored_below, value_at, value_stored}
-use Rattle.load_facts.proofs.Folds.{AreDistinct}
+use Rattle.schedule_run.proofs.Loads.Folds.{AreDistinct}
 use Rattle.cloud_facts.proofs.Chains.Pieces.{not_itself}
 
 -- ---- keys

@@ -17,7 +17,7 @@ use Rattle.load_plan.specs.Events.{Placed}
 use Rattle.log_codec.specs.Atomic.{atomic_of}
 use Rattle.log_codec.specs.declared.record.AtomicRec.{AtomicRec}
 use Rattle.replay_meaning.specs.Chain.{Walked}
-use Rattle.load_facts.specs.Inserts.{insert_of}
+use Rattle.schedule_run.specs.Loads.Inserts.{insert_of}
 
 -- each tree has the records of the dump, and no others
 abbrev pub HasContents : CloudState → List DumpedTree → Type 0

@@ -5,7 +5,7 @@ use Rattle.dump_text.specs.declared.dump.DumpedTree.{DumpedTree}
 use Rattle.event_text.specs.declared.event.Event.{Event}
 use Rattle.event_text.specs.declared.event.Event.TheVariants as event
 use Rattle.load_plan.specs.Events.{Placed, records_of, parts, parts_of, transactions, insert_of, checkpoint_at, checkpoints_from, checkpoints_of, part_events, later_events, commit_events, load_events}
-use Rattle.load_facts.specs.Loaded.{commits_in}
+use Rattle.schedule_run.specs.Loads.Loaded.{commits_in}
 
 one_more : (e : Event) (xs ys : List Event) → commits_in (xs ++ ys) ≡ commits_in xs + commits_in ys → commits_in (e ∷ (xs ++ ys)) ≡ commits_in (e ∷ xs) + commits_in ys
 one_more (event.Commit session) xs ys again = omega (arith, again)

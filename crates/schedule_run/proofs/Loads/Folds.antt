@@ -10,7 +10,7 @@ use Rattle.history.specs.Legal.{StandsAt}
 use Rattle.report_types.specs.declared.entry.Entry.{Entry}
 use Rattle.report_types.specs.declared.stored.Stored.{Stored}
 use Rattle.replay_meaning.specs.Right.{value_at, value_stored}
-use Rattle.load_facts.specs.Inserts.{Inserts, InsertAll}
+use Rattle.schedule_run.specs.Loads.Inserts.{Inserts, InsertAll}
 
 -- ---- one key
 

@@ -26,7 +26,7 @@ use Rattle.session_facts.proofs.Machines.CommitRuns.Stays.{RunsFor, IsRefusal, r
 use Rattle.session_facts.specs.Lines.Errands.{settles}
 use Rattle.session_facts.specs.Lines.Facts.{ActsAs, session_at}
 use Rattle.txn_buffer.specs.Noted.{Noted}
-use Rattle.load_facts.proofs.AtOnce.{IsFair}
+use Rattle.schedule_run.proofs.Loads.AtOnce.{IsFair}
 use Rattle.world_core.proofs.EveryLine.{does_own, asked_is}
 use Rattle.world_core.proofs.StandsLemmas.{changed_was, no_memory}
 use Rattle.world_core.proofs.Texts.{commit_is}

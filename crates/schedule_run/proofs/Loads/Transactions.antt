@@ -20,7 +20,7 @@ use Rattle.replay_meaning.specs.Kinds.{MayPutPhase, MayPutHead, MayPutBytes, IsO
 use Rattle.replay_meaning.specs.Standing.{Line, Posture, Closed, Idle, Broken, Working, Opening, Closing, Renewing, Committing, Reading, Scanning, LookingUp, Paging, Folding, Standing, standing_of_row}
 use Rattle.report_types.specs.declared.entry.Entry.{Entry}
 use Rattle.txn_buffer.specs.Noted.{Noted}
-use Rattle.load_facts.proofs.Lines.{CommitsParts, IsLoading}
+use Rattle.schedule_run.proofs.Loads.Lines.{CommitsParts, IsLoading}
 
 -- ---- one row
 

@@ -12,13 +12,13 @@ use Rattle.session_facts.specs.Lines.Facts.{session_at}
 use Rattle.world_core.specs.Settled.{LeavesNothing}
 use Rattle.world_core.specs.Stands.{WorldStands}
 use Rattle.world_core.specs.World.{World}
-use Rattle.load_facts.specs.Inserts.{InsertAll}
-use Rattle.load_facts.specs.Loaded.{HasContents}
-use Rattle.load_facts.proofs.Contents.{contents_are}
-use Rattle.load_facts.proofs.Course.{changes_of, all_changes, IsThrough}
-use Rattle.load_facts.proofs.Dumps.{dump_changes, dump_tree, contents_ascend}
-use Rattle.load_facts.proofs.Kept.{AllKept, load_committed}
-use Rattle.load_facts.proofs.Parts.{inserts_of_tree}
+use Rattle.schedule_run.specs.Loads.Inserts.{InsertAll}
+use Rattle.schedule_run.specs.Loads.Loaded.{HasContents}
+use Rattle.schedule_run.proofs.Loads.Contents.{contents_are}
+use Rattle.schedule_run.proofs.Loads.Course.{changes_of, all_changes, IsThrough}
+use Rattle.schedule_run.proofs.Loads.Dumps.{dump_changes, dump_tree, contents_ascend}
+use Rattle.schedule_run.proofs.Loads.Kept.{AllKept, load_committed}
+use Rattle.schedule_run.proofs.Loads.Parts.{inserts_of_tree}
 
 -- where nothing is left each tree has the records of the dump
 pub load_contents : (trees : List DumpedTree) (lines : List Line) (world : World) (t : CloudState) → IsDumpable trees → IsThrough (parts_of trees) lines → WorldStands lines world t

@@ -1,3 +1,4 @@
+-- What a load leaves in a cloud that was empty.
 pub mod Folds
 pub mod SameRecords
 pub mod Lines

@@ -25,8 +25,8 @@ use Rattle.replay_meaning.specs.Standing.{Line, standing_of_row}
 use Rattle.report_types.specs.declared.entry.Entry.{Entry}
 use Rattle.session_facts.proofs.Rows.Once.{at_place}
 use Rattle.txn_buffer.specs.Noted.{Noted}
-use Rattle.load_facts.proofs.Lines.{CommitsParts}
-use Rattle.load_facts.specs.Loaded.{WasOpened}
+use Rattle.schedule_run.proofs.Loads.Lines.{CommitsParts}
+use Rattle.schedule_run.specs.Loads.Loaded.{WasOpened}
 
 -- ---- from an entry to its row
 

@@ -11,9 +11,9 @@ use Rattle.replay_meaning.specs.Standing.{Line, Standing, Renewing, Folding, Clo
 use Rattle.reply_text.specs.declared.reply.Reply.{Reply}
 use Rattle.reply_text.specs.declared.reply.Reply.TheVariants as reply
 use Rattle.txn_buffer.specs.Noted.{Noted, AreDistinct}
-use Rattle.load_facts.proofs.Buffers.{noted_all, noted_all_last}
-use Rattle.load_facts.proofs.Lines.{Loads, IsLoading, stood, with_run, opening_loads, insert_loads, commit_loads, passes_alone, passes_run, closes_run, settles_loaded}
-use Rattle.load_facts.proofs.AtOnce.{IsFair}
+use Rattle.schedule_run.proofs.Loads.Buffers.{noted_all, noted_all_last}
+use Rattle.schedule_run.proofs.Loads.Lines.{Loads, IsLoading, stood, with_run, opening_loads, insert_loads, commit_loads, passes_alone, passes_run, closes_run, settles_loaded}
+use Rattle.schedule_run.proofs.Loads.AtOnce.{IsFair}
 
 -- ---- the course of a load
 

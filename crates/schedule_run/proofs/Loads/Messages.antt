@@ -29,12 +29,12 @@ use Rattle.session_facts.proofs.Machines.Commits.Distinct.{distinct_places}
 use Rattle.session_facts.specs.Lines.Facts.{CloudStands}
 use Rattle.session_facts.specs.Sessions.Knows.{Sessions, SessionsStand}
 use Rattle.txn_buffer.specs.Noted.{Noted, AreDistinct}
-use Rattle.load_facts.proofs.Course.{noted_of, changes_of, all_changes, AreAllParts}
-use Rattle.load_facts.proofs.Lines.{CommitsParts}
-use Rattle.load_facts.proofs.Places.{part_place, in_part_at, place_tells}
-use Rattle.load_facts.proofs.Rows.{HasRow, row_of, entry_of_row, OfPart, row_part, OpenedBy, opened_by, was_opened}
-use Rattle.load_facts.specs.Loaded.{WasOpened, IsCommittedMessage, HasMessage, IsOfRecord, AreLogged}
-use Rattle.load_facts.proofs.Dumps.{parts_count}
+use Rattle.schedule_run.proofs.Loads.Course.{noted_of, changes_of, all_changes, AreAllParts}
+use Rattle.schedule_run.proofs.Loads.Lines.{CommitsParts}
+use Rattle.schedule_run.proofs.Loads.Places.{part_place, in_part_at, place_tells}
+use Rattle.schedule_run.proofs.Loads.Rows.{HasRow, row_of, entry_of_row, OfPart, row_part, OpenedBy, opened_by, was_opened}
+use Rattle.schedule_run.specs.Loads.Loaded.{WasOpened, IsCommittedMessage, HasMessage, IsOfRecord, AreLogged}
+use Rattle.schedule_run.proofs.Loads.Dumps.{parts_count}
 use Rattle.session_facts.proofs.Machines.Openings.Sends.{there_at}
 
 -- ---- what each transaction sent

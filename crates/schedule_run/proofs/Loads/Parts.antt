@@ -9,8 +9,8 @@ use Rattle.history.specs.Legal.{StandsAt}
 use Rattle.report_types.specs.declared.entry.Entry.{Entry}
 use Rattle.report_types.specs.declared.stored.Stored.{Stored}
 use Rattle.txn_buffer.specs.Noted.{Noted}
-use Rattle.load_facts.specs.Inserts.{insert_of, Inserts, InsertAll}
-use Rattle.load_facts.proofs.Transactions.{IsOfLoad}
+use Rattle.schedule_run.specs.Loads.Inserts.{insert_of, Inserts, InsertAll}
+use Rattle.schedule_run.proofs.Loads.Transactions.{IsOfLoad}
 
 -- the transactions have all of the changes, and no others
 pub record AreParts (all : List Noted) (parts : List (List Noted)) : Type 0 where

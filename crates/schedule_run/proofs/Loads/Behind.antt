@@ -32,10 +32,10 @@ use Rattle.session_facts.specs.Lines.Facts.{IsPlaced, IsPlacedAt, WorksAs}
 use Rattle.session_facts.specs.Rows.Opened.{AddsApart, WorksFor, MayHaveOpened, with_rows}
 use Rattle.session_facts.specs.Sessions.Knows.{Sessions}
 use Rattle.txn_buffer.specs.Noted.{Noted}
-use Rattle.load_facts.proofs.Lines.{CommitsParts, EndsPart}
-use Rattle.load_facts.proofs.Messages.{SentAs, IsSent, AllBounded}
-use Rattle.load_facts.proofs.Numbered.{Numbered}
-use Rattle.load_facts.proofs.Rows.{row_counts, row_part}
+use Rattle.schedule_run.proofs.Loads.Lines.{CommitsParts, EndsPart}
+use Rattle.schedule_run.proofs.Loads.Messages.{SentAs, IsSent, AllBounded}
+use Rattle.schedule_run.proofs.Loads.Numbered.{Numbered}
+use Rattle.schedule_run.proofs.Loads.Rows.{row_counts, row_part}
 
 -- ---- messages
 

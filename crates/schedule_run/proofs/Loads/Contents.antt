@@ -24,9 +24,9 @@ use Rattle.session_facts.specs.Lines.Facts.{Stands}
 use Rattle.session_facts.specs.Sessions.Knows.{Sessions, SessionsStand}
 use Rattle.replay_meaning.specs.Chain.{Walked, records_of}
 use Rattle.world_audit.specs.Counts.{heads_upto, AreWaiting}
-use Rattle.load_facts.specs.Inserts.{InsertAll}
-use Rattle.load_facts.proofs.Folds.{inserts_fold}
-use Rattle.load_facts.proofs.SameRecords.{ascending_distinct, ascending_same}
+use Rattle.schedule_run.specs.Loads.Inserts.{InsertAll}
+use Rattle.schedule_run.proofs.Loads.Folds.{inserts_fold}
+use Rattle.schedule_run.proofs.Loads.SameRecords.{ascending_distinct, ascending_same}
 
 pub contents_are : (lines : List Line) (sessions : Sessions) (a : Audited) (blind : Bool) (t : CloudState) (tree : ℕ) (records : List Stored) → Stands lines sessions a blind t → IsTree tree
     → heads_upto t tree (of_tree tree (committed lines t)) 64 ≡ 0 → AreWaiting t tree 0 → Ascend stored_below None records → InsertAll tree records (of_tree tree (committed lines t))

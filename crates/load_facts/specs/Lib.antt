@@ -1,2 +1,0 @@
-pub mod Inserts
-pub mod Loaded

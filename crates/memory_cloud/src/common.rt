@@ -5,7 +5,7 @@ ghost use Rattle.std.specs.List.{slice_range};
 const MARK: usize = 32;
 
 /// How far around a place the end of a base is looked for, in bytes.
-const REACH: usize = 512;
+const REACH: usize = 8;
 
 /// How many bytes two slices have in common at their front. Compares 64 bytes at a time, then 8, then one.
 pub fn common_front(first: &[u8], second: &[u8]) -> usize

@@ -95,14 +95,15 @@ fn same_behind(first: &[u8], second: &[u8], back: usize, size: usize) -> bool
     &first[first_end - size..first_end] == &second[second_end - size..second_end]
 }
 
-/// Where a base ends in bytes: at their end, or else near a place. It is a guess, by the last bytes of the base, and the end of the bytes where
-/// they are not found.
+/// Where a base ends in bytes: before their last one, or else near a place. It is a guess, by the last bytes of the base, and the end of the bytes
+/// where they are not found.
 pub fn end_of(base: &[u8], bytes: &[u8], near: usize) -> usize
     ensures { result ≤ length bytes.now }
 {
     let mark = &base[base.len() - base.len().min(MARK)..];
-    if bytes.ends_with(mark) {
-        return bytes.len();
+    let last = bytes.len().saturating_sub(1);
+    if ends_at(bytes, last, mark) {
+        return last;
     }
     for distance in 0..REACH {
         if ends_at(bytes, near.saturating_add(distance), mark) {

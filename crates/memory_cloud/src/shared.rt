@@ -44,16 +44,17 @@ impl Drop for Shared {
 }
 
 impl Shared {
-    /// A copy of bytes, which is a base.
+    /// A copy of bytes, which is a base but for their last one: a list grows before the byte that ends it.
     pub fn whole(alloc: Global, bytes: &[u8]) -> Result<Shared, AllocError>
         ensures { IfOk result (λ s. s ≡ bytes.now) }
     {
-        let base = Rc::new(alloc, Blob::copy_of(alloc, bytes)?)?;
+        let (front, last) = bytes.split_at(bytes.len().saturating_sub(1));
+        let base = Rc::new(alloc, Blob::copy_of(alloc, front)?)?;
         Ok(Shared {
             base,
-            front: bytes.len(),
-            back: bytes.len(),
-            own: Blob::new(alloc),
+            front: front.len(),
+            back: front.len(),
+            own: Blob::copy_of(alloc, last)?,
             split: 0,
             spent: 0,
         })

@@ -1,12 +1,9 @@
 -- Where no call of a commit raised the count of faults, each of its ATOMIC messages was marked by its own deletion.
-use Rattle.std.proofs.Common.{◌≡◌, ◌≢◌, ◌≤◌, ◌+◌, ℕ, suc, List, [], ◌∷◌, ◌++◌, length, Option, Some, None, Result, Ok, Err, refl, ap, sym, subst, ◌∙◌, arith}
+use Rattle.std.proofs.Common.{◌≡◌, ◌≢◌, ◌≤◌, ◌+◌, ℕ, suc, List, [], ◌∷◌, ◌++◌, length, Some, refl, ap, sym, subst, ◌∙◌, arith}
 use Rattle.std.specs.Prelude.{slice_get, take}
 use Rattle.std.specs.List.{AllByRecursion}
 use Rattle.std.proofs.lemmas.List.{take_all}
 use Rattle.db_base.specs.declared.names.QueueName.TheVariants as queue
-use Rattle.db_base.specs.declared.trouble.Trouble.{Trouble}
-use Rattle.db_base.specs.declared.trouble.Trouble.TheVariants as trouble
-use Rattle.db_base.specs.declared.trouble.CommitAnswer.{CommitAnswer}
 use Rattle.db_base.specs.declared.trouble.CommitAnswer.TheVariants.{Committed}
 use Rattle.log_codec.specs.declared.record.AtomicRec.{AtomicRec}
 use Rattle.txn_buffer.specs.Noted.{Noted}
@@ -14,17 +11,18 @@ use Rattle.cloud_trait.specs.declared.answer.Answer.{Answer}
 use Rattle.cloud_trait.specs.declared.answer.Answer.TheVariants.{Done, Failed, Memory}
 use Rattle.cloud_trait.specs.declared.state.Posted.{Posted}
 use Rattle.cloud_trait.specs.Ask.{Ask, Delete}
-use Rattle.cloud_trait.specs.Machine.{Next, Goes, Ends, Stops, LeadsBy, Came, Deed, IsMade}
-use Rattle.cloud_trait.specs.Views.{sent_of, done_of}
+use Rattle.cloud_trait.specs.Machine.{Goes, Ends, Stops, LeadsBy, Came, Deed, IsMade}
 use Rattle.cloud_trait.specs.Weather.{Fits, Rose}
 use Rattle.recover_run.specs.declared.home.Home.{Home}
 use Rattle.commit_writes.specs.declared.stage.Stage.{Stage}
 use Rattle.commit_writes.specs.declared.stage.Stage.TheVariants.{Waiting, Logging, Opening, Sending, Settling, Deleting, Finished}
-use Rattle.commit_writes.specs.Writing.{Writing, waiting, begun, writing_ask, writing_next, ask_at, next_at, delete_ask, logged_by, opened_by, not_opened, sent_by, settled_by, deleted_by, log_or_open, send_or_settle, delete_or_end}
+use Rattle.commit_writes.specs.Writing.{Writing, waiting, begun, writing_ask, writing_next, ask_at, delete_ask}
 use Rattle.commit_writes.specs.Calls.{Calls, told, deleted_calls, all_logged}
 use Rattle.commit_writes.specs.Demands.{IsDeletion, deletions, Demands}
 use Rattle.commit_writes.specs.Calm.{IsMarked, RaisesNoFault, IsGone, AreGone}
 use Rattle.commit_writes.specs.Within.{Went}
+use Rattle.commit_writes.proofs.Outcomes as step
+use Rattle.commit_writes.proofs.Outcomes.{Step, Logs, Comes, begins, comes}
 use Rattle.commit_writes.proofs.Knows.{KnowsDeleting, KnowsAt, Knows}
 use Rattle.recover_run.proofs.KeptRecords.{take_more}
 use Rattle.commit_writes.proofs.Meaning.{post_asked, came_knows, went_knows}
@@ -76,49 +74,14 @@ GoneAt Settling w h = Unit {0}
 GoneAt Deleting w h = GoneBefore w h
 GoneAt Finished w h = Unit {0}
 
-abbrev pub GoneNext : List Deed → Next Writing CommitAnswer → Type 0
+abbrev pub GoneNext : List Deed → Step → Type 0
 GoneNext h (Goes m) = GoneAt m.stage m h
 GoneNext h (Ends m a) = Unit {0}
 GoneNext h (Stops m t) = Unit {0}
 
-log_gone : (h : List Deed) (w : Writing) (o : Option AtomicRec) → GoneNext h (log_or_open w o)
-log_gone h w (Some r) = tt
-log_gone h w None = tt
-
-send_gone : (h : List Deed) (w : Writing) (o : Option AtomicRec) → GoneNext h (send_or_settle w o)
-send_gone h w (Some r) = tt
-send_gone h w None = tt
-
-logged_gone : (h : List Deed) (w : Writing) (g : Result ℕ Trouble) → GoneNext h (logged_by w g)
-logged_gone h w (Ok id) = log_gone h (record w { ids = w.ids ++ id ∷ []; place = w.place + 1 }) (slice_get w.records (w.place + 1))
-logged_gone h w (Err trouble.Memory) = tt
-logged_gone h w (Err t) = tt
-
-not_opened_gone : (h : List Deed) (w : Writing) (t : Trouble) → GoneNext h (not_opened w t)
-not_opened_gone h w (trouble.Late end now) = tt
-not_opened_gone h w trouble.Memory = tt
-not_opened_gone h w t = tt
-
-opened_gone : (h : List Deed) (w : Writing) (g : Result (Unit {0}) Trouble) → GoneNext h (opened_by w g)
-opened_gone h w (Ok u) = send_gone h (record w { place = 0 }) (slice_get w.records 0)
-opened_gone h w (Err t) = not_opened_gone h w t
-
-sent_gone : (h : List Deed) (w : Writing) (g : Result ℕ Trouble) → GoneNext h (sent_by w g)
-sent_gone h w (Ok id) = send_gone h (record w { place = w.place + 1 }) (slice_get w.records (w.place + 1))
-sent_gone h w (Err trouble.Memory) = tt
-sent_gone h w (Err t) = tt
-
 none_gone : (P : ℕ → Type 0) (ids : List ℕ) → AllByRecursion P (take 0 ids)
 none_gone P [] = tt
 none_gone P (id ∷ ids) = tt
-
-settled_gone : (h : List Deed) (w : Writing) (g : Result (Unit {0}) Trouble) → GoneNext h (settled_by w g)
-settled_gone h w (Ok u) = on (slice_get w.ids 0) where
-  on : (o : Option ℕ) → GoneNext h (delete_or_end (record w { place = 0 }) o)
-  on (Some id) = none_gone (IsGone w.home.client h) w.ids
-  on None = tt
-settled_gone h w (Err trouble.Memory) = tt
-settled_gone h w (Err t) = tt
 
 -- one message more
 one_gone : (w : Writing) (h : List Deed) (x : Deed) (id : ℕ) → GoneBefore w h → slice_get w.ids w.place ≡ Some id → IsGone w.home.client (x ∷ h) id
@@ -126,36 +89,39 @@ one_gone : (w : Writing) (h : List Deed) (x : Deed) (id : ℕ) → GoneBefore w 
 one_gone w h x id before here now =
     subst (AllByRecursion (IsGone w.home.client (x ∷ h))) (sym (take_more w.ids w.place id here)) (gone_more h x w.home.client id (take w.place w.ids) now before)
 
-delete_gone : (h : List Deed) (w : Writing) (x : Deed) (id : ℕ) (a : Answer) → GoneBefore w h → slice_get w.ids w.place ≡ Some id → x.ask ≡ Delete (queue.Atomic w.home.client) id → x.answer ≡ a
-    → Fits (Delete (queue.Atomic w.home.client) id) a → IsMade x → RaisesNoFault x → GoneNext (x ∷ h) (deleted_by w (done_of a))
-delete_gone h w x id Done before here asks answers fits made none = on (slice_get w.ids (w.place + 1)) where
-  on : (o : Option ℕ) → GoneNext (x ∷ h) (delete_or_end (record w { place = w.place + 1 }) o)
-  on (Some other) = one_gone w h x id before here (gone_now h x w.home.client id asks answers made)
-  on None = tt
-delete_gone h w x id Failed before here asks answers fits made none = absurd (no_rise x.before.counts.faults x.after.counts.faults none (made.failed answers))
-delete_gone h w x id Memory before here asks answers fits made none = tt
-delete_gone h w x id a before here asks answers fits made none = absurd fits
+gone_next : (home : Home) (cs : Calls) (w : Writing) (x : Deed) (h : List Deed) (a : Answer) (y : Step) → KnowsAt w.stage home cs w → GoneAt w.stage w h → x.ask ≡ writing_ask w → IsMade x → RaisesNoFault x → x.answer ≡ a
+    → Comes w a y → GoneNext (x ∷ h) y
+gone_next home cs v x h a y k gone asked made none is (step.deletes n id (step.settled w) e) = none_gone (IsGone w.home.client (x ∷ h)) w.ids
+gone_next home cs v x h a y k gone asked made none is (step.deletes n id (step.one_tried w b found) e) =
+    let asks : x.ask ≡ Delete (queue.Atomic w.home.client) k.id = asks_deletion home cs v x k asked in
+    let done : x.answer ≡ Done = done_alone x x.ask w.home.client k.id x.answer asks refl made.fits made none (λ memory. found (sym is ∙ memory)) in
+    one_gone v h x k.id gone k.here (gone_now h x w.home.client k.id asks done made)
+gone_next home cs v x h a y k gone asked made none is (step.goes_on w id next (step.logs r e)) = tt
+gone_next home cs v x h a y k gone asked made none is (step.goes_on w id next (step.opens e)) = tt
+gone_next home cs v x h a y k gone asked made none is (step.sends n r posts e) = tt
+gone_next home cs v x h a y k gone asked made none is (step.settles n posts e) = tt
+gone_next home cs v x h a y k gone asked made none is (step.not_logged w b failed) = tt
+gone_next home cs v x h a y k gone asked made none is (step.late w end now) = tt
+gone_next home cs v x h a y k gone asked made none is (step.doubts w b failed) = tt
+gone_next home cs v x h a y k gone asked made none is (step.stays_open leaves) = tt
+gone_next home cs v x h a y k gone asked made none is (step.ends n clears e) = tt
+gone_next home cs v x h a y k gone asked made none is (step.lacks w) = tt
+gone_next home cs v x h a y k gone asked made none is (step.waits w b) = tt
+gone_next home cs v x h a y k gone asked made none is (step.rests w b) = tt
 
-gone_next : (stage : Stage) (home : Home) (cs : Calls) (w : Writing) (x : Deed) (h : List Deed) → KnowsAt stage home cs w → GoneAt stage w h → x.ask ≡ ask_at stage w → IsMade x → RaisesNoFault x
-    → GoneNext (x ∷ h) (next_at stage w x.answer)
-gone_next Waiting home cs w x h k at asked made none = absurd k
-gone_next Logging home cs w x h k at asked made none = logged_gone (x ∷ h) w (sent_of x.answer)
-gone_next Opening home cs w x h k at asked made none = opened_gone (x ∷ h) w (done_of x.answer)
-gone_next Sending home cs w x h k at asked made none = sent_gone (x ∷ h) w (sent_of x.answer)
-gone_next Settling home cs w x h k at asked made none = settled_gone (x ∷ h) w (done_of x.answer)
-gone_next Deleting home cs w x h k at asked made none =
-    let asks : x.ask ≡ Delete (queue.Atomic w.home.client) k.id = asks_deletion home cs w x k asked in
-    delete_gone h w x k.id x.answer at k.here asks refl (subst (λ (q : Ask). Fits q x.answer) asks made.fits) made none
-gone_next Finished home cs w x h k at asked made none = absurd k
+gone_begun : (w : Writing) (y : Step) → Logs w y → GoneNext [] y
+gone_begun w y (step.logs r e) = tt
+gone_begun w y (step.opens e) = tt
 
 came_gone : (home : Home) (changes : List Noted) (rs : List AtomicRec) (start : Writing) → begun (waiting home changes) rs ≡ Goes start → (h : List Deed) (m : Writing)
     → Came writing_ask (LeadsBy writing_next) start h m → AllByRecursion RaisesNoFault h → GoneAt m.stage m h
 came_gone home changes rs start goes [] m came none =
     subst (λ (w : Writing). GoneAt w.stage w []) (sym came)
-    (subst (GoneNext []) goes (log_gone [] (record (waiting home changes) { records = rs; place = 0 }) (slice_get rs 0)))
+    (subst (GoneNext []) goes (gone_begun (record (waiting home changes) { records = rs; place = 0 }) (begun (waiting home changes) rs) (begins (waiting home changes) rs)))
 came_gone home changes rs start goes (x ∷ h) m (from, came, asked, made, leads, follows) none =
     subst (GoneNext (x ∷ h)) leads
-    (gone_next from.stage home (told h) from x h (came_knows home changes rs start goes h from came).1 (came_gone home changes rs start goes h from came none.1) asked made none.0)
+    (gone_next home (told h) from x h x.answer (writing_next from x.answer) (came_knows home changes rs start goes h from came).1 (came_gone home changes rs start goes h from came none.1) asked made none.0
+    refl (comes from x.answer))
 
 -- ---- at the end
 

@@ -7,6 +7,7 @@ use Rattle.db_base.specs.declared.trouble.Trouble.{Trouble}
 use Rattle.db_base.specs.declared.trouble.Trouble.TheVariants as trouble
 use Rattle.db_base.specs.declared.trouble.CommitAnswer.{CommitAnswer}
 use Rattle.db_base.specs.declared.trouble.CommitAnswer.TheVariants.{Committed, NotCommitted, InDoubt, CommittedOpen}
+use Rattle.db_base.specs.declared.names.ObjName.TheVariants as object
 use Rattle.db_base.specs.declared.names.QueueName.TheVariants as queue
 use Rattle.log_codec.specs.declared.record.AtomicRec.{AtomicRec}
 use Rattle.cloud_trait.specs.declared.answer.Answer.{Answer}
@@ -16,81 +17,107 @@ use Rattle.cloud_trait.specs.declared.turn.Turn.TheVariants.{More, Ended, Stoppe
 use Rattle.cloud_trait.specs.Ask.{Ask, Delete}
 use Rattle.cloud_trait.specs.Caller.{Caller}
 use Rattle.cloud_trait.specs.Seen.{Seen}
-use Rattle.cloud_trait.specs.Machine.{Next, Goes, Ends, Stops, LeadsBy, Took, Deed}
-use Rattle.cloud_trait.specs.Views.{sent_of, done_of}
+use Rattle.cloud_trait.specs.Machine.{Goes, Ends, Stops, LeadsBy, Took, Deed}
+use Rattle.cloud_trait.specs.Views.{trouble_of}
 use Rattle.cloud_trait.specs.Weather.{Fits, Makes}
 use Rattle.cloud_trait.specs.Calm.{GoesWell}
 use Rattle.cloud_trait.proofs.CalmLemmas.{goes_well}
 use Rattle.recover_run.specs.declared.home.Home.{Home}
+use Rattle.route_plan.specs.Queue.{queue_name}
 use Rattle.commit_writes.specs.declared.stage.Stage.{Stage}
 use Rattle.commit_writes.specs.declared.stage.Stage.TheVariants.{Waiting, Logging, Opening, Sending, Settling, Deleting, Finished}
-use Rattle.commit_writes.specs.Writing.{Writing, writing_ask, writing_next, ask_at, next_at, head_ask, log_ask, send_ask, delete_ask, logged_by, opened_by, sent_by, settled_by, deleted_by, log_or_open, send_or_settle, delete_or_end, KeepsHome}
-use Rattle.commit_writes.specs.Calls.{Calls, told, post_of}
+use Rattle.commit_writes.specs.Writing.{Writing, writing_ask, writing_next, ask_at, head_ask, log_ask, send_ask, delete_ask, finished, not_committed, left_open, closed_again, KeepsHome}
+use Rattle.commit_writes.specs.Calls.{Calls, told, logged_calls}
 use Rattle.commit_writes.specs.Meaning.{Refuses, MeansTurn}
-use Rattle.commit_writes.specs.Demands.{NonePut, WasOpened, deletions, DemandsNot, Demands, Exactly, IsAmple}
+use Rattle.commit_writes.specs.Demands.{IsDeletion, NonePut, WasOpened, DemandsNot, Demands, Exactly, IsAmple}
 use Rattle.commit_writes.specs.Leases.{IsOwnCall}
 use Rattle.commit_writes.specs.Stepped.{deed_of, Stepped}
 use Rattle.commit_writes.specs.Calm.{IsWell, EndsWell}
 use Rattle.commit_writes.specs.Within.{Went}
-use Rattle.commit_writes.proofs.Knows.{KnowsAt, Knows}
-use Rattle.commit_writes.proofs.Meaning.{post_asked, went_knows, only_memory, came_means}
+use Rattle.commit_writes.proofs.Outcomes as step
+use Rattle.commit_writes.proofs.Outcomes.{Step, Posts, Leaves, Comes, WasNotSent, comes, was_not_sent, was_not_put, put_failed}
+use Rattle.commit_writes.proofs.Knows.{KnowsDeleting, KnowsAt, Knows}
+use Rattle.commit_writes.proofs.Meaning.{fits_post, went_knows, only_memory, came_means}
 use Rattle.commit_writes.proofs.Deletions.{went_gone}
 use Rattle.commit_writes.proofs.Marks.{went_marked}
 use Rattle.commit_writes.proofs.Within.{none_logged, opened_put, opened_posted, opened_settled, opened_more, deleted_before}
 
 -- a step that ends shows what demands its answer
-abbrev pub Shown : (CommitAnswer → Type 0) → Next Writing CommitAnswer → Type 0
+abbrev pub Shown : (CommitAnswer → Type 0) → Step → Type 0
 Shown why (Goes m) = Unit {0}
 Shown why (Ends m x) = why x
 Shown why (Stops m t) = Unit {0}
 
 -- a step ends with this answer
-abbrev pub EndsSo : CommitAnswer → Next Writing CommitAnswer → Type 0
+abbrev pub EndsSo : CommitAnswer → Step → Type 0
 EndsSo x (Goes m) = ⊥
 EndsSo x (Ends m y) = y ≡ x
 EndsSo x (Stops m t) = ⊥
 
-log_goes : (why : CommitAnswer → Type 0) (w : Writing) (o : Option AtomicRec) → Shown why (log_or_open w o)
-log_goes why w (Some r) = tt
-log_goes why w None = tt
+-- the step ends with an answer exactly where that is demanded
+abbrev pub Decides : (CommitAnswer → Type 0) → Step → Type 0
+Decides why x = Shown why x × ((y : CommitAnswer) → why y → EndsSo y x)
 
-send_goes : (why : CommitAnswer → Type 0) (w : Writing) (o : Option AtomicRec) → Shown why (send_or_settle w o)
-send_goes why w (Some r) = tt
-send_goes why w None = tt
+-- ---- what goes well demands no answer, but for a deletion
 
--- ---- sends to the ATOMIC queue
+not_demanded : (records attempt : ℕ) (cs : Calls) (ask : Ask) (a : Answer) (u : Trouble) → GoesWell a → DemandsNot cs ask a u → ⊥
+not_demanded records attempt cs ask a trouble.Failed goes d = subst GoesWell d.2 goes
+not_demanded records attempt cs ask a (trouble.Late end now) goes d = subst GoesWell d.2 goes
+not_demanded records attempt cs ask a u goes d = d
 
-log_shown : (n t : ℕ) (cs : Calls) (w : Writing) (a : Answer) → NonePut cs → Fits (log_ask w) a → a ≢ Memory → Shown (Demands n t cs (log_ask w) a) (logged_by w (sent_of a))
-log_shown n t cs w (Sent id) none fits ample =
-    log_goes (Demands n t cs (log_ask w) (Sent id)) (record w { ids = w.ids ++ id ∷ []; place = w.place + 1 }) (slice_get w.records (w.place + 1))
-log_shown n t cs w Failed none fits ample = (none, tt, refl)
-log_shown n t cs w Memory none fits ample = absurd (ample refl)
-log_shown n t cs w a none fits ample = absurd fits
+not_refused : (a : Answer) (u : Trouble) → GoesWell a → Refuses u a → ⊥
+not_refused a u goes (inl both) = subst GoesWell both.1 goes
+not_refused a u goes (inr (end, now, is, late)) = subst GoesWell late goes
 
-log_demands : (n t : ℕ) (cs : Calls) (w : Writing) (a : Answer) → NonePut cs → (x : CommitAnswer) → Demands n t cs (log_ask w) a x → EndsSo x (logged_by w (sent_of a))
-log_demands n t cs w a none (Committed y) d = absurd d.1
-log_demands n t cs w a none (NotCommitted trouble.Failed) d = subst (λ (b : Answer). EndsSo (NotCommitted trouble.Failed) (logged_by w (sent_of b))) (sym d.2) refl
-log_demands n t cs w a none (NotCommitted (trouble.Late end now)) d = absurd d.1
-log_demands n t cs w a none (NotCommitted u) d = absurd d
-log_demands n t cs w a none InDoubt d = absurd d.1
-log_demands n t cs w a none (CommittedOpen u) d = absurd (opened_put cs d.0 none)
+demands_well : (records attempt : ℕ) (cs : Calls) (ask : Ask) (a : Answer) (x : CommitAnswer) → GoesWell a → Demands records attempt cs ask a x → IsWell x
+demands_well records attempt cs ask a (Committed y) goes d = tt
+demands_well records attempt cs ask a (NotCommitted u) goes d = not_demanded records attempt cs ask a u goes d
+demands_well records attempt cs ask a InDoubt goes d = subst GoesWell d.2 goes
+demands_well records attempt cs ask a (CommittedOpen u) goes d = not_refused a u goes d.2
 
--- ---- the put of the head that commits
+demands_none : (n t : ℕ) (cs : Calls) (ask : Ask) (a : Answer) → GoesWell a → (IsDeletion ask → ⊥) → (x : CommitAnswer) → Demands n t cs ask a x → ⊥
+demands_none n t cs ask a goes other (Committed y) d = other d.1
+demands_none n t cs ask a goes other x d = demands_well n t cs ask a x goes d
 
-open_shown : (n t : ℕ) (cs : Calls) (w : Writing) (a : Answer) → NonePut cs → Fits (head_ask w) a → a ≢ Memory → Shown (Demands n t cs (head_ask w) a) (opened_by w (done_of a))
-open_shown n t cs w Done none fits ample = send_goes (Demands n t cs (head_ask w) Done) (record w { place = 0 }) (slice_get w.records 0)
-open_shown n t cs w (Late end now) none fits ample = (none, tt, refl)
-open_shown n t cs w Failed none fits ample = (none, tt, refl)
-open_shown n t cs w Memory none fits ample = absurd (ample refl)
-open_shown n t cs w a none fits ample = absurd fits
+no_deletion : (w : Writing) (o : Option AtomicRec) → IsDeletion (send_ask w o) → ⊥
+no_deletion w (Some r) is = is
+no_deletion w None is = is
 
-open_demands : (n t : ℕ) (cs : Calls) (w : Writing) (a : Answer) → NonePut cs → (x : CommitAnswer) → Demands n t cs (head_ask w) a x → EndsSo x (opened_by w (done_of a))
-open_demands n t cs w a none (Committed y) d = absurd d.1
-open_demands n t cs w a none (NotCommitted trouble.Failed) d = absurd d.1
-open_demands n t cs w a none (NotCommitted (trouble.Late end now)) d = subst (λ (b : Answer). EndsSo (NotCommitted (trouble.Late end now)) (opened_by w (done_of b))) (sym d.2) refl
-open_demands n t cs w a none (NotCommitted u) d = absurd d
-open_demands n t cs w a none InDoubt d = subst (λ (b : Answer). EndsSo InDoubt (opened_by w (done_of b))) (sym d.2) refl
-open_demands n t cs w a none (CommittedOpen u) d = absurd (opened_put cs d.0 none)
+posts_none : (k t : ℕ) (cs : Calls) (w : Writing) (a : Answer) (n : ℕ) → Posts w a n → (x : CommitAnswer) → Demands k t cs (writing_ask w) a x → ⊥
+posts_none k t cs v a n (step.opened w) = demands_none k t cs (head_ask w) Done tt (λ is. is)
+posts_none k t cs v a n (step.one_sent w id) = demands_none k t cs (send_ask w (slice_get w.records w.place)) (Sent id) tt (no_deletion w (slice_get w.records w.place))
+
+-- ---- before the put that commits
+
+log_failed : (n t : ℕ) (cs : Calls) (w : Writing) (a : Answer) (u : Trouble) → NonePut cs → WasNotSent a u → Decides (Demands n t cs (log_ask w) a) (not_committed w u)
+log_failed n t cs w a u none step.failed = ((none, tt, refl), demanded) where
+  demanded : (x : CommitAnswer) → Demands n t cs (log_ask w) Failed x → EndsSo x (not_committed w trouble.Failed)
+  demanded (Committed y) d = absurd d.1
+  demanded (NotCommitted trouble.Failed) d = refl
+  demanded (NotCommitted (trouble.Late end now)) d = absurd d.1
+  demanded (NotCommitted v) d = absurd d
+  demanded InDoubt d = absurd d.1
+  demanded (CommittedOpen v) d = absurd (opened_put cs d.0 none)
+
+open_late : (n t : ℕ) (cs : Calls) (w : Writing) (end now : ℕ) → NonePut cs → Decides (Demands n t cs (head_ask w) (Late end now)) (not_committed (closed_again w) (trouble.Late end now))
+open_late n t cs w end now none = ((none, tt, refl), demanded) where
+  demanded : (x : CommitAnswer) → Demands n t cs (head_ask w) (Late end now) x → EndsSo x (not_committed (closed_again w) (trouble.Late end now))
+  demanded (Committed y) d = absurd d.1
+  demanded (NotCommitted trouble.Failed) d = absurd d.1
+  demanded (NotCommitted (trouble.Late e m)) d = let is = d.2 in cc (is)
+  demanded (NotCommitted v) d = absurd d
+  demanded InDoubt d = let is = d.2 in absurd (cc (is))
+  demanded (CommittedOpen v) d = absurd (opened_put cs d.0 none)
+
+open_failed : (n t : ℕ) (cs : Calls) (w : Writing) → NonePut cs → Decides (Demands n t cs (head_ask w) Failed) (Ends (finished w) InDoubt)
+open_failed n t cs w none = ((none, tt, refl), demanded) where
+  demanded : (x : CommitAnswer) → Demands n t cs (head_ask w) Failed x → EndsSo x (Ends (finished w) InDoubt)
+  demanded (Committed y) d = absurd d.1
+  demanded (NotCommitted trouble.Failed) d = absurd d.1
+  demanded (NotCommitted (trouble.Late end now)) d = let is = d.2 in absurd (cc (is))
+  demanded (NotCommitted v) d = absurd d
+  demanded InDoubt d = refl
+  demanded (CommittedOpen v) d = absurd (opened_put cs d.0 none)
 
 -- ---- behind it only a refusal leaves the head open
 
@@ -100,123 +127,98 @@ not_before n t cs ask a trouble.Failed opened d = opened_put cs opened d.0
 not_before n t cs ask a (trouble.Late end now) opened d = opened_put cs opened d.0
 not_before n t cs ask a u opened d = d
 
-send_shown : (n t : ℕ) (cs : Calls) (w : Writing) (r : AtomicRec) (a : Answer) → WasOpened cs → Fits (post_of r) a → a ≢ Memory → Shown (Demands n t cs (post_of r) a) (sent_by w (sent_of a))
-send_shown n t cs w r (Sent id) opened fits ample = send_goes (Demands n t cs (post_of r) (Sent id)) (record w { place = w.place + 1 }) (slice_get w.records (w.place + 1))
-send_shown n t cs w r Failed opened fits ample = (opened, λ none. none, inl (refl, refl))
-send_shown n t cs w r Memory opened fits ample = absurd (ample refl)
-send_shown n t cs w r a opened fits ample = absurd fits
+same_refusal : (a : Answer) (u v : Trouble) → Refuses u a → Refuses v a → u ≡ v
+same_refusal a u v (inl (is, failed)) (inl (was, again)) = is ∙ sym was
+same_refusal a u v (inl (is, failed)) (inr (end, now, was, late)) = absurd (cc (failed, late))
+same_refusal a u v (inr (end, now, is, late)) (inl (was, failed)) = absurd (cc (late, failed))
+same_refusal a u v (inr (end, now, is, late)) (inr (e, m, was, again)) = cc (is, late, was, again)
 
-send_refused : (w : Writing) (r : AtomicRec) (a : Answer) (u : Trouble) → Fits (post_of r) a → Refuses u a → EndsSo (CommittedOpen u) (sent_by w (sent_of a))
-send_refused w r a u fits (inl both) = subst (λ (b : Answer). EndsSo (CommittedOpen u) (sent_by w (sent_of b))) (sym both.1) (ap CommittedOpen (sym both.0))
-send_refused w r a u fits (inr (end, now, is, late)) = absurd (subst (Fits (post_of r)) late fits)
+refusal_stays : (n t : ℕ) (cs : Calls) (ask : Ask) (a : Answer) (w : Writing) (u : Trouble) → WasOpened cs → (IsDeletion ask → ⊥) → Refuses u a → Decides (Demands n t cs ask a) (left_open w u)
+refusal_stays n t cs ask a w u opened other refuses = ((opened, other, refuses), demanded) where
+  demanded : (x : CommitAnswer) → Demands n t cs ask a x → EndsSo x (left_open w u)
+  demanded (Committed y) d = absurd (other d.1)
+  demanded (NotCommitted v) d = absurd (not_before n t cs ask a v opened d)
+  demanded InDoubt d = absurd (opened_put cs opened d.0)
+  demanded (CommittedOpen v) d = ap CommittedOpen (same_refusal a u v refuses d.2)
 
-send_demands : (n t : ℕ) (cs : Calls) (w : Writing) (r : AtomicRec) (a : Answer) → WasOpened cs → Fits (post_of r) a → (x : CommitAnswer) → Demands n t cs (post_of r) a x → EndsSo x (sent_by w (sent_of a))
-send_demands n t cs w r a opened fits (Committed y) d = absurd d.1
-send_demands n t cs w r a opened fits (NotCommitted u) d = absurd (not_before n t cs (post_of r) a u opened d)
-send_demands n t cs w r a opened fits InDoubt d = absurd d.1
-send_demands n t cs w r a opened fits (CommittedOpen u) d = send_refused w r a u fits d.2
+not_sent_refuses : (a : Answer) (u : Trouble) → WasNotSent a u → Refuses u a
+not_sent_refuses a u step.failed = inl (refl, refl)
 
--- ---- the put of the head that settles
-
-settle_shown : (n t : ℕ) (cs : Calls) (w : Writing) (a : Answer) → WasOpened cs → 1 ≤ length w.ids → Fits (head_ask w) a → a ≢ Memory → Shown (Demands n t cs (head_ask w) a) (settled_by w (done_of a))
-settle_shown n t cs w Done opened some fits ample = on (slice_get w.ids 0) refl where
-  on : (o : Option ℕ) → slice_get w.ids 0 ≡ o → Shown (Demands n t cs (head_ask w) Done) (delete_or_end (record w { place = 0 }) o)
-  on (Some id) e = tt
-  on None e = absurd (no (past_none w.ids 0 e)) where
-    no : length w.ids ≤ 0 → ⊥
-    no h = omega (arith, h, some)
-settle_shown n t cs w (Late end now) opened some fits ample = (opened, λ none. none, inr (end, now, refl, refl))
-settle_shown n t cs w Failed opened some fits ample = (opened, λ none. none, inl (refl, refl))
-settle_shown n t cs w Memory opened some fits ample = absurd (ample refl)
-settle_shown n t cs w a opened some fits ample = absurd fits
-
-settle_refused : (w : Writing) (a : Answer) (u : Trouble) → Refuses u a → EndsSo (CommittedOpen u) (settled_by w (done_of a))
-settle_refused w a u (inl both) = subst (λ (b : Answer). EndsSo (CommittedOpen u) (settled_by w (done_of b))) (sym both.1) (ap CommittedOpen (sym both.0))
-settle_refused w a u (inr (end, now, is, late)) = subst (λ (b : Answer). EndsSo (CommittedOpen u) (settled_by w (done_of b))) (sym late) (ap CommittedOpen (sym is))
-
-settle_demands : (n t : ℕ) (cs : Calls) (w : Writing) (a : Answer) → WasOpened cs → (x : CommitAnswer) → Demands n t cs (head_ask w) a x → EndsSo x (settled_by w (done_of a))
-settle_demands n t cs w a opened (Committed y) d = absurd d.1
-settle_demands n t cs w a opened (NotCommitted u) d = absurd (not_before n t cs (head_ask w) a u opened d)
-settle_demands n t cs w a opened InDoubt d = absurd (opened_put cs opened d.0)
-settle_demands n t cs w a opened (CommittedOpen u) d = settle_refused w a u d.2
-
--- ---- deletions
-
-end_shown : (n : ℕ) (cs : Calls) (client id : ℕ) (w : Writing) (a : Answer) → w.place < length w.ids → length w.ids ≡ n → deletions cs ≡ w.place
-    → Shown (Demands n w.home.attempt cs (Delete (queue.Atomic client) id) a) (delete_or_end (record w { place = w.place + 1 }) (slice_get w.ids (w.place + 1)))
-end_shown n cs client id w a within many before = on (slice_get w.ids (w.place + 1)) refl where
-  on : (o : Option ℕ) → slice_get w.ids (w.place + 1) ≡ o → Shown (Demands n w.home.attempt cs (Delete (queue.Atomic client) id) a) (delete_or_end (record w { place = w.place + 1 }) o)
-  on (Some next) e = tt
-  on None e = (refl, tt, omega (arith, within, many, before, past_none w.ids (w.place + 1) e))
-
-end_demanded : (n y : ℕ) (cs : Calls) (w : Writing) → length w.ids ≡ n → deletions cs ≡ w.place → w.home.attempt ≡ y → deletions cs + 1 ≡ n
-    → EndsSo (Committed y) (delete_or_end (record w { place = w.place + 1 }) (slice_get w.ids (w.place + 1)))
-end_demanded n y cs w many before same last = on (slice_get w.ids (w.place + 1)) refl where
-  on : (o : Option ℕ) → slice_get w.ids (w.place + 1) ≡ o → EndsSo (Committed y) (delete_or_end (record w { place = w.place + 1 }) o)
-  on (Some next) e = absurd (no (slice_get_within w.ids (w.place + 1) next e)) where
-    no : w.place + 1 < length w.ids → ⊥
-    no h = omega (arith, h, many, before, last)
-  on None e = ap Committed same
-
-delete_shown : (n : ℕ) (cs : Calls) (client id : ℕ) (w : Writing) (a : Answer) → w.place < length w.ids → length w.ids ≡ n → deletions cs ≡ w.place → Fits (Delete (queue.Atomic client) id) a → a ≢ Memory
-    → Shown (Demands n w.home.attempt cs (Delete (queue.Atomic client) id) a) (deleted_by w (done_of a))
-delete_shown n cs client id w Done within many before fits ample = end_shown n cs client id w Done within many before
-delete_shown n cs client id w Failed within many before fits ample = end_shown n cs client id w Failed within many before
-delete_shown n cs client id w Memory within many before fits ample = absurd (ample refl)
-delete_shown n cs client id w a within many before fits ample = absurd fits
-
-delete_ends : (n y : ℕ) (cs : Calls) (client id : ℕ) (w : Writing) (a : Answer) → length w.ids ≡ n → deletions cs ≡ w.place → Fits (Delete (queue.Atomic client) id) a → a ≢ Memory → w.home.attempt ≡ y
-    → deletions cs + 1 ≡ n → EndsSo (Committed y) (deleted_by w (done_of a))
-delete_ends n y cs client id w Done many before fits ample same last = end_demanded n y cs w many before same last
-delete_ends n y cs client id w Failed many before fits ample same last = end_demanded n y cs w many before same last
-delete_ends n y cs client id w Memory many before fits ample same last = absurd (ample refl)
-delete_ends n y cs client id w a many before fits ample same last = absurd fits
-
-delete_demands : (n : ℕ) (cs : Calls) (client id : ℕ) (w : Writing) (a : Answer) → WasOpened cs → length w.ids ≡ n → deletions cs ≡ w.place → Fits (Delete (queue.Atomic client) id) a → a ≢ Memory
-    → (x : CommitAnswer) → Demands n w.home.attempt cs (Delete (queue.Atomic client) id) a x → EndsSo x (deleted_by w (done_of a))
-delete_demands n cs client id w a opened many before fits ample (Committed y) d = delete_ends n y cs client id w a many before fits ample (sym d.0) d.2
-delete_demands n cs client id w a opened many before fits ample (NotCommitted u) d = absurd (not_before n w.home.attempt cs (Delete (queue.Atomic client) id) a u opened d)
-delete_demands n cs client id w a opened many before fits ample InDoubt d = absurd d.1
-delete_demands n cs client id w a opened many before fits ample (CommittedOpen u) d = absurd (d.1 tt)
-
--- ---- at each stage
-
--- the step ends with an answer exactly where that is demanded
-abbrev pub Decides : (CommitAnswer → Type 0) → Next Writing CommitAnswer → Type 0
-Decides why x = Shown why x × ((y : CommitAnswer) → why y → EndsSo y x)
-
-decides_at : (stage : Stage) (h : Home) (cs : Calls) (w : Writing) (a : Answer) → KnowsAt stage h cs w → 1 ≤ length w.records → Fits (ask_at stage w) a → a ≢ Memory
-    → Decides (Demands (length w.records) h.attempt cs (ask_at stage w) a) (next_at stage w a)
-decides_at Waiting h cs w a k some fits ample = absurd k
-decides_at Logging h cs w a k some fits ample =
-    let none : NonePut cs = subst NonePut (sym k.calls) (none_logged h.client _ w.ids) in
-    (log_shown (length w.records) h.attempt cs w a none fits ample, log_demands (length w.records) h.attempt cs w a none)
-decides_at Opening h cs w a k some fits ample =
-    let none : NonePut cs = subst NonePut (sym k.calls) (none_logged h.client _ w.ids) in
-    (open_shown (length w.records) h.attempt cs w a none fits ample, open_demands (length w.records) h.attempt cs w a none)
-decides_at Sending h cs w a k some fits ample =
+leaves_open : (h : Home) (cs : Calls) (w : Writing) (a : Answer) → KnowsAt w.stage h cs w → Fits (writing_ask w) a → Leaves w a
+    → Decides (Demands (length w.records) h.attempt cs (writing_ask w) a) (left_open w (trouble_of a))
+leaves_open h cs v a k fits (step.not_sent w b failed) =
     let opened : WasOpened cs = subst WasOpened (sym k.calls) (opened_posted h w.records w.ids _ k.posts) in
-    let same : send_ask w (slice_get w.records w.place) ≡ post_of k.r = post_asked w (slice_get w.records w.place) k.r k.here k.out in
-    let sends : Fits (post_of k.r) a = subst (λ (q : Ask). Fits q a) same fits in
-    subst (λ (q : Ask). Decides (Demands (length w.records) h.attempt cs q a) (sent_by w (sent_of a))) (sym same)
-    (send_shown (length w.records) h.attempt cs w k.r a opened sends ample, send_demands (length w.records) h.attempt cs w k.r a opened sends)
-decides_at Settling h cs w a k some fits ample =
-    let opened : WasOpened cs = subst WasOpened (sym k.calls) (opened_posted h w.records w.ids w.records k.posts) in (
-      settle_shown (length w.records) h.attempt cs w a opened (omega (arith, k.logged, some)) fits ample,
-      settle_demands (length w.records) h.attempt cs w a opened,
-    )
-decides_at Deleting h cs w a k some fits ample =
-    let opened : WasOpened cs = subst WasOpened (sym k.calls) (opened_more _ _ (opened_settled h w.records w.ids k.posts)) in
-    let same : delete_ask w (slice_get w.ids w.place) ≡ Delete (queue.Atomic w.home.client) k.id = ap (λ (o : Option ℕ). delete_ask w o) k.here in
-    let deletes : Fits (Delete (queue.Atomic w.home.client) k.id) a = subst (λ (q : Ask). Fits q a) same fits in
+    refusal_stays (length w.records) h.attempt cs (writing_ask v) a v (trouble_of a) opened (no_deletion w (slice_get w.records w.place))
+    (not_sent_refuses a (trouble_of a) (was_not_sent (queue_name k.r.tree k.r.page) w.out a (fits_post w (slice_get w.records w.place) k.r a k.here fits) failed))
+leaves_open h cs v a k fits (step.not_settled w b failed) =
+    let opened : WasOpened cs = subst WasOpened (sym k.calls) (opened_posted h w.records w.ids w.records k.posts) in
+    refusal_stays (length w.records) h.attempt cs (writing_ask v) a v (trouble_of a) opened (λ is. is) (was_not_put (object.Head w.home.client) w.out w.home.lease None a fits failed)
+
+-- ---- the deletion in hand demands that it is committed, where it is the last
+
+deletion_asked : (h : Home) (cs : Calls) (w : Writing) (k : KnowsDeleting h cs w) → delete_ask w (slice_get w.ids w.place) ≡ Delete (queue.Atomic w.home.client) k.id
+deletion_asked h cs w k = ap (λ (o : Option ℕ). delete_ask w o) k.here
+
+deletion_demands : (h : Home) (cs : Calls) (w : Writing) (a : Answer) → KnowsDeleting h cs w → (x : CommitAnswer) → Demands (length w.records) h.attempt cs (delete_ask w (slice_get w.ids w.place)) a x
+    → (x ≡ Committed w.home.attempt) × (w.place + 1 ≡ length w.ids)
+deletion_demands h cs w a k x d = on x (subst (λ (q : Ask). Demands (length w.records) h.attempt cs q a x) (deletion_asked h cs w k) d) where
+  asked : Ask
+  asked = Delete (queue.Atomic w.home.client) k.id
+
+  opened : WasOpened cs
+  opened = subst WasOpened (sym k.calls) (opened_more _ _ (opened_settled h w.records w.ids k.posts))
+
+  on : (y : CommitAnswer) → Demands (length w.records) h.attempt cs asked a y → (y ≡ Committed w.home.attempt) × (w.place + 1 ≡ length w.ids)
+  on (Committed y) e = (ap Committed (e.0 ∙ sym (ap (λ (z : Home). z.attempt) k.home)), omega (arith, e.2, k.logged, deleted_before h cs w k))
+  on (NotCommitted u) e = absurd (not_before (length w.records) h.attempt cs asked a u opened e)
+  on InDoubt e = absurd e.1
+  on (CommittedOpen u) e = absurd (e.1 tt)
+
+deletes_none : (h : Home) (cs : Calls) (w : Writing) (a : Answer) (id : ℕ) → KnowsDeleting h cs w → slice_get w.ids (w.place + 1) ≡ Some id → (x : CommitAnswer)
+    → Demands (length w.records) h.attempt cs (delete_ask w (slice_get w.ids w.place)) a x → ⊥
+deletes_none h cs w a id k e x d =
+    let within : w.place + 1 < length w.ids = slice_get_within w.ids (w.place + 1) id e in
+    let last : w.place + 1 ≡ length w.ids = (deletion_demands h cs w a k x d).1 in
+    omega (arith, within, last)
+
+deletes_last : (h : Home) (cs : Calls) (w : Writing) (a : Answer) (m : Writing) → KnowsDeleting h cs w → slice_get w.ids (w.place + 1) ≡ None
+    → Decides (Demands (length w.records) h.attempt cs (delete_ask w (slice_get w.ids w.place)) a) (Ends m (Committed w.home.attempt))
+deletes_last h cs w a m k e =
     let within : w.place < length w.ids = slice_get_within w.ids w.place k.id k.here in
-    let before : deletions cs ≡ w.place = deleted_before h cs w k in
-    subst (λ (t : ℕ). Decides (Demands (length w.records) t cs (delete_ask w (slice_get w.ids w.place)) a) (deleted_by w (done_of a))) (ap (λ (x : Home). x.attempt) k.home)
-    (subst (λ (q : Ask). Decides (Demands (length w.records) w.home.attempt cs q a) (deleted_by w (done_of a))) (sym same) (
-      delete_shown (length w.records) cs w.home.client k.id w a within k.logged before deletes ample,
-      delete_demands (length w.records) cs w.home.client k.id w a opened k.logged before deletes ample,
-    ))
-decides_at Finished h cs w a k some fits ample = absurd k
+    let past : length w.ids ≤ w.place + 1 = past_none w.ids (w.place + 1) e in (
+      subst (λ (q : Ask). Demands (length w.records) h.attempt cs q a (Committed w.home.attempt)) (sym (deletion_asked h cs w k))
+          (ap (λ (z : Home). z.attempt) k.home, tt, omega (arith, within, past, k.logged, deleted_before h cs w k)),
+      λ x d. sym (deletion_demands h cs w a k x d).0,
+    )
+
+-- ---- a step
+
+none_yet : (h : Home) (cs : Calls) (rs : List AtomicRec) (ids : List ℕ) → cs ≡ logged_calls h.client rs ids → NonePut cs
+none_yet h cs rs ids calls = subst NonePut (sym calls) (none_logged h.client rs ids)
+
+none_left : (w : Writing) → length w.ids ≡ length w.records → 1 ≤ length w.records → slice_get w.ids 0 ≡ None → ⊥
+none_left w logged some e = let past = past_none w.ids 0 e in omega (arith, past, logged, some)
+
+decides : (h : Home) (cs : Calls) (w : Writing) (a : Answer) (x : Step) → KnowsAt w.stage h cs w → 1 ≤ length w.records → Fits (writing_ask w) a → a ≢ Memory → Comes w a x
+    → Decides (Demands (length w.records) h.attempt cs (writing_ask w) a) x
+decides h cs v a x k some fits ample (step.goes_on w id next (step.logs r e)) = (tt, demands_none (length w.records) h.attempt cs (log_ask w) a tt (λ is. is))
+decides h cs v a x k some fits ample (step.goes_on w id next (step.opens e)) = (tt, demands_none (length w.records) h.attempt cs (log_ask w) a tt (λ is. is))
+decides h cs v a x k some fits ample (step.not_logged w b failed) =
+    log_failed (length w.records) h.attempt cs w a (trouble_of a) (none_yet h cs _ w.ids k.calls) (was_not_sent (queue.Atomic w.home.client) w.out a fits failed)
+decides h cs v a x k some fits ample (step.late w end now) = open_late (length w.records) h.attempt cs w end now (none_yet h cs _ w.ids k.calls)
+decides h cs v a x k some fits ample (step.doubts w b failed) =
+    subst (λ (y : Answer). Decides (Demands (length w.records) h.attempt cs (head_ask w) y) (Ends (finished w) InDoubt)) (sym (put_failed (object.Head w.home.client) w.out w.home.lease None a fits failed))
+    (open_failed (length w.records) h.attempt cs w (none_yet h cs _ w.ids k.calls))
+decides h cs w a x k some fits ample (step.sends n r posts e) = (tt, posts_none (length w.records) h.attempt cs w a n posts)
+decides h cs w a x k some fits ample (step.settles n posts e) = (tt, posts_none (length w.records) h.attempt cs w a n posts)
+decides h cs w a x k some fits ample (step.stays_open leaves) = leaves_open h cs w a k fits leaves
+decides h cs v a x k some fits ample (step.deletes n id (step.settled w) e) = (tt, demands_none (length w.records) h.attempt cs (head_ask w) a tt (λ is. is))
+decides h cs v a x k some fits ample (step.deletes n id (step.one_tried w b found) e) = (tt, deletes_none h cs v a id k e)
+decides h cs v a x k some fits ample (step.ends n (step.settled w) e) = absurd (none_left w k.logged some e)
+decides h cs v a x k some fits ample (step.ends n (step.one_tried w b found) e) = deletes_last h cs v a (finished v) k e
+decides h cs w a x k some fits ample (step.lacks v) = absurd (ample refl)
+decides h cs v a x k some fits ample (step.waits w b) = absurd k
+decides h cs v a x k some fits ample (step.rests w b) = absurd k
 
 -- ---- a step of the code
 
@@ -251,7 +253,7 @@ step_exactly : (h : Home) (cs : Calls) (old new : Writing) (a : Answer) (turn : 
     → (a ≡ Memory → turn ≡ Stopped trouble.Memory) → Took (LeadsBy writing_next) KeepsHome old a new turn → (x : CommitAnswer) → Exactly (Demands (length old.records) h.attempt cs (writing_ask old) a x) x turn
 step_exactly h cs old new Memory turn k some fits stops took x = memory_exactly (Demands (length old.records) h.attempt cs (writing_ask old) Memory x) turn (stops refl) x
 step_exactly h cs old new a turn k some fits stops took x =
-    took_exactly (Demands (length old.records) h.attempt cs (writing_ask old) a) old new a turn (decides_at old.stage h cs old a k some fits (λ e. cc)) took x
+    took_exactly (Demands (length old.records) h.attempt cs (writing_ask old) a) old new a turn (decides h cs old a (writing_next old a) k some fits (λ e. cc) (comes old a)) took x
 
 pub went_exactly : (old new : Writing) (a : Answer) (turn : Turn CommitAnswer) → Fits (writing_ask old) a → (a ≡ Memory → turn ≡ Stopped trouble.Memory) → Took (LeadsBy writing_next) KeepsHome old a new turn
     → (home : Home) (records : List AtomicRec) (h : List Deed) → Went home records h old → (x : CommitAnswer) → Exactly (Demands (length records) home.attempt (told h) (writing_ask old) a x) x turn
@@ -279,21 +281,6 @@ names_at Finished w = (refl, refl, refl)
 
 -- ---- calm calls
 
-not_demanded : (records attempt : ℕ) (cs : Calls) (ask : Ask) (a : Answer) (u : Trouble) → GoesWell a → DemandsNot cs ask a u → ⊥
-not_demanded records attempt cs ask a trouble.Failed goes d = subst GoesWell d.2 goes
-not_demanded records attempt cs ask a (trouble.Late end now) goes d = subst GoesWell d.2 goes
-not_demanded records attempt cs ask a u goes d = d
-
-not_refused : (a : Answer) (u : Trouble) → GoesWell a → Refuses u a → ⊥
-not_refused a u goes (inl both) = subst GoesWell both.1 goes
-not_refused a u goes (inr (end, now, is, late)) = subst GoesWell late goes
-
-demands_well : (records attempt : ℕ) (cs : Calls) (ask : Ask) (a : Answer) (x : CommitAnswer) → GoesWell a → Demands records attempt cs ask a x → IsWell x
-demands_well records attempt cs ask a (Committed y) goes d = tt
-demands_well records attempt cs ask a (NotCommitted u) goes d = not_demanded records attempt cs ask a u goes d
-demands_well records attempt cs ask a InDoubt goes d = subst GoesWell d.2 goes
-demands_well records attempt cs ask a (CommittedOpen u) goes d = not_refused a u goes d.2
-
 pub ends_well : (records attempt : ℕ) (cs : Calls) (ask : Ask) (a : Answer) (turn : Turn CommitAnswer) → GoesWell a → ((t : Trouble) → turn ≡ Stopped t → t ≡ trouble.Memory)
     → ((x : CommitAnswer) → Exactly (Demands records attempt cs ask a x) x turn) → EndsWell turn
 ends_well records attempt cs ask a More goes stops exact = tt
@@ -311,13 +298,13 @@ went_stepped who before after old new a turn made stops ample took = record {
   answer = a;
   made = made;
   took = took;
-  means = came_means old new a turn made.fits stops took;
+  means = came_means old new a turn made.fits took;
   exact = went_exactly old new a turn made.fits stops took;
   ample = ample;
   well = λ home records h went calm.
       ends_well (length records) home.attempt (told h) (writing_ask old) a turn (goes_well call made calm)
       (means_memory home records (told h ++ (writing_ask old, a) ∷ []) new.home turn
-      (came_means old new a turn made.fits stops took home went.1 records went.2 h went.3 went.4))
+      (came_means old new a turn made.fits took home went.1 records went.2 h went.3 went.4))
       (went_exactly old new a turn made.fits stops took home records h went);
   marks = λ home records h went calm alone x ended s left.
       went_marked home records h old call x s went calm alone refl made (found x ended)

@@ -6,5 +6,6 @@ pub mod Spelled
 pub mod Knows
 pub mod Marks
 pub mod Meaning
+pub mod Outcomes
 pub mod Refusals
 pub mod RoutedLaws

@@ -1,14 +1,11 @@
 -- Where its calls are calm and nobody else acts, a commit leaves its ATOMIC messages marked as deleted.
-use Rattle.std.proofs.Common.{◌≡◌, ◌≢◌, ◌≤◌, ◌+◌, ◌-◌, ℕ, zero, suc, Bool, true, false, cond, List, [], ◌∷◌, ◌++◌, length, Option, Some, None, Result, Ok, Err, refl, ap, sym, subst, ◌∙◌, arith}
+use Rattle.std.proofs.Common.{◌≡◌, ◌≢◌, ◌≤◌, ◌+◌, ◌-◌, ℕ, zero, suc, Bool, true, false, cond, List, [], ◌∷◌, ◌++◌, length, Option, Some, refl, ap, sym, subst, ◌∙◌, arith}
 use Rattle.std.specs.Prelude.{slice_get, take, ◌==◌}
 use Rattle.std.specs.List.{AllByRecursion}
 use Rattle.std.proofs.lemmas.Bool.{eqb-true}
 use Rattle.std.proofs.lemmas.List.{append_assoc, take_all}
 use Rattle.db_base.specs.declared.names.QueueName.{QueueName}
 use Rattle.db_base.specs.declared.names.QueueName.TheVariants as queue
-use Rattle.db_base.specs.declared.trouble.Trouble.{Trouble}
-use Rattle.db_base.specs.declared.trouble.Trouble.TheVariants as trouble
-use Rattle.db_base.specs.declared.trouble.CommitAnswer.{CommitAnswer}
 use Rattle.db_base.specs.declared.trouble.CommitAnswer.TheVariants.{Committed}
 use Rattle.log_codec.specs.declared.record.AtomicRec.{AtomicRec}
 use Rattle.txn_buffer.specs.Noted.{Noted}
@@ -18,8 +15,7 @@ use Rattle.cloud_trait.specs.declared.state.Posted.{Posted}
 use Rattle.cloud_trait.specs.Ask.{Ask, Delete}
 use Rattle.cloud_trait.specs.State.{CloudState, called, mark_at, marked}
 use Rattle.cloud_trait.specs.Names.{queue_cmp}
-use Rattle.cloud_trait.specs.Machine.{Next, Goes, Ends, Stops, LeadsBy, Came, Deed, IsMade}
-use Rattle.cloud_trait.specs.Views.{sent_of, done_of}
+use Rattle.cloud_trait.specs.Machine.{Goes, Ends, Stops, LeadsBy, Came, Deed, IsMade}
 use Rattle.cloud_trait.specs.Weather.{Fits, Leaves, Weather}
 use Rattle.cloud_trait.proofs.StateLemmas.{put_at_same}
 use Rattle.cloud_trait.proofs.NameLemmas.{queue_cmp-total}
@@ -28,11 +24,13 @@ use Rattle.cloud_trait.proofs.CalmLemmas.{goes_well}
 use Rattle.recover_run.specs.declared.home.Home.{Home}
 use Rattle.commit_writes.specs.declared.stage.Stage.{Stage}
 use Rattle.commit_writes.specs.declared.stage.Stage.TheVariants.{Waiting, Logging, Opening, Sending, Settling, Deleting, Finished}
-use Rattle.commit_writes.specs.Writing.{Writing, waiting, begun, writing_ask, writing_next, ask_at, next_at, delete_ask, logged_by, opened_by, not_opened, sent_by, settled_by, deleted_by, log_or_open, send_or_settle, delete_or_end}
+use Rattle.commit_writes.specs.Writing.{Writing, waiting, begun, writing_ask, writing_next, ask_at, delete_ask}
 use Rattle.commit_writes.specs.Calls.{Calls, told, posted_calls, deleted_calls, put_of, opened_of, settled_of, all_logged, all_opened, all_posted, all_settled}
 use Rattle.commit_writes.specs.Demands.{IsDeletion, deletions, Demands}
 use Rattle.commit_writes.specs.Calm.{IsMarked, AreMarked}
 use Rattle.commit_writes.specs.Within.{Went}
+use Rattle.commit_writes.proofs.Outcomes as step
+use Rattle.commit_writes.proofs.Outcomes.{Step, Logs, Comes, begins, comes}
 use Rattle.commit_writes.proofs.Knows.{KnowsDeleting, KnowsAt, Knows}
 use Rattle.recover_run.proofs.KeptRecords.{take_more}
 use Rattle.commit_writes.proofs.Meaning.{post_asked, came_knows, went_knows}
@@ -108,49 +106,14 @@ MarkedAt Settling w h = Unit {0}
 MarkedAt Deleting w h = MarkedBefore w h
 MarkedAt Finished w h = Unit {0}
 
-abbrev pub MarkedNext : List Deed → Next Writing CommitAnswer → Type 0
+abbrev pub MarkedNext : List Deed → Step → Type 0
 MarkedNext h (Goes m) = MarkedAt m.stage m h
 MarkedNext h (Ends m a) = Unit {0}
 MarkedNext h (Stops m t) = Unit {0}
 
-log_marks : (h : List Deed) (w : Writing) (o : Option AtomicRec) → MarkedNext h (log_or_open w o)
-log_marks h w (Some r) = tt
-log_marks h w None = tt
-
-send_marks : (h : List Deed) (w : Writing) (o : Option AtomicRec) → MarkedNext h (send_or_settle w o)
-send_marks h w (Some r) = tt
-send_marks h w None = tt
-
-logged_marks : (h : List Deed) (w : Writing) (g : Result ℕ Trouble) → MarkedNext h (logged_by w g)
-logged_marks h w (Ok id) = log_marks h (record w { ids = w.ids ++ id ∷ []; place = w.place + 1 }) (slice_get w.records (w.place + 1))
-logged_marks h w (Err trouble.Memory) = tt
-logged_marks h w (Err t) = tt
-
-not_opened_marks : (h : List Deed) (w : Writing) (t : Trouble) → MarkedNext h (not_opened w t)
-not_opened_marks h w (trouble.Late end now) = tt
-not_opened_marks h w trouble.Memory = tt
-not_opened_marks h w t = tt
-
-opened_marks : (h : List Deed) (w : Writing) (g : Result (Unit {0}) Trouble) → MarkedNext h (opened_by w g)
-opened_marks h w (Ok u) = send_marks h (record w { place = 0 }) (slice_get w.records 0)
-opened_marks h w (Err t) = not_opened_marks h w t
-
-sent_marks : (h : List Deed) (w : Writing) (g : Result ℕ Trouble) → MarkedNext h (sent_by w g)
-sent_marks h w (Ok id) = send_marks h (record w { place = w.place + 1 }) (slice_get w.records (w.place + 1))
-sent_marks h w (Err trouble.Memory) = tt
-sent_marks h w (Err t) = tt
-
 none_marked : (P : ℕ → Type 0) (ids : List ℕ) → AllByRecursion P (take 0 ids)
 none_marked P [] = tt
 none_marked P (id ∷ ids) = tt
-
-settled_marks : (h : List Deed) (w : Writing) (g : Result (Unit {0}) Trouble) → MarkedNext h (settled_by w g)
-settled_marks h w (Ok u) = on (slice_get w.ids 0) where
-  on : (o : Option ℕ) → MarkedNext h (delete_or_end (record w { place = 0 }) o)
-  on (Some id) = λ x s next told. none_marked (IsMarked (s.messages (queue.Atomic w.home.client))) w.ids
-  on None = tt
-settled_marks h w (Err trouble.Memory) = tt
-settled_marks h w (Err t) = tt
 
 -- one message more
 one_marked : (w : Writing) (h : List Deed) (x : Deed) (id : ℕ) (s : CloudState) → MarkedBefore w h → slice_get w.ids w.place ≡ Some id → x.ask ≡ Delete (queue.Atomic w.home.client) id → x.answer ≡ Done → IsMade x → IsCalm x
@@ -160,40 +123,44 @@ one_marked w h x id s before here asks answers made calm next left =
     (subst (λ (ms : List Posted). AllByRecursion (IsMarked ms) (take w.place w.ids ++ id ∷ [])) (sym (deletes x (queue.Atomic w.home.client) id calm.before s made asks answers calm.told left))
     (all_marked (calm.before.messages (queue.Atomic w.home.client)) id (take w.place w.ids) (before x calm.before next calm.told)))
 
-delete_marks : (h : List Deed) (w : Writing) (x : Deed) (id : ℕ) (a : Answer) → MarkedBefore w h → slice_get w.ids w.place ≡ Some id → x.ask ≡ Delete (queue.Atomic w.home.client) id → x.answer ≡ a
-    → Fits (Delete (queue.Atomic w.home.client) id) a → GoesWell a → IsMade x → IsCalm x → ComesNext h x → MarkedNext (x ∷ h) (deleted_by w (done_of a))
-delete_marks h w x id Done before here asks answers fits goes made calm next = on (slice_get w.ids (w.place + 1)) where
-  on : (o : Option ℕ) → MarkedNext (x ∷ h) (delete_or_end (record w { place = w.place + 1 }) o)
-  on (Some other) = λ y s follows told. one_marked w h x id s before here asks answers made calm next (sym follows ∙ told)
-  on None = tt
-delete_marks h w x id Failed before here asks answers fits goes made calm next = absurd goes
-delete_marks h w x id Memory before here asks answers fits goes made calm next = tt
-delete_marks h w x id a before here asks answers fits goes made calm next = absurd fits
-
 -- the deletion in hand
 pub asks_deletion : (h : Home) (cs : Calls) (w : Writing) (x : Deed) (k : KnowsDeleting h cs w) → x.ask ≡ delete_ask w (slice_get w.ids w.place) → x.ask ≡ Delete (queue.Atomic w.home.client) k.id
 asks_deletion h cs w x k asked = asked ∙ ap (λ (o : Option ℕ). delete_ask w o) k.here
 
-marks_next : (stage : Stage) (home : Home) (cs : Calls) (w : Writing) (x : Deed) (h : List Deed) → KnowsAt stage home cs w → MarkedAt stage w h → x.ask ≡ ask_at stage w → IsMade x → IsCalm x → ComesNext h x
-    → MarkedNext (x ∷ h) (next_at stage w x.answer)
-marks_next Waiting home cs w x h k at asked made calm next = absurd k
-marks_next Logging home cs w x h k at asked made calm next = logged_marks (x ∷ h) w (sent_of x.answer)
-marks_next Opening home cs w x h k at asked made calm next = opened_marks (x ∷ h) w (done_of x.answer)
-marks_next Sending home cs w x h k at asked made calm next = sent_marks (x ∷ h) w (sent_of x.answer)
-marks_next Settling home cs w x h k at asked made calm next = settled_marks (x ∷ h) w (done_of x.answer)
-marks_next Deleting home cs w x h k at asked made calm next =
-    let asks : x.ask ≡ Delete (queue.Atomic w.home.client) k.id = asks_deletion home cs w x k asked in
-    delete_marks h w x k.id x.answer at k.here asks refl (subst (λ (q : Ask). Fits q x.answer) asks made.fits) (goes_well x made calm) made calm next
-marks_next Finished home cs w x h k at asked made calm next = absurd k
+marks_next : (home : Home) (cs : Calls) (w : Writing) (x : Deed) (h : List Deed) (a : Answer) (y : Step) → KnowsAt w.stage home cs w → MarkedAt w.stage w h → x.ask ≡ writing_ask w → IsMade x → IsCalm x → ComesNext h x
+    → x.answer ≡ a → Comes w a y → MarkedNext (x ∷ h) y
+marks_next home cs v x h a y k at asked made calm next is (step.deletes n id (step.settled w) e) = λ z s follows told. none_marked (IsMarked (s.messages (queue.Atomic w.home.client))) w.ids
+marks_next home cs v x h a y k at asked made calm next is (step.deletes n id (step.one_tried w b found) e) =
+    let asks : x.ask ≡ Delete (queue.Atomic w.home.client) k.id = asks_deletion home cs v x k asked in
+    let done : x.answer ≡ Done =
+    done_only (queue.Atomic w.home.client) k.id x.answer (subst (λ (q : Ask). Fits q x.answer) asks made.fits) (goes_well x made calm) (λ memory. found (sym is ∙ memory)) in
+    λ z s follows told. one_marked v h x k.id s at k.here asks done made calm next (sym follows ∙ told)
+marks_next home cs v x h a y k at asked made calm next is (step.goes_on w id to (step.logs r e)) = tt
+marks_next home cs v x h a y k at asked made calm next is (step.goes_on w id to (step.opens e)) = tt
+marks_next home cs v x h a y k at asked made calm next is (step.sends n r posts e) = tt
+marks_next home cs v x h a y k at asked made calm next is (step.settles n posts e) = tt
+marks_next home cs v x h a y k at asked made calm next is (step.not_logged w b failed) = tt
+marks_next home cs v x h a y k at asked made calm next is (step.late w end now) = tt
+marks_next home cs v x h a y k at asked made calm next is (step.doubts w b failed) = tt
+marks_next home cs v x h a y k at asked made calm next is (step.stays_open leaves) = tt
+marks_next home cs v x h a y k at asked made calm next is (step.ends n clears e) = tt
+marks_next home cs v x h a y k at asked made calm next is (step.lacks w) = tt
+marks_next home cs v x h a y k at asked made calm next is (step.waits w b) = tt
+marks_next home cs v x h a y k at asked made calm next is (step.rests w b) = tt
+
+marks_begun : (w : Writing) (y : Step) → Logs w y → MarkedNext [] y
+marks_begun w y (step.logs r e) = tt
+marks_begun w y (step.opens e) = tt
 
 came_marks : (home : Home) (changes : List Noted) (rs : List AtomicRec) (start : Writing) → begun (waiting home changes) rs ≡ Goes start → (h : List Deed) (m : Writing)
     → Came writing_ask (LeadsBy writing_next) start h m → AreCalm h → AreAlone h → MarkedAt m.stage m h
 came_marks home changes rs start goes [] m came calm alone =
     subst (λ (w : Writing). MarkedAt w.stage w []) (sym came)
-    (subst (MarkedNext []) goes (log_marks [] (record (waiting home changes) { records = rs; place = 0 }) (slice_get rs 0)))
+    (subst (MarkedNext []) goes (marks_begun (record (waiting home changes) { records = rs; place = 0 }) (begun (waiting home changes) rs) (begins (waiting home changes) rs)))
 came_marks home changes rs start goes (x ∷ h) m (from, came, asked, made, leads, follows) calm alone =
     subst (MarkedNext (x ∷ h)) leads
-    (marks_next from.stage home (told h) from x h (came_knows home changes rs start goes h from came).1 (came_marks home changes rs start goes h from came calm.1 alone.1) asked made calm.0 alone.0)
+    (marks_next home (told h) from x h x.answer (writing_next from x.answer) (came_knows home changes rs start goes h from came).1 (came_marks home changes rs start goes h from came calm.1 alone.1) asked made
+    calm.0 alone.0 refl (comes from x.answer))
 
 -- ---- at the end
 

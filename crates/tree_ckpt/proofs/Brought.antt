@@ -1,21 +1,19 @@
 -- What a tree checkpoint knows of the tree was brought by its calls.
-use Rattle.std.proofs.Common.{◌≡◌, ℕ, Bool, true, false, cond, List, [], ◌∷◌, ◌++◌, Some, Ok, Err, refl, sym, subst, inl, inr}
-use Rattle.std.specs.Prelude.{◌==◌, ◌||◌, ◌&&◌, not, find, take, drop}
+use Rattle.std.proofs.Common.{◌≡◌, ℕ, Bool, true, false, cond, List, [], ◌∷◌, ◌++◌, Some, refl, sym, subst, inl, inr}
+use Rattle.std.specs.Prelude.{◌==◌, ◌||◌, find, take, drop}
 use Rattle.std.proofs.lemmas.Bool.{eqb-true}
 use Rattle.std.proofs.lemmas.List.{take-append-drop}
-use Rattle.byte_format.specs.Order.{bytes_below, bytes_same}
 use Rattle.db_base.specs.declared.names.ObjName.TheVariants as object
 use Rattle.leaf_view.specs.Leaf.{Leaf}
-use Rattle.node_codec.specs.Inner.{Inner}
+use Rattle.node_codec.specs.Inner.{Inner, inner_of}
 use Rattle.node_codec.specs.Tree.{Tree}
 use Rattle.run_cursor.specs.Covered.{is_seen}
 use Rattle.tree_phases.specs.Kept.{place_of, with_kept}
-use Rattle.tree_phases.specs.Read.{damaged, tree_held}
-use Rattle.tree_phases.specs.Descent.{forked}
-use Rattle.tree_phases.specs.Fork.{bad_fence, forked_on}
+use Rattle.tree_phases.specs.Read.{tree_held}
+use Rattle.tree_phases.specs.Descent.{kept_at}
 use Rattle.tree_ckpt.specs.Working.{HasLevel}
 use Rattle.tree_ckpt.specs.Causes.{Calls, WasGot, WasRoot, WasNode, WasLeaf, WasRead, IsLink}
-use Rattle.tree_ckpt.proofs.Words.{Answer, Ask, Chart, KeptNode, Descent, Fork}
+use Rattle.tree_ckpt.proofs.Words.{Answer, Ask, Chart, KeptNode, Descent}
 
 -- ---- what is known
 
@@ -116,11 +114,9 @@ kept_found tree page (x ∷ xs) k cs h e = on (x.page == page) refl (kept_found 
       subst (λ (n : KeptNode). IsKeptNode tree n cs × (n.page ≡ page)) is (h.0, eqb-true x.page page same)
   on false same rest f = rest f
 
--- a node that leads on has the level of the link to it
-pub forked_level : (d : Descent) (n : Inner) (f : Fork) → forked d n ≡ Ok f → n.level ≡ d.level
-forked_level d n f e = on (n.level == d.level) refl e where
-  on : (b : Bool) → (n.level == d.level) ≡ b
-      → cond b (cond (bytes_same n.low d.low && not (bytes_below d.chart.key n.low)) (Ok (forked_on d.chart.key n)) (Err (bad_fence d.page d.low n.low))) (Err (damaged d.chart.tree d.page 10)) ≡ Ok f
-      → n.level ≡ d.level
-  on true same g = eqb-true n.level d.level same
-  on false same g = absurd (cc (g))
+-- a node that was got before, where the way has come
+pub kept_node : (tree : ℕ) (cs : Calls) (d : Descent) (k : KeptNode) (n : Inner) → AreKept tree d.chart.nodes cs → kept_at d ≡ Some k → inner_of k.bytes ≡ Some n
+    → WasNode tree d.page n cs
+kept_node tree cs d k n kept at is =
+    let found : IsKeptNode tree k cs × (k.page ≡ d.page) = kept_found tree d.page d.chart.nodes k cs kept at in
+    (k.bytes, is, subst (λ (page : ℕ). WasGot (object.Page tree page) (Some k.bytes) cs) found.1 found.0.0)

@@ -46,7 +46,8 @@ use Rattle.tree_ckpt.specs.Stepped.{Owes}
 use Rattle.tree_ckpt.proofs.Words.{Trouble, Lock, ObjName, QueueName, PuItem, Answer, Message, CkptAnswer, Turn, More, Ended, Stopped, Claim, Next, Goes, Ends, Stops, Took, Deed, calls_of, given_of, got_of, received_of, done_of, Fits, Ask, PagePut, Intake, Leases, Chart, KeptNode, Link, Descent, Fork, Folding, Left, LeafPlan, Rising, Held, Work}
 use Rattle.tree_ckpt.proofs.Causes.{KnowsAt}
 use Rattle.tree_ckpt.proofs.Spent.{leaf_plan_spent, leaf_plan_full, node_plan_spent, node_plan_full, last_plan_spent, last_plan_full}
-use Rattle.tree_ckpt.proofs.Walking.{page_same, damage_same, fence_same, fork_none, fork_some, fork_level, fork_fence, fork_promised, behind_keeps, root_upto, way_stops}
+use Rattle.tree_ckpt.proofs.Walking.{page_same, damage_same, fence_same, fork_none, fork_some, fork_level, fork_fence, fork_promised, behind_keeps, way_stops}
+use Rattle.tree_ckpt.proofs.Lows.{root_upto}
 
 abbrev Rise : Type 0
 Rise = Next Rising (Unit {0})
@@ -313,7 +314,7 @@ way_owes tree w cs a next t knows leads (d, inl b, breaks) =
     let known : KnowsAt tree (work.Descending b.held b.from) cs = subst (λ (x : Work). KnowsAt tree x cs) b.stands knows in
     let one : Leads tree (work.Descending b.held b.from) a next = subst (λ (x : Work). Leads tree x a next) b.stands leads in
     let start : Descent = behind (with_node b.from b.bytes) b.node in
-    let keeps = behind_keeps (with_node b.from b.bytes) b.node in
+    let keeps = behind_keeps (with_node b.from b.bytes) b.bytes b.node b.reads in
     let stops = way_stops tree start t (keeps.tree ∙ known.chart.same) keeps.upto (subst (λ (x : Descent). BreaksFrom tree x t) b.leads breaks) in
     owes_by t next _ one
     (node_by b.held b.from a (call.Got (Some b.bytes)) t b.brought

@@ -77,9 +77,9 @@ next_fewer from low (x ∷ xs) e = on (bytes_below (key x) from) refl (next_fewe
   on true f rest g = skipped from low x xs f (next_from from low xs g) (rest g)
   on false f rest g = first_left from low x xs f (cc (g))
 
-pub above_most : (low : List ℕ) (xs : List PuItem) → above low xs ≤ length xs
-above_most low [] = omega arith
-above_most low (x ∷ xs) = on (bytes_below low (key x)) (above_most low xs) where
-  on : (b : Bool) → above low xs ≤ length xs → cond b (above low xs + 1) (above low xs) ≤ length (x ∷ xs)
+pub from_most : (from : List ℕ) (xs : List PuItem) → from_on from xs ≤ length xs
+from_most from [] = omega arith
+from_most from (x ∷ xs) = on (bytes_below (key x) from) (from_most from xs) where
+  on : (b : Bool) → from_on from xs ≤ length xs → cond b (from_on from xs) (from_on from xs + 1) ≤ length (x ∷ xs)
   on true h = omega (arith, h)
   on false h = omega (arith, h)

@@ -6,7 +6,7 @@ pub mod Words
 pub mod Outcomes
 pub mod LeafOutcomes
 pub mod RiseOutcomes
-pub mod WayKeeps
+pub mod WayOutcomes
 pub mod Leases
 pub mod Received
 pub mod Keys

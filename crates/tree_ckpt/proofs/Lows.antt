@@ -1,17 +1,16 @@
 -- The way down leads to no page whose low key is above the key.
-use Rattle.std.proofs.Common.{◌≡◌, ℕ, Bool, true, false, cond, List, [], ◌∷◌, Option, Some, None, Result, Ok, Err, refl, subst}
-use Rattle.std.specs.Prelude.{◌==◌, ◌&&◌, not}
-use Rattle.byte_format.specs.Order.{bytes_below, bytes_same}
+use Rattle.std.proofs.Common.{◌≡◌, ℕ, Bool, true, false, cond, List, [], ◌∷◌, Option, Some, None, Result, refl, subst}
+use Rattle.byte_format.specs.Order.{bytes_below}
 use Rattle.node_codec.specs.Inner.{Inner}
-use Rattle.node_codec.specs.Node.{Entry, child_of, later_of, page_at}
-use Rattle.tree_phases.specs.Read.{damaged, inner_read, tree_held}
+use Rattle.node_codec.specs.Node.{Entry, child_of, later_of}
+use Rattle.tree_phases.specs.Read.{tree_held}
 use Rattle.tree_phases.specs.declared.fork.Fork.TheVariants.{Right, Down}
-use Rattle.tree_phases.specs.Fork.{bad_fence, down_to, fork_at, forked_on}
-use Rattle.tree_phases.specs.Fork as fork
-use Rattle.tree_phases.specs.Descent.{begun, forked_by, passed, fork_of, arrive, with_node, got_node, descent_got, descent_next}
-use Rattle.tree_ckpt.specs.Moves.{entry_or, root_entry}
+use Rattle.tree_phases.specs.Descent.{passed, arrive, with_node, descent_next}
+use Rattle.tree_ckpt.specs.Moves.{entry_or}
+use Rattle.tree_ckpt.specs.Way.{from_root}
 use Rattle.tree_ckpt.proofs.Words.{Trouble, Answer, Next, Goes, Ends, Stops, got_of, Chart, Descent, Fork}
-use Rattle.tree_ckpt.proofs.WayKeeps.{Arrives, arrive_keeps}
+use Rattle.tree_ckpt.proofs.WayOutcomes.{ForkLeads, Arrives, Gets, arrives, gets}
+use Rattle.tree_ckpt.proofs.WayOutcomes as way
 
 -- a low key is not above a key
 abbrev pub IsUpto : List ℕ → List ℕ → Type 0
@@ -42,45 +41,6 @@ pub entry_upto : (key : List ℕ) (o : Option Entry) → IfUpto key o → IsUpto
 entry_upto key (Some e) h = h
 entry_upto key None h = none_below key
 
--- ---- nodes
-
-abbrev ForkUpto : List ℕ → Fork → Type 0
-ForkUpto key (Right low page) = IsUpto low key
-ForkUpto key (Down low page) = IsUpto low key
-
-down_upto : (key : List ℕ) (o : Option Entry) → IfUpto key o → ForkUpto key (down_to o)
-down_upto key (Some e) h = h
-down_upto key None h = none_below key
-
-fork_upto : (key : List ℕ) (down : Fork) (high : Option (List ℕ)) (right : Option ℕ) → ForkUpto key down → ForkUpto key (fork_at key down high right)
-fork_upto key down None right h = h
-fork_upto key down (Some high) None h = h
-fork_upto key down (Some high) (Some right) h = on (bytes_below key high) refl where
-  on : (b : Bool) → bytes_below key high ≡ b → ForkUpto key (cond b down (Right high right))
-  on true e = h
-  on false e = e
-
-forked_upto : (key : List ℕ) (n : Inner) → ForkUpto key (forked_on key n)
-forked_upto key n = fork_upto key (fork.down_from key n) n.high (page_at n.right) (down_upto key (child_of key n.entries) (child_upto key n.entries))
-
-abbrev FoundUpto : List ℕ → Result Fork Trouble → Type 0
-FoundUpto key (Ok f) = ForkUpto key f
-FoundUpto key (Err t) = Unit {0}
-
-either_found : (key : List ℕ) (b : Bool) (x y : Result Fork Trouble) → FoundUpto key x → FoundUpto key y → FoundUpto key (cond b x y)
-either_found key true x y h k = h
-either_found key false x y h k = k
-
-found_upto : (d : Descent) (bytes : List ℕ) → FoundUpto d.chart.key (fork_of d bytes)
-found_upto d bytes = on (inner_read d.chart.tree d.page bytes) where
-  on : (r : Result Inner Trouble) → FoundUpto d.chart.key (forked_by d r)
-  on (Ok n) =
-      let bad : Result Fork Trouble = Err (bad_fence d.page d.low n.low) in
-      either_found d.chart.key (n.level == d.level) (cond (bytes_same n.low d.low && not (bytes_below d.chart.key n.low)) (Ok (forked_on d.chart.key n)) bad)
-      (Err (damaged d.chart.tree d.page 10))
-      (either_found d.chart.key (bytes_same n.low d.low && not (bytes_below d.chart.key n.low)) (Ok (forked_on d.chart.key n)) bad (forked_upto d.chart.key n) tt) tt
-  on (Err t) = tt
-
 -- ---- the way
 
 -- it has come to a page whose low key is not above the key
@@ -92,31 +52,27 @@ WayUpto (Goes d) = ComesUpto d
 WayUpto (Ends d x) = ComesUpto d
 WayUpto (Stops d t) = Unit {0}
 
-passed_upto : (d : Descent) (f : Fork) → ForkUpto d.chart.key f → ComesUpto (passed d f)
-passed_upto d (Right low page) h = h
-passed_upto d (Down low page) h = h
+pub passed_upto : (d : Descent) (n : Inner) (f : Fork) → ForkLeads d.chart.key n f → ComesUpto (passed d f)
+passed_upto d n (Right low page) h = h.1
+passed_upto d n (Down low page) h =
+    subst (λ (e : Entry). IsUpto e.0 d.chart.key) h.1 (entry_upto d.chart.key (child_of d.chart.key n.entries) (child_upto d.chart.key n.entries))
 
-arrives_upto : (s : Next Descent (Unit {0})) → Arrives ComesUpto s → WayUpto s
-arrives_upto (Goes d) h = h
-arrives_upto (Ends d x) h = h.0
-arrives_upto (Stops d t) h = tt
-
-arrive_upto : (d : Descent) → ComesUpto d → WayUpto (arrive d)
-arrive_upto d h =
-    arrives_upto (arrive d)
-    (arrive_keeps ComesUpto (λ e k f upto at is. passed_upto e f (subst (FoundUpto e.chart.key) is (found_upto e k.bytes))) d h)
+way_upto : {d : Descent} {next : Next Descent (Unit {0})} → ComesUpto d → Arrives d next → WayUpto next
+way_upto h (way.at_leaf d level) = h
+way_upto h (way.at_node d fresh none) = h
+way_upto h (way.further d k f p on) = way_upto (passed_upto d p.node f p.leads.leads) on
+way_upto h w = tt
 
 -- from the tree object
-pub begun_upto : (c : Chart) → WayUpto (arrive (begun c (root_entry c).0 (root_entry c).1))
-begun_upto c = arrive_upto (begun c (root_entry c).0 (root_entry c).1) (entry_upto c.key (child_of c.key (tree_held c.root).entries) (child_upto c.key (tree_held c.root).entries))
+pub root_upto : (c : Chart) → ComesUpto (from_root c)
+root_upto c = entry_upto c.key (child_of c.key (tree_held c.root).entries) (child_upto c.key (tree_held c.root).entries)
+
+pub begun_upto : (c : Chart) → WayUpto (arrive (from_root c))
+begun_upto c = way_upto (root_upto c) (arrives (from_root c))
+
+gets_upto : {d : Descent} {g : Result (Option (List ℕ)) Trouble} {next : Next Descent (Unit {0})} → Gets d g next → WayUpto next
+gets_upto {d = d} (way.goes_on bytes n f is leads on) = way_upto (passed_upto (with_node d bytes) n f leads.leads) on
+gets_upto w = tt
 
 pub descent_upto : (d : Descent) (a : Answer) → WayUpto (descent_next d a)
-descent_upto d a = on (got_of a) where
-  found : (bytes : List ℕ) (f : Result Fork Trouble) → FoundUpto d.chart.key f → WayUpto (got_node d bytes f)
-  found bytes (Ok f) h = arrive_upto (passed (with_node d bytes) f) (passed_upto (with_node d bytes) f h)
-  found bytes (Err t) h = tt
-
-  on : (g : Result (Option (List ℕ)) Trouble) → WayUpto (descent_got d g)
-  on (Ok (Some bytes)) = found bytes (fork_of d bytes) (found_upto d bytes)
-  on (Ok None) = tt
-  on (Err t) = tt
+descent_upto d a = gets_upto (gets d (got_of a))

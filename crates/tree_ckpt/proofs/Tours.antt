@@ -4,7 +4,6 @@ use Rattle.std.specs.Prelude.{◌==◌, ◌&&◌, not, is_none, unwrap_or}
 use Rattle.std.proofs.lemmas.Bool.{eqb-true}
 use Rattle.std.proofs.lemmas.List.{append-nil}
 use Rattle.byte_format.specs.Order.{below_bound}
-use Rattle.byte_format.specs.Whole.{offset}
 use Rattle.byte_format.proofs.OrderLemmas.{same_is}
 use Rattle.db_base.specs.declared.names.Lock.TheVariants as lock
 use Rattle.db_base.specs.declared.names.ObjName.TheVariants as object
@@ -16,20 +15,20 @@ use Rattle.cloud_trait.proofs.ViewLemmas.{got_of-ok}
 use Rattle.cloud_trait.specs.Ask.{GetHeld, Take, Release}
 use Rattle.ckpt_parts.specs.Intakes.{has_items}
 use Rattle.tree_phases.specs.Kept.{links_at, with_kept}
-use Rattle.node_codec.specs.Inner.{Inner, inner_of, inner_format}
+use Rattle.node_codec.specs.Inner.{Inner, inner_of}
 use Rattle.tree_phases.specs.Placing.{put_in_hand, landed_root, landed_placing, has_nothing, has_one_page}
-use Rattle.tree_phases.specs.Read.{inner_or, tree_held}
-use Rattle.tree_phases.specs.Descent.{descent_ask, descent_got, descent_next, got_node, fork_of, forked_by}
+use Rattle.tree_phases.specs.Read.{tree_held}
+use Rattle.tree_phases.specs.Descent.{descent_ask, descent_next}
 use Rattle.tree_phases.specs.declared.folding.Left.TheVariants.{Right, Handled}
 use Rattle.tree_phases.specs.Plan.{leaf_plan}
 use Rattle.tree_phases.specs.Folding as fold
 use Rattle.tree_ckpt.specs.Causes.{Calls, WasGot, GoesRight}
 use Rattle.tree_ckpt.specs.Meaning.{Opening}
 use Rattle.tree_ckpt.specs.Working.{done_over, puts_of, Visit, held_over, visits_over, AreLooks, HoldsLeaf, IsLeft, IsFor, IsVisit, Place, leaf_place, IsLeftFor, IsStart, IsCome, IsWay, IsOver, IsAmong, root_behind, links_behind, looks_of, AreVisits, lacked_on, IsSettled, PutsLeaf, AreTurns, Outcome, Planned, Spared, Passed}
-use Rattle.tree_ckpt.proofs.Words.{Trouble, PuItem, Taken, Answer, Claim, Next, Goes, Ends, Stops, got_of, done_of, Ask, PagePut, Chart, KeptNode, Placing, Link, Descent, Fork, Folding, Left, LeafPlan}
+use Rattle.tree_ckpt.proofs.Words.{Trouble, PuItem, Taken, Answer, Claim, Next, Goes, Ends, Stops, got_of, done_of, Ask, PagePut, Chart, KeptNode, Placing, Link, Descent, Folding, Left, LeafPlan}
 use Rattle.tree_ckpt.proofs.Answers.{done_is}
 use Rattle.tree_ckpt.proofs.Brought.{AreKept, kept_more}
-use Rattle.tree_ckpt.proofs.Turns.{Turned, WayTurned, place_of, turns_more, turns_both, way_more, way_both, node_got, descent_turned}
+use Rattle.tree_ckpt.proofs.Turns.{Turned, WayTurned, place_of, turns_more, turns_both, way_more, way_both, node_got, got_turned}
 use Rattle.tree_ckpt.proofs.Entries.{among_front, among_back}
 use Rattle.tree_ckpt.proofs.Whole.{AreRising, IsNoted, noted_new, noted_with, rising_with}
 use Rattle.tree_ckpt.proofs.Charts.{IsFurther, GoesFurther, descent_further}
@@ -39,6 +38,8 @@ use Rattle.tree_ckpt.proofs.Pieces.{leaf_puts}
 use Rattle.tree_ckpt.proofs.LeafOutcomes.{Reads, reads}
 use Rattle.tree_ckpt.proofs.LeafOutcomes as step
 use Rattle.tree_ckpt.proofs.Lows.{IsUpto, ComesUpto, WayUpto, descent_upto}
+use Rattle.tree_ckpt.proofs.WayOutcomes.{Gets, gets}
+use Rattle.tree_ckpt.proofs.WayOutcomes as way
 
 -- ---- between leaves
 
@@ -201,42 +202,35 @@ got_over tree d got n l a looks ns e is h page bytes (inr g) = on (h page bytes 
   on (inl x) = inl x
   on (inr x) = absurd x.2
 
+gets_tours : {d : Descent} {g : Result (Option (List ℕ)) Trouble} {next : Next Descent (Unit {0})} (lease : Claim) (a : Answer) (o : Opening) (work : Calls)
+    → AreKept d.chart.tree d.chart.nodes work → ToursAt lease d.chart (place_of d) o work → got_of a ≡ g → GoesFurther 1 d.chart next → WayUpto next → Gets d g next
+    → WayTours lease next o ((descent_ask d lease, a) ∷ work)
+gets_tours {d = d} {next = next} lease a o work kept k e f upto (way.goes_on bytes n fork spelt leads on) =
+    let ask : Ask = descent_ask d lease in
+    let is : a ≡ call.Got (Some bytes) = got_of-ok a (Some bytes) e in
+    way_tours lease 1 d.chart (with_kept (node_got d bytes) d.chart.nodes) (place_of d) (n ∷ []) next o ((ask, a) ∷ work) f upto
+    (got_turned d.chart.tree ((ask, a) ∷ work) d bytes n fork spelt leads (kept_more d.chart.tree d.chart.nodes (ask, a) work kept)
+    (inl (lease, ap (λ (x : Answer). (ask, x)) is)) on) (record {
+      before = k.before;
+      known = k.known;
+      olds = k.olds;
+      rests = k.rests;
+      turns = k.turns;
+      turned = turns_more d.chart.tree k.turns (ask, a) work k.turned;
+      come = (k.come.0, k.come.1, (k.come.2.0, way_more d.chart.tree d.chart.key k.come.0 k.come.2.0 (place_of d) k.turns (ask, a) work k.come.2.1));
+      linked = k.linked;
+      least = k.least;
+      looks = (ask, a) ∷ k.looks;
+      looked = ((d.page, bytes, ap (λ (x : Answer). (ask, x)) is), k.looked);
+      over = got_over d.chart.tree d bytes n lease a k.looks k.come.2.0 is spelt k.over;
+      noted = noted_got d.chart.tree d bytes lease a (k.looks ++ looks_of k.rests.visits) refl is k.noted;
+      calls = ap (λ (cs : Calls). (ask, a) ∷ cs) k.calls;
+    })
+gets_tours lease a o work kept k e f upto w = tt
+
 pub descent_tours : (lease : Claim) (d : Descent) (a : Answer) (o : Opening) (work : Calls) → AreKept d.chart.tree d.chart.nodes work → ToursAt lease d.chart (place_of d) o work
     → WayTours lease (descent_next d a) o ((descent_ask d lease, a) ∷ work)
-descent_tours lease d a o work kept k = on (got_of a) refl (descent_further d a) (descent_upto d a) where
-  ask : Ask
-  ask = descent_ask d lease
-
-  read : (bytes : List ℕ) → got_of a ≡ Ok (Some bytes) → GoesFurther 1 d.chart (got_node d bytes (fork_of d bytes)) → WayUpto (got_node d bytes (fork_of d bytes))
-      → (n : Option Inner) → inner_of bytes ≡ n → WayTours lease (got_node d bytes (fork_of d bytes)) o ((ask, a) ∷ work)
-  read bytes e f upto (Some n) spelt =
-      let is : a ≡ call.Got (Some bytes) = got_of-ok a (Some bytes) e in
-      way_tours lease 1 d.chart (with_kept (node_got d bytes) d.chart.nodes) (place_of d) (n ∷ []) (got_node d bytes (fork_of d bytes)) o ((ask, a) ∷ work) f upto
-      (descent_turned d.chart.tree ((ask, a) ∷ work) d bytes n spelt (kept_more d.chart.tree d.chart.nodes (ask, a) work kept) (inl (lease, ap (λ (x : Answer). (ask, x)) is))) (record {
-        before = k.before;
-        known = k.known;
-        olds = k.olds;
-        rests = k.rests;
-        turns = k.turns;
-        turned = turns_more d.chart.tree k.turns (ask, a) work k.turned;
-        come = (k.come.0, k.come.1, (k.come.2.0, way_more d.chart.tree d.chart.key k.come.0 k.come.2.0 (place_of d) k.turns (ask, a) work k.come.2.1));
-        linked = k.linked;
-        least = k.least;
-        looks = (ask, a) ∷ k.looks;
-        looked = ((d.page, bytes, ap (λ (x : Answer). (ask, x)) is), k.looked);
-        over = got_over d.chart.tree d bytes n lease a k.looks k.come.2.0 is spelt k.over;
-        noted = noted_got d.chart.tree d bytes lease a (k.looks ++ looks_of k.rests.visits) refl is k.noted;
-        calls = ap (λ (cs : Calls). (ask, a) ∷ cs) k.calls;
-      })
-  read bytes e f upto None spelt =
-      subst (λ (r : Result Fork Trouble). WayTours lease (got_node d bytes r) o ((ask, a) ∷ work))
-      (sym (ap (λ (n : Option Inner). forked_by d (inner_or d.chart.tree d.page (offset inner_format bytes) n)) spelt)) tt
-
-  on : (g : Result (Option (List ℕ)) Trouble) → got_of a ≡ g → GoesFurther 1 d.chart (descent_got d g) → WayUpto (descent_got d g)
-      → WayTours lease (descent_got d g) o ((ask, a) ∷ work)
-  on (Ok (Some bytes)) e f upto = read bytes e f upto (inner_of bytes) refl
-  on (Ok None) e f upto = tt
-  on (Err t) e f upto = tt
+descent_tours lease d a o work kept k = gets_tours lease a o work kept k refl (descent_further d a) (descent_upto d a) (gets d (got_of a))
 
 -- ---- puts
 

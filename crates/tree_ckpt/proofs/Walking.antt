@@ -1,5 +1,5 @@
 -- A way that is stopped at a node that was got before stops the walk there.
-use Rattle.std.proofs.Common.{◌≡◌, ◌≢◌, ◌<◌, ◌≤◌, ℕ, zero, suc, Bool, true, false, cond, List, [], ◌∷◌, length, Option, Some, None, Result, Ok, Err, refl, sym, ap, subst, ◌∙◌, arith}
+use Rattle.std.proofs.Common.{◌≡◌, ◌≢◌, ℕ, Bool, true, false, cond, List, [], ◌∷◌, Option, Some, None, Result, Ok, Err, refl, sym, ap, subst, ◌∙◌}
 use Rattle.std.specs.Prelude.{◌&&◌, not}
 use Rattle.std.proofs.lemmas.Bool.{eq-eqb, ne_eqb}
 use Rattle.byte_format.specs.Order.{bytes_below, bytes_same}
@@ -10,20 +10,16 @@ use Rattle.db_base.specs.declared.names.Place.{Place}
 use Rattle.db_base.specs.declared.names.Place.TheVariants as place
 use Rattle.db_base.specs.declared.trouble.Trouble.TheVariants as trouble
 use Rattle.node_codec.specs.Inner.{Inner, inner_of, inner_format}
-use Rattle.node_codec.specs.Node.{Entry, child_of, page_at}
-use Rattle.node_codec.proofs.NodeLemmas.{not_below_empty}
 use Rattle.run_cursor.specs.Covered.{is_seen}
-use Rattle.tree_phases.specs.Read.{damaged, inner_or, tree_held}
-use Rattle.tree_phases.specs.declared.descent.Reach.{Reach}
-use Rattle.tree_phases.specs.declared.descent.Reach.TheVariants.{Leaf}
+use Rattle.tree_phases.specs.Read.{damaged, inner_or}
 use Rattle.tree_phases.specs.declared.fork.Fork.TheVariants.{Right, Down}
-use Rattle.tree_phases.specs.Fork.{bad_fence, down_to, fork_at, forked_on}
-use Rattle.tree_phases.specs.Descent.{forked, forked_by, fork_of, passed, go_on, stride_at, kept_at, stride, follow, walk, arrived, arrive}
-use Rattle.tree_ckpt.specs.Moves.{entry_or}
-use Rattle.tree_ckpt.specs.Way.{IsFresh, WasKept, IsPromised, behind, LeadsOver, ComesOver, BreaksAt, BreaksFrom, from_root}
-use Rattle.tree_ckpt.proofs.Words.{Trouble, Next, Goes, Ends, Stops, Chart, KeptNode, Descent, Fork}
-use Rattle.tree_ckpt.proofs.Passed.{unseen, unseen_most, unseen_less}
-use Rattle.tree_ckpt.proofs.Ways.{child_at_most}
+use Rattle.tree_phases.specs.Fork.{bad_fence, forked_on}
+use Rattle.tree_phases.specs.Descent.{forked, forked_by, fork_of, passed, kept_at, arrive}
+use Rattle.tree_ckpt.specs.Way.{IsFresh, WasKept, IsPromised, behind, ComesOver, BreaksAt, BreaksFrom}
+use Rattle.tree_ckpt.proofs.Words.{Trouble, Next, Stops, KeptNode, Descent, Fork}
+use Rattle.tree_ckpt.proofs.Lows.{ComesUpto, passed_upto}
+use Rattle.tree_ckpt.proofs.WayOutcomes.{Arrives, node_leads, arrives}
+use Rattle.tree_ckpt.proofs.WayOutcomes as way
 
 -- ---- damage at a place
 
@@ -62,11 +58,7 @@ fork_fence d n level fence =
     ap (λ (b : Bool). fork_by d n b (bytes_same n.low d.low && not (bytes_below d.chart.key n.low))) (eq-eqb n.level d.level level)
     ∙ ap (λ (b : Bool). fork_by d n true (b && not (bytes_below d.chart.key n.low))) fence
 
--- the low key that led there is not above the key in hand
-abbrev pub IsUptoKey : Descent → Type 0
-IsUptoKey d = bytes_below d.chart.key d.low ≡ false
-
-pub fork_promised : (d : Descent) (n : Inner) → IsUptoKey d → IsPromised d n → forked d n ≡ Ok (forked_on d.chart.key n)
+pub fork_promised : (d : Descent) (n : Inner) → ComesUpto d → IsPromised d n → forked d n ≡ Ok (forked_on d.chart.key n)
 fork_promised d n upto is =
     ap (λ (b : Bool). fork_by d n b (bytes_same n.low d.low && not (bytes_below d.chart.key n.low))) (eq-eqb n.level d.level is.0)
     ∙ (ap (λ (b : Bool). fork_by d n true (b && not (bytes_below d.chart.key n.low))) is.1
@@ -74,112 +66,82 @@ fork_promised d n upto is =
 
 -- ---- behind a node
 
--- the way stays in the tree and at the key, over the nodes that were got
+passed_tree : (d : Descent) (f : Fork) → (passed d f).chart.tree ≡ d.chart.tree
+passed_tree d (Right low page) = refl
+passed_tree d (Down low page) = refl
+
+-- the way stays in the tree, and at a page whose low key is not above the key
 pub record KeepsWay (d e : Descent) : Type 0 where
   pub tree : e.chart.tree ≡ d.chart.tree
-  pub nodes : e.chart.nodes ≡ d.chart.nodes
-  pub upto : IsUptoKey e
+  pub upto : ComesUpto e
 
-down_keeps : (d : Descent) (n : Inner) (o : Option Entry) → child_of d.chart.key n.entries ≡ o → KeepsWay d (passed d (down_to o))
-down_keeps d n (Some e) found = record { tree = refl; nodes = refl; upto = child_at_most d.chart.key n.entries e found }
-down_keeps d n None found = record { tree = refl; nodes = refl; upto = not_below_empty d.chart.key }
+pub behind_keeps : (d : Descent) (bytes : List ℕ) (n : Inner) → inner_of bytes ≡ Some n → KeepsWay d (behind d n)
+behind_keeps d bytes n is = record { tree = passed_tree d (forked_on d.chart.key n); upto = passed_upto d n (forked_on d.chart.key n) (node_leads d.chart.key bytes n is) }
 
-fork_keeps : (d : Descent) (down : Fork) → KeepsWay d (passed d down) → (high : Option (List ℕ)) (right : Option ℕ) → KeepsWay d (passed d (fork_at d.chart.key down high right))
-fork_keeps d down k None right = k
-fork_keeps d down k (Some high) None = k
-fork_keeps d down k (Some high) (Some right) = on (bytes_below d.chart.key high) refl where
-  on : (b : Bool) → bytes_below d.chart.key high ≡ b → KeepsWay d (passed d (cond b down (Right high right)))
-  on true e = k
-  on false e = record { tree = refl; nodes = refl; upto = e }
+-- ---- over nodes that were got before
 
-pub behind_keeps : (d : Descent) (n : Inner) → KeepsWay d (behind d n)
-behind_keeps d n = fork_keeps d _ (down_keeps d n (child_of d.chart.key n.entries) refl) n.high (page_at n.right)
+-- what a way comes to behind a node that was got before
+abbrev OnwardFrom : Descent → Next Descent (Unit {0}) → Result Fork Trouble → Type 0
+OnwardFrom d next (Ok f) = Arrives (passed d f) next
+OnwardFrom d next (Err t) = next ≡ Stops d t
 
--- the tree object's entry for the key is not above it
-pub root_upto : (c : Chart) → IsUptoKey (from_root c)
-root_upto c = on (child_of c.key (tree_held c.root).entries) refl where
-  on : (o : Option Entry) → child_of c.key (tree_held c.root).entries ≡ o → bytes_below c.key (entry_or o).0 ≡ false
-  on (Some e) found = child_at_most c.key (tree_held c.root).entries e found
-  on None found = not_below_empty c.key
+at_kept : {d : Descent} {next : Next Descent (Unit {0})} (k : KeptNode) → IsFresh d → kept_at d ≡ Some k → Arrives d next → OnwardFrom d next (fork_of d k.bytes)
+at_kept k fresh at (way.at_leaf d level) = absurd (fresh.0 level)
+at_kept k fresh at (way.at_node d new none) = absurd (let clash : None ≡ Some k = sym none ∙ at in cc (clash))
+at_kept k fresh at (way.round d inner seen) = absurd (let clash : true ≡ false = sym seen ∙ fresh.1 in cc (clash))
+at_kept k fresh at (way.breaks d kept t new there e r) =
+    let is : Some kept ≡ Some k = sym there ∙ at in
+    let same : kept ≡ k = cc (is) in
+    subst (λ (m : KeptNode). OnwardFrom d (Stops d t) (fork_of d m.bytes)) same (subst (OnwardFrom d (Stops d t)) (sym e) refl)
+at_kept {next = next} k fresh at (way.further d kept f p on) =
+    let is : Some kept ≡ Some k = sym p.kept ∙ at in
+    let same : kept ≡ k = cc (is) in
+    subst (λ (m : KeptNode). OnwardFrom d next (fork_of d m.bytes)) same (subst (OnwardFrom d next) (sym p.forks) on)
 
--- ---- one stride
-
-stride_inner : (d : Descent) → d.level ≢ 0 → (b : Bool) → is_seen d.visited d.page ≡ b → stride d ≡ cond b (Stops d (trouble.Loop d.page)) (stride_at d (kept_at d))
-stride_inner d inner b seen = ap (λ (x : Bool). leaf_by x) (ne_eqb d.level 0 inner) ∙ ap (λ (x : Bool). seen_by x) seen where
-  seen_by : Bool → Next Descent Reach
-  seen_by x = cond x (Stops d (trouble.Loop d.page)) (stride_at d (kept_at d))
-
-  leaf_by : Bool → Next Descent Reach
-  leaf_by x = cond x (Ends d Leaf) (seen_by (is_seen d.visited d.page))
-
--- over a node that was got before
-stride_kept : (d : Descent) (n : Inner) → IsFresh d → WasKept d n → stride d ≡ go_on d (forked d n)
-stride_kept d n fresh kept =
-    stride_inner d fresh.0 false fresh.1 ∙ (ap (stride_at d) kept.1 ∙ ap (go_on d) (fork_some d kept.0.bytes n kept.2))
-
-stride_over : (d e : Descent) (n : Inner) → IsUptoKey d → LeadsOver d n e → stride d ≡ Goes e
-stride_over d e n upto leads = stride_kept d n leads.0 leads.1 ∙ (ap (go_on d) (fork_promised d n upto leads.2) ∙ ap Goes (sym leads.3))
-
-stride_stops : (tree : ℕ) (d : Descent) (t : Trouble) → d.chart.tree ≡ tree → BreaksAt tree d t → stride d ≡ Stops d t
-stride_stops tree d (trouble.Damaged where_it_is at) same b =
-    stride_kept d b.1.0 b.0 b.1.1
-    ∙ (ap (go_on d) (fork_level d b.1.0 b.1.2) ∙ ap (Stops d) (page_same tree d.chart.tree d.page at 10 where_it_is same b.2 b.3))
-stride_stops tree d (trouble.BadFence page expected found) same b =
-    stride_kept d b.1.0 b.0 b.1.1
-    ∙ (ap (go_on d) (fork_fence d b.1.0 b.1.2 b.1.4) ∙ ap (Stops d) (fence_same d.page page d.low expected b.1.0.low found b.2 b.3 b.1.3))
-stride_stops tree d (trouble.Loop page) same b = stride_inner d b.0 true b.1 ∙ ap (λ (p : ℕ). Stops d (trouble.Loop p)) (sym b.2)
-stride_stops tree d t same b = absurd b
-
--- ---- all of them
-
-ahead_less : (d : Descent) (fork : Fork) (k : KeptNode) → kept_at d ≡ Some k → is_seen d.visited d.page ≡ false
-    → unseen (passed d fork).visited (passed d fork).chart.nodes < unseen d.visited d.chart.nodes
-ahead_less d (Right low page) k found fresh = unseen_less d.visited d.page d.chart.nodes k found fresh
-ahead_less d (Down low page) k found fresh = unseen_less d.visited d.page d.chart.nodes k found fresh
-
--- the walk comes there, with enough left to go on
-record WalksTo (start e : Descent) : Type 0 where
-  fuel : ℕ
-  same : walk (length start.chart.nodes) start ≡ walk fuel e
-  enough : unseen e.visited e.chart.nodes ≤ fuel
+-- it comes to the same from each place that it leads to
+record ComesThere (next : Next Descent (Unit {0})) (start e : Descent) : Type 0 where
+  arrives : Arrives e next
   keeps : KeepsWay start e
 
-walk_over : (fuel : ℕ) (d e : Descent) → stride d ≡ Goes e → unseen e.visited e.chart.nodes < unseen d.visited d.chart.nodes → unseen d.visited d.chart.nodes ≤ fuel
-    → (less : ℕ) × (walk fuel d ≡ walk less e) × (unseen e.visited e.chart.nodes ≤ less)
-unfolding walk
-walk_over zero d e goes fewer enough = absurd (omega (arith, fewer, enough))
-walk_over (suc less) d e goes fewer enough = (less, ap (follow (walk less)) goes, omega (arith, fewer, enough))
-
-walks_to : (start e : Descent) (ns : List Inner) → IsUptoKey start → ComesOver ns start e → WalksTo start e
-walks_to start e [] upto comes =
-    subst (WalksTo start) (sym comes)
-    (record {
-      fuel = length start.chart.nodes;
-      same = refl;
-      enough = unseen_most start.visited start.chart.nodes;
-      keeps = record { tree = refl; nodes = refl; upto = upto };
-    })
-walks_to start e (n ∷ ns) upto comes =
+comes_over : {next : Next Descent (Unit {0})} (start e : Descent) (ns : List Inner) → ComesUpto start → ComesOver ns start e → Arrives start next → ComesThere next start e
+comes_over {next = next} start e [] upto comes on =
+    subst (ComesThere next start) (sym comes) (record { arrives = on; keeps = record { tree = refl; upto = upto } })
+comes_over {next = next} start e (n ∷ ns) upto comes on =
     let d : Descent = comes.0 in
-    let w : WalksTo start d = walks_to start d ns upto comes.1 in
-    let k : KeepsWay d (behind d n) = behind_keeps d n in
-    let fewer = ahead_less d (forked_on d.chart.key n) comes.2.1.0 comes.2.1.1 comes.2.0.1 in
-    let on = walk_over w.fuel d (behind d n) (stride_over d (behind d n) n w.keeps.upto (comes.2.0, comes.2.1, comes.2.2, refl)) fewer w.enough in
-    subst (WalksTo start) (sym comes.2.3)
-    (record {
-      fuel = on.0;
-      same = w.same ∙ on.1;
-      enough = on.2;
-      keeps = record { tree = k.tree ∙ w.keeps.tree; nodes = k.nodes ∙ w.keeps.nodes; upto = k.upto };
+    let there : ComesThere next start d = comes_over start d ns upto comes.1 on in
+    let kept : WasKept d n = comes.2.1 in
+    let forks : fork_of d kept.0.bytes ≡ Ok (forked_on d.chart.key n) = fork_some d kept.0.bytes n kept.2 ∙ fork_promised d n there.keeps.upto comes.2.2 in
+    let keeps : KeepsWay d (behind d n) = behind_keeps d kept.0.bytes n kept.2 in
+    subst (ComesThere next start) (sym comes.2.3) (record {
+      arrives = subst (OnwardFrom d next) forks (at_kept kept.0 comes.2.0 kept.1 there.arrives);
+      keeps = record { tree = keeps.tree ∙ there.keeps.tree; upto = keeps.upto };
     })
 
-walk_stops : (fuel : ℕ) (d : Descent) (t : Trouble) → stride d ≡ Stops d t → walk fuel d ≡ Stops d t
-unfolding walk
-walk_stops zero d t stops = ap (follow (λ (e : Descent). Stops e (trouble.Loop e.page))) stops
-walk_stops (suc n) d t stops = ap (follow (walk n)) stops
+-- ---- what stops it there
 
-pub way_stops : (tree : ℕ) (start : Descent) (t : Trouble) → start.chart.tree ≡ tree → IsUptoKey start → BreaksFrom tree start t
+-- a page to which it came before
+stops_round : {d : Descent} {next : Next Descent (Unit {0})} → d.level ≢ 0 → is_seen d.visited d.page ≡ true → Arrives d next → next ≡ Stops d (trouble.Loop d.page)
+stops_round inner seen (way.at_leaf d level) = absurd (inner level)
+stops_round inner seen (way.at_node d fresh none) = absurd (let clash : true ≡ false = sym seen ∙ fresh.1 in cc (clash))
+stops_round inner seen (way.round d above again) = refl
+stops_round inner seen (way.breaks d k t fresh at e r) = absurd (let clash : true ≡ false = sym seen ∙ fresh.1 in cc (clash))
+stops_round inner seen (way.further d k f p on) = absurd (let clash : true ≡ false = sym seen ∙ p.fresh.1 in cc (clash))
+
+-- a node that is not what the link to it promised
+stops_kept : (d : Descent) (n : Inner) (t : Trouble) (next : Next Descent (Unit {0})) → IsFresh d → WasKept d n → forked d n ≡ Err t → Arrives d next → next ≡ Stops d t
+stops_kept d n t next fresh kept e on = subst (OnwardFrom d next) (fork_some d kept.0.bytes n kept.2 ∙ e) (at_kept kept.0 fresh kept.1 on)
+
+stops_at : (tree : ℕ) (d : Descent) (t : Trouble) (next : Next Descent (Unit {0})) → d.chart.tree ≡ tree → BreaksAt tree d t → Arrives d next → next ≡ Stops d t
+stops_at tree d (trouble.Damaged where_it_is at) next same b on =
+    stops_kept d b.1.0 (trouble.Damaged where_it_is at) next b.0 b.1.1 (fork_level d b.1.0 b.1.2 ∙ ap Err (page_same tree d.chart.tree d.page at 10 where_it_is same b.2 b.3)) on
+stops_at tree d (trouble.BadFence page expected found) next same b on =
+    stops_kept d b.1.0 (trouble.BadFence page expected found) next b.0 b.1.1
+    (fork_fence d b.1.0 b.1.2 b.1.4 ∙ ap Err (fence_same d.page page d.low expected b.1.0.low found b.2 b.3 b.1.3)) on
+stops_at tree d (trouble.Loop page) next same b on = stops_round b.0 b.1 on ∙ ap (λ (p : ℕ). Stops d (trouble.Loop p)) (sym b.2)
+stops_at tree d t next same b on = absurd b
+
+pub way_stops : (tree : ℕ) (start : Descent) (t : Trouble) → start.chart.tree ≡ tree → ComesUpto start → BreaksFrom tree start t
     → (e : Descent) × (arrive start ≡ Stops e t)
 way_stops tree start t same upto (e, ns, comes, breaks) =
-    let w : WalksTo start e = walks_to start e ns upto comes in
-    (e, ap arrived (w.same ∙ walk_stops w.fuel e t (stride_stops tree e t (w.keeps.tree ∙ same) breaks)))
+    let there : ComesThere (arrive start) start e = comes_over start e ns upto comes (arrives start) in
+    (e, stops_at tree e t (arrive start) (there.keeps.tree ∙ same) breaks there.arrives)

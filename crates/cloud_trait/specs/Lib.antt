@@ -10,6 +10,7 @@ pub mod Down
 pub mod Growth
 pub mod Listing
 pub mod Machine
+pub mod Made
 pub mod Names
 pub mod Plenty
 pub mod Seen

@@ -120,3 +120,11 @@ RenewsLease who ticks l m (Renewed e) old new = m ≡ extended l e
 RenewsLease who ticks l m Failed old new =
     (m ≡ extended l m.end) × ((s t : CloudState) → old.state ≡ Some s → new.state ≡ Some t → RenewsBoth who ticks l m (called who t.now s) t)
 RenewsLease who ticks l m answer old new = m ≡ l
+
+-- a renewal that left the lease as it was, as this answer says
+abbrev pub LeavesLeases : Caller → Answer → Seen → Seen → Type 0
+LeavesLeases who answer old new = (ticks : ℕ) (l : Claim) → RenewsLease who ticks l l answer old new
+
+-- whatever was asked, it was answered so
+abbrev pub MakesAny : Caller → Answer → Seen → Seen → Type 0
+MakesAny who answer old new = (ask : Ask) → Makes who ask answer old new

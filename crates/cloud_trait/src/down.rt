@@ -1,8 +1,6 @@
 ghost use Rattle.std.specs.Prelude.{◌≡◌, ℕ};
 ghost use Rattle.cloud_trait.specs.Answers.{fault_answer, held_fault_answer};
-ghost use Rattle.cloud_trait.specs.Ask.{Ask};
-ghost use Rattle.cloud_trait.specs.Claim.{Claim};
-ghost use Rattle.cloud_trait.specs.Weather.{Makes, RenewsLease};
+ghost use Rattle.cloud_trait.specs.Weather.{MakesAny, LeavesLeases};
 ghost use Rattle.cloud_trait.specs.Bench.{Looks};
 ghost use Rattle.cloud_trait.specs.Down.{seen_of, first_seen};
 
@@ -63,8 +61,8 @@ impl DownCloud {
 
     // A service call: it spends the wish and fails. Memory where the count of failures can't rise.
     fn fail(&mut self, who: Who) -> CloudFault
-        ensures made { (ask : Ask) → Makes who ask (fault_answer result) (seen_of self.old) (seen_of self.new) }
-        ensures lease { (ticks : ℕ) (l : Claim) → RenewsLease who ticks l l (fault_answer result) (seen_of self.old) (seen_of self.new) }
+        ensures made { MakesAny who (fault_answer result) (seen_of self.old) (seen_of self.new) }
+        ensures lease { LeavesLeases who (fault_answer result) (seen_of self.old) (seen_of self.new) }
     {
         let wish = mem::replace(&mut self.wish, Wish::Plain);
         self.last = Some((who, wish));
@@ -79,8 +77,8 @@ impl DownCloud {
 
     // The same of a call under a lease.
     fn fail_held(&mut self, who: Who) -> HeldFault
-        ensures made { (ask : Ask) → Makes who ask (held_fault_answer result) (seen_of self.old) (seen_of self.new) }
-        ensures lease { (ticks : ℕ) (l : Claim) → RenewsLease who ticks l l (held_fault_answer result) (seen_of self.old) (seen_of self.new) }
+        ensures made { MakesAny who (held_fault_answer result) (seen_of self.old) (seen_of self.new) }
+        ensures lease { LeavesLeases who (held_fault_answer result) (seen_of self.old) (seen_of self.new) }
     {
         match self.fail(who) {
             CloudFault::Failed => HeldFault::Failed,

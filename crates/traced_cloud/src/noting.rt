@@ -1,16 +1,13 @@
 //! The cloud that notes what is called.
 
-ghost use Rattle.std.specs.Prelude.{◌≡◌, false, [], IfOk, Option, Some, length};
+ghost use Rattle.std.specs.Prelude.{◌≡◌, false, [], IfOk};
 ghost use Rattle.std.specs.Option.{option_copied};
-ghost use Rattle.cloud_trait.specs.declared.answer.Answer.TheVariants.{Got, Sent, Received, Listed};
-ghost use Rattle.cloud_trait.specs.Answers.{answer_of, held_answer_of, done_by, granted_by, renewed_by};
+ghost use Rattle.cloud_trait.specs.Answers.{got_answer, held_got, done_answer, held_done, held_listed, sent_answer, received_answer, taken_answer, renewal};
 ghost use Rattle.cloud_trait.specs.Ask.{Get, GetHeld, PutHeld, ListHeld, RemoveHeld, Send, Receive, Delete, Take, Renew, Release};
-ghost use Rattle.cloud_trait.specs.State.{CloudState, newest};
-ghost use Rattle.cloud_trait.specs.Delivery.{unmarked};
-ghost use Rattle.cloud_trait.specs.Weather.{Makes, RenewsLease};
-ghost use Rattle.cloud_trait.specs.Bench.{Waits, Looks, IsNoCall, IsShown, IsShownToHave, has_bytes};
-ghost use Rattle.traced_cloud.specs.Note.{note_of};
-ghost use Rattle.traced_cloud.specs.Notes.{Adds};
+ghost use Rattle.cloud_trait.specs.Weather.{Makes};
+ghost use Rattle.cloud_trait.specs.Made.{MakesGet, MakesGetHeld, MakesListHeld, MakesRemoveHeld, MakesSend, MakesReceive, MakesDelete, MakesTake, MakesRenew, SetsLease, MakesRelease};
+ghost use Rattle.cloud_trait.specs.Bench.{Looks, IsNoCall, IsShown, IsShownToHave, SetsWish, HasWaited, TellsNewest, TellsHaving, TellsBacklog};
+ghost use Rattle.traced_cloud.specs.Noted.{IsNoted};
 
 use crate::note::Note;
 use crate::trace::Trace;
@@ -76,8 +73,8 @@ impl<C: Bench> Cloud for NotingCloud<C> {
     }
 
     fn get(&mut self, who: Who, name: ObjName) -> Result<Option<Blob>, CloudFault>
-        ensures made { Makes who (Get name) (answer_of Got result) (C.seen self.old.cloud) (C.seen self.new.cloud) }
-        ensures noted { Adds (note_of who (Get name) (answer_of Got result)) self.old.trace self.new.trace }
+        ensures made { MakesGet who name result (C.seen self.old.cloud) (C.seen self.new.cloud) }
+        ensures noted { IsNoted who (Get name) (got_answer result) self.old self.new }
     {
         let call = Call::Get(copy(&name));
         match self.cloud.get(who, name) {
@@ -98,8 +95,8 @@ impl<C: Bench> Cloud for NotingCloud<C> {
         name: ObjName,
         lease: &Lease,
     ) -> Result<Option<Blob>, HeldFault>
-        ensures made { Makes who (GetHeld name lease.now) (held_answer_of Got result) (C.seen self.old.cloud) (C.seen self.new.cloud) }
-        ensures noted { Adds (note_of who (GetHeld name lease.now) (held_answer_of Got result)) self.old.trace self.new.trace }
+        ensures made { MakesGetHeld who name lease.now result (C.seen self.old.cloud) (C.seen self.new.cloud) }
+        ensures noted { IsNoted who (GetHeld name lease.now) (held_got result) self.old self.new }
     {
         let call = Call::GetHeld(copy(&name), lease);
         match self.cloud.get_held(who, name, lease) {
@@ -122,8 +119,8 @@ impl<C: Bench> Cloud for NotingCloud<C> {
         first: &Lease,
         second: Option<&Lease>,
     ) -> Result<(), HeldFault>
-        ensures made { Makes who (PutHeld name bytes.now first.now (option_copied second.entry)) (held_answer_of done_by result) (C.seen self.old.cloud) (C.seen self.new.cloud) }
-        ensures noted { Adds (note_of who (PutHeld name bytes.now first.now (option_copied second.entry)) (held_answer_of done_by result)) self.old.trace self.new.trace }
+        ensures made { Makes who (PutHeld name bytes.now first.now (option_copied second.entry)) (held_done result) (C.seen self.old.cloud) (C.seen self.new.cloud) }
+        ensures noted { IsNoted who (PutHeld name bytes.now first.now (option_copied second.entry)) (held_done result) self.old self.new }
     {
         let put = copy(&name);
         match self.cloud.put_held(who, name, bytes, first, second) {
@@ -139,8 +136,8 @@ impl<C: Bench> Cloud for NotingCloud<C> {
     }
 
     fn list_held(&mut self, who: Who, tree: TreeId, lease: &Lease) -> Result<Vec<PageId>, HeldFault>
-        ensures made { Makes who (ListHeld tree lease.now) (held_answer_of (λ ps. Listed ps.items) result) (C.seen self.old.cloud) (C.seen self.new.cloud) }
-        ensures noted { Adds (note_of who (ListHeld tree lease.now) (held_answer_of (λ ps. Listed ps.items) result)) self.old.trace self.new.trace }
+        ensures made { MakesListHeld who tree lease.now result (C.seen self.old.cloud) (C.seen self.new.cloud) }
+        ensures noted { IsNoted who (ListHeld tree lease.now) (held_listed result) self.old self.new }
     {
         let call = Call::ListHeld(copy(&tree), lease);
         match self.cloud.list_held(who, tree, lease) {
@@ -156,8 +153,8 @@ impl<C: Bench> Cloud for NotingCloud<C> {
     }
 
     fn remove_held(&mut self, who: Who, name: ObjName, lease: &Lease) -> Result<(), HeldFault>
-        ensures made { Makes who (RemoveHeld name lease.now) (held_answer_of done_by result) (C.seen self.old.cloud) (C.seen self.new.cloud) }
-        ensures noted { Adds (note_of who (RemoveHeld name lease.now) (held_answer_of done_by result)) self.old.trace self.new.trace }
+        ensures made { MakesRemoveHeld who name lease.now result (C.seen self.old.cloud) (C.seen self.new.cloud) }
+        ensures noted { IsNoted who (RemoveHeld name lease.now) (held_done result) self.old self.new }
     {
         let call = Call::RemoveHeld(copy(&name), lease);
         match self.cloud.remove_held(who, name, lease) {
@@ -173,8 +170,8 @@ impl<C: Bench> Cloud for NotingCloud<C> {
     }
 
     fn send(&mut self, who: Who, queue: QueueName, bytes: &[u8]) -> Result<MsgId, CloudFault>
-        ensures made { Makes who (Send queue bytes.now) (answer_of Sent result) (C.seen self.old.cloud) (C.seen self.new.cloud) }
-        ensures noted { Adds (note_of who (Send queue bytes.now) (answer_of Sent result)) self.old.trace self.new.trace }
+        ensures made { MakesSend who queue bytes.now result (C.seen self.old.cloud) (C.seen self.new.cloud) }
+        ensures noted { IsNoted who (Send queue bytes.now) (sent_answer result) self.old self.new }
     {
         let call = Call::Send(copy(&queue), bytes);
         match self.cloud.send(who, queue, bytes) {
@@ -190,8 +187,8 @@ impl<C: Bench> Cloud for NotingCloud<C> {
     }
 
     fn receive(&mut self, who: Who, queue: QueueName, max: u16) -> Result<Vec<Message>, CloudFault>
-        ensures made { Makes who (Receive queue max) (answer_of (λ ms. Received ms.items) result) (C.seen self.old.cloud) (C.seen self.new.cloud) }
-        ensures noted { Adds (note_of who (Receive queue max) (answer_of (λ ms. Received ms.items) result)) self.old.trace self.new.trace }
+        ensures made { MakesReceive who queue max result (C.seen self.old.cloud) (C.seen self.new.cloud) }
+        ensures noted { IsNoted who (Receive queue max) (received_answer result) self.old self.new }
     {
         let call = Call::Receive(copy(&queue), max);
         match self.cloud.receive(who, queue, max) {
@@ -207,8 +204,8 @@ impl<C: Bench> Cloud for NotingCloud<C> {
     }
 
     fn delete(&mut self, who: Who, queue: QueueName, id: MsgId) -> Result<(), CloudFault>
-        ensures made { Makes who (Delete queue id) (answer_of done_by result) (C.seen self.old.cloud) (C.seen self.new.cloud) }
-        ensures noted { Adds (note_of who (Delete queue id) (answer_of done_by result)) self.old.trace self.new.trace }
+        ensures made { MakesDelete who queue id result (C.seen self.old.cloud) (C.seen self.new.cloud) }
+        ensures noted { IsNoted who (Delete queue id) (done_answer result) self.old self.new }
     {
         let call = Call::Delete(copy(&queue), copy(&id));
         match self.cloud.delete(who, queue, id) {
@@ -224,8 +221,8 @@ impl<C: Bench> Cloud for NotingCloud<C> {
     }
 
     fn take(&mut self, who: Who, lock: Lock, ticks: u64) -> Result<Grant, CloudFault>
-        ensures made { Makes who (Take lock ticks) (answer_of granted_by result) (C.seen self.old.cloud) (C.seen self.new.cloud) }
-        ensures noted { Adds (note_of who (Take lock ticks) (answer_of granted_by result)) self.old.trace self.new.trace }
+        ensures made { MakesTake who lock ticks result (C.seen self.old.cloud) (C.seen self.new.cloud) }
+        ensures noted { IsNoted who (Take lock ticks) (taken_answer result) self.old self.new }
     {
         let call = Call::Take(copy(&lock), ticks);
         match self.cloud.take(who, lock, ticks) {
@@ -241,9 +238,9 @@ impl<C: Bench> Cloud for NotingCloud<C> {
     }
 
     fn renew(&mut self, who: Who, lease: &mut Lease, ticks: u64) -> Result<(), HeldFault>
-        ensures made { Makes who (Renew lease.old ticks) (held_answer_of (renewed_by lease.new) result) (C.seen self.old.cloud) (C.seen self.new.cloud) }
-        ensures lease { RenewsLease who ticks lease.old lease.new (held_answer_of (renewed_by lease.new) result) (C.seen self.old.cloud) (C.seen self.new.cloud) }
-        ensures noted { Adds (note_of who (Renew lease.old ticks) (held_answer_of (renewed_by lease.new) result)) self.old.trace self.new.trace }
+        ensures made { MakesRenew who ticks (lease.old, lease.new) result (C.seen self.old.cloud) (C.seen self.new.cloud) }
+        ensures lease { SetsLease who ticks (lease.old, lease.new) result (C.seen self.old.cloud) (C.seen self.new.cloud) }
+        ensures noted { IsNoted who (Renew lease.old ticks) (renewal lease.new result) self.old self.new }
     {
         let lock = lease.lock();
         match self.cloud.renew(who, lease, ticks) {
@@ -259,8 +256,8 @@ impl<C: Bench> Cloud for NotingCloud<C> {
     }
 
     fn release(&mut self, who: Who, lease: Lease) -> Result<(), CloudFault>
-        ensures made { Makes who (Release lease) (answer_of done_by result) (C.seen self.old.cloud) (C.seen self.new.cloud) }
-        ensures noted { Adds (note_of who (Release lease) (answer_of done_by result)) self.old.trace self.new.trace }
+        ensures made { MakesRelease who lease result (C.seen self.old.cloud) (C.seen self.new.cloud) }
+        ensures noted { IsNoted who (Release lease) (done_answer result) self.old self.new }
     {
         let lock = lease.lock();
         match self.cloud.release(who, lease) {
@@ -279,7 +276,7 @@ impl<C: Bench> Cloud for NotingCloud<C> {
 impl<C: Bench> Bench for NotingCloud<C> {
     fn wish(&mut self, wish: Wish)
         ensures no_call { IsNoCall (C.seen self.old.cloud) (C.seen self.new.cloud) }
-        ensures set { (s : CloudState) → (C.seen self.old.cloud).state ≡ Some s → (C.seen self.new.cloud).state ≡ Some (record s { wish = wish }) }
+        ensures set { SetsWish wish (C.seen self.old.cloud) (C.seen self.new.cloud) }
         ensures noted { self.new.trace ≡ self.old.trace }
     {
         self.cloud.wish(wish);
@@ -287,7 +284,7 @@ impl<C: Bench> Bench for NotingCloud<C> {
 
     fn wait(&mut self, ticks: u64)
         ensures no_call { IsNoCall (C.seen self.old.cloud) (C.seen self.new.cloud) }
-        ensures waited { (s : CloudState) → (C.seen self.old.cloud).state ≡ Some s → Waits ticks s (C.seen self.new.cloud).state }
+        ensures waited { HasWaited ticks (C.seen self.old.cloud) (C.seen self.new.cloud) }
         ensures noted { self.new.trace ≡ self.old.trace }
     {
         self.cloud.wait(ticks);
@@ -295,7 +292,7 @@ impl<C: Bench> Bench for NotingCloud<C> {
 
     fn peek(&mut self, name: ObjName) -> Result<Option<Blob>, CloudFault>
         ensures looks { Looks result (C.seen self.old.cloud) (C.seen self.new.cloud) }
-        ensures newest { (s : CloudState) → (C.seen self.old.cloud).state ≡ Some s → IfOk result (λ v. v ≡ newest s name) }
+        ensures newest { TellsNewest result (C.seen self.old.cloud) name }
         ensures shown { IfOk result (IsShown (C.seen self.old.cloud) name) }
         ensures noted { self.new.trace ≡ self.old.trace }
     {
@@ -304,7 +301,7 @@ impl<C: Bench> Bench for NotingCloud<C> {
 
     fn has(&mut self, name: ObjName, bytes: &[u8]) -> Result<bool, CloudFault>
         ensures looks { Looks result (C.seen self.old.cloud) (C.seen self.new.cloud) }
-        ensures newest { (s : CloudState) → (C.seen self.old.cloud).state ≡ Some s → IfOk result (λ is. is ≡ has_bytes (newest s name) bytes.now) }
+        ensures newest { TellsHaving result (C.seen self.old.cloud) name bytes.now }
         ensures shown { IfOk result (IsShownToHave (C.seen self.old.cloud) name bytes.now) }
         ensures noted { self.new.trace ≡ self.old.trace }
     {
@@ -313,7 +310,7 @@ impl<C: Bench> Bench for NotingCloud<C> {
 
     fn backlog(&mut self, queue: QueueName) -> Result<u64, CloudFault>
         ensures looks { Looks result (C.seen self.old.cloud) (C.seen self.new.cloud) }
-        ensures length { (s : CloudState) → (C.seen self.old.cloud).state ≡ Some s → IfOk result (λ n. n ≡ length (unmarked (s.messages queue))) }
+        ensures length { TellsBacklog result (C.seen self.old.cloud) queue }
         ensures noted { self.new.trace ≡ self.old.trace }
     {
         self.cloud.backlog(queue)

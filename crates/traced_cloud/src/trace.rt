@@ -1,9 +1,7 @@
 //! The notes of the calls so far.
 
-ghost use Rattle.std.specs.Prelude.{◌≡◌, false, [], Option, None};
+ghost use Rattle.std.specs.Prelude.{◌≡◌, false, [], None};
 ghost use Rattle.std.specs.Option.{option_and_then, option_copied};
-ghost use Rattle.cloud_trait.specs.Claim.{Claim};
-ghost use Rattle.cloud_trait.specs.Ask.{PutHeld, Renew, Release};
 ghost use Rattle.cloud_trait.specs.Call.{ask_of, kind_of, target_of, bytes_of};
 ghost use Rattle.cloud_trait.specs.Answers.{fault_answer, granted_by, held_fault_answer};
 ghost use Rattle.cloud_trait.specs.declared.answer.Answer.TheVariants as answer;
@@ -74,7 +72,7 @@ fn bytes_in(bytes: &Option<Blob>) -> Option<&[u8]>
 }
 
 impl Trace {
-    ghost use Rattle.traced_cloud.specs.Notes.{Adds};
+    ghost use Rattle.traced_cloud.specs.Notes.{Adds, AddsPut, AddsRenewal, AddsRelease};
 
     /// No call yet. Takes no memory.
     pub fn new(alloc: Global) -> Trace
@@ -216,14 +214,14 @@ impl Trace {
 
     /// Notes a put that was done.
     pub fn put(&mut self, who: Who, name: ObjName, bytes: &[u8])
-        ensures { (one : Claim) (two : Option Claim) → Adds (note_of who (PutHeld name bytes.now one two) answer.Done) self.old self.new }
+        ensures { AddsPut who name bytes.now answer.Done self.old self.new }
     {
         self.put_so(who, name, bytes, Outcome::Landed);
     }
 
     /// Notes a put that had this fault.
     pub fn not_put(&mut self, who: Who, name: ObjName, bytes: &[u8], fault: HeldFault)
-        ensures { (one : Claim) (two : Option Claim) → Adds (note_of who (PutHeld name bytes.now one two) (held_fault_answer fault)) self.old self.new }
+        ensures { AddsPut who name bytes.now (held_fault_answer fault) self.old self.new }
     {
         self.put_so(who, name, bytes, held_outcome(fault));
     }
@@ -251,7 +249,7 @@ impl Trace {
 
     /// Notes a renewal of a lease of this lock, that led to this end.
     pub fn renewed(&mut self, who: Who, lock: Lock, ticks: u64, end: u64)
-        ensures { (l : Claim) → l.lock ≡ lock → Adds (note_of who (Renew l ticks) (answer.Renewed end)) self.old self.new }
+        ensures { AddsRenewal who lock ticks (answer.Renewed end) self.old self.new }
     {
         self.moved(
             who,
@@ -264,21 +262,21 @@ impl Trace {
 
     /// Notes a renewal of a lease of this lock that had this fault.
     pub fn not_renewed(&mut self, who: Who, lock: Lock, ticks: u64, fault: HeldFault)
-        ensures { (l : Claim) → l.lock ≡ lock → Adds (note_of who (Renew l ticks) (held_fault_answer fault)) self.old self.new }
+        ensures { AddsRenewal who lock ticks (held_fault_answer fault) self.old self.new }
     {
         self.moved(who, CallKind::Renew, lock, Some(ticks), held_outcome(fault));
     }
 
     /// Notes a release of a lease of this lock.
     pub fn released(&mut self, who: Who, lock: Lock)
-        ensures { (l : Claim) → l.lock ≡ lock → Adds (note_of who (Release l) answer.Done) self.old self.new }
+        ensures { AddsRelease who lock answer.Done self.old self.new }
     {
         self.moved(who, CallKind::Release, lock, None, Outcome::Done);
     }
 
     /// Notes a release of a lease of this lock that had this fault.
     pub fn not_released(&mut self, who: Who, lock: Lock, fault: CloudFault)
-        ensures { (l : Claim) → l.lock ≡ lock → Adds (note_of who (Release l) (fault_answer fault)) self.old self.new }
+        ensures { AddsRelease who lock (fault_answer fault) self.old self.new }
     {
         self.moved(who, CallKind::Release, lock, None, fault_outcome(fault));
     }

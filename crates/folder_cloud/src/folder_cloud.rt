@@ -1,11 +1,7 @@
-ghost use Rattle.std.specs.Prelude.{◌≡◌, ◌≤◌, ℕ, length, Err, OnOk};
+ghost use Rattle.std.specs.Prelude.{◌≤◌, ℕ, length, Err, OnOk};
 ghost use Rattle.cloud_trait.specs.Answers.{fault_answer, held_fault_answer};
-ghost use Rattle.cloud_trait.specs.Ask.{Ask};
 ghost use Rattle.cloud_trait.specs.Bench.{Looks};
-ghost use Rattle.cloud_trait.specs.Caller.{Caller};
-ghost use Rattle.cloud_trait.specs.Claim.{Claim};
-ghost use Rattle.cloud_trait.specs.Weather.{Makes, RenewsLease};
-ghost use Rattle.folder_cloud.specs.Counting.{counted};
+ghost use Rattle.folder_cloud.specs.Counting.{seen_of, AnswersAll, KeepsAllLeases};
 
 use crate::fault::{FolderFault, HeldStop};
 use crate::ticks::Ticks;
@@ -50,8 +46,8 @@ impl<R: Files<File = File> + AllocGlobal + Drop, K: Ticks + Drop> FolderCloud<R,
 
     // A service call failed. Memory where the count of failures can't rise.
     fn fail(&mut self, fault: FolderFault) -> CloudFault
-        ensures made { (who : Caller) (ask : Ask) → Makes who ask (fault_answer result) (counted self.old.faults self.old.dark) (counted self.new.faults self.new.dark) }
-        ensures lease { (who : Caller) (ticks : ℕ) (l : Claim) → RenewsLease who ticks l l (fault_answer result) (counted self.old.faults self.old.dark) (counted self.new.faults self.new.dark) }
+        ensures made { AnswersAll (fault_answer result) (seen_of self.old) (seen_of self.new) }
+        ensures lease { KeepsAllLeases (fault_answer result) (seen_of self.old) (seen_of self.new) }
     {
         match fault {
             FolderFault::Memory => CloudFault::Memory,
@@ -67,8 +63,8 @@ impl<R: Files<File = File> + AllocGlobal + Drop, K: Ticks + Drop> FolderCloud<R,
 
     // The same of a call under a lease.
     fn fail_held(&mut self, fault: FolderFault) -> HeldFault
-        ensures made { (who : Caller) (ask : Ask) → Makes who ask (held_fault_answer result) (counted self.old.faults self.old.dark) (counted self.new.faults self.new.dark) }
-        ensures lease { (who : Caller) (ticks : ℕ) (l : Claim) → RenewsLease who ticks l l (held_fault_answer result) (counted self.old.faults self.old.dark) (counted self.new.faults self.new.dark) }
+        ensures made { AnswersAll (held_fault_answer result) (seen_of self.old) (seen_of self.new) }
+        ensures lease { KeepsAllLeases (held_fault_answer result) (seen_of self.old) (seen_of self.new) }
     {
         match self.fail(fault) {
             CloudFault::Failed => HeldFault::Failed,
@@ -78,7 +74,7 @@ impl<R: Files<File = File> + AllocGlobal + Drop, K: Ticks + Drop> FolderCloud<R,
 
     // A look failed. Memory where the count of failed looks can't rise.
     fn fail_look(&mut self, fault: FolderFault) -> CloudFault
-        ensures { Looks {A = ℕ} (Err result) (counted self.old.faults self.old.dark) (counted self.new.faults self.new.dark) }
+        ensures { Looks {A = ℕ} (Err result) (seen_of self.old) (seen_of self.new) }
     {
         match fault {
             FolderFault::Memory => CloudFault::Memory,
@@ -94,7 +90,7 @@ impl<R: Files<File = File> + AllocGlobal + Drop, K: Ticks + Drop> FolderCloud<R,
 }
 
 impl<R: Files<File = File> + AllocGlobal + Drop, K: Ticks + Drop> Cloud for FolderCloud<R, K> {
-    ghost seen = { λ c. counted c.faults c.dark };
+    ghost seen = { seen_of };
 
     fn now(&self) -> u64 {
         self.folder.latest()

@@ -1,8 +1,9 @@
-ghost use Rattle.std.specs.Prelude.{◌≡◌, ◌≤◌, ℕ, length, Err, IfOk, IfSome, OnOk, Ok};
+ghost use Rattle.std.specs.Prelude.{◌≡◌, ◌≤◌, length, Err, IfOk, IfSome, OnOk, Ok};
 ghost use Rattle.std.specs.Option.{option_copied};
 ghost use Rattle.cloud_trait.specs.Claim.{Claim, IsOver};
 ghost use Rattle.cloud_trait.specs.Listing.{AscendAbove};
 ghost use Rattle.cloud_trait.specs.Weather.{FirstOver};
+ghost use Rattle.folder_cloud.specs.Lateness.{IfLate};
 
 use crate::clock::Clock;
 use crate::fault::{FolderFault, HeldStop};
@@ -51,7 +52,7 @@ impl<R: Files<File = File> + AllocGlobal + Drop, K: Ticks + Drop> TimedFolder<R,
 
     // The same for a call that names leases.
     fn begin_under(&mut self, first: &Lease, second: Option<&Lease>) -> Result<Held, HeldStop>
-        ensures late { (end now : ℕ) → result ≡ Err (HeldStop.Late end now) → FirstOver now first.now (option_copied second.entry) end }
+        ensures late { IfLate result (λ end now. FirstOver now first.now (option_copied second.entry) end) }
     {
         let held = self.begin()?;
         let now = self.clock.latest();
@@ -73,7 +74,7 @@ impl<R: Files<File = File> + AllocGlobal + Drop, K: Ticks + Drop> TimedFolder<R,
 
     /// The newest version of an object, under a lease.
     pub fn get_held(&mut self, name: &ObjName, lease: &Lease) -> Result<Option<Blob>, HeldStop>
-        ensures late { (end now : ℕ) → result ≡ Err (HeldStop.Late end now) → IsOver now lease.now × (end ≡ lease.now.end) }
+        ensures late { IfLate result (λ end now. IsOver now lease.now × (end ≡ lease.now.end)) }
     {
         let held = self.begin_under(lease, None)?;
         Ok(self.folder.get(&held, name)?)
@@ -87,7 +88,7 @@ impl<R: Files<File = File> + AllocGlobal + Drop, K: Ticks + Drop> TimedFolder<R,
         first: &Lease,
         second: Option<&Lease>,
     ) -> Result<(), HeldStop>
-        ensures late { (end now : ℕ) → result ≡ Err (HeldStop.Late end now) → FirstOver now first.now (option_copied second.entry) end }
+        ensures late { IfLate result (λ end now. FirstOver now first.now (option_copied second.entry) end) }
     {
         let held = self.begin_under(first, second)?;
         self.folder.put(&held, name, bytes)?;
@@ -97,7 +98,7 @@ impl<R: Files<File = File> + AllocGlobal + Drop, K: Ticks + Drop> TimedFolder<R,
     /// The pages of a tree, in ascending order, under a lease.
     pub fn list_held(&mut self, tree: TreeId, lease: &Lease) -> Result<Vec<PageId>, HeldStop>
         ensures ascending { IfOk result (λ pages. AscendAbove 0 pages.items) }
-        ensures late { (end now : ℕ) → result ≡ Err (HeldStop.Late end now) → IsOver now lease.now × (end ≡ lease.now.end) }
+        ensures late { IfLate result (λ end now. IsOver now lease.now × (end ≡ lease.now.end)) }
     {
         let held = self.begin_under(lease, None)?;
         Ok(self.folder.pages(&held, tree)?)
@@ -105,7 +106,7 @@ impl<R: Files<File = File> + AllocGlobal + Drop, K: Ticks + Drop> TimedFolder<R,
 
     /// Removes an object, where it is there, under a lease.
     pub fn remove_held(&mut self, name: &ObjName, lease: &Lease) -> Result<(), HeldStop>
-        ensures late { (end now : ℕ) → result ≡ Err (HeldStop.Late end now) → IsOver now lease.now × (end ≡ lease.now.end) }
+        ensures late { IfLate result (λ end now. IsOver now lease.now × (end ≡ lease.now.end)) }
     {
         let held = self.begin_under(lease, None)?;
         self.folder.remove(&held, name)?;
@@ -142,7 +143,7 @@ impl<R: Files<File = File> + AllocGlobal + Drop, K: Ticks + Drop> TimedFolder<R,
 
     /// Moves the end of a lease's lock to some ticks from now: where to.
     pub fn renew(&mut self, lease: &Lease, ticks: u64) -> Result<u64, HeldStop>
-        ensures late { (end now : ℕ) → result ≡ Err (HeldStop.Late end now) → IsOver now lease.now × (end ≡ lease.now.end) }
+        ensures late { IfLate result (λ end now. IsOver now lease.now × (end ≡ lease.now.end)) }
     {
         let held = self.begin_under(lease, None)?;
         let until = lease_end(self.clock.latest(), ticks);

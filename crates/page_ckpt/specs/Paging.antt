@@ -20,11 +20,13 @@ use Rattle.leaf_edit.specs.Applied.{applied}
 use Rattle.leaf_edit.specs.Lacked.{lacked}
 use Rattle.run_cursor.specs.Run.{Taken}
 use Rattle.cloud_trait.specs.declared.answer.Answer.{Answer}
+use Rattle.cloud_trait.specs.declared.answer.Answer.TheVariants.{Failed}
 use Rattle.cloud_trait.specs.declared.message.Message.{Message}
 use Rattle.cloud_trait.specs.declared.turn.CkptAnswer.{CkptAnswer}
+use Rattle.cloud_trait.specs.declared.turn.Turn.{Turn}
 use Rattle.cloud_trait.specs.Ask.{Ask, GetHeld, PutHeld, Receive, Delete, Take, Release}
 use Rattle.cloud_trait.specs.Claim.{Claim}
-use Rattle.cloud_trait.specs.Machine.{Next, Goes, Ends, Stops}
+use Rattle.cloud_trait.specs.Machine.{Next, Goes, Ends, Stops, Took}
 use Rattle.cloud_trait.specs.Views.{given_of, got_of, received_of, done_of}
 use Rattle.ckpt_parts.specs.declared.intake.Intake.{Intake}
 use Rattle.ckpt_parts.specs.declared.leases.Leases.{Leases}
@@ -359,6 +361,10 @@ PagingLeads p a next = Absorbs (handed p) a next
 -- at want of memory the step leaves the leases as they are
 abbrev pub SameLeases : Paging → Answer → Paging → Type 0
 SameLeases p a n = n.held ≡ p.held
+
+-- a part of the step leads so from this state, whatever was answered; at want of memory it keeps the leases
+abbrev pub TurnsBy : (Paging → Next Paging CkptAnswer → Type 0) → Paging → Paging → Turn CkptAnswer → Type 0
+TurnsBy leads old new turn = Took (λ from _ next. leads from next) SameLeases old Failed new turn
 
 -- and so does the call with its step, but for a lease that the call gives back
 abbrev pub KeepsLeases : Paging → Answer → Paging → Type 0

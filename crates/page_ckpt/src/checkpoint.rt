@@ -114,7 +114,7 @@ impl PageCkpt {
     ghost use Rattle.leaf_view.specs.Lookup.{page_at};
     ghost use Rattle.log_codec.specs.Order.{IsOrdered};
     ghost use Rattle.page_ckpt.specs.End.{calls_left};
-    ghost use Rattle.page_ckpt.specs.Paging.{new_paging, paging_ask, take_home, under, delete_next, handed, stopping, home_taken_by, HomeGot, ReceivedBy, MessagesRead, IntakeTaken, GoesOnBy, without_onward, to_right, is_visited, LeafPut, MakesLeaf, MadePut, right_taken_by, RightGot, RightRead, RightLacks, right_put_by, home_put_by, deleted_by, deleting, released_by, finished_by, Absorbs, SameLeases};
+    ghost use Rattle.page_ckpt.specs.Paging.{new_paging, paging_ask, take_home, under, delete_next, handed, stopping, home_taken_by, HomeGot, ReceivedBy, MessagesRead, IntakeTaken, GoesOnBy, without_onward, to_right, is_visited, LeafPut, MakesLeaf, MadePut, right_taken_by, RightGot, RightRead, RightLacks, right_put_by, home_put_by, deleted_by, deleting, released_by, finished_by, Absorbs, SameLeases, TurnsBy};
 
     /// The checkpoint of a page of a tree. Takes no memory.
     pub fn new(alloc: Global, tree: TreeId, page: PageId) -> PageCkpt
@@ -282,7 +282,7 @@ impl PageCkpt {
     }
 
     fn stop(&mut self, trouble: Trouble) -> Turn<CkptAnswer>
-        ensures { Took (λ p _ next. next ≡ stopping p trouble) SameLeases self.old Answer.Failed self.new result }
+        ensures { TurnsBy (λ p next. next ≡ stopping p trouble) self.old self.new result }
     {
         self.stage = Stage::Releasing;
         self.trouble = Some(trouble);
@@ -290,7 +290,7 @@ impl PageCkpt {
     }
 
     fn home_taken(&mut self, given: Result<Lease, Trouble>) -> Turn<CkptAnswer>
-        ensures { Took (λ p _ next. next ≡ home_taken_by p given) SameLeases self.old Answer.Failed self.new result }
+        ensures { TurnsBy (λ p next. next ≡ home_taken_by p given) self.old self.new result }
     {
         match given {
             Ok(lease) => {
@@ -306,7 +306,7 @@ impl PageCkpt {
     }
 
     fn home_got(&mut self, got: Result<Option<Blob>, Trouble>) -> Turn<CkptAnswer>
-        ensures { Took (λ p _ next. HomeGot p got next) SameLeases self.old Answer.Failed self.new result }
+        ensures { TurnsBy (λ p next. HomeGot p got next) self.old self.new result }
     {
         match got {
             Ok(got) => self.read_home(got),
@@ -315,7 +315,7 @@ impl PageCkpt {
     }
 
     fn read_home(&mut self, got: Option<Blob>) -> Turn<CkptAnswer>
-        ensures { Took (λ p _ next. HomeGot p (Ok got) next) SameLeases self.old Answer.Failed self.new result }
+        ensures { TurnsBy (λ p next. HomeGot p (Ok got) next) self.old self.new result }
     {
         match named_leaf(self.tree, self.page, got) {
             Ok(home) => {
@@ -332,7 +332,7 @@ impl PageCkpt {
         alloc: Global,
         received: Result<MessageList, Trouble>,
     ) -> Turn<CkptAnswer>
-        ensures { Took (λ p _ next. ReceivedBy p received next) SameLeases self.old Answer.Failed self.new result }
+        ensures { TurnsBy (λ p next. ReceivedBy p received next) self.old self.new result }
     {
         match received {
             Ok(messages) => self.note_messages(alloc, messages.as_slice()),
@@ -341,7 +341,7 @@ impl PageCkpt {
     }
 
     fn note_messages(&mut self, alloc: Global, messages: &[Message]) -> Turn<CkptAnswer>
-        ensures { Took (λ p _ next. ReceivedBy p (Ok messages.now) next) SameLeases self.old Answer.Failed self.new result }
+        ensures { TurnsBy (λ p next. ReceivedBy p (Ok messages.now) next) self.old self.new result }
     {
         match ids_of(alloc, messages) {
             Ok(received) => {
@@ -354,7 +354,7 @@ impl PageCkpt {
 
     /// Takes the run after the page's own numbers of its queue.
     fn read_messages(&mut self, alloc: Global, messages: &[Message]) -> Turn<CkptAnswer>
-        ensures { Took (λ p _ next. MessagesRead p messages.now next) SameLeases self.old Answer.Failed self.new result }
+        ensures { TurnsBy (λ p next. MessagesRead p messages.now next) self.old self.new result }
     {
         let Ok(cursor) = self.home_view().cursor(alloc, self.page.get()) else {
             return Turn::Stopped(Trouble::Memory);
@@ -368,7 +368,7 @@ impl PageCkpt {
 
     /// Keeps the run; a right page or the page itself is next, or the deletions where the run is empty.
     fn start(&mut self, alloc: Global, intake: Intake) -> Turn<CkptAnswer>
-        ensures { Took (λ p _ next. IntakeTaken p (Ok intake) next) SameLeases self.old Answer.Failed self.new result }
+        ensures { TurnsBy (λ p next. IntakeTaken p (Ok intake) next) self.old self.new result }
     {
         let Intake { run, deletions } = intake;
         let is_empty = run.items().is_empty();
@@ -385,7 +385,7 @@ impl PageCkpt {
 
     /// The right page to which the link leads is next, or the page itself where there is no link.
     fn go_on(&mut self, alloc: Global, link: Option<Link>) -> Turn<CkptAnswer>
-        ensures { Took (λ p _ next. GoesOnBy p link next) SameLeases self.old Answer.Failed self.new result }
+        ensures { TurnsBy (λ p next. GoesOnBy p link next) self.old self.new result }
     {
         match link {
             Some(link) => self.go_right(link),
@@ -394,7 +394,7 @@ impl PageCkpt {
     }
 
     fn go_right(&mut self, link: Link) -> Turn<CkptAnswer>
-        ensures { Took (λ p _ next. next ≡ to_right p link (is_visited p link.page)) SameLeases self.old Answer.Failed self.new result }
+        ensures { TurnsBy (λ p next. next ≡ to_right p link (is_visited p link.page)) self.old self.new result }
     {
         if self.is_visited(link.page) {
             return self.stop(Trouble::Loop { page: link.page });
@@ -420,7 +420,7 @@ impl PageCkpt {
     }
 
     fn put_home(&mut self, alloc: Global) -> Turn<CkptAnswer>
-        ensures { Took (λ p _ next. LeafPut p Stage.PuttingHome p.home next) SameLeases self.old Answer.Failed self.new result }
+        ensures { TurnsBy (λ p next. LeafPut p Stage.PuttingHome p.home next) self.old self.new result }
     {
         match self.home_with_run(alloc) {
             Ok((items, made)) => self.put_made(Stage::PuttingHome, items, made),
@@ -440,7 +440,7 @@ impl PageCkpt {
     }
 
     fn put_made(&mut self, stage: Stage, lacked: Vec<PuItem>, made: Made) -> Turn<CkptAnswer>
-        ensures { Took (λ p _ next. MadePut p stage lacked.items made next) SameLeases self.old Answer.Failed self.new result }
+        ensures { TurnsBy (λ p next. MadePut p stage lacked.items made next) self.old self.new result }
     {
         match made {
             Made::Leaf(out) => {
@@ -457,7 +457,7 @@ impl PageCkpt {
     }
 
     fn right_taken(&mut self, given: Result<Lease, Trouble>) -> Turn<CkptAnswer>
-        ensures { Took (λ p _ next. next ≡ right_taken_by p given) SameLeases self.old Answer.Failed self.new result }
+        ensures { TurnsBy (λ p next. next ≡ right_taken_by p given) self.old self.new result }
     {
         match given {
             Ok(lease) => {
@@ -470,7 +470,7 @@ impl PageCkpt {
     }
 
     fn right_got(&mut self, alloc: Global, got: Result<Option<Blob>, Trouble>) -> Turn<CkptAnswer>
-        ensures { Took (λ p _ next. RightGot p got next) SameLeases self.old Answer.Failed self.new result }
+        ensures { TurnsBy (λ p next. RightGot p got next) self.old self.new result }
     {
         match got {
             Ok(got) => self.read_right_bytes(alloc, held_bytes(&got)),
@@ -479,7 +479,7 @@ impl PageCkpt {
     }
 
     fn read_right_bytes(&mut self, alloc: Global, got: Option<&[u8]>) -> Turn<CkptAnswer>
-        ensures { Took (λ p _ next. RightGot p (Ok (option_copied got.entry)) next) SameLeases self.old Answer.Failed self.new result }
+        ensures { TurnsBy (λ p next. RightGot p (Ok (option_copied got.entry)) next) self.old self.new result }
     {
         let page = self.at.page;
         match linked_leaf(alloc, self.tree, page, self.at.low.as_slice(), got) {
@@ -491,7 +491,7 @@ impl PageCkpt {
 
     /// Puts the right page with what it lacks of the run next, or leaves it where it lacks nothing.
     fn read_right(&mut self, alloc: Global, leaf: &LeafView<'_>) -> Turn<CkptAnswer>
-        ensures { Took (λ p _ next. RightRead p (Ok leaf.now) next) SameLeases self.old Answer.Failed self.new result }
+        ensures { TurnsBy (λ p next. RightRead p (Ok leaf.now) next) self.old self.new result }
     {
         match link_of(alloc, leaf, self.run_items()) {
             Ok(onward) => {
@@ -503,7 +503,7 @@ impl PageCkpt {
     }
 
     fn put_right(&mut self, alloc: Global, leaf: &LeafView<'_>) -> Turn<CkptAnswer>
-        ensures { Took (λ p _ next. RightLacks p leaf.now (has_items (lacked leaf.now p.page p.run.items)) next) SameLeases self.old Answer.Failed self.new result }
+        ensures { TurnsBy (λ p next. RightLacks p leaf.now (has_items (lacked leaf.now p.page p.run.items)) next) self.old self.new result }
     {
         match lacked_of(alloc, leaf, self.page.get(), self.run_items()) {
             Ok(lacked) => self.put_lacked(alloc, leaf, lacked),
@@ -518,7 +518,7 @@ impl PageCkpt {
         items: Vec<PuItem>,
     ) -> Turn<CkptAnswer>
         requires { items.items ≡ lacked leaf.now self.old.page self.old.run.items }
-        ensures { Took (λ p _ next. RightLacks p leaf.now (has_items items.items) next) SameLeases self.old Answer.Failed self.new result }
+        ensures { TurnsBy (λ p next. RightLacks p leaf.now (has_items items.items) next) self.old self.new result }
     {
         if items.is_empty() {
             self.stage = Stage::ReleasingRight;
@@ -529,7 +529,7 @@ impl PageCkpt {
     }
 
     fn right_put(&mut self, alloc: Global, done: Result<(), Trouble>) -> Turn<CkptAnswer>
-        ensures { Took (λ p _ next. next ≡ right_put_by p done) SameLeases self.old Answer.Failed self.new result }
+        ensures { TurnsBy (λ p next. next ≡ right_put_by p done) self.old self.new result }
     {
         match done {
             Ok(()) => {
@@ -549,14 +549,14 @@ impl PageCkpt {
     }
 
     fn right_released(&mut self, alloc: Global) -> Turn<CkptAnswer>
-        ensures { Took (λ p _ next. GoesOnBy (without_onward p) p.onward next) SameLeases self.old Answer.Failed self.new result }
+        ensures { TurnsBy (λ p next. GoesOnBy (without_onward p) p.onward next) self.old self.new result }
     {
         let onward = self.onward.take();
         self.go_on(alloc, onward)
     }
 
     fn home_put(&mut self, alloc: Global, done: Result<(), Trouble>) -> Turn<CkptAnswer>
-        ensures { Took (λ p _ next. next ≡ home_put_by p done) SameLeases self.old Answer.Failed self.new result }
+        ensures { TurnsBy (λ p next. next ≡ home_put_by p done) self.old self.new result }
     {
         match done {
             Ok(()) => {
@@ -576,7 +576,7 @@ impl PageCkpt {
 
     /// Deletes the next message next, or gives the leases back where none is left.
     fn delete_next(&mut self) -> Turn<CkptAnswer>
-        ensures { Took (λ p _ next. next ≡ deleting p) SameLeases self.old Answer.Failed self.new result }
+        ensures { TurnsBy (λ p next. next ≡ deleting p) self.old self.new result }
     {
         match self.deletions.next() {
             Some(_) => {
@@ -591,7 +591,7 @@ impl PageCkpt {
     }
 
     fn deleted(&mut self, done: Result<(), Trouble>) -> Turn<CkptAnswer>
-        ensures { Took (λ p _ next. next ≡ deleted_by p done) SameLeases self.old Answer.Failed self.new result }
+        ensures { TurnsBy (λ p next. next ≡ deleted_by p done) self.old self.new result }
     {
         self.deletions.note(done.is_ok());
         self.delete_next()
@@ -599,7 +599,7 @@ impl PageCkpt {
 
     /// The next lease is given back next, or the checkpoint ends.
     fn released(&mut self) -> Turn<CkptAnswer>
-        ensures { Took (λ p _ next. next ≡ released_by p (newest_lease p.held)) SameLeases self.old Answer.Failed self.new result }
+        ensures { TurnsBy (λ p next. next ≡ released_by p (newest_lease p.held)) self.old self.new result }
     {
         match self.held.newest() {
             Some(_) => Turn::More,
@@ -608,7 +608,7 @@ impl PageCkpt {
     }
 
     fn finish(&mut self) -> Turn<CkptAnswer>
-        ensures { Took (λ p _ next. next ≡ finished_by p p.trouble) SameLeases self.old Answer.Failed self.new result }
+        ensures { TurnsBy (λ p next. next ≡ finished_by p p.trouble) self.old self.new result }
     {
         self.stage = Stage::Finished;
         match self.trouble.take() {

@@ -6,7 +6,6 @@ use Rattle.db_base.specs.declared.names.QueueName.TheVariants as queue
 use Rattle.head_codec.specs.declared.head.Head.{Head}
 use Rattle.head_codec.specs.Head.{empty_head}
 use Rattle.head_codec.specs.Spelling.{head_of}
-use Rattle.log_codec.specs.declared.record.AtomicRec.{AtomicRec}
 use Rattle.log_codec.specs.Atomic.{atomic_of}
 use Rattle.log_codec.specs.Pu.{pu_bytes}
 use Rattle.route_plan.specs.Queue.{queue_name}
@@ -20,6 +19,7 @@ use Rattle.cloud_trait.specs.Views.{received_of}
 use Rattle.recover_run.specs.declared.items.AtomicItem.{AtomicItem}
 use Rattle.recover_run.specs.declared.wanted.Wanted.{Wanted}
 use Rattle.recover_run.specs.Gathering.{is_lost, is_past}
+use Rattle.recover_run.specs.Recovery.{client_ticks, most_received}
 
 -- what calls asked and answered
 abbrev pub Calls : Type 0
@@ -61,14 +61,14 @@ pub record Reading (client : ℕ) (old : Option Claim) (front : Calls) : Type 0 
   pub bytes : Option (List ℕ)
   pub head : Head
   pub reads : head_in bytes ≡ Some head
-  pub calls : front ≡ (GetHeld (object.Head client) lease, Got bytes) ∷ (Take (lock.Client client) 600, Given lease) ∷ start
+  pub calls : front ≡ (GetHeld (object.Head client) lease, Got bytes) ∷ (Take (lock.Client client) client_ticks, Given lease) ∷ start
 
 -- ---- gathering
 
 -- behind the earlier calls, at most 256 messages were received, or the message of a lost record was deleted that one of them had brought
 abbrev pub Gathers : ℕ → Wanted → Calls → Ask × Answer → Type 0
 Gathers client w earlier c =
-    ((ms : List Message) × (c ≡ (Receive (queue.Atomic client) 256, Received ms)))
+    ((ms : List Message) × (c ≡ (Receive (queue.Atomic client) most_received, Received ms)))
     ⊎ ((x : AtomicItem) × (c ≡ (Delete (queue.Atomic client) x.id, Done)) × (is_lost w x.rec ≡ true) × Brought x earlier)
 
 abbrev pub AreGathers : ℕ → Wanted → Calls → Type 0
@@ -93,7 +93,7 @@ AreSends kept (suc n) cs =
 -- brought, whatever that answered
 abbrev pub Sweeps : ℕ → Wanted → Calls → Ask × Answer → Type 0
 Sweeps client w earlier c =
-    ((ms : List Message) × (c ≡ (Receive (queue.Atomic client) 256, Received ms)))
+    ((ms : List Message) × (c ≡ (Receive (queue.Atomic client) most_received, Received ms)))
     ⊎ ((x : AtomicItem) × (a : Answer) × (c ≡ (Delete (queue.Atomic client) x.id, a)) × (is_past w x.rec ≡ true) × Brought x earlier)
 
 -- .. and so on, behind those before the put

@@ -15,11 +15,15 @@ use Rattle.recover_run.specs.declared.stage.Aim.{Aim}
 use Rattle.recover_run.specs.declared.stage.Aim.TheVariants.{Opening, Settling}
 use Rattle.recover_run.specs.declared.stage.RecoverAnswer.{RecoverAnswer}
 use Rattle.recover_run.specs.declared.stage.RecoverAnswer.TheVariants.{Opened, Nothing}
-use Rattle.recover_run.specs.Recovery.{Recovery, new_recovery, recovery_ask, recovery_next}
+use Rattle.recover_run.specs.Recovery.{Recovery, new_recovery, recovery_ask, recovery_next, client_ticks, most_received}
 
 -- the recovery of a client came here from its first call on by these calls, the newest first
 abbrev pub Went : ℕ → Aim → Option Claim → List Deed → Recovery → Type 0
 Went client aim old h r = Came recovery_ask (LeadsBy recovery_next) (new_recovery client aim old) h r
+
+-- this holds of each client and aim, of the lease that was held and of the calls by which a recovery can have come here
+abbrev pub Behind : Recovery → (ℕ → Aim → Option Claim → List Deed → Type 0) → Type 0
+Behind r holds = (client : ℕ) (aim : Aim) (old : Option Claim) (h : List Deed) → Went client aim old h r → holds client aim old h
 
 abbrev pub claims_over : Option Claim → List Claim → List Claim
 claims_over (Some l) claims = l ∷ claims
@@ -49,7 +53,7 @@ outstanding old (d ∷ h) = outstanding_after d.ask d.answer (outstanding old h)
 -- a take of the client's lock for 600 ticks gave the lease
 abbrev pub IsTaken : ℕ → Claim → List Deed → Type 0
 IsTaken client l [] = ⊥
-IsTaken client l (d ∷ h) = ((d.ask ≡ Take (lock.Client client) 600) × (d.answer ≡ Given l)) ⊎ IsTaken client l h
+IsTaken client l (d ∷ h) = ((d.ask ≡ Take (lock.Client client) client_ticks) × (d.answer ≡ Given l)) ⊎ IsTaken client l h
 
 -- the lease is the client's: it alone is held, and one of the takes gave it
 pub record IsClients (client : ℕ) (old : Option Claim) (h : List Deed) (l : Claim) : Type 0 where
@@ -60,12 +64,12 @@ pub record IsClients (client : ℕ) (old : Option Claim) (h : List Deed) (l : Cl
 -- The first call alone may name the lease that was handed in, and gives it back. Each other call that names a lease names the client's.
 -- Only the client's lock is taken, for 600 ticks, while no lease is held; only its head is read and put, and its queue received from.
 abbrev pub Names : ℕ → Option Claim → List Deed → Ask → Type 0
-Names client old h (Take taken ticks) = (taken ≡ lock.Client client) × (ticks ≡ 600) × (outstanding old h ≡ [])
+Names client old h (Take taken ticks) = (taken ≡ lock.Client client) × (ticks ≡ client_ticks) × (outstanding old h ≡ [])
 Names client old h (GetHeld name l) = (name ≡ object.Head client) × IsClients client old h l
 Names client old h (PutHeld name bytes l None) = (name ≡ object.Head client) × IsClients client old h l
 Names client old h (PutHeld name bytes l (Some two)) = ⊥
 Names client old h (Release l) = ((h ≡ []) × (old ≡ Some l)) ⊎ IsClients client old h l
-Names client old h (Receive from most) = (from ≡ queue.Atomic client) × (most ≡ 256)
+Names client old h (Receive from most) = (from ≡ queue.Atomic client) × (most ≡ most_received)
 Names client old h (Delete from id) = from ≡ queue.Atomic client
 Names client old h (Send to bytes) = Unit {0}
 Names client old h ask = ⊥

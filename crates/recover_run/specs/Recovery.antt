@@ -1,5 +1,5 @@
 -- An opening or a recovery as a machine: what it knows, what it asks, and where each answer leads.
-use Rattle.std.specs.Prelude.{ℕ, ◌≡◌, ◌≤◌, ◌+◌, ◌-◌, ◌^◌, ◌==◌, ◌++◌, Bool, if◌then◌else◌, List, [], ◌∷◌, length, slice_get, Option, Some, None, Result, Ok, Err}
+use Rattle.std.specs.Prelude.{ℕ, ◌≡◌, ◌≤◌, ◌+◌, ◌-◌, ◌^◌, ◌==◌, ◌++◌, if◌then◌else◌, List, [], ◌∷◌, length, slice_get, Option, Some, None, Result, Ok, Err}
 use Rattle.db_base.specs.declared.names.Lock.TheVariants as lock
 use Rattle.db_base.specs.declared.names.ObjName.TheVariants as object
 use Rattle.db_base.specs.declared.names.QueueName.{QueueName}
@@ -13,15 +13,16 @@ use Rattle.head_codec.specs.declared.head.Phase.{Phase}
 use Rattle.head_codec.specs.declared.head.Phase.TheVariants.{Settled, Open}
 use Rattle.head_codec.specs.Head.{empty_head, next_head}
 use Rattle.head_codec.specs.Spelling.{HasSpelling, head_bytes, head_of, head_offset}
-use Rattle.log_codec.specs.declared.record.AtomicRec.{AtomicRec}
 use Rattle.log_codec.specs.Pu.{pu_bytes, pu_of}
 use Rattle.route_plan.specs.Queue.{queue_name}
 use Rattle.route_plan.specs.Record.{pu_record_of}
 use Rattle.cloud_trait.specs.declared.answer.Answer.{Answer}
+use Rattle.cloud_trait.specs.declared.answer.Answer.TheVariants.{Failed}
 use Rattle.cloud_trait.specs.declared.message.Message.{Message}
+use Rattle.cloud_trait.specs.declared.turn.Turn.{Turn}
 use Rattle.cloud_trait.specs.Ask.{Ask, GetHeld, PutHeld, Send, Receive, Delete, Take, Release}
 use Rattle.cloud_trait.specs.Claim.{Claim}
-use Rattle.cloud_trait.specs.Machine.{Next, Goes, Ends, Stops}
+use Rattle.cloud_trait.specs.Machine.{Next, Goes, Ends, Stops, Took}
 use Rattle.cloud_trait.specs.Views.{given_of, got_of, sent_of, received_of, done_of}
 use Rattle.recover_run.specs.declared.wanted.Wanted.{Wanted}
 use Rattle.recover_run.specs.declared.home.Home.{Home}
@@ -80,8 +81,15 @@ new_recovery client aim old = record {
 
 -- ---- the call in hand
 
+-- for how many ticks a client's lock is taken, and how many messages a receive wants
+abbrev pub client_ticks : ℕ
+client_ticks = 600
+
+abbrev pub most_received : ℕ
+most_received = 256
+
 abbrev pub take_lease : Recovery → Ask
-take_lease r = Take (lock.Client r.client) 600
+take_lease r = Take (lock.Client r.client) client_ticks
 
 abbrev pub under : Recovery → Option Claim → (Claim → Ask) → Ask
 under r (Some l) ask = ask l
@@ -91,7 +99,7 @@ abbrev pub atomic_queue : Recovery → QueueName
 atomic_queue r = queue.Atomic r.client
 
 abbrev pub receive_next : Recovery → Ask
-receive_next r = Receive (atomic_queue r) 256
+receive_next r = Receive (atomic_queue r) most_received
 
 abbrev pub delete_next : Recovery → List ℕ → Ask
 delete_next r (id ∷ ids) = Delete (atomic_queue r) id
@@ -317,6 +325,10 @@ handed_over r = handed_at r.stage r
 -- at want of memory the step leaves the leases as they are
 abbrev pub SameLeases : Recovery → Answer → Recovery → Type 0
 SameLeases r a n = (n.lease ≡ r.lease) × (n.former ≡ r.former)
+
+-- a part of the step leads so from this state, whatever was answered; at want of memory it keeps the leases
+abbrev pub TurnsBy : (Recovery → Next Recovery RecoverAnswer → Type 0) → Recovery → Recovery → Turn RecoverAnswer → Type 0
+TurnsBy leads old new turn = Took (λ from _ next. leads from next) SameLeases old Failed new turn
 
 -- and so does the call with its step, but where the call gives one back
 abbrev pub KeepsLeases : Recovery → Answer → Recovery → Type 0

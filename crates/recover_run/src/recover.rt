@@ -1,12 +1,11 @@
-ghost use Rattle.std.specs.Prelude.{ℕ, ◌≡◌, ◌≤◌, ◌<◌, ◌+◌, ◌^◌, Ok, List, Option, None, IfSome, IfNone, length, slice_get};
+ghost use Rattle.std.specs.Prelude.{◌≡◌, ◌≤◌, ◌<◌, ◌+◌, ◌^◌, Ok, None, IfSome, IfNone, length, slice_get};
 ghost use Rattle.std.specs.List.{AllByRecursion};
 ghost use Rattle.head_codec.specs.declared.lists.Pending.{Pending};
 ghost use Rattle.head_codec.specs.Counters.{AreCounters};
 ghost use Rattle.head_codec.specs.Spelling.{HasSpelling, head_of};
 ghost use Rattle.cloud_trait.specs.Ask.{Release};
 ghost use Rattle.cloud_trait.specs.Call.{ask_of, Lends};
-ghost use Rattle.cloud_trait.specs.Claim.{Claim};
-ghost use Rattle.cloud_trait.specs.Machine.{LeadsBy, Took, Deed, calls_of};
+ghost use Rattle.cloud_trait.specs.Machine.{LeadsBy, Took, calls_of};
 ghost use Rattle.cloud_trait.specs.Weather.{Makes};
 ghost use Rattle.recover_run.specs.Kept.{AllPlaced};
 
@@ -119,10 +118,10 @@ impl Model for RecoverRun {
 }
 
 impl RecoverRun {
-    ghost use Rattle.recover_run.specs.Recovery.{Recovery, new_recovery, recovery_ask, recovery_next, handed_over, SameLeases, KeepsLeases, IsSound, home_of, releasing, stopping, old_released, taken_by, got_by, head_read, bytes_read, none_read, phase_read, putting, send_at, decided, next_deletion, gathered_by, received_by, deleted_by, sent_by, next_clearing, put_by, clearing_kept, cleared, opened, swept_by, swept_with, released, damaged_message, next_sweep, with_pending, delete_next, send_next, take_lease};
+    ghost use Rattle.recover_run.specs.Recovery.{Recovery, new_recovery, recovery_ask, recovery_next, handed_over, KeepsLeases, IsSound, home_of, releasing, stopping, old_released, taken_by, got_by, head_read, bytes_read, none_read, putting, send_at, decided, next_deletion, gathered_by, received_by, deleted_by, sent_by, next_clearing, put_by, clearing_kept, cleared, opened, swept_by, swept_with, released, next_sweep, with_pending, delete_next, send_next, take_lease, TurnsBy};
     ghost use Rattle.recover_run.specs.End.{calls_left, KnowsAtMost};
     ghost use Rattle.recover_run.specs.Within.{AreFew};
-    ghost use Rattle.recover_run.specs.Leases.{Went, leases_of, outstanding, Names, GivesBack};
+    ghost use Rattle.recover_run.specs.Leases.{Behind, leases_of, outstanding, Names, GivesBack};
     ghost use Rattle.recover_run.specs.Stepped.{Stepped};
     ghost use Rattle.recover_run.specs.Items.{items_of};
 
@@ -236,7 +235,7 @@ impl RecoverRun {
 
     /// Gives the lease back next, and then ends or stops so.
     fn releasing(&mut self, ending: Result<RecoverAnswer, Trouble>) -> Turn<RecoverAnswer>
-        ensures { Took (λ r _ n. releasing r ending ≡ n) SameLeases self.old Answer.Failed self.new result }
+        ensures { TurnsBy (λ r n. releasing r ending ≡ n) self.old self.new result }
     {
         self.stage = Stage::Releasing;
         self.ending = Some(ending);
@@ -244,13 +243,13 @@ impl RecoverRun {
     }
 
     fn stop(&mut self, trouble: Trouble) -> Turn<RecoverAnswer>
-        ensures { Took (λ r _ n. stopping r trouble ≡ n) SameLeases self.old Answer.Failed self.new result }
+        ensures { TurnsBy (λ r n. stopping r trouble ≡ n) self.old self.new result }
     {
         self.releasing(Err(trouble))
     }
 
     fn old_released(&mut self) -> Turn<RecoverAnswer>
-        ensures { Took (λ r _ n. old_released r ≡ n) SameLeases self.old Answer.Failed self.new result }
+        ensures { TurnsBy (λ r n. old_released r ≡ n) self.old self.new result }
     {
         self.stage = Stage::Taking;
         self.former = None;
@@ -258,7 +257,7 @@ impl RecoverRun {
     }
 
     fn taken(&mut self, given: Result<Lease, Trouble>) -> Turn<RecoverAnswer>
-        ensures { Took (λ r _ n. taken_by r given ≡ n) SameLeases self.old Answer.Failed self.new result }
+        ensures { TurnsBy (λ r n. taken_by r given ≡ n) self.old self.new result }
     {
         match given {
             Ok(lease) => {
@@ -286,7 +285,7 @@ impl RecoverRun {
     // ---- the head
 
     fn got(&mut self, alloc: Global, got: Result<Option<Blob>, Trouble>) -> Turn<RecoverAnswer>
-        ensures { Took (λ r _ n. got_by r got ≡ n) SameLeases self.old Answer.Failed self.new result }
+        ensures { TurnsBy (λ r n. got_by r got ≡ n) self.old self.new result }
     {
         match got {
             Ok(None) => self.got_none(alloc),
@@ -296,7 +295,7 @@ impl RecoverRun {
     }
 
     fn got_none(&mut self, alloc: Global) -> Turn<RecoverAnswer>
-        ensures { Took (λ r _ n. none_read r.aim r ≡ n) SameLeases self.old Answer.Failed self.new result }
+        ensures { TurnsBy (λ r n. none_read r.aim r ≡ n) self.old self.new result }
     {
         match self.aim {
             Aim::Opening => self.read(alloc, Head::empty(alloc)),
@@ -305,7 +304,7 @@ impl RecoverRun {
     }
 
     fn got_bytes(&mut self, alloc: Global, bytes: &[u8]) -> Turn<RecoverAnswer>
-        ensures { Took (λ r _ n. bytes_read r bytes.now (head_of bytes.now) ≡ n) SameLeases self.old Answer.Failed self.new result }
+        ensures { TurnsBy (λ r n. bytes_read r bytes.now (head_of bytes.now) ≡ n) self.old self.new result }
     {
         match Head::read(alloc, bytes) {
             Ok(head) => self.read(alloc, head),
@@ -321,7 +320,7 @@ impl RecoverRun {
     fn read(&mut self, alloc: Global, mut head: Head) -> Turn<RecoverAnswer>
         requires counters { AreCounters None head.counters }
         requires pending { AllByRecursion (λ (p : Pending). 1 ≤ p.number) head.pending }
-        ensures { Took (λ r _ n. head_read r head ≡ n) SameLeases self.old Answer.Failed self.new result }
+        ensures { TurnsBy (λ r n. head_read r head ≡ n) self.old self.new result }
     {
         let wanted = Wanted::of(&head);
         let phase = head.phase;
@@ -342,7 +341,7 @@ impl RecoverRun {
     /// Puts the head of the next epoch next, with so many records sent.
     fn putting(&mut self, alloc: Global, sent: usize) -> Turn<RecoverAnswer>
         requires { HasSpelling self.old.head }
-        ensures { Took (λ r _ n. putting (record r { sent = sent }) ≡ n) SameLeases self.old Answer.Failed self.new result }
+        ensures { TurnsBy (λ r n. putting (record r { sent = sent }) ≡ n) self.old self.new result }
     {
         match head_bytes(alloc, &self.head) {
             Ok(out) => {
@@ -363,7 +362,7 @@ impl RecoverRun {
         received: Result<MessageList, Trouble>,
     ) -> Turn<RecoverAnswer>
         requires { HasSpelling self.old.head }
-        ensures { Took (λ r _ n. received_by r received ≡ n) SameLeases self.old Answer.Failed self.new result }
+        ensures { TurnsBy (λ r n. received_by r received ≡ n) self.old self.new result }
     {
         match received {
             Ok(messages) => self.gather(alloc, messages.as_slice()),
@@ -373,7 +372,7 @@ impl RecoverRun {
 
     fn gather(&mut self, alloc: Global, messages: &[Message]) -> Turn<RecoverAnswer>
         requires { HasSpelling self.old.head }
-        ensures { Took (λ r _ n. gathered_by r (items_of messages.now) ≡ n) SameLeases self.old Answer.Failed self.new result }
+        ensures { TurnsBy (λ r n. gathered_by r (items_of messages.now) ≡ n) self.old self.new result }
     {
         match items_of(alloc, &self.queue(), messages) {
             Ok(items) => self.gather_items(alloc, items),
@@ -385,7 +384,7 @@ impl RecoverRun {
     fn gather_items(&mut self, alloc: Global, items: Vec<AtomicItem>) -> Turn<RecoverAnswer>
         requires spelled { HasSpelling self.old.head }
         requires placed { AllPlaced items.items }
-        ensures { Took (λ r _ n. gathered_by r (Ok items.items) ≡ n) SameLeases self.old Answer.Failed self.new result }
+        ensures { TurnsBy (λ r n. gathered_by r (Ok items.items) ≡ n) self.old self.new result }
     {
         self.stage = Stage::Receiving;
         match self.gathering.add(alloc, self.wanted, items) {
@@ -400,7 +399,7 @@ impl RecoverRun {
     /// Deletes the next lost record next, or decides where there is none.
     fn delete_next(&mut self, alloc: Global) -> Turn<RecoverAnswer>
         requires { HasSpelling self.old.head }
-        ensures { Took (λ r _ n. next_deletion r r.ids ≡ n) SameLeases self.old Answer.Failed self.new result }
+        ensures { TurnsBy (λ r n. next_deletion r r.ids ≡ n) self.old self.new result }
     {
         if self.ids.is_empty() {
             return self.decide(alloc);
@@ -411,7 +410,7 @@ impl RecoverRun {
 
     fn deleted(&mut self, alloc: Global, done: Result<(), Trouble>) -> Turn<RecoverAnswer>
         requires { HasSpelling self.old.head }
-        ensures { Took (λ r _ n. deleted_by r done ≡ n) SameLeases self.old Answer.Failed self.new result }
+        ensures { TurnsBy (λ r n. deleted_by r done ≡ n) self.old self.new result }
     {
         match done {
             Ok(()) => {
@@ -426,7 +425,7 @@ impl RecoverRun {
     /// Sends on what is kept where that is all, receives again where the newest receive brought something new, and stops else.
     fn decide(&mut self, alloc: Global) -> Turn<RecoverAnswer>
         requires { HasSpelling self.old.head }
-        ensures { Took (λ r _ n. decided r ≡ n) SameLeases self.old Answer.Failed self.new result }
+        ensures { TurnsBy (λ r n. decided r ≡ n) self.old self.new result }
     {
         let have = self.gathering.have();
         if have == usize::from(self.wanted.count) {
@@ -445,7 +444,7 @@ impl RecoverRun {
     /// Sends the kept record at a place next, or puts the head where all are sent.
     fn send_at(&mut self, alloc: Global, place: usize) -> Turn<RecoverAnswer>
         requires { HasSpelling self.old.head }
-        ensures { Took (λ r _ n. send_at r place ≡ n) SameLeases self.old Answer.Failed self.new result }
+        ensures { TurnsBy (λ r n. send_at r place ≡ n) self.old self.new result }
     {
         match self.gathering.kept().get(place) {
             Some(item) => match sent_bytes(alloc, &item.rec) {
@@ -463,7 +462,7 @@ impl RecoverRun {
 
     fn sent(&mut self, alloc: Global, sent: Result<MsgId, Trouble>) -> Turn<RecoverAnswer>
         requires { self.old.stage ≡ Stage.Sending }
-        ensures { Took (λ r _ n. sent_by r sent ≡ n) SameLeases self.old Answer.Failed self.new result }
+        ensures { TurnsBy (λ r n. sent_by r sent ≡ n) self.old self.new result }
     {
         match sent {
             Ok(_) => self.pass_record(alloc),
@@ -474,7 +473,7 @@ impl RecoverRun {
     /// Makes the record that was sent pending, and goes on behind it.
     fn pass_record(&mut self, alloc: Global) -> Turn<RecoverAnswer>
         requires { self.old.stage ≡ Stage.Sending }
-        ensures { Took (λ r _ n. send_at (with_pending r (slice_get r.gathered.kept r.sent)) (r.sent + 1) ≡ n) SameLeases self.old Answer.Failed self.new result }
+        ensures { TurnsBy (λ r n. send_at (with_pending r (slice_get r.gathered.kept r.sent)) (r.sent + 1) ≡ n) self.old self.new result }
     {
         let Some(next) = self.sent.checked_add(1) else {
             return Turn::Stopped(Trouble::Memory);
@@ -492,7 +491,7 @@ impl RecoverRun {
 
     fn put(&mut self, alloc: Global, done: Result<(), Trouble>) -> Turn<RecoverAnswer>
         requires { HasSpelling self.old.head }
-        ensures { Took (λ r _ n. put_by r done ≡ n) SameLeases self.old Answer.Failed self.new result }
+        ensures { TurnsBy (λ r n. put_by r done ≡ n) self.old self.new result }
     {
         match done {
             Ok(()) => self.clear_kept(alloc),
@@ -503,7 +502,7 @@ impl RecoverRun {
     /// Deletes the messages of the kept records next.
     fn clear_kept(&mut self, alloc: Global) -> Turn<RecoverAnswer>
         requires { HasSpelling self.old.head }
-        ensures { Took (λ r _ n. clearing_kept r ≡ n) SameLeases self.old Answer.Failed self.new result }
+        ensures { TurnsBy (λ r n. clearing_kept r ≡ n) self.old self.new result }
     {
         let Ok(kept) = ids_of(alloc, self.gathering.kept()) else {
             return Turn::Stopped(Trouble::Memory);
@@ -523,7 +522,7 @@ impl RecoverRun {
     /// Deletes the next message next, or receives again where there is none.
     fn clear_next(&mut self) -> Turn<RecoverAnswer>
         requires { HasSpelling self.old.head }
-        ensures { Took (λ r _ n. next_clearing r r.ids ≡ n) SameLeases self.old Answer.Failed self.new result }
+        ensures { TurnsBy (λ r n. next_clearing r r.ids ≡ n) self.old self.new result }
     {
         self.stage = if self.ids.is_empty() {
             Stage::Sweeping
@@ -535,7 +534,7 @@ impl RecoverRun {
 
     fn cleared(&mut self) -> Turn<RecoverAnswer>
         requires { HasSpelling self.old.head }
-        ensures { Took (λ r _ n. cleared r ≡ n) SameLeases self.old Answer.Failed self.new result }
+        ensures { TurnsBy (λ r n. cleared r ≡ n) self.old self.new result }
     {
         self.stage = Stage::Sweeping;
         let _ = self.ids.pop_front();
@@ -548,7 +547,7 @@ impl RecoverRun {
         received: Result<MessageList, Trouble>,
     ) -> Turn<RecoverAnswer>
         requires { HasSpelling self.old.head }
-        ensures { Took (λ r _ n. swept_by r received ≡ n) SameLeases self.old Answer.Failed self.new result }
+        ensures { TurnsBy (λ r n. swept_by r received ≡ n) self.old self.new result }
     {
         match received {
             Ok(messages) => self.sweep(alloc, messages.as_slice()),
@@ -558,7 +557,7 @@ impl RecoverRun {
 
     fn sweep(&mut self, alloc: Global, messages: &[Message]) -> Turn<RecoverAnswer>
         requires { HasSpelling self.old.head }
-        ensures { Took (λ r _ n. swept_with r (items_of messages.now) ≡ n) SameLeases self.old Answer.Failed self.new result }
+        ensures { TurnsBy (λ r n. swept_with r (items_of messages.now) ≡ n) self.old self.new result }
     {
         match items_of(alloc, &self.queue(), messages) {
             Ok(items) => self.sweep_items(alloc, items.as_slice()),
@@ -570,7 +569,7 @@ impl RecoverRun {
     /// Deletes the messages of past epochs that are new next; where there is none, the client is open.
     fn sweep_items(&mut self, alloc: Global, items: &[AtomicItem]) -> Turn<RecoverAnswer>
         requires { HasSpelling self.old.head }
-        ensures { Took (λ r _ n. swept_with r (Ok items.now) ≡ n) SameLeases self.old Answer.Failed self.new result }
+        ensures { TurnsBy (λ r n. swept_with r (Ok items.now) ≡ n) self.old self.new result }
     {
         let Ok(past) = self.wanted.past_ids(alloc, items) else {
             return Turn::Stopped(Trouble::Memory);
@@ -587,7 +586,7 @@ impl RecoverRun {
 
     fn sweep_next(&mut self) -> Turn<RecoverAnswer>
         requires { HasSpelling self.old.head }
-        ensures { Took (λ r _ n. next_sweep r r.ids ≡ n) SameLeases self.old Answer.Failed self.new result }
+        ensures { TurnsBy (λ r n. next_sweep r r.ids ≡ n) self.old self.new result }
     {
         if self.ids.is_empty() {
             return self.opened();
@@ -599,7 +598,7 @@ impl RecoverRun {
     /// An opening keeps the lease; a settling gives it back.
     fn opened(&mut self) -> Turn<RecoverAnswer>
         requires { HasSpelling self.old.head }
-        ensures { Took (λ r _ n. opened r.aim r ≡ n) SameLeases self.old Answer.Failed self.new result }
+        ensures { TurnsBy (λ r n. opened r.aim r ≡ n) self.old self.new result }
     {
         let answer = RecoverAnswer::Opened {
             epoch: self.head.epoch,
@@ -644,13 +643,13 @@ impl RecoverRun {
         ensures sound { IsSound self.old }
         ensures less { result ≡ Turn.More → calls_left (2 ^ 64) 255 self.new < calls_left (2 ^ 64) 255 self.old }
         // The leases that it holds are the one that was handed in and those that it took, but for those that it gave back.
-        ensures leases { (client : ℕ) (aim : Aim) (former : Option Claim) (h : List Deed) → Went client aim former h self.old → leases_of self.old ≡ outstanding former h }
+        ensures leases { Behind self.old (λ client aim old h. leases_of self.old ≡ outstanding old h) }
         // The call names a lease that it holds, and takes no lock that it holds.
-        ensures names { (client : ℕ) (aim : Aim) (former : Option Claim) (h : List Deed) → Went client aim former h self.old → Names client former h (recovery_ask self.old) }
+        ensures names { Behind self.old (λ client aim old h. Names client old h (recovery_ask self.old)) }
         // Before an end all leases are given back, but for the client's at the end of an opening.
-        ensures gives_back { (client : ℕ) (aim : Aim) (former : Option Claim) (h : List Deed) → Went client aim former h self.old → GivesBack client aim h self.new result }
+        ensures gives_back { Behind self.old (λ client aim old h. GivesBack client aim h self.new result) }
         // Seven calls, four for each id that is received, and one for each record that the open head counts, are all.
-        ensures within { (client : ℕ) (aim : Aim) (former : Option Claim) (h : List Deed) → Went client aim former h self.old → AreFew (calls_of h) (length h + 1) }
+        ensures within { Behind self.old (λ client aim old h. AreFew (calls_of h) (length h + 1)) }
     {
         // Read for the clause `sound`.
         let _ = &self.stage;

@@ -1,10 +1,11 @@
 pub mod Calls
-pub mod End
+pub mod Calm
 pub mod Demands
-pub mod Meaning
+pub mod End
+pub mod Homes
 pub mod Leases
+pub mod Meaning
 pub mod Sound
 pub mod Stepped
-pub mod Calm
 pub mod Within
 pub mod Writing

@@ -21,8 +21,10 @@ use Rattle.route_plan.specs.Heads.{opened_head, settled_head}
 use Rattle.route_plan.specs.Route.{routed}
 use Rattle.txn_buffer.specs.Noted.{Noted}
 use Rattle.cloud_trait.specs.declared.answer.Answer.{Answer}
+use Rattle.cloud_trait.specs.declared.answer.Answer.TheVariants.{Failed}
+use Rattle.cloud_trait.specs.declared.turn.Turn.{Turn}
 use Rattle.cloud_trait.specs.Ask.{Ask, PutHeld, Send, Delete}
-use Rattle.cloud_trait.specs.Machine.{Next, Goes, Ends, Stops}
+use Rattle.cloud_trait.specs.Machine.{Next, Goes, Ends, Stops, Took}
 use Rattle.cloud_trait.specs.Views.{sent_of, done_of}
 use Rattle.recover_run.specs.declared.home.Home.{Home}
 use Rattle.commit_writes.specs.declared.stage.Stage.{Stage}
@@ -243,3 +245,7 @@ opens_at Finished w = None
 -- at want of memory the home is as it was but for its head
 abbrev pub KeepsHome : Writing → Answer → Writing → Type 0
 KeepsHome w a n = n.home ≡ with_head w.home n.home.head
+
+-- a part of the step leads so from this state, whatever was answered; at want of memory it keeps the home
+abbrev pub TurnsBy : (Writing → Next Writing CommitAnswer → Type 0) → Writing → Writing → Turn CommitAnswer → Type 0
+TurnsBy leads old new turn = Took (λ from _ next. leads from next) KeepsHome old Failed new turn

@@ -6,9 +6,9 @@ ghost use Rattle.head_codec.specs.Spelling.{HasSpelling, WasOpen, head_bytes, he
 ghost use Rattle.log_codec.specs.Atomic.{HasPlace, atomic_bytes, atomic_of};
 ghost use Rattle.log_codec.specs.Pu.{pu_bytes, pu_of};
 ghost use Rattle.log_codec.specs.declared.record.AtomicRec.{AtomicRec};
-ghost use Rattle.route_plan.specs.Heads.{opened_head, settled_head};
 ghost use Rattle.route_plan.specs.Record.{pu_record_of};
 ghost use Rattle.commit_writes.specs.Sound.{IsSpelled};
+ghost use Rattle.commit_writes.specs.Homes.{opened_home, settled_home};
 ghost use Rattle.commit_writes.specs.Writing.{with_head};
 
 use crate::stage::Saved;
@@ -69,7 +69,7 @@ pub(crate) fn open_home(
     requires some { 1 ≤ length records.now }
     requires few { length records.now ≤ 200 }
     requires placed { AllByRecursion HasPlace records.now }
-    ensures home { OnOk result (home.new ≡ with_head home.old (opened_head home.old.head home.old.attempt records.now)) }
+    ensures home { OnOk result (home.new ≡ opened_home home.old records.now) }
     ensures kept { home.new ≡ with_head home.old home.new.head }
     ensures out { IfOk result (λ out. out ≡ head_bytes home.new.head) }
     ensures decoded { IfOk result (λ out. head_of out ≡ Some home.new.head) }
@@ -99,7 +99,7 @@ pub(crate) fn settle_home(
 ) -> Result<Blob, AllocError>
     requires before { IsSpelled home.old.head records.now before }
     requires placed { AllByRecursion HasPlace records.now }
-    ensures home { OnOk result (home.new ≡ with_head home.old (settled_head home.old.head records.now)) }
+    ensures home { OnOk result (home.new ≡ settled_home home.old records.now) }
     ensures kept { home.new ≡ with_head home.old home.new.head }
     ensures out { IfOk result (λ out. out ≡ head_bytes home.new.head) }
     ensures decoded { IfOk result (λ out. head_of out ≡ Some home.new.head) }

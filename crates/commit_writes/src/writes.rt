@@ -75,8 +75,8 @@ impl Model for CommitWrites {
 }
 
 impl CommitWrites {
-    ghost use Rattle.commit_writes.specs.Writing.{Writing, waiting, routing, begun, writing_ask, writing_next, log_at, opening, send_at, settling, delete_at, logged_by, opened_by, sent_by, settled_by, deleted_by, not_committed, left_open, closed_again, finished, KeepsHome, is_spent, numbered, pruned, opens_at};
-    ghost use Rattle.route_plan.specs.Prune.{pruned_by_leaf, pruned_by_tree};
+    ghost use Rattle.commit_writes.specs.Writing.{Writing, waiting, routing, begun, writing_ask, writing_next, log_at, opening, send_at, settling, delete_at, logged_by, opened_by, sent_by, settled_by, closed_again, finished, KeepsHome, is_spent, numbered, opens_at, TurnsBy};
+    ghost use Rattle.commit_writes.specs.Homes.{writing_by_leaf, writing_by_tree, calls_for};
     ghost use Rattle.commit_writes.specs.End.{calls_left};
     ghost use Rattle.commit_writes.specs.Sound.{IsSound};
     ghost use Rattle.commit_writes.specs.Within.{Went, WritesWithin};
@@ -174,7 +174,7 @@ impl CommitWrites {
     /// Removes the pending entries that a leaf of a tree shows to be applied. It is called before the first write: nothing is in
     /// hand then. Takes no memory.
     pub fn prune_leaf(&mut self, tree: TreeId, view: &LeafView<'_>)
-        ensures { self.new ≡ pruned self.old (pruned_by_leaf self.old.home.head self.old.home.client tree view.now) }
+        ensures { self.new ≡ writing_by_leaf self.old tree view.now }
     {
         self.stage = Stage::Waiting;
         self.spelled = None;
@@ -183,7 +183,7 @@ impl CommitWrites {
 
     /// Removes the pending entries that a tree object shows to be applied, before the first write. Takes no memory.
     pub fn prune_tree(&mut self, tree: TreeId, view: &TreeView<'_>)
-        ensures { self.new ≡ pruned self.old (pruned_by_tree self.old.home.head self.old.home.client tree view.now) }
+        ensures { self.new ≡ writing_by_tree self.old tree view.now }
     {
         self.stage = Stage::Waiting;
         self.spelled = None;
@@ -223,8 +223,8 @@ impl CommitWrites {
     pub fn route(&mut self, alloc: Global, leaves: &[PageId]) -> Turn<CommitAnswer>
         requires leaves { length leaves.now ≡ length self.old.changes }
         requires attempt { 1 ≤ self.old.home.attempt }
-        ensures took { Took (λ w _ n. routing w leaves.now ≡ n) KeepsHome self.old Answer.Failed self.new result }
-        ensures calls { result ≡ Turn.More → calls_left self.new ≡ 3 * length self.old.changes + length self.old.ids + 2 }
+        ensures took { TurnsBy (λ w n. routing w leaves.now ≡ n) self.old self.new result }
+        ensures calls { result ≡ Turn.More → calls_left self.new ≡ calls_for self.old.changes self.old.ids }
     {
         match records_of(alloc, &self.home, &self.changes, leaves) {
             Ok(records) => self.begin(alloc, records),
@@ -238,8 +238,8 @@ impl CommitWrites {
         requires some { 1 ≤ length records.items }
         requires few { length records.items ≤ 200 }
         requires placed { AllByRecursion HasPlace records.items }
-        ensures begun { Took (λ w _ n. begun w records.items ≡ n) KeepsHome self.old Answer.Failed self.new result }
-        ensures calls { result ≡ Turn.More → calls_left self.new ≡ 3 * length records.items + length self.old.ids + 2 }
+        ensures begun { TurnsBy (λ w n. begun w records.items ≡ n) self.old self.new result }
+        ensures calls { result ≡ Turn.More → calls_left self.new ≡ calls_for records.items self.old.ids }
     {
         self.stage = Stage::Finished;
         self.spelled = None;
@@ -250,7 +250,7 @@ impl CommitWrites {
     /// Sends the record at a place to the ATOMIC queue next, or opens the head where all are sent.
     fn log_at(&mut self, alloc: Global, place: usize) -> Turn<CommitAnswer>
         requires { 1 ≤ length self.old.records }
-        ensures { Took (λ w _ n. log_at w place ≡ n) KeepsHome self.old Answer.Failed self.new result }
+        ensures { TurnsBy (λ w n. log_at w place ≡ n) self.old self.new result }
     {
         match self.records.as_slice().get(place) {
             Some(record) => match log_bytes(alloc, record) {
@@ -273,7 +273,7 @@ impl CommitWrites {
     /// Puts the head that commits next.
     fn open(&mut self, alloc: Global) -> Turn<CommitAnswer>
         requires { 1 ≤ length self.old.records }
-        ensures { Took (λ w _ n. opening w ≡ n) KeepsHome self.old Answer.Failed self.new result }
+        ensures { TurnsBy (λ w n. opening w ≡ n) self.old self.new result }
     {
         let before = match what_changes(alloc, &self.home.head) {
             Ok(before) => before,
@@ -297,7 +297,7 @@ impl CommitWrites {
 
     /// Sends the record at a place to its pending update queue next, or settles the head where all are sent.
     fn send_at(&mut self, alloc: Global, place: usize) -> Turn<CommitAnswer>
-        ensures { Took (λ w _ n. send_at w place ≡ n) KeepsHome self.old Answer.Failed self.new result }
+        ensures { TurnsBy (λ w n. send_at w place ≡ n) self.old self.new result }
     {
         match self.records.as_slice().get(place) {
             Some(record) => match queue_bytes(alloc, record) {
@@ -319,7 +319,7 @@ impl CommitWrites {
 
     /// Puts the head that settles next.
     fn settle(&mut self, alloc: Global) -> Turn<CommitAnswer>
-        ensures { Took (λ w _ n. settling w ≡ n) KeepsHome self.old Answer.Failed self.new result }
+        ensures { TurnsBy (λ w n. settling w ≡ n) self.old self.new result }
     {
         let spelled = self.spelled.take();
         match settle_home(alloc, &mut self.home, self.records.as_slice(), spelled) {
@@ -337,7 +337,7 @@ impl CommitWrites {
 
     /// Deletes the ATOMIC message at a place next, or ends where all are deleted.
     fn delete_at(&mut self, place: usize) -> Turn<CommitAnswer>
-        ensures { Took (λ w _ n. delete_at w place ≡ n) KeepsHome self.old Answer.Failed self.new result }
+        ensures { TurnsBy (λ w n. delete_at w place ≡ n) self.old self.new result }
     {
         match self.ids.as_slice().get(place) {
             Some(_) => {
@@ -358,7 +358,7 @@ impl CommitWrites {
     /// After a send to the ATOMIC queue.
     fn logged(&mut self, alloc: Global, sent: Result<MsgId, Trouble>) -> Turn<CommitAnswer>
         requires { 1 ≤ length self.old.records }
-        ensures took { Took (λ w _ n. logged_by w sent ≡ n) KeepsHome self.old Answer.Failed self.new result }
+        ensures took { TurnsBy (λ w n. logged_by w sent ≡ n) self.old self.new result }
         ensures refused { IfErr sent (λ t. t ≢ Trouble.Memory → result ≢ Turn.Stopped Trouble.Memory) }
     {
         match sent {
@@ -378,7 +378,7 @@ impl CommitWrites {
 
     /// After the put that commits: a late one did not land, and a failed one may have.
     fn opened(&mut self, alloc: Global, done: Result<(), Trouble>) -> Turn<CommitAnswer>
-        ensures took { Took (λ w _ n. opened_by w done ≡ n) KeepsHome self.old Answer.Failed self.new result }
+        ensures took { TurnsBy (λ w n. opened_by w done ≡ n) self.old self.new result }
         ensures refused { IfErr done (λ t. t ≢ Trouble.Memory → result ≢ Turn.Stopped Trouble.Memory) }
     {
         match done {
@@ -410,7 +410,7 @@ impl CommitWrites {
 
     /// After a send to a pending update queue.
     fn sent(&mut self, alloc: Global, sent: Result<MsgId, Trouble>) -> Turn<CommitAnswer>
-        ensures took { Took (λ w _ n. sent_by w sent ≡ n) KeepsHome self.old Answer.Failed self.new result }
+        ensures took { TurnsBy (λ w n. sent_by w sent ≡ n) self.old self.new result }
         ensures refused { IfErr sent (λ t. t ≢ Trouble.Memory → result ≢ Turn.Stopped Trouble.Memory) }
     {
         match sent {
@@ -425,7 +425,7 @@ impl CommitWrites {
 
     /// After the put that settles.
     fn settled(&mut self, done: Result<(), Trouble>) -> Turn<CommitAnswer>
-        ensures took { Took (λ w _ n. settled_by w done ≡ n) KeepsHome self.old Answer.Failed self.new result }
+        ensures took { TurnsBy (λ w n. settled_by w done ≡ n) self.old self.new result }
         ensures refused { IfErr done (λ t. t ≢ Trouble.Memory → result ≢ Turn.Stopped Trouble.Memory) }
     {
         match done {
@@ -437,7 +437,7 @@ impl CommitWrites {
 
     /// After a deletion, whatever it answered.
     fn deleted(&mut self) -> Turn<CommitAnswer>
-        ensures { Took (λ w _ n. delete_at w (w.place + 1) ≡ n) KeepsHome self.old Answer.Failed self.new result }
+        ensures { TurnsBy (λ w n. delete_at w (w.place + 1) ≡ n) self.old self.new result }
     {
         match self.place.checked_add(1) {
             Some(place) => self.delete_at(place),

@@ -28,7 +28,7 @@ use Rattle.cloud_trait.specs.Weather.{Weather, Fits, Makes, Leaves, Rises, Renew
 use Rattle.cloud_trait.proofs.RowLemmas.{row_rest}
 use Rattle.cloud_trait.proofs.ShowingLemmas.{row_shows}
 use Rattle.memory_cloud.specs.Choice.{chosen}
-use Rattle.memory_cloud.specs.Outcome.{late, may_land, in_time, Lists, AnswersPlainly, old_version, positions_of, Answers, state_in, counts_in, one_fault, one_withheld, one_stale, end_if_over, end_of_second, Obeys, lease_in}
+use Rattle.memory_cloud.specs.Outcome.{late, may_land, in_time, Lists, AnswersPlainly, old_version, positions_of, Answers, state_in, counts_in, one_fault, one_withheld, one_stale, end_if_over, end_of_second, Follows, lease_in}
 use Rattle.memory_cloud.specs.declared.mood.Mood.{Mood}
 use Rattle.memory_cloud.specs.declared.mood.Mood.TheVariants as mood
 
@@ -243,7 +243,7 @@ row_in mood.Give who (Receive queue most) a b c e =
 row_in m who ask a b c e = plain who ask a b c e
 
 -- a call that obeys its mood is a row
-obeys_row : (m : Mood) (who : Caller) (ask : Ask) (a : Answer) (c d : Counts) (b t : CloudState) → Obeys m who ask a c d b t → IsRow who ask a c d b t
+obeys_row : (m : Mood) (who : Caller) (ask : Ask) (a : Answer) (c d : Counts) (b t : CloudState) → Follows m who ask a (c, b) (d, t) → IsRow who ask a c d b t
 obeys_row m who ask a c d b t (inl o) =
     let Q : CloudState → Type 0 = λ x. IsRow who ask a c d b x in
     let R : Counts → Type 0 = λ x. IsRow who ask a c x b (state_in m who ask b) in
@@ -255,7 +255,7 @@ obeys_row m who ask a c d b t (inr o) =
     subst P (sym o.0) (subst Q (sym o.1) (subst R (sym o.2) (quiet who ask Memory c b b tt (λ e. absurd (cc)) refl)))
 
 -- and so is what a service call is
-obeys_makes : (m : Mood) (who : Caller) (ask : Ask) (a : Answer) (c d : Counts) (s t : CloudState) → Obeys m who ask a c d (called who s.now s) t → Makes who ask a (told c s) (told d t)
+obeys_makes : (m : Mood) (who : Caller) (ask : Ask) (a : Answer) (c d : Counts) (s t : CloudState) → Follows m who ask a (c, called who s.now s) (d, t) → Makes who ask a (told c s) (told d t)
 obeys_makes m who ask a c d s t o =
     let r = obeys_row m who ask a c d (called who s.now s) t o in
     let still : t.now ≡ s.now = (row_rest who ask a c d (called who s.now s) t r.row).now in
@@ -313,7 +313,7 @@ renews_told who ticks l m Failed c d s t n r = (
 renews_told who ticks l m a c d s t n r = r
 
 -- a renewal that obeys its mood leaves the lease as a renewal does
-obeys_renews : (m : Mood) (who : Caller) (l n : Claim) (ticks : ℕ) (a : Answer) (c d : Counts) (s t : CloudState) → Obeys m who (Renew l ticks) a c d (called who s.now s) t → (a ≡ Memory → ⊥) → n ≡ lease_in m l ticks (called who s.now s) → RenewsLease who ticks l n a (told c s) (told d t)
+obeys_renews : (m : Mood) (who : Caller) (l n : Claim) (ticks : ℕ) (a : Answer) (c d : Counts) (s t : CloudState) → Follows m who (Renew l ticks) a (c, called who s.now s) (d, t) → (a ≡ Memory → ⊥) → n ≡ lease_in m l ticks (called who s.now s) → RenewsLease who ticks l n a (told c s) (told d t)
 obeys_renews m who l n ticks a c d s t (inr o) never e = absurd (never o.0)
 obeys_renews m who l n ticks a c d s t (inl o) never e =
     let r = obeys_row m who (Renew l ticks) a c d (called who s.now s) t (inl o) in
@@ -338,17 +338,17 @@ untold_renews true who ticks l n Failed c d s t r = (r.0, λ u v e f. absurd (cc
 untold_renews true who ticks l n a c d s t r = r
 
 -- the same of a call that has begun
-pub begun_makes : (p q : Bool) (m : Mood) (who : Caller) (ask : Ask) (a : Answer) (c e d : Counts) (s b t : CloudState) → q ≡ p → b ≡ called who s.now s → e ≡ c → Obeys m who ask a e d b t → Makes who ask a (seen_in p c s) (seen_in q d t)
+pub begun_makes : (p q : Bool) (m : Mood) (who : Caller) (ask : Ask) (a : Answer) (c e d : Counts) (s b t : CloudState) → q ≡ p → b ≡ called who s.now s → e ≡ c → Follows m who ask a (e, b) (d, t) → Makes who ask a (seen_in p c s) (seen_in q d t)
 begun_makes p q m who ask a c e d s b t still is same o =
-    let P : CloudState → Type 0 = λ x. Obeys m who ask a e d x t in
-    let Q : Counts → Type 0 = λ x. Obeys m who ask a x d (called who s.now s) t in
+    let P : CloudState → Type 0 = λ x. Follows m who ask a (e, x) (d, t) in
+    let Q : Counts → Type 0 = λ x. Follows m who ask a (x, called who s.now s) (d, t) in
     let R : Bool → Type 0 = λ x. Makes who ask a (seen_in p c s) (seen_in x d t) in
     subst R (sym still) (untold_makes p who ask a c d s t (obeys_makes m who ask a c d s t (subst Q same (subst P is o))))
 
-pub begun_renews : (p q : Bool) (m : Mood) (who : Caller) (l n : Claim) (ticks : ℕ) (a : Answer) (c e d : Counts) (s b t : CloudState) → q ≡ p → b ≡ called who s.now s → e ≡ c → Obeys m who (Renew l ticks) a e d b t → (a ≡ Memory → ⊥) → n ≡ lease_in m l ticks b → RenewsLease who ticks l n a (seen_in p c s) (seen_in q d t)
+pub begun_renews : (p q : Bool) (m : Mood) (who : Caller) (l n : Claim) (ticks : ℕ) (a : Answer) (c e d : Counts) (s b t : CloudState) → q ≡ p → b ≡ called who s.now s → e ≡ c → Follows m who (Renew l ticks) a (e, b) (d, t) → (a ≡ Memory → ⊥) → n ≡ lease_in m l ticks b → RenewsLease who ticks l n a (seen_in p c s) (seen_in q d t)
 begun_renews p q m who l n ticks a c e d s b t still is same o never lease =
-    let P : CloudState → Type 0 = λ x. Obeys m who (Renew l ticks) a e d x t in
-    let Q : Counts → Type 0 = λ x. Obeys m who (Renew l ticks) a x d (called who s.now s) t in
+    let P : CloudState → Type 0 = λ x. Follows m who (Renew l ticks) a (e, x) (d, t) in
+    let Q : Counts → Type 0 = λ x. Follows m who (Renew l ticks) a (x, called who s.now s) (d, t) in
     let R : CloudState → Type 0 = λ x. n ≡ lease_in m l ticks x in
     let S : Bool → Type 0 = λ x. RenewsLease who ticks l n a (seen_in p c s) (seen_in x d t) in
     subst S (sym still) (untold_renews p who ticks l n a c d s t (obeys_renews m who l n ticks a c d s t (subst Q same (subst P is o)) never (subst R is lease)))

@@ -1,4 +1,5 @@
 pub mod Choice
+pub mod Ends
 pub mod Maps
 pub mod Memory
 pub mod Mood

@@ -1,11 +1,14 @@
 -- What the cloud in memory tells of itself.
 use Rattle.std.specs.Prelude.{ℕ, ◌≡◌, ◌+◌, min, Bool, cond, List, Option, Some, None}
 use Rattle.std.specs.Option.{option_map}
-use Rattle.cloud_trait.specs.State.{CloudState, Counts, greatest, newest}
+use Rattle.cloud_trait.specs.State.{CloudState, Counts, greatest, newest, called, end_after}
+use Rattle.cloud_trait.specs.declared.answer.Answer.{Answer}
+use Rattle.cloud_trait.specs.Ask.{Ask}
 use Rattle.cloud_trait.specs.Caller.{Caller}
 use Rattle.cloud_trait.specs.Seen.{Seen}
 use Rattle.memory_cloud.specs.Maps.{versions_in, messages_in, hold_in}
 use Rattle.memory_cloud.specs.Mood.{mood_at}
+use Rattle.memory_cloud.specs.Outcome.{Follows}
 use Rattle.memory_cloud.specs.declared.mood.Mood.{Mood}
 use Rattle.memory_cloud.specs.declared.store.Last.{Last}
 use Rattle.memory_cloud.specs.declared.store.Store.{Store}
@@ -72,3 +75,41 @@ pub record MakesNoCall (old new : MemoryCloud) : Type 0 where
 -- who plants foreign bytes: the settler, before the first event
 abbrev pub planter : Caller
 planter = record { session = 0; event = 0 }
+
+-- ---- what a call does
+
+-- a call on the store that has begun in this mood does what that says
+abbrev pub MeetsBy : Caller → Mood → Ask → Answer → Store → Store → Type 0
+MeetsBy who mood ask answer old new =
+    Follows mood who ask answer (store_counts old, store_state old) (store_counts new, store_state new)
+
+-- whoever made it
+abbrev pub Meets : Mood → Ask → Answer → Store → Store → Type 0
+Meets mood ask answer old new = (who : Caller) → MeetsBy who mood ask answer old new
+
+-- the state once its next service call has begun
+abbrev pub begun : Caller → MemoryCloud → CloudState
+begun who c = called who (state_of c).now (state_of c)
+
+-- its next service call does what its mood says
+abbrev pub Obeys : Caller → Ask → Answer → MemoryCloud → MemoryCloud → Type 0
+Obeys who ask answer old new =
+    Follows (next_mood old) who ask answer (counts_of old, begun who old) (counts_of new, state_of new)
+
+-- ---- what is done to it beside the calls
+
+-- the clock is later by the ticks, and one wait more is counted, both up to the greatest number
+abbrev pub waited : ℕ → CloudState → CloudState
+waited ticks s = record s { now = end_after s.now ticks; waits = min (s.waits + 1) greatest }
+
+-- the bytes were planted, and the state is told no more
+abbrev pub PlantsBytes : CloudState → MemoryCloud → Type 0
+PlantsBytes planted new = (told_state new ≡ None) × (state_of new ≡ planted)
+
+-- what it holds and tells is as it was
+abbrev pub StaysSo : MemoryCloud → MemoryCloud → Type 0
+StaysSo old new = (told_state new ≡ told_state old) × (state_of new ≡ state_of old)
+
+-- nothing is counted yet
+abbrev pub no_counts : Counts
+no_counts = record { faults = 0; withheld = 0; stale = 0; dark = 0 }

@@ -1,5 +1,6 @@
 -- What the cloud in memory answers and leaves, exactly.
-use Rattle.std.specs.Prelude.{ℕ, ◌≡◌, ◌+◌, ◌&&◌, ◌⊎◌, Bool, cond, not, nat_le, nat_lt, min, List, [], length, take, Option, Some, None, is_none}
+use Rattle.std.specs.Prelude.{ℕ, ◌≡◌, ◌+◌, ◌&&◌, ◌⊎◌, Bool, cond, if◌then◌else◌, not, nat_le, nat_lt, min, List, [], length, take, Option, Some, None, is_none}
+use Rattle.db_base.specs.declared.names.Lock.{Lock}
 use Rattle.db_base.specs.declared.wish.Wish.{Wish}
 use Rattle.db_base.specs.declared.wish.Wish.TheVariants.{Give}
 use Rattle.cloud_trait.specs.declared.answer.Answer.{Answer}
@@ -8,7 +9,7 @@ use Rattle.cloud_trait.specs.declared.state.Version.{Version}
 use Rattle.cloud_trait.specs.declared.state.Hold.{Hold}
 use Rattle.cloud_trait.specs.Caller.{Caller}
 use Rattle.cloud_trait.specs.Claim.{Claim, extended}
-use Rattle.cloud_trait.specs.State.{CloudState, Counts, greatest, newest, version_at, end_after, lease_given}
+use Rattle.cloud_trait.specs.State.{CloudState, Counts, greatest, newest, version_at, end_after, lease_given, taken}
 use Rattle.cloud_trait.specs.Delivery.{unmarked}
 use Rattle.cloud_trait.specs.Listing.{IsListing}
 use Rattle.cloud_trait.specs.Ask.{Ask, Get, GetHeld, PutHeld, ListHeld, RemoveHeld, Send, Receive, Delete, Take, Renew, Release, effect}
@@ -45,6 +46,17 @@ is_free h now = nat_le h.until now && nat_lt h.generation greatest
 -- a lock that is not held, and whose generation cannot rise
 abbrev pub is_spent : Hold → ℕ → Bool
 is_spent h now = nat_le h.until now && not (nat_lt h.generation greatest)
+
+-- the same of a lock in a state
+abbrev pub is_spent_in : CloudState → Lock → Bool
+is_spent_in b lock = is_spent (b.locks lock) b.now
+
+-- the lock is given where it is free, and the lease of that
+abbrev pub given_if_free : Lock → ℕ → CloudState → CloudState
+given_if_free lock ticks b = if is_free (b.locks lock) b.now then taken lock ticks b else b
+
+abbrev pub lease_if_free : Lock → ℕ → CloudState → Option Claim
+lease_if_free lock ticks b = if is_free (b.locks lock) b.now then Some (lease_given lock ticks b) else None
 
 -- the call may land
 abbrev pub may_land : Ask → CloudState → Bool
@@ -129,10 +141,15 @@ counts_in mood.Give (Receive queue most) b c = one_withheld c
 counts_in m (Take lock ticks) b c = cond (is_spent (b.locks lock) b.now) (one_withheld c) c
 counts_in m ask b c = c
 
+-- the counts and the state of a cloud
+abbrev pub Holding : Type 0
+Holding = Counts × CloudState
+
 -- a call did what its mood says, or memory ran out and it did nothing
-abbrev pub Obeys : Mood → Caller → Ask → Answer → Counts → Counts → CloudState → CloudState → Type 0
-Obeys m who ask a c d b t =
-    (Answers m ask b a × (t ≡ state_in m who ask b) × (d ≡ counts_in m ask b c)) ⊎ ((a ≡ Memory) × (t ≡ b) × (d ≡ c))
+abbrev pub Follows : Mood → Caller → Ask → Answer → Holding → Holding → Type 0
+Follows m who ask a old new =
+    (Answers m ask old.1 a × (new.1 ≡ state_in m who ask old.1) × (new.0 ≡ counts_in m ask old.1 old.0))
+    ⊎ ((a ≡ Memory) × (new.1 ≡ old.1) × (new.0 ≡ old.0))
 
 -- what a renewal leaves of the lease
 abbrev pub lease_in : Mood → Claim → ℕ → CloudState → Claim

@@ -1,14 +1,13 @@
-ghost use Rattle.std.specs.Prelude.{◌≡◌, ◌<◌, ℕ, Some, Err, OnOk, OnErr, IfOk, IsTrue, true, if◌then◌else◌};
-ghost use Rattle.cloud_trait.specs.State.{greatest, taken, renewed, lease_given, end_after};
-ghost use Rattle.cloud_trait.specs.Claim.{extended};
+ghost use Rattle.std.specs.Prelude.{◌≡◌, ◌<◌, ℕ, Some, Err, OnOk, OnErr, IfOk, IsTrue, true};
 ghost use Rattle.std.specs.Option.{option_copied};
-ghost use Rattle.cloud_trait.specs.declared.answer.Answer.TheVariants.{Got, Sent, Received, Listed};
-ghost use Rattle.cloud_trait.specs.Answers.{answer_of, held_answer_of, done_by, granted_by, renewed_by};
-ghost use Rattle.cloud_trait.specs.Caller.{Caller};
+ghost use Rattle.cloud_trait.specs.State.{greatest, renewed, end_after};
+ghost use Rattle.cloud_trait.specs.Claim.{extended};
+ghost use Rattle.cloud_trait.specs.Answers.{got_answer, held_got, done_answer, held_done, held_listed, sent_answer, received_answer, taken_answer, renewal};
 ghost use Rattle.cloud_trait.specs.Ask.{Get, GetHeld, PutHeld, ListHeld, RemoveHeld, Send, Receive, Delete, Take, Renew, Release};
-ghost use Rattle.memory_cloud.specs.Memory.{store_state, store_counts};
+ghost use Rattle.memory_cloud.specs.declared.mood.Mood.TheVariants.{Plain, Lost};
+ghost use Rattle.memory_cloud.specs.Memory.{store_state, store_counts, Meets, MeetsBy};
 ghost use Rattle.memory_cloud.specs.Mood.{HasRoom};
-ghost use Rattle.memory_cloud.specs.Outcome.{Obeys, end_if_over, end_of_first, is_free, is_spent, lease_in};
+ghost use Rattle.memory_cloud.specs.Outcome.{end_if_over, end_of_first, is_free, is_spent, is_spent_in, given_if_free, lease_if_free, lease_in};
 
 use crate::mood::Mood;
 use crate::store::Store;
@@ -67,7 +66,7 @@ impl Store {
     // A get that has begun.
     pub fn get_begun(&mut self, mood: Mood, name: &ObjName) -> Result<Option<Blob>, CloudFault>
         requires { HasRoom mood (store_counts self.old) }
-        ensures { (who : Caller) → Obeys mood who (Get name.now) (answer_of Got result) (store_counts self.old) (store_counts self.new) (store_state self.old) (store_state self.new) }
+        ensures { Meets mood (Get name.now) (got_answer result) self.old self.new }
     {
         match mood {
             Mood::Fail | Mood::Lost => {
@@ -81,7 +80,7 @@ impl Store {
 
     fn get_old(&mut self, name: &ObjName, n: u64) -> Result<Option<Blob>, CloudFault>
         requires { (store_counts self.old).stale < greatest }
-        ensures { (who : Caller) → Obeys (Mood.Old n) who (Get name.now) (answer_of Got result) (store_counts self.old) (store_counts self.new) (store_state self.old) (store_state self.new) }
+        ensures { Meets (Mood.Old n) (Get name.now) (got_answer result) self.old self.new }
     {
         match copies::copy_old(self.alloc, objects::versions(&self.objects, name), n) {
             Ok(bytes) => {
@@ -93,7 +92,7 @@ impl Store {
     }
 
     fn get_newest(&self, name: &ObjName) -> Result<Option<Blob>, CloudFault>
-        ensures { (who : Caller) → Obeys Mood.Plain who (Get name.now) (answer_of Got result) (store_counts self.now) (store_counts self.now) (store_state self.now) (store_state self.now) }
+        ensures { Meets Plain (Get name.now) (got_answer result) self.now self.now }
     {
         Ok(copies::copy_newest(self.alloc, objects::versions(&self.objects, name))?)
     }
@@ -106,7 +105,7 @@ impl Store {
         lease: &Lease,
     ) -> Result<Option<Blob>, HeldFault>
         requires { HasRoom mood (store_counts self.old) }
-        ensures { (who : Caller) → Obeys mood who (GetHeld name.now lease.now) (held_answer_of Got result) (store_counts self.old) (store_counts self.new) (store_state self.old) (store_state self.new) }
+        ensures { Meets mood (GetHeld name.now lease.now) (held_got result) self.old self.new }
     {
         match mood {
             Mood::Fail => {
@@ -122,7 +121,7 @@ impl Store {
 
     fn get_held_lost(&mut self, name: &ObjName, lease: &Lease) -> Result<Option<Blob>, HeldFault>
         requires { (store_counts self.old).faults < greatest }
-        ensures { (who : Caller) → Obeys Mood.Lost who (GetHeld name.now lease.now) (held_answer_of Got result) (store_counts self.old) (store_counts self.new) (store_state self.old) (store_state self.new) }
+        ensures { Meets Lost (GetHeld name.now lease.now) (held_got result) self.old self.new }
     {
         let now = self.clock;
         if let Some(end) = end_if_over(now, lease) {
@@ -133,7 +132,7 @@ impl Store {
     }
 
     fn get_held_plain(&self, name: &ObjName, lease: &Lease) -> Result<Option<Blob>, HeldFault>
-        ensures { (who : Caller) → Obeys Mood.Plain who (GetHeld name.now lease.now) (held_answer_of Got result) (store_counts self.now) (store_counts self.now) (store_state self.now) (store_state self.now) }
+        ensures { Meets Plain (GetHeld name.now lease.now) (held_got result) self.now self.now }
     {
         let now = self.clock;
         if let Some(end) = end_if_over(now, lease) {
@@ -153,7 +152,7 @@ impl Store {
         second: Option<&Lease>,
     ) -> Result<(), HeldFault>
         requires { HasRoom mood (store_counts self.old) }
-        ensures { Obeys mood who (PutHeld name.now bytes.now first.now (option_copied second.entry)) (held_answer_of done_by result) (store_counts self.old) (store_counts self.new) (store_state self.old) (store_state self.new) }
+        ensures { MeetsBy who mood (PutHeld name.now bytes.now first.now (option_copied second.entry)) (held_done result) self.old self.new }
     {
         match mood {
             Mood::Fail => {
@@ -176,7 +175,7 @@ impl Store {
         second: Option<&Lease>,
     ) -> Result<(), HeldFault>
         requires { (store_counts self.old).faults < greatest }
-        ensures { Obeys Mood.Lost who (PutHeld name.now bytes.now first.now (option_copied second.entry)) (held_answer_of done_by result) (store_counts self.old) (store_counts self.new) (store_state self.old) (store_state self.new) }
+        ensures { MeetsBy who Lost (PutHeld name.now bytes.now first.now (option_copied second.entry)) (held_done result) self.old self.new }
     {
         let now = self.clock;
         if let Some(end) = end_of_first(now, first, second) {
@@ -195,7 +194,7 @@ impl Store {
         first: &Lease,
         second: Option<&Lease>,
     ) -> Result<(), HeldFault>
-        ensures { Obeys Mood.Plain who (PutHeld name.now bytes.now first.now (option_copied second.entry)) (held_answer_of done_by result) (store_counts self.old) (store_counts self.new) (store_state self.old) (store_state self.new) }
+        ensures { MeetsBy who Plain (PutHeld name.now bytes.now first.now (option_copied second.entry)) (held_done result) self.old self.new }
     {
         let now = self.clock;
         if let Some(end) = end_of_first(now, first, second) {
@@ -213,7 +212,7 @@ impl Store {
         lease: &Lease,
     ) -> Result<Vec<PageId>, HeldFault>
         requires { HasRoom mood (store_counts self.old) }
-        ensures { (who : Caller) → Obeys mood who (ListHeld tree lease.now) (held_answer_of (λ ps. Listed ps.items) result) (store_counts self.old) (store_counts self.new) (store_state self.old) (store_state self.new) }
+        ensures { Meets mood (ListHeld tree lease.now) (held_listed result) self.old self.new }
     {
         match mood {
             Mood::Fail => {
@@ -229,7 +228,7 @@ impl Store {
 
     fn list_held_lost(&mut self, _tree: TreeId, lease: &Lease) -> Result<Vec<PageId>, HeldFault>
         requires { (store_counts self.old).faults < greatest }
-        ensures { (who : Caller) → Obeys Mood.Lost who (ListHeld _tree lease.now) (held_answer_of (λ ps. Listed ps.items) result) (store_counts self.old) (store_counts self.new) (store_state self.old) (store_state self.new) }
+        ensures { Meets Lost (ListHeld _tree lease.now) (held_listed result) self.old self.new }
     {
         let now = self.clock;
         if let Some(end) = end_if_over(now, lease) {
@@ -240,7 +239,7 @@ impl Store {
     }
 
     fn list_held_plain(&self, tree: TreeId, lease: &Lease) -> Result<Vec<PageId>, HeldFault>
-        ensures { (who : Caller) → Obeys Mood.Plain who (ListHeld tree lease.now) (held_answer_of (λ ps. Listed ps.items) result) (store_counts self.now) (store_counts self.now) (store_state self.now) (store_state self.now) }
+        ensures { Meets Plain (ListHeld tree lease.now) (held_listed result) self.now self.now }
     {
         let now = self.clock;
         if let Some(end) = end_if_over(now, lease) {
@@ -258,7 +257,7 @@ impl Store {
         lease: &Lease,
     ) -> Result<(), HeldFault>
         requires { HasRoom mood (store_counts self.old) }
-        ensures { Obeys mood who (RemoveHeld name.now lease.now) (held_answer_of done_by result) (store_counts self.old) (store_counts self.new) (store_state self.old) (store_state self.new) }
+        ensures { MeetsBy who mood (RemoveHeld name.now lease.now) (held_done result) self.old self.new }
     {
         match mood {
             Mood::Fail => {
@@ -274,7 +273,7 @@ impl Store {
 
     fn remove_held_lost(&mut self, who: Who, name: &ObjName, lease: &Lease) -> Result<(), HeldFault>
         requires { (store_counts self.old).faults < greatest }
-        ensures { Obeys Mood.Lost who (RemoveHeld name.now lease.now) (held_answer_of done_by result) (store_counts self.old) (store_counts self.new) (store_state self.old) (store_state self.new) }
+        ensures { MeetsBy who Lost (RemoveHeld name.now lease.now) (held_done result) self.old self.new }
     {
         let now = self.clock;
         if let Some(end) = end_if_over(now, lease) {
@@ -291,7 +290,7 @@ impl Store {
         name: &ObjName,
         lease: &Lease,
     ) -> Result<(), HeldFault>
-        ensures { Obeys Mood.Plain who (RemoveHeld name.now lease.now) (held_answer_of done_by result) (store_counts self.old) (store_counts self.new) (store_state self.old) (store_state self.new) }
+        ensures { MeetsBy who Plain (RemoveHeld name.now lease.now) (held_done result) self.old self.new }
     {
         let now = self.clock;
         if let Some(end) = end_if_over(now, lease) {
@@ -310,7 +309,7 @@ impl Store {
         bytes: &[u8],
     ) -> Result<MsgId, CloudFault>
         requires { HasRoom mood (store_counts self.old) }
-        ensures { Obeys mood who (Send queue.now bytes.now) (answer_of Sent result) (store_counts self.old) (store_counts self.new) (store_state self.old) (store_state self.new) }
+        ensures { MeetsBy who mood (Send queue.now bytes.now) (sent_answer result) self.old self.new }
     {
         match mood {
             Mood::Fail => {
@@ -326,7 +325,7 @@ impl Store {
 
     fn send_lost(&mut self, who: Who, queue: &QueueName, bytes: &[u8]) -> Result<MsgId, CloudFault>
         requires { (store_counts self.old).faults < greatest }
-        ensures { Obeys Mood.Lost who (Send queue.now bytes.now) (answer_of Sent result) (store_counts self.old) (store_counts self.new) (store_state self.old) (store_state self.new) }
+        ensures { MeetsBy who Lost (Send queue.now bytes.now) (sent_answer result) self.old self.new }
     {
         let _id = self.post(who, queue, bytes)?;
         self.fault();
@@ -334,7 +333,7 @@ impl Store {
     }
 
     fn send_plain(&mut self, who: Who, queue: &QueueName, bytes: &[u8]) -> Result<MsgId, CloudFault>
-        ensures { Obeys Mood.Plain who (Send queue.now bytes.now) (answer_of Sent result) (store_counts self.old) (store_counts self.new) (store_state self.old) (store_state self.new) }
+        ensures { MeetsBy who Plain (Send queue.now bytes.now) (sent_answer result) self.old self.new }
     {
         let id = self.post(who, queue, bytes)?;
         Ok(id)
@@ -348,7 +347,7 @@ impl Store {
         max: u16,
     ) -> Result<Vec<Message>, CloudFault>
         requires { HasRoom mood (store_counts self.old) }
-        ensures { (who : Caller) → Obeys mood who (Receive queue.now max) (answer_of (λ ms. Received ms.items) result) (store_counts self.old) (store_counts self.new) (store_state self.old) (store_state self.new) }
+        ensures { Meets mood (Receive queue.now max) (received_answer result) self.old self.new }
     {
         match mood {
             Mood::Fail | Mood::Lost => {
@@ -366,7 +365,7 @@ impl Store {
 
     fn receive_chosen(&mut self, queue: &QueueName, max: u16) -> Result<Vec<Message>, CloudFault>
         requires { (store_counts self.old).withheld < greatest }
-        ensures { (who : Caller) → Obeys Mood.Give who (Receive queue.now max) (answer_of (λ ms. Received ms.items) result) (store_counts self.old) (store_counts self.new) (store_state self.old) (store_state self.new) }
+        ensures { Meets Mood.Give (Receive queue.now max) (received_answer result) self.old self.new }
     {
         let messages = queues::messages(&self.queues, queue);
         match copies::copy_chosen(self.alloc, messages, self.positions(), max as usize) {
@@ -379,7 +378,7 @@ impl Store {
     }
 
     fn receive_plain(&self, queue: &QueueName, max: u16) -> Result<Vec<Message>, CloudFault>
-        ensures { (who : Caller) → Obeys Mood.Plain who (Receive queue.now max) (answer_of (λ ms. Received ms.items) result) (store_counts self.now) (store_counts self.now) (store_state self.now) (store_state self.now) }
+        ensures { Meets Plain (Receive queue.now max) (received_answer result) self.now self.now }
     {
         Ok(queues::first_messages(self.alloc, &self.queues, queue, max as usize)?)
     }
@@ -392,7 +391,7 @@ impl Store {
         id: MsgId,
     ) -> Result<(), CloudFault>
         requires { HasRoom mood (store_counts self.old) }
-        ensures obeys { (who : Caller) → Obeys mood who (Delete queue.now id) (answer_of done_by result) (store_counts self.old) (store_counts self.new) (store_state self.old) (store_state self.new) }
+        ensures obeys { Meets mood (Delete queue.now id) (done_answer result) self.old self.new }
         ensures no_memory { result ≡ Err CloudFault.Memory → ⊥ }
     {
         match mood {
@@ -415,7 +414,7 @@ impl Store {
     // A take that has begun.
     pub fn take_begun(&mut self, mood: Mood, lock: &Lock, ticks: u64) -> Result<Grant, CloudFault>
         requires { HasRoom mood (store_counts self.old) }
-        ensures { (who : Caller) → Obeys mood who (Take lock.now ticks) (answer_of granted_by result) (store_counts self.old) (store_counts self.new) (store_state self.old) (store_state self.new) }
+        ensures { Meets mood (Take lock.now ticks) (taken_answer result) self.old self.new }
     {
         match mood {
             Mood::Fail => {
@@ -433,7 +432,7 @@ impl Store {
 
     fn take_lost(&mut self, lock: &Lock, ticks: u64) -> Result<Grant, CloudFault>
         requires { (store_counts self.old).faults < greatest }
-        ensures { (who : Caller) → Obeys Mood.Lost who (Take lock.now ticks) (answer_of granted_by result) (store_counts self.old) (store_counts self.new) (store_state self.old) (store_state self.new) }
+        ensures { Meets Lost (Take lock.now ticks) (taken_answer result) self.old self.new }
     {
         match self.give_if_free(lock, ticks) {
             Ok(_) => {
@@ -445,7 +444,7 @@ impl Store {
     }
 
     fn take_plain(&mut self, lock: &Lock, ticks: u64) -> Result<Grant, CloudFault>
-        ensures { (who : Caller) → Obeys Mood.Plain who (Take lock.now ticks) (answer_of granted_by result) (store_counts self.old) (store_counts self.new) (store_state self.old) (store_state self.new) }
+        ensures { Meets Plain (Take lock.now ticks) (taken_answer result) self.old self.new }
     {
         let hold = locks::hold(&self.locks, lock);
         if is_spent(hold, self.clock) {
@@ -460,9 +459,9 @@ impl Store {
 
     // A take of a lock whose generation cannot rise.
     fn take_spent(&mut self, lock: &Lock, until: u64) -> Result<Grant, CloudFault>
-        requires spent { is_spent ((store_state self.old).locks lock.now) (store_state self.old).now ≡ true }
+        requires spent { is_spent_in (store_state self.old) lock.now ≡ true }
         requires until { until ≡ ((store_state self.old).locks lock.now).until }
-        ensures { (who : Caller) (ticks : ℕ) → Obeys Mood.Plain who (Take lock.now ticks) (answer_of granted_by result) (store_counts self.old) (store_counts self.new) (store_state self.old) (store_state self.new) }
+        ensures { (ticks : ℕ) → Meets Plain (Take lock.now ticks) (taken_answer result) self.old self.new }
     {
         if self.withheld == u64::MAX {
             return Err(CloudFault::Memory);
@@ -473,8 +472,8 @@ impl Store {
 
     // Gives a lock anew, where it is free.
     fn give_if_free(&mut self, lock: &Lock, ticks: u64) -> Result<Option<Lease>, AllocError>
-        ensures ok { OnOk result (store_state self.new ≡ (if is_free ((store_state self.old).locks lock.now) (store_state self.old).now then taken lock.now ticks (store_state self.old) else store_state self.old)) }
-        ensures lease { IfOk result (λ l. l ≡ (if is_free ((store_state self.old).locks lock.now) (store_state self.old).now then Some (lease_given lock.now ticks (store_state self.old)) else None)) }
+        ensures ok { OnOk result (store_state self.new ≡ given_if_free lock.now ticks (store_state self.old)) }
+        ensures lease { IfOk result (λ l. l ≡ lease_if_free lock.now ticks (store_state self.old)) }
         ensures err { OnErr result (store_state self.new ≡ store_state self.old) }
         ensures counts { store_counts self.new ≡ store_counts self.old }
     {
@@ -498,7 +497,7 @@ impl Store {
         ticks: u64,
     ) -> Result<(), HeldFault>
         requires { HasRoom mood (store_counts self.old) }
-        ensures obeys { (who : Caller) → Obeys mood who (Renew lease.old ticks) (held_answer_of (renewed_by lease.new) result) (store_counts self.old) (store_counts self.new) (store_state self.old) (store_state self.new) }
+        ensures obeys { Meets mood (Renew lease.old ticks) (renewal lease.new result) self.old self.new }
         ensures lease { lease.new ≡ lease_in mood lease.old ticks (store_state self.old) }
         ensures no_memory { result ≡ Err HeldFault.Memory → ⊥ }
     {
@@ -514,7 +513,7 @@ impl Store {
 
     fn renew_lost(&mut self, lease: &mut Lease, ticks: u64) -> Result<(), HeldFault>
         requires { (store_counts self.old).faults < greatest }
-        ensures obeys { (who : Caller) → Obeys Mood.Lost who (Renew lease.old ticks) (held_answer_of (renewed_by lease.new) result) (store_counts self.old) (store_counts self.new) (store_state self.old) (store_state self.new) }
+        ensures obeys { Meets Lost (Renew lease.old ticks) (renewal lease.new result) self.old self.new }
         ensures lease { lease.new ≡ lease_in Mood.Lost lease.old ticks (store_state self.old) }
         ensures no_memory { result ≡ Err HeldFault.Memory → ⊥ }
     {
@@ -528,7 +527,7 @@ impl Store {
     }
 
     fn renew_plain(&mut self, lease: &mut Lease, ticks: u64) -> Result<(), HeldFault>
-        ensures obeys { (who : Caller) → Obeys Mood.Plain who (Renew lease.old ticks) (held_answer_of (renewed_by lease.new) result) (store_counts self.old) (store_counts self.new) (store_state self.old) (store_state self.new) }
+        ensures obeys { Meets Plain (Renew lease.old ticks) (renewal lease.new result) self.old self.new }
         ensures lease { lease.new ≡ lease_in Mood.Plain lease.old ticks (store_state self.old) }
         ensures no_memory { result ≡ Err HeldFault.Memory → ⊥ }
     {
@@ -554,7 +553,7 @@ impl Store {
     // A release that has begun. Takes no memory.
     pub fn release_begun(&mut self, mood: Mood, lease: Lease) -> Result<(), CloudFault>
         requires { HasRoom mood (store_counts self.old) }
-        ensures obeys { (who : Caller) → Obeys mood who (Release lease) (answer_of done_by result) (store_counts self.old) (store_counts self.new) (store_state self.old) (store_state self.new) }
+        ensures obeys { Meets mood (Release lease) (done_answer result) self.old self.new }
         ensures no_memory { result ≡ Err CloudFault.Memory → ⊥ }
     {
         match mood {

@@ -1,5 +1,5 @@
 ghost use Rattle.std.specs.Prelude.{◌≡◌, ◌≤◌, ◌<◌, ◌+◌, ◌-◌, length, take, drop, IsTrue};
-ghost use Rattle.std.specs.List.{slice_range};
+ghost use Rattle.memory_cloud.specs.Ends.{SameEnd, SameBefore};
 
 /// How many bytes of the end of a base are looked for.
 const MARK: usize = 32;
@@ -22,7 +22,7 @@ pub fn common_front(first: &[u8], second: &[u8]) -> usize
 pub fn common_back(first: &[u8], second: &[u8]) -> usize
     ensures first { result ≤ length first.now }
     ensures second { result ≤ length second.now }
-    ensures same { drop (length first.now - result) first.now ≡ drop (length second.now - result) second.now }
+    ensures same { SameEnd first.now second.now result }
 {
     let blocks = back_from(first, second, 0, 64);
     let words = back_from(first, second, blocks, 8);
@@ -67,10 +67,10 @@ fn back_from(first: &[u8], second: &[u8], start: usize, size: usize) -> usize
     requires size { 0 < size }
     requires first { start ≤ length first.now }
     requires second { start ≤ length second.now }
-    requires same { drop (length first.now - start) first.now ≡ drop (length second.now - start) second.now }
+    requires same { SameEnd first.now second.now start }
     ensures first { result ≤ length first.now }
     ensures second { result ≤ length second.now }
-    ensures same { drop (length first.now - result) first.now ≡ drop (length second.now - result) second.now }
+    ensures same { SameEnd first.now second.now result }
 {
     let mut count = start;
     while same_behind(first, second, count, size) {
@@ -85,7 +85,7 @@ fn same_behind(first: &[u8], second: &[u8], back: usize, size: usize) -> bool
     requires second { back ≤ length second.now }
     ensures first { IsTrue result → back + size ≤ length first.now }
     ensures second { IsTrue result → back + size ≤ length second.now }
-    ensures same { IsTrue result → slice_range first.now (length first.now - (back + size)) (length first.now - back) ≡ slice_range second.now (length second.now - (back + size)) (length second.now - back) }
+    ensures same { IsTrue result → SameBefore first.now second.now back size }
 {
     let first_end = first.len() - back;
     let second_end = second.len() - back;

@@ -1,8 +1,5 @@
-ghost use Rattle.std.specs.Prelude.{◌≡◌, OnOk, OnErr};
-ghost use Rattle.db_base.specs.declared.names.Lock.{Lock};
-ghost use Rattle.cloud_trait.specs.Names.{lock_cmp};
-ghost use Rattle.cloud_trait.specs.State.{put_at};
-ghost use Rattle.memory_cloud.specs.Maps.{hold_in, moved_in};
+ghost use Rattle.std.specs.Prelude.{◌≡◌, OnErr};
+ghost use Rattle.memory_cloud.specs.Maps.{hold_in, SetsHold, MovesHold};
 
 use cloud_trait::state::Hold;
 use db_base::names::Lock;
@@ -27,7 +24,7 @@ pub fn hold(locks: &Locks, lock: &Lock) -> Hold
 
 /// Sets how a lock stands.
 pub fn set_hold(locks: &mut Locks, lock: &Lock, hold: Hold) -> Result<(), AllocError>
-    ensures ok { (q : Lock) → OnOk result (hold_in locks.new q ≡ put_at lock_cmp (hold_in locks.old) lock.now hold q) }
+    ensures ok { SetsHold result locks.old lock.now hold locks.new }
     ensures err { (q : Lock) → OnErr result (hold_in locks.new q ≡ hold_in locks.old q) }
 {
     locks.insert(*lock, hold)?;
@@ -36,7 +33,7 @@ pub fn set_hold(locks: &mut Locks, lock: &Lock, hold: Hold) -> Result<(), AllocE
 
 /// Moves the end of a lock that stands in this generation. Takes no memory.
 pub fn move_hold(locks: &mut Locks, lock: &Lock, generation: u64, until: u64)
-    ensures { (q : Lock) → hold_in locks.new q ≡ moved_in (hold_in locks.old) lock.now generation until q }
+    ensures { MovesHold locks.old lock.now generation until locks.new }
 {
     if let Some(hold) = locks.get_mut(lock) {
         if generation > 0 && hold.generation == generation {

@@ -36,7 +36,7 @@ impl MemoryCloud {
     ghost use Rattle.db_base.specs.declared.wish.Wish.TheVariants.{Plain};
     ghost use Rattle.cloud_trait.specs.State.{IsEmptyCloud, called, landed, sent, version_at, message_at};
     ghost use Rattle.cloud_trait.specs.Bench.{has_bytes};
-    ghost use Rattle.memory_cloud.specs.Memory.{state_of, counts_of, told_state, is_planted, next_mood, next_call, failing_calls, CountsCall, MakesNoCall};
+    ghost use Rattle.memory_cloud.specs.Memory.{state_of, counts_of, no_counts, PlantsBytes, StaysSo, told_state, next_mood, next_call, failing_calls, CountsCall, MakesNoCall};
     ghost use Rattle.memory_cloud.specs.Mood.{HasRoom, mood_at, wanted_mood, has_room};
 
     /// An empty cloud at clock 0, that fails no call. Takes no memory.
@@ -66,7 +66,7 @@ impl MemoryCloud {
         ensures waits { IfOk result (λ c. (state_of c).waits ≡ 0) }
         ensures wish { IfOk result (λ c. (state_of c).wish ≡ Plain) }
         ensures last { IfOk result (λ c. (state_of c).last ≡ None) }
-        ensures counts { IfOk result (λ c. counts_of c ≡ record { faults = 0; withheld = 0; stale = 0; dark = 0 }) }
+        ensures counts { IfOk result (λ c. counts_of c ≡ no_counts) }
         ensures failing { IfOk result (λ c. failing_calls c ≡ calls.now) }
         ensures first { IfOk result (λ c. next_call c ≡ 1) }
         ensures told { IfOk result (λ c. told_state c ≡ Some (state_of c)) }
@@ -105,8 +105,8 @@ impl MemoryCloud {
     /// Plants foreign bytes as the newest version of an object, for tests; from then on the cloud tells no state.
     /// Refused for memory alone.
     pub fn plant(&mut self, name: ObjName, bytes: &[u8]) -> Result<(), CloudFault>
-        ensures ok { OnOk result ((told_state self.new ≡ None) × (state_of self.new ≡ landed planter name bytes.now (state_of self.old))) }
-        ensures err { OnErr result ((told_state self.new ≡ told_state self.old) × (state_of self.new ≡ state_of self.old)) }
+        ensures ok { OnOk result (PlantsBytes (landed planter name bytes.now (state_of self.old)) self.new) }
+        ensures err { OnErr result (StaysSo self.old self.new) }
         ensures memory { IfErr result (λ e. e ≡ CloudFault.Memory) }
         ensures counts { counts_of self.new ≡ counts_of self.old }
         ensures call { MakesNoCall self.old self.new }
@@ -123,8 +123,8 @@ impl MemoryCloud {
     /// Plants a message of foreign bytes at the end of a queue, for tests; from then on the cloud tells no state.
     /// Refused for memory alone.
     pub fn plant_message(&mut self, queue: QueueName, bytes: &[u8]) -> Result<(), CloudFault>
-        ensures ok { OnOk result ((told_state self.new ≡ None) × (state_of self.new ≡ sent planter queue bytes.now (state_of self.old))) }
-        ensures err { OnErr result ((told_state self.new ≡ told_state self.old) × (state_of self.new ≡ state_of self.old)) }
+        ensures ok { OnOk result (PlantsBytes (sent planter queue bytes.now (state_of self.old)) self.new) }
+        ensures err { OnErr result (StaysSo self.old self.new) }
         ensures memory { IfErr result (λ e. e ≡ CloudFault.Memory) }
         ensures counts { counts_of self.new ≡ counts_of self.old }
         ensures call { MakesNoCall self.old self.new }

@@ -1,9 +1,7 @@
-ghost use Rattle.std.specs.Prelude.{◌≡◌, ◌++◌, ◌∷◌, [], All, OnOk, OnErr, IfOk};
+ghost use Rattle.std.specs.Prelude.{◌≡◌, ◌++◌, All, OnOk, OnErr, IfOk};
 ghost use Rattle.db_base.specs.Ids.{IsPage};
 ghost use Rattle.db_base.specs.declared.names.ObjName.{ObjName};
-ghost use Rattle.cloud_trait.specs.Names.{object_cmp};
-ghost use Rattle.cloud_trait.specs.State.{put_at};
-ghost use Rattle.memory_cloud.specs.Maps.{versions_in};
+ghost use Rattle.memory_cloud.specs.Maps.{versions_in, AddsVersion};
 ghost use Rattle.memory_cloud.specs.Pages.{IsListed, page_at};
 
 use crate::copies;
@@ -33,7 +31,7 @@ pub fn add_version(
     name: &ObjName,
     version: Kept,
 ) -> Result<(), AllocError>
-    ensures ok { (q : ObjName) → OnOk result (versions_in objects.new q ≡ put_at object_cmp (versions_in objects.old) name.now (versions_in objects.old name.now ++ version ∷ []) q) }
+    ensures ok { AddsVersion result objects.old name.now version objects.new }
     ensures err { (q : ObjName) → OnErr result (versions_in objects.new q ≡ versions_in objects.old q) }
 {
     if let Some(versions) = objects.get_mut(name) {

@@ -1,9 +1,7 @@
-ghost use Rattle.std.specs.Prelude.{◌≡◌, ◌++◌, ◌∷◌, [], OnOk, OnErr, length, IfOk, take};
+ghost use Rattle.std.specs.Prelude.{◌≡◌, OnErr, length, IfOk, take};
 ghost use Rattle.db_base.specs.declared.names.QueueName.{QueueName};
-ghost use Rattle.cloud_trait.specs.Names.{queue_cmp};
-ghost use Rattle.cloud_trait.specs.State.{put_at, marked};
 ghost use Rattle.cloud_trait.specs.Delivery.{unmarked};
-ghost use Rattle.memory_cloud.specs.Maps.{messages_in};
+ghost use Rattle.memory_cloud.specs.Maps.{messages_in, AddsMessage, MarksMessage};
 
 use crate::queue::Queue;
 use cloud_trait::message::Message;
@@ -33,7 +31,7 @@ pub fn add_message(
     name: &QueueName,
     message: Posted,
 ) -> Result<(), AllocError>
-    ensures ok { (q : QueueName) → OnOk result (messages_in queues.new q ≡ put_at queue_cmp (messages_in queues.old) name.now (messages_in queues.old name.now ++ message ∷ []) q) }
+    ensures ok { AddsMessage result queues.old name.now message queues.new }
     ensures err { (q : QueueName) → OnErr result (messages_in queues.new q ≡ messages_in queues.old q) }
 {
     if let Some(queue) = queues.get_mut(name) {
@@ -48,7 +46,7 @@ pub fn add_message(
 
 /// Marks a message of a queue as deleted. Takes no memory.
 pub fn mark_message(queues: &mut Queues, name: &QueueName, id: MsgId)
-    ensures { (q : QueueName) → messages_in queues.new q ≡ put_at queue_cmp (messages_in queues.old) name.now (marked (messages_in queues.old name.now) id) q }
+    ensures { MarksMessage queues.old name.now id queues.new }
 {
     if let Some(queue) = queues.get_mut(name) {
         queue.mark(id);

@@ -1,15 +1,14 @@
-ghost use Rattle.std.specs.Prelude.{◌≡◌, ◌≢◌, ℕ, Some, Err, Option, length, IfOk, min, ◌+◌};
+ghost use Rattle.std.specs.Prelude.{◌≡◌, ◌≢◌, Some, Err, IfOk};
 ghost use Rattle.std.specs.Option.{option_copied};
-ghost use Rattle.cloud_trait.specs.declared.answer.Answer.TheVariants.{Got, Sent, Received, Listed};
-ghost use Rattle.cloud_trait.specs.Answers.{answer_of, held_answer_of, done_by, granted_by, renewed_by};
+ghost use Rattle.cloud_trait.specs.Answers.{got_answer, held_got, done_answer, held_done, held_listed, sent_answer, received_answer, taken_answer, renewal};
 ghost use Rattle.cloud_trait.specs.Ask.{Get, GetHeld, PutHeld, ListHeld, RemoveHeld, Send, Receive, Delete, Take, Renew, Release};
-ghost use Rattle.cloud_trait.specs.State.{CloudState, called, newest, end_after, greatest};
-ghost use Rattle.cloud_trait.specs.Delivery.{unmarked};
-ghost use Rattle.cloud_trait.specs.Weather.{Makes, RenewsLease};
-ghost use Rattle.cloud_trait.specs.Bench.{Waits, Looks, IsNoCall, IsShown, IsShownToHave, has_bytes};
+ghost use Rattle.cloud_trait.specs.State.{CloudState};
+ghost use Rattle.cloud_trait.specs.Weather.{Makes};
+ghost use Rattle.cloud_trait.specs.Made.{MakesGet, MakesGetHeld, MakesListHeld, MakesRemoveHeld, MakesSend, MakesReceive, MakesDelete, MakesTake, MakesRenew, SetsLease, MakesRelease};
+ghost use Rattle.cloud_trait.specs.Bench.{Looks, IsNoCall, IsShown, IsShownToHave, SetsWish, HasWaited, TellsNewest, TellsHaving, TellsBacklog};
 ghost use Rattle.cloud_trait.specs.declared.fault.CloudFault.{CloudFault};
-ghost use Rattle.memory_cloud.specs.Memory.{state_of, counts_of, is_planted, told_state, seen_of, next_mood, CountsCall, MakesNoCall};
-ghost use Rattle.memory_cloud.specs.Outcome.{Obeys, lease_in};
+ghost use Rattle.memory_cloud.specs.Memory.{state_of, is_planted, told_state, seen_of, next_mood, CountsCall, MakesNoCall, Obeys, begun, waited};
+ghost use Rattle.memory_cloud.specs.Outcome.{lease_in};
 
 use crate::memory::MemoryCloud;
 use crate::{copies, objects, queues};
@@ -35,8 +34,8 @@ impl Cloud for MemoryCloud {
     }
 
     fn get(&mut self, who: Who, name: ObjName) -> Result<Option<Blob>, CloudFault>
-        ensures made { Makes who (Get name) (answer_of Got result) (seen_of self.old) (seen_of self.new) }
-        ensures obeys { Obeys (next_mood self.old) who (Get name) (answer_of Got result) (counts_of self.old) (counts_of self.new) (called who (state_of self.old).now (state_of self.old)) (state_of self.new) }
+        ensures made { MakesGet who name result (seen_of self.old) (seen_of self.new) }
+        ensures obeys { Obeys who (Get name) (got_answer result) self.old self.new }
         ensures counted { CountsCall self.old self.new }
     {
         let mood = self.begin(who);
@@ -49,8 +48,8 @@ impl Cloud for MemoryCloud {
         name: ObjName,
         lease: &Lease,
     ) -> Result<Option<Blob>, HeldFault>
-        ensures made { Makes who (GetHeld name lease.now) (held_answer_of Got result) (seen_of self.old) (seen_of self.new) }
-        ensures obeys { Obeys (next_mood self.old) who (GetHeld name lease.now) (held_answer_of Got result) (counts_of self.old) (counts_of self.new) (called who (state_of self.old).now (state_of self.old)) (state_of self.new) }
+        ensures made { MakesGetHeld who name lease.now result (seen_of self.old) (seen_of self.new) }
+        ensures obeys { Obeys who (GetHeld name lease.now) (held_got result) self.old self.new }
         ensures counted { CountsCall self.old self.new }
     {
         let mood = self.begin(who);
@@ -65,8 +64,8 @@ impl Cloud for MemoryCloud {
         first: &Lease,
         second: Option<&Lease>,
     ) -> Result<(), HeldFault>
-        ensures made { Makes who (PutHeld name bytes.now first.now (option_copied second.entry)) (held_answer_of done_by result) (seen_of self.old) (seen_of self.new) }
-        ensures obeys { Obeys (next_mood self.old) who (PutHeld name bytes.now first.now (option_copied second.entry)) (held_answer_of done_by result) (counts_of self.old) (counts_of self.new) (called who (state_of self.old).now (state_of self.old)) (state_of self.new) }
+        ensures made { Makes who (PutHeld name bytes.now first.now (option_copied second.entry)) (held_done result) (seen_of self.old) (seen_of self.new) }
+        ensures obeys { Obeys who (PutHeld name bytes.now first.now (option_copied second.entry)) (held_done result) self.old self.new }
         ensures counted { CountsCall self.old self.new }
     {
         let mood = self.begin(who);
@@ -75,8 +74,8 @@ impl Cloud for MemoryCloud {
     }
 
     fn list_held(&mut self, who: Who, tree: TreeId, lease: &Lease) -> Result<Vec<PageId>, HeldFault>
-        ensures made { Makes who (ListHeld tree lease.now) (held_answer_of (λ ps. Listed ps.items) result) (seen_of self.old) (seen_of self.new) }
-        ensures obeys { Obeys (next_mood self.old) who (ListHeld tree lease.now) (held_answer_of (λ ps. Listed ps.items) result) (counts_of self.old) (counts_of self.new) (called who (state_of self.old).now (state_of self.old)) (state_of self.new) }
+        ensures made { MakesListHeld who tree lease.now result (seen_of self.old) (seen_of self.new) }
+        ensures obeys { Obeys who (ListHeld tree lease.now) (held_listed result) self.old self.new }
         ensures counted { CountsCall self.old self.new }
     {
         let mood = self.begin(who);
@@ -84,8 +83,8 @@ impl Cloud for MemoryCloud {
     }
 
     fn remove_held(&mut self, who: Who, name: ObjName, lease: &Lease) -> Result<(), HeldFault>
-        ensures made { Makes who (RemoveHeld name lease.now) (held_answer_of done_by result) (seen_of self.old) (seen_of self.new) }
-        ensures obeys { Obeys (next_mood self.old) who (RemoveHeld name lease.now) (held_answer_of done_by result) (counts_of self.old) (counts_of self.new) (called who (state_of self.old).now (state_of self.old)) (state_of self.new) }
+        ensures made { MakesRemoveHeld who name lease.now result (seen_of self.old) (seen_of self.new) }
+        ensures obeys { Obeys who (RemoveHeld name lease.now) (held_done result) self.old self.new }
         ensures counted { CountsCall self.old self.new }
     {
         let mood = self.begin(who);
@@ -93,8 +92,8 @@ impl Cloud for MemoryCloud {
     }
 
     fn send(&mut self, who: Who, queue: QueueName, bytes: &[u8]) -> Result<MsgId, CloudFault>
-        ensures made { Makes who (Send queue bytes.now) (answer_of Sent result) (seen_of self.old) (seen_of self.new) }
-        ensures obeys { Obeys (next_mood self.old) who (Send queue bytes.now) (answer_of Sent result) (counts_of self.old) (counts_of self.new) (called who (state_of self.old).now (state_of self.old)) (state_of self.new) }
+        ensures made { MakesSend who queue bytes.now result (seen_of self.old) (seen_of self.new) }
+        ensures obeys { Obeys who (Send queue bytes.now) (sent_answer result) self.old self.new }
         ensures counted { CountsCall self.old self.new }
     {
         let mood = self.begin(who);
@@ -102,8 +101,8 @@ impl Cloud for MemoryCloud {
     }
 
     fn receive(&mut self, who: Who, queue: QueueName, max: u16) -> Result<Vec<Message>, CloudFault>
-        ensures made { Makes who (Receive queue max) (answer_of (λ ms. Received ms.items) result) (seen_of self.old) (seen_of self.new) }
-        ensures obeys { Obeys (next_mood self.old) who (Receive queue max) (answer_of (λ ms. Received ms.items) result) (counts_of self.old) (counts_of self.new) (called who (state_of self.old).now (state_of self.old)) (state_of self.new) }
+        ensures made { MakesReceive who queue max result (seen_of self.old) (seen_of self.new) }
+        ensures obeys { Obeys who (Receive queue max) (received_answer result) self.old self.new }
         ensures counted { CountsCall self.old self.new }
     {
         let mood = self.begin(who);
@@ -111,8 +110,8 @@ impl Cloud for MemoryCloud {
     }
 
     fn delete(&mut self, who: Who, queue: QueueName, id: MsgId) -> Result<(), CloudFault>
-        ensures made { Makes who (Delete queue id) (answer_of done_by result) (seen_of self.old) (seen_of self.new) }
-        ensures obeys { Obeys (next_mood self.old) who (Delete queue id) (answer_of done_by result) (counts_of self.old) (counts_of self.new) (called who (state_of self.old).now (state_of self.old)) (state_of self.new) }
+        ensures made { MakesDelete who queue id result (seen_of self.old) (seen_of self.new) }
+        ensures obeys { Obeys who (Delete queue id) (done_answer result) self.old self.new }
         ensures counted { CountsCall self.old self.new }
         ensures no_memory { result ≡ Err CloudFault.Memory → ⊥ }
     {
@@ -121,8 +120,8 @@ impl Cloud for MemoryCloud {
     }
 
     fn take(&mut self, who: Who, lock: Lock, ticks: u64) -> Result<Grant, CloudFault>
-        ensures made { Makes who (Take lock ticks) (answer_of granted_by result) (seen_of self.old) (seen_of self.new) }
-        ensures obeys { Obeys (next_mood self.old) who (Take lock ticks) (answer_of granted_by result) (counts_of self.old) (counts_of self.new) (called who (state_of self.old).now (state_of self.old)) (state_of self.new) }
+        ensures made { MakesTake who lock ticks result (seen_of self.old) (seen_of self.new) }
+        ensures obeys { Obeys who (Take lock ticks) (taken_answer result) self.old self.new }
         ensures counted { CountsCall self.old self.new }
     {
         let mood = self.begin(who);
@@ -130,10 +129,10 @@ impl Cloud for MemoryCloud {
     }
 
     fn renew(&mut self, who: Who, lease: &mut Lease, ticks: u64) -> Result<(), HeldFault>
-        ensures made { Makes who (Renew lease.old ticks) (held_answer_of (renewed_by lease.new) result) (seen_of self.old) (seen_of self.new) }
-        ensures lease { RenewsLease who ticks lease.old lease.new (held_answer_of (renewed_by lease.new) result) (seen_of self.old) (seen_of self.new) }
-        ensures leased { lease.new ≡ lease_in (next_mood self.old) lease.old ticks (called who (state_of self.old).now (state_of self.old)) }
-        ensures obeys { Obeys (next_mood self.old) who (Renew lease.old ticks) (held_answer_of (renewed_by lease.new) result) (counts_of self.old) (counts_of self.new) (called who (state_of self.old).now (state_of self.old)) (state_of self.new) }
+        ensures made { MakesRenew who ticks (lease.old, lease.new) result (seen_of self.old) (seen_of self.new) }
+        ensures lease { SetsLease who ticks (lease.old, lease.new) result (seen_of self.old) (seen_of self.new) }
+        ensures leased { lease.new ≡ lease_in (next_mood self.old) lease.old ticks (begun who self.old) }
+        ensures obeys { Obeys who (Renew lease.old ticks) (renewal lease.new result) self.old self.new }
         ensures counted { CountsCall self.old self.new }
         ensures no_memory { result ≡ Err HeldFault.Memory → ⊥ }
     {
@@ -142,8 +141,8 @@ impl Cloud for MemoryCloud {
     }
 
     fn release(&mut self, who: Who, lease: Lease) -> Result<(), CloudFault>
-        ensures made { Makes who (Release lease) (answer_of done_by result) (seen_of self.old) (seen_of self.new) }
-        ensures obeys { Obeys (next_mood self.old) who (Release lease) (answer_of done_by result) (counts_of self.old) (counts_of self.new) (called who (state_of self.old).now (state_of self.old)) (state_of self.new) }
+        ensures made { MakesRelease who lease result (seen_of self.old) (seen_of self.new) }
+        ensures obeys { Obeys who (Release lease) (done_answer result) self.old self.new }
         ensures counted { CountsCall self.old self.new }
         ensures no_memory { result ≡ Err CloudFault.Memory → ⊥ }
     {
@@ -155,7 +154,7 @@ impl Cloud for MemoryCloud {
 impl Bench for MemoryCloud {
     fn wish(&mut self, wish: Wish)
         ensures no_call { IsNoCall (seen_of self.old) (seen_of self.new) }
-        ensures set { (s : CloudState) → told_state self.old ≡ Some s → told_state self.new ≡ Some (record s { wish = wish }) }
+        ensures set { SetsWish wish (seen_of self.old) (seen_of self.new) }
         ensures call { MakesNoCall self.old self.new }
         ensures planted { is_planted self.new ≡ is_planted self.old }
     {
@@ -164,8 +163,8 @@ impl Bench for MemoryCloud {
 
     fn wait(&mut self, ticks: u64)
         ensures no_call { IsNoCall (seen_of self.old) (seen_of self.new) }
-        ensures waited { (s : CloudState) → told_state self.old ≡ Some s → Waits ticks s (told_state self.new) }
-        ensures exactly { state_of self.new ≡ record (state_of self.old) { now = end_after (state_of self.old).now ticks; waits = min ((state_of self.old).waits + 1) greatest } }
+        ensures waited { HasWaited ticks (seen_of self.old) (seen_of self.new) }
+        ensures exactly { state_of self.new ≡ waited ticks (state_of self.old) }
         ensures call { MakesNoCall self.old self.new }
         ensures planted { is_planted self.new ≡ is_planted self.old }
     {
@@ -175,7 +174,7 @@ impl Bench for MemoryCloud {
 
     fn peek(&mut self, name: ObjName) -> Result<Option<Blob>, CloudFault>
         ensures looks { Looks result (seen_of self.old) (seen_of self.new) }
-        ensures newest { (s : CloudState) → told_state self.old ≡ Some s → IfOk result (λ v. v ≡ newest s name) }
+        ensures newest { TellsNewest result (seen_of self.old) name }
         ensures shown { IfOk result (IsShown (seen_of self.old) name) }
         ensures call { MakesNoCall self.old self.new }
         ensures planted { is_planted self.new ≡ is_planted self.old }
@@ -191,7 +190,7 @@ impl Bench for MemoryCloud {
 
     fn has(&mut self, name: ObjName, bytes: &[u8]) -> Result<bool, CloudFault>
         ensures looks { Looks result (seen_of self.old) (seen_of self.new) }
-        ensures newest { (s : CloudState) → told_state self.old ≡ Some s → IfOk result (λ is. is ≡ has_bytes (newest s name) bytes.now) }
+        ensures newest { TellsHaving result (seen_of self.old) name bytes.now }
         ensures shown { IfOk result (IsShownToHave (seen_of self.old) name bytes.now) }
         ensures no_memory { (e : CloudFault) → result ≢ Err e }
         ensures call { MakesNoCall self.old self.new }
@@ -203,7 +202,7 @@ impl Bench for MemoryCloud {
 
     fn backlog(&mut self, queue: QueueName) -> Result<u64, CloudFault>
         ensures looks { Looks result (seen_of self.old) (seen_of self.new) }
-        ensures length { (s : CloudState) → told_state self.old ≡ Some s → IfOk result (λ n. n ≡ length (unmarked (s.messages queue))) }
+        ensures length { TellsBacklog result (seen_of self.old) queue }
         ensures no_memory { (e : CloudFault) → result ≢ Err e }
         ensures call { MakesNoCall self.old self.new }
         ensures planted { is_planted self.new ≡ is_planted self.old }

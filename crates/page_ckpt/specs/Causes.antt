@@ -26,6 +26,8 @@ use Rattle.page_ckpt.specs.declared.link.Link.{Link}
 use Rattle.page_ckpt.specs.declared.stage.Stage.TheVariants.{GettingHome, Receiving, GettingRight, ReleasingRight}
 use Rattle.page_ckpt.specs.Links.{TakesLink}
 use Rattle.page_ckpt.specs.Paging.{Paging, paging_ask, own_queue, IsNoInner, is_visited}
+use Rattle.ckpt_parts.specs.Limits.{page_ticks}
+use Rattle.cloud_trait.specs.State.{greatest}
 
 -- a call whose failure stops the checkpoint: each but a deletion and a release
 abbrev pub Matters : Ask → Type 0
@@ -69,7 +71,7 @@ abbrev pub GoesRound : Paging → Answer → Paging → ℕ → Type 0
 GoesRound p a n page = (is_visited p page ≡ true) × ((link : Link) × LeadsOn p a n (Some link) × (page ≡ link.page))
 
 abbrev pub greatest_number : ℕ
-greatest_number = 18446744073709551615
+greatest_number = greatest
 
 -- the page itself is to be put, since no link leads on, and has the greatest version
 abbrev pub IsHomeSpent : Paging → Answer → Paging → Type 0
@@ -87,7 +89,7 @@ IsRightSpent p a =
 abbrev pub Shows : Paging → Answer → Paging → Trouble → Type 0
 Shows p a n trouble.Failed = (a ≡ call.Failed) × Matters (paging_ask p)
 Shows p a n (trouble.Late end now) = a ≡ call.Late end now
-Shows p a n (trouble.Busy lock until) = (paging_ask p ≡ Take lock 30) × (a ≡ call.Held until)
+Shows p a n (trouble.Busy lock until) = (paging_ask p ≡ Take lock page_ticks) × (a ≡ call.Held until)
 Shows p a n (trouble.Absent page) = Reads p page × (page ≢ 1) × (a ≡ call.Got None)
 Shows p a n (trouble.NotALeaf page) =
     (page ≡ p.page) × (p.stage ≡ GettingHome) × ((bytes : List ℕ) × ((i : Inner) × (a ≡ call.Got (Some bytes)) × IsInner bytes i))

@@ -28,6 +28,7 @@ use Rattle.ckpt_parts.specs.Leaves.{HoldsLinked}
 use Rattle.page_ckpt.specs.declared.link.Link.{Link}
 use Rattle.page_ckpt.specs.Links.{TakesLink}
 use Rattle.page_ckpt.specs.Paging.{Paging, HoldsNamed, went}
+use Rattle.ckpt_parts.specs.Limits.{page_ticks, most_received}
 
 -- calls with their answers, the newest first
 abbrev pub Calls : Type 0
@@ -47,7 +48,7 @@ abbrev pub page_name : Scene → ℕ → ObjName
 page_name s page = object.Page s.tree page
 
 abbrev pub take_page : Scene → ℕ → Ask
-take_page s page = Take (lock.Page s.tree page) 30
+take_page s page = Take (lock.Page s.tree page) page_ticks
 
 abbrev pub scene_queue : Scene → QueueName
 scene_queue s = queue.PagePu s.tree s.page
@@ -71,7 +72,7 @@ pub record Opening : Type 0 where
 -- one receive, of 256 at most
 abbrev pub opening_calls : Scene → Claim → Opening → Calls
 opening_calls s lease o =
-    (Receive (scene_queue s) 256, Received o.messages) ∷ (GetHeld (page_name s s.page) lease, Got o.got) ∷ (take_page s s.page, Given lease) ∷ []
+    (Receive (scene_queue s) most_received, Received o.messages) ∷ (GetHeld (page_name s s.page) lease, Got o.got) ∷ (take_page s s.page, Given lease) ∷ []
 
 -- the page is the leaf that the get brought, and the run is that of the page's own numbers and of the received records
 pub record IsOpened (s : Scene) (received : List ℕ) (o : Opening) : Type 0 where

@@ -39,6 +39,8 @@ use Rattle.page_ckpt.specs.declared.leaf.Made.TheVariants.{Leaf as MadeLeaf, Exh
 use Rattle.page_ckpt.specs.declared.link.Link.{Link}
 use Rattle.page_ckpt.specs.declared.stage.Stage.{Stage}
 use Rattle.page_ckpt.specs.declared.stage.Stage.TheVariants.{TakingHome, GettingHome, Receiving, TakingRight, GettingRight, PuttingRight, ReleasingRight, PuttingHome, Deleting as DeletingNext, Releasing, Finished}
+use Rattle.ckpt_parts.specs.Limits.{page_ticks, most_received}
+use Rattle.cloud_trait.specs.State.{greatest}
 
 -- where a checkpoint stands: its page, its leases (the page's first, that of a right page second), what its receive answered, the page
 -- as it was read, the run, what it is to delete, the link to the right page at hand, the one that leads on from there, the right pages
@@ -103,10 +105,10 @@ abbrev pub own_queue : Paging → QueueName
 own_queue p = queue.PagePu p.tree p.page
 
 abbrev pub take_home : Paging → Ask
-take_home p = Take (lock.Page p.tree p.page) 30
+take_home p = Take (lock.Page p.tree p.page) page_ticks
 
 abbrev pub take_right : Paging → Ask
-take_right p = Take (lock.Page p.tree p.at.page) 30
+take_right p = Take (lock.Page p.tree p.at.page) page_ticks
 
 -- under a lease, where it is held
 abbrev pub under : Paging → Option Claim → (Claim → Ask) → Ask
@@ -124,7 +126,7 @@ delete_next p None = take_home p
 abbrev pub ask_at : Stage → Paging → Ask
 ask_at TakingHome p = take_home p
 ask_at GettingHome p = under p p.held.first (λ l. GetHeld (home_name p) l)
-ask_at Receiving p = Receive (own_queue p) 256
+ask_at Receiving p = Receive (own_queue p) most_received
 ask_at TakingRight p = take_right p
 ask_at GettingRight p = under p p.held.second (λ l. GetHeld (right_name p) l)
 ask_at PuttingRight p = put_right p
@@ -226,15 +228,15 @@ is_visited p page = (page == p.page) || list_any (λ q. q == page) p.visited
 -- the next version of a leaf is put, with the run applied, unless its version is spent
 abbrev pub LeafPut : Paging → Stage → Leaf → Step → Type 0
 LeafPut p stage l next =
-    ((l.version ≡ 18446744073709551615) × (next ≡ stopping p (trouble.Exhausted counter.Version)))
-    ⊎ ((l.version ≢ 18446744073709551615)
+    ((l.version ≡ greatest) × (next ≡ stopping p (trouble.Exhausted counter.Version)))
+    ⊎ ((l.version ≢ greatest)
     × ((out : List ℕ) × IsLeaf out (applied l p.page p.run.items)
     × (next ≡ Goes (record p { stage = stage; applying = lacked l p.page p.run.items; out = out }))))
 
 -- what was made of the next version of a leaf
 abbrev pub MakesLeaf : Leaf → ℕ → List PuItem → Made → Type 0
-MakesLeaf l page run (MadeLeaf out) = (l.version ≢ 18446744073709551615) × IsLeaf out (applied l page run)
-MakesLeaf l page run MadeNone = l.version ≡ 18446744073709551615
+MakesLeaf l page run (MadeLeaf out) = (l.version ≢ greatest) × IsLeaf out (applied l page run)
+MakesLeaf l page run MadeNone = l.version ≡ greatest
 MakesLeaf l page run NoMemory = Unit {0}
 
 -- it is put, where it was made

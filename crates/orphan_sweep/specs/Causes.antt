@@ -21,6 +21,7 @@ use Rattle.orphan_sweep.specs.declared.stage.Stage.TheVariants.{GettingTree, Rea
 use Rattle.orphan_sweep.specs.declared.swept.Swept.{Swept}
 use Rattle.orphan_sweep.specs.Pages.{leaf_held, root_held, top_spot, paths_of, onward}
 use Rattle.orphan_sweep.specs.Sweeping.{Sweeping, sweep_ask, is_among}
+use Rattle.ckpt_parts.specs.Limits.{tree_ticks}
 
 -- a call whose failure stops the sweep: each but the release
 abbrev pub Matters : Ask → Type 0
@@ -84,7 +85,7 @@ GoesRound s a page = (is_among s.visited page ≡ true) × ((spot : Spot) × Lea
 abbrev pub Shows : Sweeping → Answer → Trouble → Type 0
 Shows s a trouble.Failed = (a ≡ call.Failed) × Matters (sweep_ask s)
 Shows s a (trouble.Late end now) = a ≡ call.Late end now
-Shows s a (trouble.Busy lock until) = (sweep_ask s ≡ Take lock 60) × (a ≡ call.Held until)
+Shows s a (trouble.Busy lock until) = (sweep_ask s ≡ Take lock tree_ticks) × (a ≡ call.Held until)
 Shows s a (trouble.Absent page) = (s.stage ≡ Reading) × (page ≡ s.at.page) × (page ≢ 1) × (a ≡ call.Got None)
 Shows s a (trouble.Damaged where_it_is at) = Breaks s a where_it_is at
 Shows s a (trouble.BadFence page expected found) = BreaksFence s a page expected found

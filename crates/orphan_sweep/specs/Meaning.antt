@@ -18,6 +18,7 @@ use Rattle.orphan_sweep.specs.declared.stage.Stage.TheVariants.{TakingTree, Gett
 use Rattle.orphan_sweep.specs.declared.swept.Swept.{Swept}
 use Rattle.orphan_sweep.specs.Pages.{root_held, top_spot, paths_of, onward}
 use Rattle.orphan_sweep.specs.Sweeping.{Sweeping, sweep_ask, next_orphan, is_among, strays, swept_of}
+use Rattle.ckpt_parts.specs.Limits.{tree_ticks}
 
 -- calls with their answers, the newest first
 abbrev pub Calls : Type 0
@@ -47,7 +48,7 @@ pages_in (v ∷ vs) = pages_in vs ++ v.at.page ∷ []
 
 -- the tree's lease is taken and the tree object got
 abbrev pub opening : ℕ → Claim → Option (List ℕ) → Calls
-opening tree l got = (GetHeld (object.Tree tree) l, call.Got got) ∷ (Take (lock.Tree tree) 60, call.Given l) ∷ []
+opening tree l got = (GetHeld (object.Tree tree) l, call.Got got) ∷ (Take (lock.Tree tree) tree_ticks, call.Given l) ∷ []
 
 -- visits follow calls
 abbrev pub visits_over : ℕ → Claim → List Visit → Calls → Calls
@@ -92,7 +93,7 @@ pub record HasListed (s : Sweeping) (calls : Calls) : Type 0 where
 -- what its calls were at a stage
 abbrev pub KnowsAt : Stage → Sweeping → Calls → Type 0
 KnowsAt TakingTree s calls = (calls ≡ []) × (s.visited ≡ [])
-KnowsAt GettingTree s calls = ((l : Claim) × (s.held ≡ Some l) × (calls ≡ (Take (lock.Tree s.tree) 60, call.Given l) ∷ [])) × (s.visited ≡ [])
+KnowsAt GettingTree s calls = ((l : Claim) × (s.held ≡ Some l) × (calls ≡ (Take (lock.Tree s.tree) tree_ticks, call.Given l) ∷ [])) × (s.visited ≡ [])
 KnowsAt Reading s calls = (read : HasRead s.tree s.held calls (Some s.at)) × (s.visited ≡ pages_in read.visits ++ s.at.page ∷ [])
 KnowsAt Listing s calls = HasReadAll s.tree s.held s.visited calls
 KnowsAt Removing s calls = HasListed s calls

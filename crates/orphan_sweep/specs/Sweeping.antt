@@ -7,9 +7,11 @@ use Rattle.db_base.specs.declared.trouble.Trouble.{Trouble}
 use Rattle.db_base.specs.declared.trouble.Trouble.TheVariants as trouble
 use Rattle.node_codec.specs.Tree.{Tree}
 use Rattle.cloud_trait.specs.declared.answer.Answer.{Answer}
+use Rattle.cloud_trait.specs.declared.answer.Answer.TheVariants.{Failed}
+use Rattle.cloud_trait.specs.declared.turn.Turn.{Turn}
 use Rattle.cloud_trait.specs.Ask.{Ask, GetHeld, ListHeld, RemoveHeld, Take, Release}
 use Rattle.cloud_trait.specs.Claim.{Claim}
-use Rattle.cloud_trait.specs.Machine.{Next, Goes, Ends, Stops}
+use Rattle.cloud_trait.specs.Machine.{Next, Goes, Ends, Stops, Took}
 use Rattle.cloud_trait.specs.Views.{given_of, got_of, listed_of, done_of}
 use Rattle.orphan_sweep.specs.declared.paths.Paths.{Paths}
 use Rattle.orphan_sweep.specs.declared.spot.Spot.{Spot}
@@ -17,6 +19,7 @@ use Rattle.orphan_sweep.specs.declared.stage.Stage.{Stage}
 use Rattle.orphan_sweep.specs.declared.stage.Stage.TheVariants.{TakingTree, GettingTree, Reading, Listing, Removing, Releasing, Finished}
 use Rattle.orphan_sweep.specs.declared.swept.Swept.{Swept}
 use Rattle.orphan_sweep.specs.Pages.{leftmost, root_held, top_spot, paths_of, onward}
+use Rattle.ckpt_parts.specs.Limits.{tree_ticks}
 
 -- where a sweep stands: its tree, the tree's lease, the page at hand, the pages that it came to, that one with them, the listed pages that it
 -- did not come to, how many it came to, how many of the others it removed, and the trouble that it answers once its lease is given back
@@ -48,7 +51,7 @@ new_sweeping tree = record {
 -- ---- the call in hand
 
 abbrev pub take_tree : Sweeping → Ask
-take_tree s = Take (lock.Tree s.tree) 60
+take_tree s = Take (lock.Tree s.tree) tree_ticks
 
 -- under the tree's lease, where it is held
 abbrev pub under : Sweeping → Option Claim → (Claim → Ask) → Ask
@@ -187,6 +190,10 @@ sweep_next s a = absorbed (handed s) a
 -- at want of memory the step leaves the lease as it is
 abbrev pub SameLease : Sweeping → Answer → Sweeping → Type 0
 SameLease s a n = n.held ≡ s.held
+
+-- a part of the step leads so from this state, whatever was answered; at want of memory it keeps the lease
+abbrev pub TurnsBy : (Sweeping → Next Sweeping Swept → Type 0) → Sweeping → Sweeping → Turn Swept → Type 0
+TurnsBy leads old new turn = Took (λ from _ next. leads from next) SameLease old Failed new turn
 
 -- and so does the call with its step, but for a lease that the call gives back
 abbrev pub KeepsLease : Sweeping → Answer → Sweeping → Type 0

@@ -2,7 +2,6 @@
 
 ghost use Rattle.std.specs.Prelude.{◌≡◌, ◌<◌, ◌≤◌, ◌^◌, List, length, Result, Ok, Some, IfSome, IfNone};
 ghost use Rattle.db_base.specs.declared.trouble.Trouble.{Trouble};
-ghost use Rattle.node_codec.specs.Tree.{Tree};
 ghost use Rattle.cloud_trait.specs.Ask.{Release};
 ghost use Rattle.cloud_trait.specs.Call.{ask_of, Lends};
 ghost use Rattle.cloud_trait.specs.Machine.{Took, Deed};
@@ -90,7 +89,7 @@ impl Sweep {
     ghost use Rattle.orphan_sweep.specs.End.{calls_left};
     ghost use Rattle.orphan_sweep.specs.Leases.{Went, GivesBack};
     ghost use Rattle.orphan_sweep.specs.Stepped.{Stepped};
-    ghost use Rattle.orphan_sweep.specs.Sweeping.{new_sweeping, is_among, sweep_ask, take_tree, remove_next, next_orphan, handed, stopping, taken_by, to_page, goes_on, root_found, root_got, page_found, page_got, listed_by, removes, removed_by, finished_by, absorbed, SameLease};
+    ghost use Rattle.orphan_sweep.specs.Sweeping.{new_sweeping, is_among, sweep_ask, take_tree, remove_next, next_orphan, handed, stopping, taken_by, to_page, goes_on, root_got, page_found, page_got, listed_by, removes, removed_by, finished_by, absorbed, SameLease, TurnsBy};
 
     /// The sweep of a tree. Takes no memory.
     pub fn new(alloc: Global, tree: TreeId) -> Sweep
@@ -176,7 +175,7 @@ impl Sweep {
     // ---- where an answer leads
 
     fn stop(&mut self, trouble: Trouble) -> Turn<Swept>
-        ensures { Took (λ s _ next. stopping s trouble ≡ next) SameLease self.old Answer.Failed self.new result }
+        ensures { TurnsBy (λ s next. stopping s trouble ≡ next) self.old self.new result }
     {
         self.stage = Stage::Releasing;
         self.trouble = Some(trouble);
@@ -184,7 +183,7 @@ impl Sweep {
     }
 
     fn taken(&mut self, given: Result<Lease, Trouble>) -> Turn<Swept>
-        ensures { Took (λ s _ next. taken_by s given ≡ next) SameLease self.old Answer.Failed self.new result }
+        ensures { TurnsBy (λ s next. taken_by s given ≡ next) self.old self.new result }
     {
         match given {
             Ok(lease) => {
@@ -204,7 +203,7 @@ impl Sweep {
     }
 
     fn to_page(&mut self, spot: Spot) -> Turn<Swept>
-        ensures { Took (λ s _ next. to_page s spot ≡ next) SameLease self.old Answer.Failed self.new result }
+        ensures { TurnsBy (λ s next. to_page s spot ≡ next) self.old self.new result }
     {
         if self.visited.push(spot.page).is_err() {
             return Turn::Stopped(Trouble::Memory);
@@ -216,7 +215,7 @@ impl Sweep {
 
     /// The page is read next, unless the sweep came to it before; the listing is next where there is none.
     fn go_on(&mut self, spot: Option<Spot>) -> Turn<Swept>
-        ensures { Took (λ s _ next. goes_on s spot ≡ next) SameLease self.old Answer.Failed self.new result }
+        ensures { TurnsBy (λ s next. goes_on s spot ≡ next) self.old self.new result }
     {
         let Some(spot) = spot else {
             self.stage = Stage::Listing;
@@ -229,7 +228,7 @@ impl Sweep {
     }
 
     fn root_got(&mut self, alloc: Global, got: Result<Option<Blob>, Trouble>) -> Turn<Swept>
-        ensures { Took (λ s _ next. root_got s got ≡ next) SameLease self.old Answer.Failed self.new result }
+        ensures { TurnsBy (λ s next. root_got s got ≡ next) self.old self.new result }
     {
         match got {
             Ok(got) => self.read_root(alloc, &got),
@@ -238,7 +237,7 @@ impl Sweep {
     }
 
     fn read_root(&mut self, alloc: Global, got: &Option<Blob>) -> Turn<Swept>
-        ensures { Took (λ s _ next. root_got s (Ok got.now) ≡ next) SameLease self.old Answer.Failed self.new result }
+        ensures { TurnsBy (λ s next. root_got s (Ok got.now) ≡ next) self.old self.new result }
     {
         match root_held(self.tree, got) {
             Ok(root) => self.go_on(Some(top_spot(alloc, &root))),
@@ -247,7 +246,7 @@ impl Sweep {
     }
 
     fn page_got(&mut self, alloc: Global, got: Result<Option<Blob>, Trouble>) -> Turn<Swept>
-        ensures { Took (λ s _ next. page_got s got ≡ next) SameLease self.old Answer.Failed self.new result }
+        ensures { TurnsBy (λ s next. page_got s got ≡ next) self.old self.new result }
     {
         match got {
             Ok(got) => {
@@ -260,7 +259,7 @@ impl Sweep {
 
     /// Goes on where the page at hand leads.
     fn follow(&mut self, alloc: Global, found: Result<Paths, Fault>) -> Turn<Swept>
-        ensures { (wanted : Result Paths Trouble) → Finds found wanted → Took (λ s _ next. page_found s wanted ≡ next) SameLease self.old Answer.Failed self.new result }
+        ensures { (wanted : Result Paths Trouble) → Finds found wanted → TurnsBy (λ s next. page_found s wanted ≡ next) self.old self.new result }
     {
         match found {
             Ok(paths) => {
@@ -273,7 +272,7 @@ impl Sweep {
     }
 
     fn listed(&mut self, alloc: Global, listed: Result<PageList, Trouble>) -> Turn<Swept>
-        ensures { Took (λ s _ next. listed_by s listed ≡ next) SameLease self.old Answer.Failed self.new result }
+        ensures { TurnsBy (λ s next. listed_by s listed ≡ next) self.old self.new result }
     {
         match listed {
             Ok(listed) => self.note_list(alloc, listed.as_slice()),
@@ -283,7 +282,7 @@ impl Sweep {
 
     /// Notes which pages are to be removed: from here on no memory is taken.
     fn note_list(&mut self, alloc: Global, listed: &[PageId]) -> Turn<Swept>
-        ensures { Took (λ s _ next. listed_by s (Ok listed.now) ≡ next) SameLease self.old Answer.Failed self.new result }
+        ensures { TurnsBy (λ s next. listed_by s (Ok listed.now) ≡ next) self.old self.new result }
     {
         let Ok(orphans) = strays(alloc, self.visited.as_slice(), listed) else {
             return Turn::Stopped(Trouble::Memory);
@@ -296,7 +295,7 @@ impl Sweep {
 
     /// The next orphan is removed next, or the lease is given back where none is left.
     fn remove_next(&mut self) -> Turn<Swept>
-        ensures { Took (λ s _ next. removes s ≡ next) SameLease self.old Answer.Failed self.new result }
+        ensures { TurnsBy (λ s next. removes s ≡ next) self.old self.new result }
     {
         match self.next_orphan() {
             Some(_) => {
@@ -311,7 +310,7 @@ impl Sweep {
     }
 
     fn removed(&mut self, done: Result<(), Trouble>) -> Turn<Swept>
-        ensures { Took (λ s _ next. removed_by s done ≡ next) SameLease self.old Answer.Failed self.new result }
+        ensures { TurnsBy (λ s next. removed_by s done ≡ next) self.old self.new result }
     {
         match done {
             Ok(()) => {
@@ -326,7 +325,7 @@ impl Sweep {
     }
 
     fn finish(&mut self) -> Turn<Swept>
-        ensures { Took (λ s _ next. finished_by s s.trouble ≡ next) SameLease self.old Answer.Failed self.new result }
+        ensures { TurnsBy (λ s next. finished_by s s.trouble ≡ next) self.old self.new result }
     {
         self.stage = Stage::Finished;
         match self.trouble.take() {

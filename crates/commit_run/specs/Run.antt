@@ -81,6 +81,10 @@ wrote d c (Goes w) = Goes (written d w, c)
 wrote d c (Ends w a) = Ends (written d w, c) a
 wrote d c (Stops w t) = Stops (written d w, c) t
 
+-- the records are written to the pages that are known
+abbrev pub routed_on : Draft → Cache → Next (Run × Cache) CommitAnswer
+routed_on d c = wrote d c (routing d.writes d.plan.pages)
+
 -- nothing was committed
 abbrev pub refused : Draft → Cache → Trouble → Next (Run × Cache) CommitAnswer
 refused d c t = Ends (written d (finished d.writes), c) (NotCommitted t)
@@ -119,10 +123,14 @@ walk_to first d c to = by_turn (begun_turn first d) (walk_ready (new_walk to.0 (
 -- the next change needs a walk; behind the last one the records are written
 abbrev pub seek : Draft → Cache → Option (ℕ × List ℕ) → Next (Run × Cache) CommitAnswer
 seek d c (Some to) = walk_to false d c to
-seek d c None = wrote d c (routing d.writes d.plan.pages)
+seek d c None = routed_on d c
 
 abbrev pub plan_on : Draft → Cache → Next (Run × Cache) CommitAnswer
 plan_on d c = seek (planned d) c (next_target (planned d))
+
+-- a walk came to this page
+abbrev pub walk_ended : Draft → Walk → Cache → ℕ → Next (Run × Cache) CommitAnswer
+walk_ended d w c page = plan_on (leaf_noted d w c page) c
 
 -- a stale walk counts as having come to page 1; that for a long list is passed over
 abbrev pub stale_at : Bool → Draft → Cache → Next (Run × Cache) CommitAnswer
@@ -139,7 +147,7 @@ walk_stopped first d c t = if is_stale t then stale_at first d c else troubled d
 -- the tree object or leaf that a turn used prunes the head; the leaf at which a walk ends is known from then on
 abbrev pub walk_turned : Bool → Draft → Walk → Cache → Turn ℕ → Next (Run × Cache) CommitAnswer
 walk_turned first d w c More = walking first (pruned_behind d w c) w c
-walk_turned first d w c (Ended page) = plan_on (leaf_noted (pruned_behind d w c) w c page) c
+walk_turned first d w c (Ended page) = walk_ended (pruned_behind d w c) w c page
 walk_turned first d w c (Stopped t) = walk_stopped first (pruned_behind d w c) c t
 
 abbrev pub walked : Bool → Draft → Walk → Cache → Answer → Next (Run × Cache) CommitAnswer
@@ -156,8 +164,12 @@ long_walk d c None = plan_on d c
 abbrev pub pending_target : Pending → ℕ × List ℕ
 pending_target e = (e.tree, key_of e.change)
 
+-- pending entries beyond these are many
+abbrev pub long_pending : ℕ
+long_pending = 256
+
 abbrev pub long_target : List Pending → Option (ℕ × List ℕ)
-long_target pending = if nat_lt 256 (length pending) then option_map pending_target (slice_get pending 0) else None
+long_target pending = if nat_lt long_pending (length pending) then option_map pending_target (slice_get pending 0) else None
 
 abbrev pub begin_walks : Draft → Cache → Next (Run × Cache) CommitAnswer
 begin_walks d c = long_walk d c (long_target d.writes.home.head.pending)
@@ -191,3 +203,15 @@ abbrev pub Led : Next (Run × Cache) CommitAnswer → Run × Cache → Turn Comm
 Led next n More = next ≡ Goes n
 Led next n (Ended a) = next ≡ Ends n a
 Led next n (Stopped t) = t ≢ trouble.Memory → next ≡ Stops n t
+
+-- a draft with this in hand, beside a cache
+abbrev pub at_work : Draft → Hand → Cache → Run × Cache
+at_work draft hand cache = (record { draft = draft; hand = hand }, cache)
+
+-- the code was led so, to this draft beside this cache, with this in hand and this turn
+abbrev pub LedTo : Next (Run × Cache) CommitAnswer → Draft → Cache → Hand × Turn CommitAnswer → Type 0
+LedTo next draft cache led = Led next (at_work draft led.0 cache) led.1
+
+-- this holds of the home and the changes that the run is new with
+abbrev pub IfNew : Run → (Home → List Noted → Type 0) → Type 0
+IfNew run holds = (home : Home) (changes : List Noted) → run ≡ new_run home changes → holds home changes

@@ -119,11 +119,11 @@ fn held(first: bool, walk: Walk) -> Hand
 
 impl Draft {
     ghost use Rattle.std.specs.Prelude.{◌≡◌, ◌≤◌, ◌<◌, length, OnOk, IfOk, Some, false};
-    ghost use Rattle.commit_writes.specs.Writing.{with_head, routing};
+    ghost use Rattle.commit_writes.specs.Writing.{with_head};
     ghost use Rattle.page_cache.specs.Cache.{Cache};
     ghost use Rattle.db_base.specs.declared.trouble.Trouble.{Trouble as AnyTrouble};
     ghost use Rattle.commit_run.specs.Draft.{KnowsNoMore, new_draft, pruned_behind, planned, leaf_noted, paged};
-    ghost use Rattle.commit_run.specs.Run.{Led, IsHeld, held, wrote, troubled, begun_turn, walk_to, seek, next_target, plan_on, stale_at, walk_stopped, walk_turned, long_target, begin_walks, run_ready, Keeps};
+    ghost use Rattle.commit_run.specs.Run.{LedTo, at_work, IsHeld, held, routed_on, troubled, walk_ended, begun_turn, walk_to, seek, next_target, plan_on, stale_at, walk_stopped, walk_turned, long_target, begin_walks, run_ready, Keeps};
     ghost use Rattle.commit_run.specs.Stepped.{Stepped};
     ghost use Rattle.commit_run.specs.End.{left_at};
     ghost use Rattle.commit_writes.specs.Sound.{IsSound};
@@ -186,7 +186,7 @@ impl Draft {
 
     /// A trouble of a walk ends the commit; want of memory stops it.
     fn trouble(&mut self, trouble: Trouble) -> Turn<CommitAnswer>
-        ensures led { (c : Cache) → Led (troubled self.old c trouble) (record { draft = self.new; hand = Hand.Writes }, c) result }
+        ensures led { (c : Cache) → LedTo (troubled self.old c trouble) self.new c (Hand.Writes, result) }
         ensures home { self.new.writes.home ≡ self.old.writes.home }
         ensures memory { trouble ≡ Trouble.Memory → result ≡ Turn.Stopped Trouble.Memory }
     {
@@ -205,7 +205,7 @@ impl Draft {
         turn: Turn<PageId>,
     ) -> (Hand, Turn<CommitAnswer>)
         requires { ((t : AnyTrouble) → turn ≡ Turn.Stopped t → ⊥) → IsHeld self.old (held first walk) }
-        ensures led { Led (begun_turn first self.old walk cache.now turn) (record { draft = self.new; hand = result.0 }, cache.now) result.1 }
+        ensures led { LedTo (begun_turn first self.old walk cache.now turn) self.new cache.now result }
         ensures home { self.new.writes.home ≡ with_head self.old.writes.home self.new.writes.home.head }
         ensures held { IsHeld self.new result.0 }
         ensures memory { turn ≡ Turn.Stopped Trouble.Memory → result.1 ≡ Turn.Stopped Trouble.Memory }
@@ -229,7 +229,7 @@ impl Draft {
         requires attempt { 1 ≤ self.old.writes.home.attempt }
         requires within { KnowsNoMore self.old }
         requires aimed { first ≡ false → next_target self.old ≡ Some to }
-        ensures led { Led (walk_to first self.old cache.old to) (record { draft = self.new; hand = result.0 }, cache.new) result.1 }
+        ensures led { LedTo (walk_to first self.old cache.old to) self.new cache.new result }
         ensures home { self.new.writes.home ≡ with_head self.old.writes.home self.new.writes.home.head }
         ensures held { IsHeld self.new result.0 }
     {
@@ -242,7 +242,7 @@ impl Draft {
     fn route(&mut self, alloc: Global) -> Turn<CommitAnswer>
         requires attempt { 1 ≤ self.old.writes.home.attempt }
         requires leaves { length self.old.plan.pages ≡ length self.old.writes.changes }
-        ensures led { (c : Cache) → Led (wrote self.old c (routing self.old.writes self.old.plan.pages)) (record { draft = self.new; hand = Hand.Writes }, c) result }
+        ensures led { (c : Cache) → LedTo (routed_on self.old c) self.new c (Hand.Writes, result) }
         ensures home { self.new.writes.home ≡ with_head self.old.writes.home self.new.writes.home.head }
     {
         self.writes.route(alloc, self.plan.pages())
@@ -268,7 +268,7 @@ impl Draft {
         requires attempt { 1 ≤ self.old.writes.home.attempt }
         requires within { KnowsNoMore self.old }
         requires is { to ≡ next_target self.old }
-        ensures led { Led (seek self.old cache.old to) (record { draft = self.new; hand = result.0 }, cache.new) result.1 }
+        ensures led { LedTo (seek self.old cache.old to) self.new cache.new result }
         ensures home { self.new.writes.home ≡ with_head self.old.writes.home self.new.writes.home.head }
         ensures held { IsHeld self.new result.0 }
     {
@@ -286,7 +286,7 @@ impl Draft {
     ) -> (Hand, Turn<CommitAnswer>)
         requires attempt { 1 ≤ self.old.writes.home.attempt }
         requires within { KnowsNoMore self.old }
-        ensures led { Led (plan_on self.old cache.old) (record { draft = self.new; hand = result.0 }, cache.new) result.1 }
+        ensures led { LedTo (plan_on self.old cache.old) self.new cache.new result }
         ensures home { self.new.writes.home ≡ with_head self.old.writes.home self.new.writes.home.head }
         ensures held { IsHeld self.new result.0 }
     {
@@ -309,7 +309,7 @@ impl Draft {
         requires attempt { 1 ≤ self.old.writes.home.attempt }
         requires within { KnowsNoMore self.old }
         requires room { first ≡ false → length self.old.plan.pages < length self.old.writes.changes }
-        ensures led { Led (stale_at first self.old cache.old) (record { draft = self.new; hand = result.0 }, cache.new) result.1 }
+        ensures led { LedTo (stale_at first self.old cache.old) self.new cache.new result }
         ensures home { self.new.writes.home ≡ with_head self.old.writes.home self.new.writes.home.head }
         ensures held { IsHeld self.new result.0 }
     {
@@ -333,7 +333,7 @@ impl Draft {
         requires attempt { 1 ≤ self.old.writes.home.attempt }
         requires within { KnowsNoMore self.old }
         requires room { first ≡ false → length self.old.plan.pages < length self.old.writes.changes }
-        ensures led { Led (walk_stopped first self.old cache.old trouble) (record { draft = self.new; hand = result.0 }, cache.new) result.1 }
+        ensures led { LedTo (walk_stopped first self.old cache.old trouble) self.new cache.new result }
         ensures home { self.new.writes.home ≡ with_head self.old.writes.home self.new.writes.home.head }
         ensures held { IsHeld self.new result.0 }
         ensures memory { trouble ≡ Trouble.Memory → result.1 ≡ Turn.Stopped Trouble.Memory }
@@ -354,7 +354,7 @@ impl Draft {
     ) -> (Hand, Turn<CommitAnswer>)
         requires attempt { 1 ≤ self.old.writes.home.attempt }
         requires within { KnowsNoMore self.old }
-        ensures led { Led (plan_on (leaf_noted self.old walk.now cache.old page) cache.old) (record { draft = self.new; hand = result.0 }, cache.new) result.1 }
+        ensures led { LedTo (walk_ended self.old walk.now cache.old page) self.new cache.new result }
         ensures home { self.new.writes.home ≡ with_head self.old.writes.home self.new.writes.home.head }
         ensures held { IsHeld self.new result.0 }
     {
@@ -377,7 +377,7 @@ impl Draft {
         requires within { KnowsNoMore self.old }
         requires room { first ≡ false → length self.old.plan.pages < length self.old.writes.changes }
         requires aimed { turn ≡ Turn.More → IsHeld self.old (held first walk) }
-        ensures led { Led (walk_turned first self.old walk cache.old turn) (record { draft = self.new; hand = result.0 }, cache.new) result.1 }
+        ensures led { LedTo (walk_turned first self.old walk cache.old turn) self.new cache.new result }
         ensures home { self.new.writes.home ≡ with_head self.old.writes.home self.new.writes.home.head }
         ensures held { IsHeld self.new result.0 }
         ensures memory { turn ≡ Turn.Stopped Trouble.Memory → result.1 ≡ Turn.Stopped Trouble.Memory }
@@ -397,7 +397,7 @@ impl Draft {
         cloud: &mut C,
         who: Who,
     ) -> Turn<CommitAnswer>
-        ensures stepped { (c : Cache) → Stepped who (C.seen cloud.old) (C.seen cloud.new) (record { draft = self.old; hand = Hand.Writes }, c) (record { draft = self.new; hand = Hand.Writes }, c) result }
+        ensures stepped { (c : Cache) → Stepped who (C.seen cloud.old) (C.seen cloud.new) (at_work self.old Hand.Writes c) (at_work self.new Hand.Writes c) result }
         ensures sound { IsSound self.old.writes }
         ensures less { result ≡ Turn.More → left_at Hand.Writes self.new < left_at Hand.Writes self.old }
     {
@@ -415,7 +415,7 @@ impl Draft {
         walk: Walk,
     ) -> (Hand, Turn<CommitAnswer>)
         requires { IsHeld self.old (held first walk) }
-        ensures stepped { Stepped who (C.seen cloud.old) (C.seen cloud.new) (record { draft = self.old; hand = held first walk }, cache.old) (record { draft = self.new; hand = result.0 }, cache.new) result.1 }
+        ensures stepped { Stepped who (C.seen cloud.old) (C.seen cloud.new) (at_work self.old (held first walk) cache.old) (at_work self.new result.0 cache.new) result.1 }
         ensures held { IsHeld self.new result.0 }
         ensures less { result.1 ≡ Turn.More → left_at result.0 self.new < left_at (held first walk) self.old }
     {
@@ -451,7 +451,7 @@ impl Draft {
     ) -> (Hand, Turn<CommitAnswer>)
         requires attempt { 1 ≤ self.old.writes.home.attempt }
         requires within { KnowsNoMore self.old }
-        ensures led { Led (begin_walks self.old cache.old) (record { draft = self.new; hand = result.0 }, cache.new) result.1 }
+        ensures led { LedTo (begin_walks self.old cache.old) self.new cache.new result }
         ensures home { self.new.writes.home ≡ with_head self.old.writes.home self.new.writes.home.head }
         ensures held { IsHeld self.new result.0 }
     {
@@ -468,7 +468,7 @@ impl Draft {
         alloc: Global,
         cache: &mut PageCache,
     ) -> (Hand, Turn<CommitAnswer>)
-        ensures led { Led (run_ready (record { draft = self.old; hand = Hand.Writes }, cache.old)) (record { draft = self.new; hand = result.0 }, cache.new) result.1 }
+        ensures led { LedTo (run_ready (at_work self.old Hand.Writes cache.old)) self.new cache.new result }
         ensures kept { Keeps self.old.writes.home self.new.writes.home }
         ensures held { IsHeld self.new result.0 }
     {

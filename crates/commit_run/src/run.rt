@@ -1,4 +1,4 @@
-ghost use Rattle.std.specs.Prelude.{◌≡◌, ◌≤◌, ◌<◌, List, length};
+ghost use Rattle.std.specs.Prelude.{◌≡◌, ◌≤◌, ◌<◌, length};
 ghost use Rattle.std.specs.Option.{option_copied};
 ghost use Rattle.cloud_trait.specs.Call.{ask_of};
 
@@ -43,7 +43,7 @@ impl Model for CommitRun {
 }
 
 impl CommitRun {
-    ghost use Rattle.commit_run.specs.Run.{new_run, run_ask, run_ready, run_opens, home_of, Led, Keeps};
+    ghost use Rattle.commit_run.specs.Run.{new_run, run_ask, run_ready, run_opens, home_of, Led, IfNew, Keeps};
     ghost use Rattle.commit_run.specs.Causes.{CausesReady};
     ghost use Rattle.commit_run.specs.Demands.{DemandsReady};
     ghost use Rattle.commit_run.specs.CallDemands.{ExactReady};
@@ -53,8 +53,6 @@ impl CommitRun {
     ghost use Rattle.commit_run.specs.End.{calls_left, most_calls};
     ghost use Rattle.commit_run.specs.Sound.{IsSoundRun};
     ghost use Rattle.commit_run.specs.Meaning.{MeansReady};
-    ghost use Rattle.recover_run.specs.declared.home.Home.{Home};
-    ghost use Rattle.txn_buffer.specs.Noted.{Noted};
 
     /// The commit of changes by a home, before its first call. Takes no memory.
     pub fn new(alloc: Global, home: Home, changes: TxnBuffer) -> CommitRun
@@ -109,13 +107,13 @@ impl CommitRun {
     pub fn ready(&mut self, alloc: Global, cache: &mut PageCache) -> Turn<CommitAnswer>
         ensures led { Led (run_ready (self.old, cache.old)) (self.new, cache.new) result }
         ensures kept { Keeps (home_of self.old) (home_of self.new) }
-        ensures means { (home : Home) (changes : List Noted) → self.old ≡ new_run home changes → MeansReady home changes cache.old (home_of self.new) result }
-        ensures calls { (home : Home) (changes : List Noted) → self.old ≡ new_run home changes → result ≡ Turn.More → calls_left self.new ≤ most_calls (length changes) }
-        ensures exact { (home : Home) (changes : List Noted) → self.old ≡ new_run home changes → ExactReady home result }
+        ensures means { IfNew self.old (λ home changes. MeansReady home changes cache.old (home_of self.new) result) }
+        ensures calls { IfNew self.old (λ home changes. result ≡ Turn.More → calls_left self.new ≤ most_calls (length changes)) }
+        ensures exact { IfNew self.old (λ home changes. ExactReady home result) }
         // Where nothing is committed, what the cache keeps shows why.
-        ensures causes { (home : Home) (changes : List Noted) → self.old ≡ new_run home changes → CausesReady (self.old, cache.old) self.new result }
+        ensures causes { IfNew self.old (λ home changes. CausesReady (self.old, cache.old) self.new result) }
         // Where that shows a trouble on the way of the first walk, or there is none and a number is too great, it ends with that.
-        ensures demands { (home : Home) (changes : List Noted) → self.old ≡ new_run home changes → DemandsReady home changes cache.old result }
+        ensures demands { IfNew self.old (λ home changes. DemandsReady home changes cache.old result) }
     {
         // Read for the clause `demands`: what the cache keeps is in the spelling of its kind.
         let _ = cache.len();

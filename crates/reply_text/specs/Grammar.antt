@@ -1,5 +1,5 @@
 -- The grammar of replies: which values have a text, and that a text spells a value.
-use Rattle.std.specs.Prelude.{ℕ, ◌≡◌, ◌<◌, ◌^◌, List, [], ◌∷◌, length, Option, IfSome}
+use Rattle.std.specs.Prelude.{ℕ, ◌≡◌, List, [], ◌∷◌, length, Option, IfSome}
 use Rattle.db_base.specs.Ids.{IsClient, IsTree, IsPage}
 use Rattle.db_base.specs.Key.{IsKey, IsPayload, IsAttr}
 use Rattle.db_base.specs.declared.change.Change.{Change}
@@ -20,7 +20,7 @@ use Rattle.db_base.specs.declared.trouble.Trouble.TheVariants.{Failed, Late, Bus
 use Rattle.report_types.specs.declared.entry.Entry.{Entry}
 use Rattle.report_types.specs.declared.report.Report.{Report}
 use Rattle.report_types.specs.declared.stored.Stored.{Stored}
-use Rattle.words.specs.Word.{AreBytes}
+use Rattle.words.specs.Word.{AreBytes, IsNumber}
 use Rattle.reply_text.specs.declared.reply.Reply.{Reply}
 use Rattle.reply_text.specs.declared.reply.Reply.TheVariants as reply
 use Rattle.reply_text.specs.Reply.{reply_text}
@@ -32,7 +32,7 @@ AreAll Is (x ∷ items) = Is x × AreAll Is items
 
 -- a page's number
 abbrev pub IsPageNumber : ℕ → Type 0
-IsPageNumber page = IsPage page × (page < 2 ^ 64)
+IsPageNumber page = IsPage page × IsNumber page
 
 -- names of clients 1 to 64, of trees 1 to 16, of pages from 1 on
 abbrev pub IsLock : Lock → Type 0
@@ -52,25 +52,25 @@ IsQueue (PagePu tree page) = IsTree tree × IsPageNumber page
 
 abbrev pub IsPlace : Place → Type 0
 IsPlace (Object name) = IsObject name
-IsPlace (Message queue id) = IsQueue queue × (id < 2 ^ 64)
+IsPlace (Message queue id) = IsQueue queue × IsNumber id
 
 -- want of memory has no text
 abbrev pub IsTrouble : Trouble → Type 0
 IsTrouble Failed = Unit {0}
-IsTrouble (Late end now) = (end < 2 ^ 64) × (now < 2 ^ 64)
-IsTrouble (Busy lock until) = IsLock lock × (until < 2 ^ 64)
-IsTrouble (Waiting have need) = (have < 2 ^ 64) × (need < 2 ^ 64)
-IsTrouble (Stale page least got) = IsPageNumber page × (least < 2 ^ 64) × (got < 2 ^ 64)
+IsTrouble (Late end now) = IsNumber end × IsNumber now
+IsTrouble (Busy lock until) = IsLock lock × IsNumber until
+IsTrouble (Waiting have need) = IsNumber have × IsNumber need
+IsTrouble (Stale page least got) = IsPageNumber page × IsNumber least × IsNumber got
 IsTrouble (Absent page) = IsPageNumber page
 IsTrouble (NotALeaf page) = IsPageNumber page
-IsTrouble (Damaged place offset) = IsPlace place × (offset < 2 ^ 64)
+IsTrouble (Damaged place offset) = IsPlace place × IsNumber offset
 IsTrouble (BadFence page expected found) = IsPageNumber page × AreBytes expected × AreBytes found
 IsTrouble (Loop page) = IsPageNumber page
 IsTrouble (Exhausted what) = Unit {0}
 IsTrouble Memory = ⊥
 
 abbrev pub IsCommit : CommitAnswer → Type 0
-IsCommit (Committed txn) = txn < 2 ^ 64
+IsCommit (Committed txn) = IsNumber txn
 IsCommit (NotCommitted trouble) = IsTrouble trouble
 IsCommit InDoubt = Unit {0}
 IsCommit (CommittedOpen trouble) = IsTrouble trouble
@@ -91,23 +91,23 @@ abbrev pub IsBlindChange : Change → Type 0
 IsBlindChange (Insert key payload attr) = (IsKey key × AreBytes key) × (IsPayload payload × AreBytes payload) × IsAttribute attr
 IsBlindChange (Update key payload) = (IsKey key × AreBytes key) × (IsPayload payload × AreBytes payload)
 IsBlindChange (Delete key) = IsKey key × AreBytes key
-IsBlindChange (Add key amount) = (IsKey key × AreBytes key) × (amount < 2 ^ 64)
+IsBlindChange (Add key amount) = (IsKey key × AreBytes key) × IsNumber amount
 
 -- an entry of the tree that is reported
 abbrev pub IsEntryOf : ℕ → Entry → Type 0
-IsEntryOf tree entry = IsClient entry.client × (entry.epoch < 2 ^ 64) × (entry.txn < 2 ^ 64) × (entry.tree ≡ tree) × IsBlindChange entry.change
+IsEntryOf tree entry = IsClient entry.client × IsNumber entry.epoch × IsNumber entry.txn × (entry.tree ≡ tree) × IsBlindChange entry.change
 
 -- a list that a line with its length goes before
 abbrev pub IsListOf : {A : Type 0} → (A → Type 0) → List A → Type 0
-IsListOf Is items = AreAll Is items × (length items < 2 ^ 64)
+IsListOf Is items = AreAll Is items × IsNumber (length items)
 
 pub record IsReport (report : Report) : Type 0 where
   pub tree : IsTree report.tree
   pub committed : IsListOf (IsEntryOf report.tree) report.committed
   pub order : IsListOf (IsEntryOf report.tree) report.order
   pub contents : IsListOf IsStored report.contents
-  pub heads : report.heads < 2 ^ 64
-  pub messages : report.messages < 2 ^ 64
+  pub heads : IsNumber report.heads
+  pub messages : IsNumber report.messages
 
 -- numbers, bytes and names are in their ranges; the entries of a report are of its tree
 abbrev pub IsInRange : Reply → Type 0
@@ -118,17 +118,17 @@ IsInRange reply.Aborted = Unit {0}
 IsInRange reply.Crashed = Unit {0}
 IsInRange reply.Waited = Unit {0}
 IsInRange (reply.Refused refusal) = Unit {0}
-IsInRange (reply.Opened epoch) = epoch < 2 ^ 64
+IsInRange (reply.Opened epoch) = IsNumber epoch
 IsInRange reply.Closed = Unit {0}
-IsInRange (reply.Renewed end) = end < 2 ^ 64
+IsInRange (reply.Renewed end) = IsNumber end
 IsInRange (reply.Commit answer) = IsCommit answer
-IsInRange (reply.Done answer) = (answer.applied < 2 ^ 64) × (answer.deleted < 2 ^ 64) × (answer.left < 2 ^ 64)
+IsInRange (reply.Done answer) = IsNumber answer.applied × IsNumber answer.deleted × IsNumber answer.left
 IsInRange (reply.Value payload) = AreBytes payload
 IsInRange reply.NoValue = Unit {0}
 IsInRange (reply.Scan pairs) = IsListOf IsRecord pairs
-IsInRange (reply.Settled calls) = calls < 2 ^ 64
-IsInRange (reply.Swept kept removed) = (kept < 2 ^ 64) × (removed < 2 ^ 64)
-IsInRange (reply.Worked done passed) = (done < 2 ^ 64) × (passed < 2 ^ 64)
+IsInRange (reply.Settled calls) = IsNumber calls
+IsInRange (reply.Swept kept removed) = IsNumber kept × IsNumber removed
+IsInRange (reply.Worked done passed) = IsNumber done × IsNumber passed
 IsInRange (reply.NotSettled trouble) = IsTrouble trouble
 IsInRange (reply.Trouble trouble) = IsTrouble trouble
 IsInRange (reply.Report report) = IsReport report

@@ -1,6 +1,8 @@
 -- The text of a reply: lines parted by line feeds, each of words parted by one space.
-use Rattle.std.specs.Prelude.{ℕ, List, [], ◌∷◌, ◌++◌, map, length, codes}
+use Rattle.std.specs.Prelude.{ℕ, ◌≡◌, Result, IfOk, List, [], ◌∷◌, ◌++◌, map, length, codes}
 use Rattle.std.specs.Fmt.{decimal}
+use Rattle.std.specs.declared.string.String.{String}
+use Rattle.std.specs.String.{string_bytes}
 use Rattle.words.specs.Word.{hexadecimal}
 use Rattle.words.specs.Line.{text_of, last_words}
 use Rattle.db_base.specs.Refusal.{number_of_refusal}
@@ -108,6 +110,17 @@ change_words (Add key amount) = codes "add" ∷ hexadecimal key ∷ decimal amou
 abbrev pub entry_words : Entry → List (List ℕ)
 entry_words entry = decimal entry.client ∷ decimal entry.epoch ∷ decimal entry.txn ∷ change_words entry.change
 
+-- the line of a record, and that of an entry
+abbrev pub stored_text : Stored → List ℕ
+stored_text stored = text_of 32 (stored_words stored)
+
+abbrev pub entry_text : Entry → List ℕ
+entry_text entry = text_of 32 (entry_words entry)
+
+-- the line of a list's name and length
+abbrev pub count_text : List ℕ → ℕ → List ℕ
+count_text name count = text_of 32 (name ∷ decimal count ∷ [])
+
 -- the lines of a list, behind a line with its length
 abbrev pub section_lines : {A : Type 0} → List ℕ → (A → List (List ℕ)) → List A → List (List (List ℕ))
 section_lines name words items = (name ∷ decimal (length items) ∷ []) ∷ map words items
@@ -121,6 +134,10 @@ report_lines report =
     ++ (section_lines (codes "contents") stored_words report.contents
     ++ (codes "left" ∷ decimal report.heads ∷ decimal report.messages ∷ []) ∷ [])))
 
+-- the words of a refusal: the rule's number and word
+abbrev pub refusal_words : Refusal → List (List ℕ)
+refusal_words refusal = codes "refused" ∷ decimal (number_of_refusal refusal) ∷ refusal_word refusal ∷ []
+
 -- the lines of a reply
 abbrev pub reply_lines : Reply → List (List (List ℕ))
 reply_lines reply.Begun = (codes "begun" ∷ []) ∷ []
@@ -129,7 +146,7 @@ reply_lines reply.Noted = (codes "noted" ∷ []) ∷ []
 reply_lines reply.Aborted = (codes "aborted" ∷ []) ∷ []
 reply_lines reply.Crashed = (codes "crashed" ∷ []) ∷ []
 reply_lines reply.Waited = (codes "waited" ∷ []) ∷ []
-reply_lines (reply.Refused refusal) = (codes "refused" ∷ decimal (number_of_refusal refusal) ∷ refusal_word refusal ∷ []) ∷ []
+reply_lines (reply.Refused refusal) = refusal_words refusal ∷ []
 reply_lines (reply.Opened epoch) = (codes "opened" ∷ decimal epoch ∷ []) ∷ []
 reply_lines reply.Closed = (codes "closed" ∷ []) ∷ []
 reply_lines (reply.Renewed end) = (codes "renewed" ∷ decimal end ∷ []) ∷ []
@@ -148,6 +165,18 @@ reply_lines (reply.Report report) = report_lines report
 -- the text of a reply, without its event's number and without a line feed at its end
 abbrev pub reply_text : Reply → List ℕ
 reply_text reply = text_of 10 (map (text_of 32) (reply_lines reply))
+
+-- what was written is the line of these words, unless it failed
+abbrev pub Spells : {Z E : Type 0} → Result (String Z) E → List (List ℕ) → Type 0
+Spells {Z} result words = IfOk result (λ (text : String Z). string_bytes text ≡ text_of 32 words)
+
+-- and the lines of these words
+abbrev pub SpellsLines : {Z E : Type 0} → Result (String Z) E → List (List (List ℕ)) → Type 0
+SpellsLines {Z} result lines = IfOk result (λ (text : String Z). string_bytes text ≡ text_of 10 (map (text_of 32) lines))
+
+-- the text has more behind it
+abbrev pub AddsText : {Z : Type 0} → String Z → String Z → List ℕ → Type 0
+AddsText old new more = string_bytes new ≡ string_bytes old ++ more
 
 -- a reply that shows no want of memory
 abbrev pub ReplyHasText : Reply → Type 0

@@ -1,10 +1,8 @@
-ghost use Rattle.std.specs.Prelude.{◌≡◌, ℕ, List, [], ◌∷◌, ◌++◌, IfOk, IfErr, OnOk, map, codes, length};
+ghost use Rattle.std.specs.Prelude.{◌≡◌, [], ◌∷◌, ◌++◌, IfOk, IfErr, OnOk, map, codes, length};
 ghost use Rattle.std.specs.Fmt.{decimal};
 ghost use Rattle.std.specs.String.{string_bytes};
 ghost use Rattle.words.specs.Word.{hexadecimal};
-ghost use Rattle.words.specs.Line.{text_of, last_words};
-ghost use Rattle.db_base.specs.Refusal.{number_of_refusal};
-ghost use Rattle.reply_text.specs.Reply.{refusal_word, counter_word, trouble_words, HasText, behind_each, pair_word, stored_words, entry_words, change_words, commit_words, CommitHasText, report_lines, reply_text, ReplyHasText};
+ghost use Rattle.reply_text.specs.Reply.{refusal_word, counter_word, trouble_words, HasText, behind_each, pair_word, stored_words, entry_words, change_words, commit_words, CommitHasText, report_lines, reply_text, ReplyHasText, refusal_words, count_text, stored_text, entry_text, Spells, SpellsLines, AddsText};
 
 use crate::name::{lock_word, place_word};
 use crate::reply::Reply;
@@ -32,7 +30,7 @@ fn plain_text(alloc: Global, word: &str) -> Result<String, TextFault>
 
 /// A kind and a number.
 fn number_text(alloc: Global, kind: &str, number: u64) -> Result<String, TextFault>
-    ensures ok { IfOk result (λ text. string_bytes text ≡ text_of 32 (kind.now ∷ decimal number ∷ [])) }
+    ensures ok { Spells result (kind.now ∷ decimal number ∷ []) }
     ensures memory { IfErr result (λ e. e ≡ TextFault.Memory) }
 {
     let text = format!(in alloc; "{kind} {number}")?;
@@ -41,7 +39,7 @@ fn number_text(alloc: Global, kind: &str, number: u64) -> Result<String, TextFau
 
 /// A kind and two numbers.
 fn two_numbers_text(alloc: Global, kind: &str, first: u64, second: u64) -> Result<String, TextFault>
-    ensures ok { IfOk result (λ text. string_bytes text ≡ text_of 32 (kind.now ∷ decimal first ∷ decimal second ∷ [])) }
+    ensures ok { Spells result (kind.now ∷ decimal first ∷ decimal second ∷ []) }
     ensures memory { IfErr result (λ e. e ≡ TextFault.Memory) }
 {
     let text = format!(in alloc; "{kind} {first} {second}")?;
@@ -56,7 +54,7 @@ fn three_numbers_text(
     second: u64,
     third: u64,
 ) -> Result<String, TextFault>
-    ensures ok { IfOk result (λ text. string_bytes text ≡ text_of 32 (kind.now ∷ decimal first ∷ decimal second ∷ decimal third ∷ [])) }
+    ensures ok { Spells result (kind.now ∷ decimal first ∷ decimal second ∷ decimal third ∷ []) }
     ensures memory { IfErr result (λ e. e ≡ TextFault.Memory) }
 {
     let text = format!(in alloc; "{kind} {first} {second} {third}")?;
@@ -65,7 +63,7 @@ fn three_numbers_text(
 
 /// A kind and a word.
 fn word_text(alloc: Global, kind: &str, word: &str) -> Result<String, TextFault>
-    ensures ok { IfOk result (λ text. string_bytes text ≡ text_of 32 (kind.now ∷ word.now ∷ [])) }
+    ensures ok { Spells result (kind.now ∷ word.now ∷ []) }
     ensures memory { IfErr result (λ e. e ≡ TextFault.Memory) }
 {
     let text = format!(in alloc; "{kind} {word}")?;
@@ -74,7 +72,7 @@ fn word_text(alloc: Global, kind: &str, word: &str) -> Result<String, TextFault>
 
 /// A kind, a word and a number.
 fn place_text(alloc: Global, kind: &str, word: &str, number: u64) -> Result<String, TextFault>
-    ensures ok { IfOk result (λ text. string_bytes text ≡ text_of 32 (kind.now ∷ word.now ∷ decimal number ∷ [])) }
+    ensures ok { Spells result (kind.now ∷ word.now ∷ decimal number ∷ []) }
     ensures memory { IfErr result (λ e. e ≡ TextFault.Memory) }
 {
     let text = format!(in alloc; "{kind} {word} {number}")?;
@@ -83,7 +81,7 @@ fn place_text(alloc: Global, kind: &str, word: &str, number: u64) -> Result<Stri
 
 /// A kind and bytes.
 fn bytes_text(alloc: Global, kind: &str, bytes: &[u8]) -> Result<String, AllocError>
-    ensures { IfOk result (λ text. string_bytes text ≡ text_of 32 (kind.now ∷ hexadecimal bytes.now ∷ [])) }
+    ensures { Spells result (kind.now ∷ hexadecimal bytes.now ∷ []) }
 {
     let word = hexadecimal(alloc, bytes)?;
     format!(in alloc; "{kind} {word}")
@@ -91,7 +89,7 @@ fn bytes_text(alloc: Global, kind: &str, bytes: &[u8]) -> Result<String, AllocEr
 
 /// A kind, a key and a payload.
 fn record_text(alloc: Global, kind: &str, key: &[u8], payload: &[u8]) -> Result<String, AllocError>
-    ensures { IfOk result (λ text. string_bytes text ≡ text_of 32 (kind.now ∷ hexadecimal key.now ∷ hexadecimal payload.now ∷ [])) }
+    ensures { Spells result (kind.now ∷ hexadecimal key.now ∷ hexadecimal payload.now ∷ []) }
 {
     let key = hexadecimal(alloc, key)?;
     let payload = hexadecimal(alloc, payload)?;
@@ -105,7 +103,7 @@ fn insert_text(
     payload: &Payload,
     attr: &Option<Attr>,
 ) -> Result<String, AllocError>
-    ensures { IfOk result (λ text. string_bytes text ≡ text_of 32 (codes "insert" ∷ hexadecimal key.now ∷ hexadecimal payload.now ∷ last_words attr.now)) }
+    ensures { Spells result (change_words (Change.Insert key.now payload.now attr.now)) }
 {
     match attr {
         None => record_text(alloc, "insert", key.as_slice(), payload.as_slice()),
@@ -120,7 +118,7 @@ fn insert_text(
 
 /// An addition: a key and an amount.
 fn sum_text(alloc: Global, key: &[u8], amount: u64) -> Result<String, AllocError>
-    ensures { IfOk result (λ text. string_bytes text ≡ text_of 32 (codes "add" ∷ hexadecimal key.now ∷ decimal amount ∷ [])) }
+    ensures { Spells result (codes "add" ∷ hexadecimal key.now ∷ decimal amount ∷ []) }
 {
     let key = hexadecimal(alloc, key)?;
     format!(in alloc; "add {key} {amount}")
@@ -128,7 +126,7 @@ fn sum_text(alloc: Global, key: &[u8], amount: u64) -> Result<String, AllocError
 
 /// A low key that differs from what led to it.
 fn fence_text(alloc: Global, page: u64, expected: &Blob, found: &Blob) -> Result<String, TextFault>
-    ensures ok { IfOk result (λ text. string_bytes text ≡ text_of 32 (codes "bad-fence" ∷ decimal page ∷ hexadecimal expected.now ∷ hexadecimal found.now ∷ [])) }
+    ensures ok { Spells result (trouble_words (Trouble.BadFence page expected.now found.now)) }
     ensures memory { IfErr result (λ e. e ≡ TextFault.Memory) }
 {
     let expected = hexadecimal(alloc, expected.as_slice())?;
@@ -172,7 +170,7 @@ pub fn counter_word(counter: Counter) -> &'static str
 
 /// A rule's number and word.
 fn refused_text(alloc: Global, refusal: Refusal) -> Result<String, TextFault>
-    ensures ok { IfOk result (λ text. string_bytes text ≡ text_of 32 (codes "refused" ∷ decimal (number_of_refusal refusal) ∷ refusal_word refusal ∷ [])) }
+    ensures ok { Spells result (refusal_words refusal) }
     ensures memory { IfErr result (λ e. e ≡ TextFault.Memory) }
 {
     let number = refusal.number();
@@ -183,7 +181,7 @@ fn refused_text(alloc: Global, refusal: Refusal) -> Result<String, TextFault>
 
 /// The text of a trouble. Want of memory has none, and is answered as such.
 pub fn trouble_text(alloc: Global, trouble: &Trouble) -> Result<String, TextFault>
-    ensures ok { IfOk result (λ text. string_bytes text ≡ text_of 32 (trouble_words trouble.now)) }
+    ensures ok { Spells result (trouble_words trouble.now) }
     ensures some { OnOk result (HasText trouble.now) }
     ensures memory { IfErr result (λ e. e ≡ TextFault.Memory) }
 {
@@ -222,7 +220,7 @@ pub fn trouble_text(alloc: Global, trouble: &Trouble) -> Result<String, TextFaul
 /// A kind with a trouble behind it.
 #[tactic(auto, using(crate::proofs::Texts::text_of_trouble))]
 fn stopped_text(alloc: Global, kind: &str, trouble: &Trouble) -> Result<String, TextFault>
-    ensures ok { IfOk result (λ text. string_bytes text ≡ text_of 32 (kind.now ∷ trouble_words trouble.now)) }
+    ensures ok { Spells result (kind.now ∷ trouble_words trouble.now) }
     ensures some { OnOk result (HasText trouble.now) }
     ensures memory { IfErr result (λ e. e ≡ TextFault.Memory) }
 {
@@ -233,7 +231,7 @@ fn stopped_text(alloc: Global, kind: &str, trouble: &Trouble) -> Result<String, 
 
 /// How a commit ended.
 fn commit_text(alloc: Global, answer: &CommitAnswer) -> Result<String, TextFault>
-    ensures ok { IfOk result (λ text. string_bytes text ≡ text_of 32 (commit_words answer.now)) }
+    ensures ok { Spells result (commit_words answer.now) }
     ensures some { OnOk result (CommitHasText answer.now) }
     ensures memory { IfErr result (λ e. e ≡ TextFault.Memory) }
 {
@@ -256,7 +254,7 @@ fn pair_word(alloc: Global, pair: &Pair) -> Result<String, AllocError>
 
 /// A record of a leaf as a line.
 fn stored_text(alloc: Global, stored: &Stored) -> Result<String, AllocError>
-    ensures { IfOk result (λ text. string_bytes text ≡ text_of 32 (stored_words stored.now)) }
+    ensures { Spells result (stored_words stored.now) }
 {
     let key = hexadecimal(alloc, stored.key.as_slice())?;
     let payload = hexadecimal(alloc, stored.payload.as_slice())?;
@@ -271,7 +269,7 @@ fn stored_text(alloc: Global, stored: &Stored) -> Result<String, AllocError>
 
 /// A change.
 fn change_text(alloc: Global, change: &Change) -> Result<String, AllocError>
-    ensures { IfOk result (λ text. string_bytes text ≡ text_of 32 (change_words change.now)) }
+    ensures { Spells result (change_words change.now) }
 {
     match change {
         Change::Insert { key, payload, attr } => insert_text(alloc, key, payload, attr),
@@ -289,7 +287,7 @@ fn change_text(alloc: Global, change: &Change) -> Result<String, AllocError>
 /// An entry of a report.
 #[tactic(auto, using(crate::proofs::Texts::text_of_entry))]
 fn entry_text(alloc: Global, entry: &Entry) -> Result<String, AllocError>
-    ensures { IfOk result (λ text. string_bytes text ≡ text_of 32 (entry_words entry.now)) }
+    ensures { Spells result (entry_words entry.now) }
 {
     let change = change_text(alloc, &entry.change)?;
     let client = entry.client.get();
@@ -300,7 +298,7 @@ fn entry_text(alloc: Global, entry: &Entry) -> Result<String, AllocError>
 
 /// Adds a text with a separator before it.
 fn add_text(text: &mut String, separator: &str, more: &str) -> Result<(), AllocError>
-    ensures { OnOk result (string_bytes text.new ≡ string_bytes text.old ++ (separator.now ++ more.now)) }
+    ensures { OnOk result (AddsText text.old text.new (separator.now ++ more.now)) }
 {
     text.push_str(separator)?;
     text.push_str(more)?;
@@ -309,7 +307,7 @@ fn add_text(text: &mut String, separator: &str, more: &str) -> Result<(), AllocE
 
 /// Adds each record as a word behind a space.
 fn add_pair_words(alloc: Global, text: &mut String, pairs: &[Pair]) -> Result<(), AllocError>
-    ensures { OnOk result (string_bytes text.new ≡ string_bytes text.old ++ behind_each 32 (map pair_word pairs.now)) }
+    ensures { OnOk result (AddsText text.old text.new (behind_each 32 (map pair_word pairs.now))) }
 {
     let mut left = pairs;
     while let Some((pair, rest)) = left.split_first() {
@@ -322,7 +320,7 @@ fn add_pair_words(alloc: Global, text: &mut String, pairs: &[Pair]) -> Result<()
 
 /// Adds each record as a line behind a line feed.
 fn add_contents(alloc: Global, text: &mut String, records: &[Stored]) -> Result<(), AllocError>
-    ensures { OnOk result (string_bytes text.new ≡ string_bytes text.old ++ behind_each 10 (map (λ stored. text_of 32 (stored_words stored)) records.now)) }
+    ensures { OnOk result (AddsText text.old text.new (behind_each 10 (map stored_text records.now))) }
 {
     let mut left = records;
     while let Some((stored, rest)) = left.split_first() {
@@ -335,7 +333,7 @@ fn add_contents(alloc: Global, text: &mut String, records: &[Stored]) -> Result<
 
 /// Adds each entry as a line behind a line feed.
 fn add_entries(alloc: Global, text: &mut String, entries: &[Entry]) -> Result<(), AllocError>
-    ensures { OnOk result (string_bytes text.new ≡ string_bytes text.old ++ behind_each 10 (map (λ entry. text_of 32 (entry_words entry)) entries.now)) }
+    ensures { OnOk result (AddsText text.old text.new (behind_each 10 (map entry_text entries.now))) }
 {
     let mut left = entries;
     while let Some((entry, rest)) = left.split_first() {
@@ -348,7 +346,7 @@ fn add_entries(alloc: Global, text: &mut String, entries: &[Entry]) -> Result<()
 
 /// Adds the line of a list's name and length behind a line feed.
 fn add_count(alloc: Global, text: &mut String, name: &str, count: usize) -> Result<(), TextFault>
-    ensures ok { OnOk result (string_bytes text.new ≡ string_bytes text.old ++ (10 ∷ text_of 32 (name.now ∷ decimal count ∷ []))) }
+    ensures ok { OnOk result (AddsText text.old text.new (10 ∷ count_text name.now count)) }
     ensures memory { IfErr result (λ e. e ≡ TextFault.Memory) }
 {
     let count = count as u64;
@@ -359,7 +357,7 @@ fn add_count(alloc: Global, text: &mut String, name: &str, count: usize) -> Resu
 
 /// The lines of a report.
 fn report_text(alloc: Global, report: &Report) -> Result<String, TextFault>
-    ensures ok { IfOk result (λ text. string_bytes text ≡ text_of 10 (map (text_of 32) (report_lines report.now))) }
+    ensures ok { SpellsLines result (report_lines report.now) }
     ensures memory { IfErr result (λ e. e ≡ TextFault.Memory) }
 {
     let mut text = number_text(alloc, "report", report.tree.get())?;
@@ -377,7 +375,7 @@ fn report_text(alloc: Global, report: &Report) -> Result<String, TextFault>
 /// The records of a scan.
 #[tactic(auto, using(crate::proofs::Texts::text_of_scan))]
 fn scan_text(alloc: Global, pairs: &[Pair]) -> Result<String, TextFault>
-    ensures ok { IfOk result (λ text. string_bytes text ≡ text_of 32 (codes "scan" ∷ decimal (length pairs.now) ∷ map pair_word pairs.now)) }
+    ensures ok { Spells result (codes "scan" ∷ decimal (length pairs.now) ∷ map pair_word pairs.now) }
     ensures memory { IfErr result (λ e. e ≡ TextFault.Memory) }
 {
     let count = pairs.len() as u64;

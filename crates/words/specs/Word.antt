@@ -58,10 +58,13 @@ bytes_of word =
 abbrev pub AreBytes : List ℕ → Type 0
 AreBytes bytes = (i : ℕ) → slice_index bytes i < 256
 
--- numbers below 2 ^ 64
+-- a number that the program can hold
+abbrev pub IsNumber : ℕ → Type 0
+IsNumber n = n < 2 ^ 64
+
 abbrev pub AreNumbers : List ℕ → Type 0
 AreNumbers [] = Unit {0}
-AreNumbers (n ∷ numbers) = (n < 2 ^ 64) × AreNumbers numbers
+AreNumbers (n ∷ numbers) = IsNumber n × AreNumbers numbers
 
 -- the value is read, unless memory runs out
 abbrev pub IsReadTo : {A : Type 0} → Result A TextFault → A → Type 0

@@ -1,10 +1,12 @@
 -- The spelling of an event: a line of words parted by one space, ended by a line feed.
-use Rattle.std.specs.Prelude.{ℕ, ◌≡◌, ◌<◌, ◌^◌, Bool, true, false, List, [], ◌∷◌, ◌++◌, map, codes, IfSome, IsTrue}
+use Rattle.std.specs.Prelude.{ℕ, ◌≡◌, Bool, true, false, List, [], ◌∷◌, ◌++◌, map, codes, Result, IfOk, IfSome, IsTrue}
 use Rattle.std.specs.Fmt.{decimal}
+use Rattle.std.specs.declared.string.String.{String}
+use Rattle.std.specs.String.{string_bytes}
 use Rattle.db_base.specs.Wish.{ArePositions}
 use Rattle.db_base.specs.declared.wish.Wish.{Wish}
 use Rattle.db_base.specs.declared.wish.Wish.TheVariants.{Plain, Fail, Lost, Hide, Old, Give}
-use Rattle.words.specs.Word.{hexadecimal, AreBytes, AreNumbers}
+use Rattle.words.specs.Word.{hexadecimal, AreBytes, IsNumber, AreNumbers}
 use Rattle.words.specs.Line.{text_of, last_words}
 use Rattle.event_text.specs.declared.event.Event.{Event}
 use Rattle.event_text.specs.declared.keyword.Keyword.{Keyword}
@@ -57,6 +59,10 @@ event_words Settle = codes "settle" ∷ []
 abbrev pub line_of : List (List ℕ) → List ℕ
 line_of words = text_of 32 words ++ 10 ∷ []
 
+-- what was written is the line of these words, unless it failed
+abbrev pub Spells : {Z E : Type 0} → Result (String Z) E → List (List ℕ) → Type 0
+Spells {Z} result words = IfOk result (λ (line : String Z). string_bytes line ≡ line_of words)
+
 -- the line of an event
 abbrev pub spelling : Event → List ℕ
 spelling event = line_of (event_words event)
@@ -67,34 +73,34 @@ IsWish Plain = Unit {0}
 IsWish Fail = Unit {0}
 IsWish Lost = Unit {0}
 IsWish Hide = Unit {0}
-IsWish (Old version) = version < 2 ^ 64
+IsWish (Old version) = IsNumber version
 IsWish (Give positions) = ArePositions positions × AreNumbers positions
 
 -- numbers are below 2 ^ 64, and bytes below 256: all that a value of the program is
 abbrev pub IsInRange : Event → Type 0
-IsInRange (Open session client) = (session < 2 ^ 64) × (client < 2 ^ 64)
-IsInRange (Close session) = session < 2 ^ 64
-IsInRange (Renew session) = session < 2 ^ 64
-IsInRange (Insert session tree key payload attr) = (session < 2 ^ 64) × (tree < 2 ^ 64) × AreBytes key × AreBytes payload × IfSome attr AreBytes
-IsInRange (Put session tree key payload attr) = (session < 2 ^ 64) × (tree < 2 ^ 64) × AreBytes key × AreBytes payload × AreBytes attr
-IsInRange (Update session tree key payload) = (session < 2 ^ 64) × (tree < 2 ^ 64) × AreBytes key × AreBytes payload
-IsInRange (Delete session tree key) = (session < 2 ^ 64) × (tree < 2 ^ 64) × AreBytes key
-IsInRange (Add session tree key amount) = (session < 2 ^ 64) × (tree < 2 ^ 64) × AreBytes key × (amount < 2 ^ 64)
-IsInRange (Commit session) = session < 2 ^ 64
-IsInRange (Abort session) = session < 2 ^ 64
-IsInRange (Read session tree key) = (session < 2 ^ 64) × (tree < 2 ^ 64) × AreBytes key
-IsInRange (Scan session tree from to) = (session < 2 ^ 64) × (tree < 2 ^ 64) × AreBytes from × AreBytes to
-IsInRange (Lookup session tree attr) = (session < 2 ^ 64) × (tree < 2 ^ 64) × AreBytes attr
-IsInRange (Page session tree page) = (session < 2 ^ 64) × (tree < 2 ^ 64) × (page < 2 ^ 64)
-IsInRange (Tree session tree) = (session < 2 ^ 64) × (tree < 2 ^ 64)
-IsInRange (Policy session role k) = (session < 2 ^ 64) × (k < 2 ^ 64)
-IsInRange (Work session) = session < 2 ^ 64
-IsInRange (Step session wish) = (session < 2 ^ 64) × IsWish wish
-IsInRange (Run session) = session < 2 ^ 64
-IsInRange (Crash session done) = session < 2 ^ 64
-IsInRange (Wait ticks) = ticks < 2 ^ 64
-IsInRange (Report tree) = tree < 2 ^ 64
-IsInRange (Sweep tree) = tree < 2 ^ 64
+IsInRange (Open session client) = IsNumber session × IsNumber client
+IsInRange (Close session) = IsNumber session
+IsInRange (Renew session) = IsNumber session
+IsInRange (Insert session tree key payload attr) = IsNumber session × IsNumber tree × AreBytes key × AreBytes payload × IfSome attr AreBytes
+IsInRange (Put session tree key payload attr) = IsNumber session × IsNumber tree × AreBytes key × AreBytes payload × AreBytes attr
+IsInRange (Update session tree key payload) = IsNumber session × IsNumber tree × AreBytes key × AreBytes payload
+IsInRange (Delete session tree key) = IsNumber session × IsNumber tree × AreBytes key
+IsInRange (Add session tree key amount) = IsNumber session × IsNumber tree × AreBytes key × IsNumber amount
+IsInRange (Commit session) = IsNumber session
+IsInRange (Abort session) = IsNumber session
+IsInRange (Read session tree key) = IsNumber session × IsNumber tree × AreBytes key
+IsInRange (Scan session tree from to) = IsNumber session × IsNumber tree × AreBytes from × AreBytes to
+IsInRange (Lookup session tree attr) = IsNumber session × IsNumber tree × AreBytes attr
+IsInRange (Page session tree page) = IsNumber session × IsNumber tree × IsNumber page
+IsInRange (Tree session tree) = IsNumber session × IsNumber tree
+IsInRange (Policy session role k) = IsNumber session × IsNumber k
+IsInRange (Work session) = IsNumber session
+IsInRange (Step session wish) = IsNumber session × IsWish wish
+IsInRange (Run session) = IsNumber session
+IsInRange (Crash session done) = IsNumber session
+IsInRange (Wait ticks) = IsNumber ticks
+IsInRange (Report tree) = IsNumber tree
+IsInRange (Sweep tree) = IsNumber tree
 IsInRange Settle = Unit {0}
 
 -- a line that spells an event

@@ -3,7 +3,7 @@ use Rattle.std.specs.Prelude.{ℕ, ◌&&◌, nat_le, Bool, true, false, List, []
 use Rattle.std.specs.Str.{bytes_eq}
 use Rattle.db_base.specs.declared.wish.Wish.{Wish}
 use Rattle.db_base.specs.declared.wish.Wish.TheVariants.{Plain, Fail, Lost, Hide, Old, Give}
-use Rattle.words.specs.Line.{◌>>=◌, parts_of, word_at, number_at, bytes_at, end_at, last_of, numbers_of, one_of, two_of, place_of, record_of, sum_of}
+use Rattle.words.specs.Line.{◌>>=◌, word_at, number_at, bytes_at, end_at, last_of, numbers_of, one_of, two_of, place_of, record_of, sum_of}
 use Rattle.ckpt_policy.specs.declared.role.Role.{Role}
 use Rattle.event_text.specs.declared.event.Event.{Event}
 use Rattle.event_text.specs.declared.event.Event.TheVariants as event

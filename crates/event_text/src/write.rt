@@ -1,10 +1,9 @@
-ghost use Rattle.std.specs.Prelude.{◌≡◌, ℕ, List, [], ◌∷◌, ◌++◌, IfOk, IfErr, map, codes};
+ghost use Rattle.std.specs.Prelude.{◌≡◌, [], ◌∷◌, IfOk, IfErr};
 ghost use Rattle.std.specs.Fmt.{decimal};
 ghost use Rattle.std.specs.String.{string_bytes};
 ghost use Rattle.words.specs.Word.{hexadecimal};
-ghost use Rattle.words.specs.Line.{last_words};
 ghost use Rattle.event_text.specs.RoleWord.{role_text};
-ghost use Rattle.event_text.specs.Event.{wish_words, line_of, spelling};
+ghost use Rattle.event_text.specs.Event.{event_words, Spells, spelling};
 
 use crate::event::Event;
 use crate::role_word::role_text;
@@ -17,7 +16,7 @@ use words::fault::TextFault;
 
 /// The line of a keyword and a number.
 fn number_line(alloc: Global, keyword: &str, number: u64) -> Result<String, AllocError>
-    ensures { IfOk result (λ line. string_bytes line ≡ line_of (keyword.now ∷ decimal number ∷ [])) }
+    ensures { Spells result (keyword.now ∷ decimal number ∷ []) }
 {
     let line = format!(in alloc; "{keyword} {number}\n")?;
     Ok(line)
@@ -30,7 +29,7 @@ fn two_numbers_line(
     first: u64,
     second: u64,
 ) -> Result<String, AllocError>
-    ensures { IfOk result (λ line. string_bytes line ≡ line_of (keyword.now ∷ decimal first ∷ decimal second ∷ [])) }
+    ensures { Spells result (keyword.now ∷ decimal first ∷ decimal second ∷ []) }
 {
     let line = format!(in alloc; "{keyword} {first} {second}\n")?;
     Ok(line)
@@ -44,7 +43,7 @@ fn three_numbers_line(
     second: u64,
     third: u64,
 ) -> Result<String, AllocError>
-    ensures { IfOk result (λ line. string_bytes line ≡ line_of (keyword.now ∷ decimal first ∷ decimal second ∷ decimal third ∷ [])) }
+    ensures { Spells result (keyword.now ∷ decimal first ∷ decimal second ∷ decimal third ∷ []) }
 {
     let line = format!(in alloc; "{keyword} {first} {second} {third}\n")?;
     Ok(line)
@@ -52,7 +51,7 @@ fn three_numbers_line(
 
 /// The line of a keyword, a number and a word.
 fn word_line(alloc: Global, keyword: &str, number: u64, word: &str) -> Result<String, AllocError>
-    ensures { IfOk result (λ line. string_bytes line ≡ line_of (keyword.now ∷ decimal number ∷ word.now ∷ [])) }
+    ensures { Spells result (keyword.now ∷ decimal number ∷ word.now ∷ []) }
 {
     let line = format!(in alloc; "{keyword} {number} {word}\n")?;
     Ok(line)
@@ -60,7 +59,7 @@ fn word_line(alloc: Global, keyword: &str, number: u64, word: &str) -> Result<St
 
 /// The line of a policy: a session, a role and a number.
 fn policy_line(alloc: Global, session: u64, role: Role, k: u64) -> Result<String, AllocError>
-    ensures { IfOk result (λ line. string_bytes line ≡ line_of (codes "policy" ∷ decimal session ∷ role_text role ∷ decimal k ∷ [])) }
+    ensures { Spells result (event_words (Event.Policy session role k)) }
 {
     let role = role_text(role);
     let line = format!(in alloc; "policy {session} {role} {k}\n")?;
@@ -69,7 +68,7 @@ fn policy_line(alloc: Global, session: u64, role: Role, k: u64) -> Result<String
 
 /// The line of a step under a wish for a landed version.
 fn old_line(alloc: Global, session: u64, version: u64) -> Result<String, AllocError>
-    ensures { IfOk result (λ line. string_bytes line ≡ line_of (codes "step" ∷ decimal session ∷ codes "old" ∷ decimal version ∷ [])) }
+    ensures { Spells result (event_words (Event.Step session (Wish.Old version))) }
 {
     let line = format!(in alloc; "step {session} old {version}\n")?;
     Ok(line)
@@ -83,7 +82,7 @@ fn place_line(
     tree: u64,
     key: &Blob,
 ) -> Result<String, AllocError>
-    ensures { IfOk result (λ line. string_bytes line ≡ line_of (keyword.now ∷ decimal session ∷ decimal tree ∷ hexadecimal key.now ∷ [])) }
+    ensures { Spells result (keyword.now ∷ decimal session ∷ decimal tree ∷ hexadecimal key.now ∷ []) }
 {
     let key = hexadecimal(alloc, key.as_slice())?;
     let line = format!(in alloc; "{keyword} {session} {tree} {key}\n")?;
@@ -98,7 +97,7 @@ fn add_line(
     key: &Blob,
     amount: u64,
 ) -> Result<String, AllocError>
-    ensures { IfOk result (λ line. string_bytes line ≡ line_of (codes "add" ∷ decimal session ∷ decimal tree ∷ hexadecimal key.now ∷ decimal amount ∷ [])) }
+    ensures { Spells result (event_words (Event.Add session tree key.now amount)) }
 {
     let key = hexadecimal(alloc, key.as_slice())?;
     let line = format!(in alloc; "add {session} {tree} {key} {amount}\n")?;
@@ -114,7 +113,7 @@ fn record_line(
     first: &Blob,
     second: &Blob,
 ) -> Result<String, AllocError>
-    ensures { IfOk result (λ line. string_bytes line ≡ line_of (keyword.now ∷ decimal session ∷ decimal tree ∷ hexadecimal first.now ∷ hexadecimal second.now ∷ [])) }
+    ensures { Spells result (keyword.now ∷ decimal session ∷ decimal tree ∷ hexadecimal first.now ∷ hexadecimal second.now ∷ []) }
 {
     let first = hexadecimal(alloc, first.as_slice())?;
     let second = hexadecimal(alloc, second.as_slice())?;
@@ -131,7 +130,7 @@ fn insert_line(
     payload: &Blob,
     attr: &Option<Blob>,
 ) -> Result<String, AllocError>
-    ensures { IfOk result (λ line. string_bytes line ≡ line_of (codes "insert" ∷ decimal session ∷ decimal tree ∷ hexadecimal key.now ∷ hexadecimal payload.now ∷ last_words attr.now)) }
+    ensures { Spells result (event_words (Event.Insert session tree key.now payload.now attr.now)) }
 {
     match attr {
         None => record_line(alloc, "insert", session, tree, key, payload),
@@ -154,7 +153,7 @@ fn put_line(
     payload: &Blob,
     attr: &Blob,
 ) -> Result<String, AllocError>
-    ensures { IfOk result (λ line. string_bytes line ≡ line_of (codes "put" ∷ decimal session ∷ decimal tree ∷ hexadecimal key.now ∷ hexadecimal payload.now ∷ hexadecimal attr.now ∷ [])) }
+    ensures { Spells result (event_words (Event.Put session tree key.now payload.now attr.now)) }
 {
     let key = hexadecimal(alloc, key.as_slice())?;
     let payload = hexadecimal(alloc, payload.as_slice())?;
@@ -165,7 +164,7 @@ fn put_line(
 
 /// The line of a step under a wish that names positions.
 fn give_line(alloc: Global, session: u64, positions: &[u64]) -> Result<String, AllocError>
-    ensures { IfOk result (λ line. string_bytes line ≡ line_of (codes "step" ∷ decimal session ∷ codes "give" ∷ map decimal positions.now)) }
+    ensures { Spells result (event_words (Event.Step session (Wish.Give positions.now))) }
 {
     let mut line = format!(in alloc; "step {session} give")?;
     let mut left = positions;
@@ -180,7 +179,7 @@ fn give_line(alloc: Global, session: u64, positions: &[u64]) -> Result<String, A
 
 /// The line of a step.
 fn step_line(alloc: Global, session: u64, wish: &Wish) -> Result<String, AllocError>
-    ensures { IfOk result (λ line. string_bytes line ≡ line_of (codes "step" ∷ decimal session ∷ wish_words wish.now)) }
+    ensures { Spells result (event_words (Event.Step session wish.now)) }
 {
     match wish {
         Wish::Plain => word_line(alloc, "step", session, "plain"),

@@ -6,10 +6,11 @@ use Rattle.client_work.specs.declared.answer.Begun.{Begun}
 use Rattle.client_work.specs.declared.op.Op.{Op}
 use Rattle.client_work.specs.declared.op.Op.TheVariants as op
 use Rattle.client_work.specs.declared.shown.Shown.{Shown}
+use Rattle.client_work.specs.declared.shown.Shown.TheVariants.{Nothing}
 use Rattle.client_work.specs.declared.work.Work.{Work}
 use Rattle.client_work.specs.declared.work.Work.TheVariants.{Closed, Idle, Opening, Committing, Reading, Scanning, Looking, Paging, Folding, Closing, Renewing, Settling, Sweeping, Broken}
-use Rattle.client_work.specs.Phase.{BeginsAt, kept_in, noted_in, phase_of}
-use Rattle.client_work.specs.Session.{Acting, Begins, noted_behind, shown_behind}
+use Rattle.client_work.specs.Phase.{kept_in, noted_in, phase_of}
+use Rattle.client_work.specs.Session.{Acting, Begins, noted_behind, shown_behind, acting_of}
 
 -- the changes go where a close is at work, and nowhere else
 pub noted_by : (w : Work) (buffer : List Noted) → noted_in (phase_of w) buffer ≡ noted_behind w buffer
@@ -46,7 +47,7 @@ kept_by (Sweeping m) c = refl
 kept_by (Broken lease) c = refl
 
 -- what was shown before does not count for what begins
-begun_at : (o : Op) (old new : Acting) (b : Begun) → BeginsAt o old.buffer old.work old.cache new.buffer new.work new.cache new.shown b → Begins o old new (Ok b)
+begun_at : (o : Op) (old new : Acting) (b : Begun) → Begins o (acting_of old.buffer old.work old.cache Nothing) new (Ok b) → Begins o old new (Ok b)
 begun_at (op.Open client) old new b is = is
 begun_at op.Close old new b is = is
 begun_at op.Renew old new b is = is
@@ -59,8 +60,8 @@ begun_at (op.Tree tree) old new b is = is
 
 pub begun : (o : Op) (old new : Acting) (buffer : List Noted) (was work : Work) (c : Cache) (earlier : Shown) (b : Begun)
     → (let s : Acting = record { buffer = buffer; work = work; cache = c; shown = earlier } in s ≡ old) → was ≡ work
-    → BeginsAt o buffer was c new.buffer new.work new.cache new.shown b → Begins o old new (Ok b)
+    → Begins o (acting_of buffer was c Nothing) new (Ok b) → Begins o old new (Ok b)
 begun o old new buffer was work c earlier b is_old is_work begins =
     let s : Acting = record { buffer = buffer; work = work; cache = c; shown = earlier } in
     subst (λ (z : Acting). Begins o z new (Ok b)) is_old
-    (begun_at o s new b (subst (λ (w : Work). BeginsAt o buffer w c new.buffer new.work new.cache new.shown b) is_work begins))
+    (begun_at o s new b (subst (λ (w : Work). Begins o (acting_of buffer w c Nothing) new (Ok b)) is_work begins))

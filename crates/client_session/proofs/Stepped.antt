@@ -11,7 +11,7 @@ use Rattle.client_work.specs.declared.shown.Shown.{Shown}
 use Rattle.client_work.specs.declared.work.Work.{Work}
 use Rattle.client_work.specs.Phase.{kept_in, noted_in, phase_of}
 use Rattle.client_work.specs.Causes.{HasCome, CausesAt, MachineSteps}
-use Rattle.client_work.specs.Session.{Acting, StepsSession, StepsAt, ShowsAt, ShowsWhole, noted_behind, shown_behind}
+use Rattle.client_work.specs.Session.{Acting, StepsSession, StepsAt, ShowsAt, ShowsWhole, noted_behind, shown_behind, acting_of}
 use Rattle.client_work.specs.Shows.{IsKnown}
 use Rattle.client_work.proofs.Causes.{step_causes}
 use Rattle.client_work.proofs.Came.{steps_come}
@@ -20,8 +20,8 @@ use Rattle.client_session.proofs.Phases.{kept_by, noted_by}
 
 module _ (who : Caller) (before after : Seen) (work left : Work) (buffer noted : List Noted) (c d kept : Cache) (earlier shown : Shown) (turn : Turn Answer) (p q : Phase)
     (is_p : p ≡ phase_of work) (is_q : q ≡ phase_of left) (is_noted : noted ≡ noted_in p buffer) (is_kept : kept ≡ kept_in q d) (known : IsKnown buffer work c × HasCome work c)
-    (steps : StepsAt who before after work left turn) (shows : ShowsAt who before after noted work c d left shown turn)
-    (machine : MachineSteps who before after work c d left turn) where
+    (steps : StepsAt who before after work left turn) (shows : ShowsAt who before after (work, c) (acting_of noted left d shown) turn)
+    (machine : MachineSteps who before after (work, c) (left, d) turn) where
   noted_so : noted ≡ noted_behind work buffer
   noted_so = is_noted ∙ (ap (λ (z : Phase). noted_in z buffer) is_p ∙ noted_by work buffer)
 
@@ -40,7 +40,7 @@ module _ (who : Caller) (before after : Seen) (work left : Work) (buffer noted :
   came : HasCome left (shown_behind left d)
   came = steps_come who before after noted c d work left shown turn known.1 steps shows machine
 
-  causes : CausesAt who before after work c d left turn
+  causes : CausesAt who before after (work, c) (left, d) turn
   causes = step_causes who before after noted c d buffer work left shown turn known.0 known.1 steps shows machine
 
   -- what is known of the session behind the step

@@ -2,7 +2,6 @@ ghost use Rattle.std.specs.Prelude.{◌≡◌, ◌≤◌, ◌<◌, ◌↔◌, []
 ghost use Rattle.std.specs.Option.{option_map, option_copied};
 ghost use Rattle.cloud_trait.specs.Call.{ask_of};
 ghost use Rattle.db_base.specs.Entry.{entry_bytes};
-ghost use Rattle.txn_buffer.specs.Noted.{noted_in, put_in};
 
 use client_work::answer::{Answer, Begun};
 use client_work::hand::Hand;
@@ -64,7 +63,7 @@ impl<H: Hand> Model for Session<H> {
 
 impl<H: Hand> Session<H> {
     ghost use Rattle.client_work.specs.BrokenOff.{broken_off};
-    ghost use Rattle.client_work.specs.Session.{Acting, closed_session, rule_of, MayIndex, NoteRefused, PutRefused, AbortRefused, Begins, StepsSession, settling_session, sweeping_session, ask_of_work, committing_of, opens_of, applying_of, value_of, items_of, open_client};
+    ghost use Rattle.client_work.specs.Session.{Acting, HasNoted, HasPut, HasDropped, closed_session, MayIndex, NoteRefused, PutRefused, AbortRefused, Begins, StepsSession, settling_session, sweeping_session, ask_of_work, committing_of, opens_of, applying_of, value_of, items_of, open_client};
 
     /// A closed session without changes. Refused for memory alone.
     pub fn new(alloc: Global) -> Result<Session<H>, Refused>
@@ -104,7 +103,7 @@ impl<H: Hand> Session<H> {
 
     /// Notes a change of an open client. A refusal changes nothing.
     pub fn note(&mut self, tree: TreeId, change: Change) -> Result<(), Refused>
-        ensures ok { OnOk result ((self.new ≡ record self.old { buffer = noted_in self.old.buffer tree change }) × (rule_of self.old.work ≡ None)) }
+        ensures ok { OnOk result (HasNoted tree change self.old self.new) }
         ensures err { OnErr result (self.new ≡ self.old) }
         ensures cause { IfErr result (NoteRefused self.old tree change) }
         ensures few { OnOk result (length self.new.buffer ≤ 200) }
@@ -128,12 +127,13 @@ impl<H: Hand> Session<H> {
         payload: Payload,
         attr: Attr,
     ) -> Result<(), Refused>
-        ensures ok { OnOk result ((self.new ≡ record self.old { buffer = put_in self.old.buffer tree key payload attr }) × (rule_of self.old.work ≡ None)) }
+        ensures ok { OnOk result (HasPut tree key payload attr self.old self.new) }
         ensures indexed { OnOk result (MayIndex tree key attr) }
         ensures err { OnErr result (self.new ≡ self.old) }
         ensures cause { IfErr result (PutRefused self.old tree key payload attr) }
         ensures above { (result ≡ Err (Refused.Rule Refusal.BadNumber)) ↔ (8 < tree) }
-        ensures long { (result ≡ Err (Refused.Rule Refusal.LongEntry)) ↔ ((tree ≤ 8) × (64 < length (entry_bytes attr key))) }
+        ensures long { (result ≡ Err (Refused.Rule Refusal.LongEntry))
+            ↔ ((tree ≤ 8) × (64 < length (entry_bytes attr key))) }
         ensures few { OnOk result (length self.new.buffer ≤ 200) }
     {
         let Some(index) = tree.index() else {
@@ -159,7 +159,7 @@ impl<H: Hand> Session<H> {
 
     /// Drops the changes of an open client. A refusal changes nothing.
     pub fn abort(&mut self) -> Result<(), Refused>
-        ensures ok { OnOk result ((self.new ≡ record self.old { buffer = [] }) × (rule_of self.old.work ≡ None)) }
+        ensures ok { OnOk result (HasDropped self.old self.new) }
         ensures err { OnErr result (self.new ≡ self.old) }
         ensures cause { IfErr result (AbortRefused self.old) }
     {

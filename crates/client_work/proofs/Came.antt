@@ -40,7 +40,7 @@ use Rattle.client_work.specs.declared.work.Work.{Work}
 use Rattle.client_work.specs.declared.work.Work.TheVariants.{Closed, Idle, Opening, Committing, Reading, Scanning, Looking, Paging, Folding, Closing, Renewing, Settling, Sweeping, Broken}
 use Rattle.client_work.specs.Causes.{MachineSteps, HasCome, deed_by}
 use Rattle.client_work.specs.Settling.{IsUntold}
-use Rattle.client_work.specs.Session.{Acting, Begins, HasInHand, CommitsOf, CommitsNoted, ReadsOf, ReadsBy, LooksOf, LooksBy, Follows, ListsLeaf, StepsAt, ShowsAt, stopped_work, opened_work, committed_work, opening_of, old_lease, paging_begun_by, folding_begun_by, shown_behind}
+use Rattle.client_work.specs.Session.{Acting, Begins, HasInHand, CommitsOf, CommitsNoted, ReadsOf, ReadsBy, LooksOf, LooksBy, Follows, ListsLeaf, StepsAt, ShowsAt, stopped_work, opened_work, committed_work, opening_of, old_lease, paging_begun_by, folding_begun_by, shown_behind, acting_of, in_hand}
 use Rattle.client_work.specs.Shows.{own_of}
 use Rattle.client_work.proofs.Settles.{untold, made_untold, follows_untold, settles_on}
 use Rattle.client_work.proofs.Sweeps.{sweeps_on}
@@ -166,20 +166,20 @@ come_as w v d is h = subst (λ (x : Work). HasCome x d) (sym is) h
 
 -- a scan leads to a scan or to rest
 module _ (buffer : List Noted) (d : Cache) where
-  listed_come : (home : Home) (m : Listing) (left : Work) (shown : Shown) (turn : Turn Answer) → ListsLeaf home buffer m d left shown turn → HasCome left d
+  listed_come : (home : Home) (m : Listing) (left : Work) (shown : Shown) (turn : Turn Answer) → ListsLeaf home m (acting_of buffer left d shown) turn → HasCome left d
   listed_come home m left shown More (all, are, going, is, none) = come_as left (Scanning home _) d is tt
   listed_come home m left shown (Ended answer.Scan) (all, are, over, is, some) = rest_come left d (rest_as left (Idle home) is tt)
   listed_come home m left shown (Ended (answer.Trouble t)) (memory, is, none) = rest_come left d (rest_as left (Broken home.lease) is tt)
   listed_come home m left shown turn never = absurd never
 
-  followed_come : (home : Home) (m : Listing) (moved : Turn ℕ) (left : Work) (shown : Shown) (turn : Turn Answer) → Follows home buffer m d moved left shown turn → HasCome left d
+  followed_come : (home : Home) (m : Listing) (moved : Turn ℕ) (left : Work) (shown : Shown) (turn : Turn Answer) → Follows home m moved (acting_of buffer left d shown) turn → HasCome left d
   followed_come home m More left shown turn (is, none, more) = come_as left (Scanning home m) d is tt
   followed_come home m (Ended page) left shown turn lists = listed_come home m left shown turn lists
   followed_come home m (Stopped t) left shown turn (is, none, stopped) = rest_come left d (rest_as left (stopped_work t home) is (stopped_rests t home))
 
 module _ (who : Caller) (before after : Seen) (buffer : List Noted) (c d : Cache) where
   opening_come : (m : Recovery) (left : Work) (turn : Turn Answer) → HasCome (Opening m) c → StepsAt who before after (Opening m) left turn
-      → MachineSteps who before after (Opening m) c d left turn → HasCome left d
+      → MachineSteps who before after (Opening m, c) (left, d) turn → HasCome left d
   opening_come m left More (client, former, h, went, is) steps (n, stepped, left_is) =
       let more = came_more recovery_ask (LeadsBy recovery_next) KeepsLeases who before after (new_recovery client aim.Opening former) m n h stepped.did went is in
       come_as left (Opening n) d left_is (client, former, more.0, more.1, more.2)
@@ -188,7 +188,7 @@ module _ (who : Caller) (before after : Seen) (buffer : List Noted) (c d : Cache
   opening_come m left turn came steps machine = absurd steps.1
 
   commit_come : (m : Run) (left : Work) (turn : Turn Answer) → HasCome (Committing m) c → StepsAt who before after (Committing m) left turn
-      → MachineSteps who before after (Committing m) c d left turn → HasCome left d
+      → MachineSteps who before after (Committing m, c) (left, d) turn → HasCome left d
   commit_come m left More (home, changes, first, h, some, (start, ready, came), is) steps (n, stepped, left_is) =
       let did : Steps run_asks (LeadsBy run_next) KeepsHome who before after (m, c) (n, d) More = record { answer = stepped.answer; made = stepped.made; took = stepped.took } in
       let more = came_more run_asks (LeadsBy run_next) KeepsHome who before after start (m, c) (n, d) h did came is in
@@ -198,7 +198,7 @@ module _ (who : Caller) (before after : Seen) (buffer : List Noted) (c d : Cache
   commit_come m left turn came steps machine = absurd steps.3
 
   reading_come : (home : Home) (m : Walk) (left : Work) (shown : Shown) (turn : Turn Answer) → HasCome (Reading home m) c
-      → ReadsBy home who before after m c d left shown turn → HasCome left d
+      → ReadsBy who before after (in_hand home m c) (acting_of buffer left d shown) turn → HasCome left d
   reading_come home m left shown More (start, h, begun, walked) (n, stepped, left_is, none) =
       come_as left (Reading home n) d left_is
       (start, walk_deed who (m, c) stepped.answer before after ∷ h, begun, ((m, c), walked, refl, stepped.made, stepped.took))
@@ -207,7 +207,7 @@ module _ (who : Caller) (before after : Seen) (buffer : List Noted) (c d : Cache
   reading_come home m left shown turn came never = absurd never
 
   looking_come : (home : Home) (m : Look) (left : Work) (shown : Shown) (turn : Turn Answer) → HasCome (Looking home m) c
-      → LooksBy home buffer who before after m c d left shown turn → HasCome left d
+      → LooksBy who before after (in_hand home m c) (acting_of buffer left d shown) turn → HasCome left d
   looking_come home m left shown More came (n, stepped, left_is, none, less) =
       come_as left (Looking home n) d left_is (step_walked (own_of home buffer) who before after (m, c) (n, d) stepped came)
   looking_come home m left shown (Ended answer.Scan) came (n, stepped, left_is, some) = rest_come left d (rest_as left (Idle home) left_is tt)
@@ -215,7 +215,7 @@ module _ (who : Caller) (before after : Seen) (buffer : List Noted) (c d : Cache
   looking_come home m left shown turn came never = absurd never
 
   paging_come : (home : Home) (m : Page) (left : Work) (turn : Turn Answer) → HasCome (Paging home m) c → StepsAt who before after (Paging home m) left turn
-      → MachineSteps who before after (Paging home m) c d left turn → HasCome left d
+      → MachineSteps who before after (Paging home m, c) (left, d) turn → HasCome left d
   paging_come home m left More (h, went, is) steps (n, stepped, left_is) =
       let same : fresh_page m ≡ fresh_page n = fresh_again m n stepped.did.answer stepped.did.took in
       come_as left (Paging home n) d left_is
@@ -225,7 +225,7 @@ module _ (who : Caller) (before after : Seen) (buffer : List Noted) (c d : Cache
   paging_come home m left turn came steps machine = absurd steps
 
   folding_come : (home : Home) (m : Making) (left : Work) (turn : Turn Answer) → HasCome (Folding home m) c → StepsAt who before after (Folding home m) left turn
-      → MachineSteps who before after (Folding home m) c d left turn → HasCome left d
+      → MachineSteps who before after (Folding home m, c) (left, d) turn → HasCome left d
   folding_come home m left More (h, went, is) steps (n, stepped, left_is) =
       let same : new_making m.tree ≡ new_making n.tree = ap new_making (sym stepped.did.took.0.0) in
       come_as left (Folding home n) d left_is
@@ -246,8 +246,8 @@ module _ (who : Caller) (before after : Seen) (buffer : List Noted) (c d : Cache
   sweeping_come m left (Ended (answer.Trouble k)) came steps = rest_come left d (rest_as left Closed steps.2 tt)
   sweeping_come m left turn came steps = absurd steps
 
-  step_come : (was left : Work) (shown : Shown) (turn : Turn Answer) → HasCome was c → StepsAt who before after was left turn → ShowsAt who before after buffer was c d left shown turn
-      → MachineSteps who before after was c d left turn → HasCome left d
+  step_come : (was left : Work) (shown : Shown) (turn : Turn Answer) → HasCome was c → StepsAt who before after was left turn → ShowsAt who before after (was, c) (acting_of buffer left d shown) turn
+      → MachineSteps who before after (was, c) (left, d) turn → HasCome left d
   step_come (Opening m) left shown turn came steps shows machine = opening_come m left turn came steps machine
   step_come (Committing m) left shown turn came steps shows machine = commit_come m left turn came steps machine
   step_come (Reading home m) left shown turn came steps shows machine = reading_come home m left shown turn came shows
@@ -267,8 +267,8 @@ module _ (who : Caller) (before after : Seen) (buffer : List Noted) (c d : Cache
   step_come (Idle home) left shown turn came steps shows machine = absurd steps
   step_come (Broken lease) left shown turn came steps shows machine = absurd steps
 
-  pub steps_come : (was left : Work) (shown : Shown) (turn : Turn Answer) → HasCome was c → StepsAt who before after was left turn → ShowsAt who before after buffer was c d left shown turn
-      → MachineSteps who before after was c d left turn → HasCome left (shown_behind left d)
+  pub steps_come : (was left : Work) (shown : Shown) (turn : Turn Answer) → HasCome was c → StepsAt who before after was left turn → ShowsAt who before after (was, c) (acting_of buffer left d shown) turn
+      → MachineSteps who before after (was, c) (left, d) turn → HasCome left (shown_behind left d)
   steps_come was left shown turn came steps shows machine = kept_come left d (step_come was left shown turn came steps shows machine)
 
 -- ---- a begin
@@ -293,13 +293,13 @@ module _ (old new : Acting) (begun : Begun) where
   committed_come home (inl nothing) = new_rests (Idle home) nothing.work_is tt
   committed_come home (inr noted) = commits_come home noted.0 begun noted.1
 
-  reads_come : (home : Home) (tree : ℕ) (key : List ℕ) (b : Begun) → ReadsOf home (new_walk tree (Some key) false) old.cache new.cache new.work new.shown b → HasCome new.work new.cache
+  reads_come : (home : Home) (tree : ℕ) (key : List ℕ) (b : Begun) → ReadsOf home (new_walk tree (Some key) false, old.cache) (new.work, new.cache) new.shown b → HasCome new.work new.cache
   reads_come home tree key Working (m, ready, is, none) = new_is (Reading home m) is ((m, new.cache), [], (tree, Some key, false, old.cache, ready), refl)
   reads_come home tree key (Answered answer.Value) h = new_rests (Idle home) h.3 tt
   reads_come home tree key (Answered (answer.Trouble t)) h = new_rests (stopped_work t home) h.2 (stopped_rests t home)
   reads_come home tree key (Answered a) h = absurd h
 
-  looks_come : (home : Home) (q : Query) (b : Begun) → LooksOf home q old.cache new.cache new.work new.shown b → HasCome new.work new.cache
+  looks_come : (home : Home) (q : Query) (b : Begun) → LooksOf home q old.cache (new.work, new.cache) new.shown b → HasCome new.work new.cache
   looks_come home q Working (m, ready, is, none) = new_is (Looking home m) is (ready_walked q old.cache (m, new.cache) ready)
   looks_come home q (Answered (answer.Trouble t)) h = new_rests (stopped_work t home) h.1 (stopped_rests t home)
   looks_come home q (Answered a) h = absurd h

@@ -49,7 +49,7 @@ use Rattle.client_work.specs.declared.op.Op.TheVariants as op
 use Rattle.client_work.specs.declared.shown.Shown.{Shown}
 use Rattle.client_work.specs.declared.work.Work.{Work}
 use Rattle.client_work.specs.declared.work.Work.TheVariants.{Closed, Idle, Opening, Committing, Reading, Scanning, Looking, Paging, Folding, Closing, Renewing, Settling, Sweeping, Broken}
-use Rattle.client_work.specs.Session.{Acting, Begins, HasInHand, CommitsOf, CommitsNoted, ReadsOf, ScansOf, LooksOf, Follows, ListsLeaf, StepsAt, ShowsAt, ReadsBy, StepsScanning, LooksBy, ShowsWhole, stopped_work, opened_work, committed_work, opening_of, old_lease, paging_begun_by, folding_begun_by, noted_behind, shown_behind, value_in, items_in}
+use Rattle.client_work.specs.Session.{Acting, Begins, HasInHand, CommitsOf, CommitsNoted, ReadsOf, ScansOf, LooksOf, Follows, ListsLeaf, StepsAt, ShowsAt, ReadsBy, StepsScanning, LooksBy, ShowsWhole, stopped_work, opened_work, committed_work, opening_of, old_lease, paging_begun_by, folding_begun_by, noted_behind, shown_behind, value_in, items_in, acting_of, in_hand}
 use Rattle.client_work.specs.Shows.{ShowsValue, pair_of, sight_in, IsSeen, Lists, IsUnderWay, ShowsRecords, IsKnown, read_deed, scan_deed, own_of, IsLooking, look_deed, ShowsFound}
 
 -- ---- what is no scan and no look-up
@@ -156,7 +156,7 @@ module _ (who : Caller) (before after : Seen) (home : Home) (buffer : List Noted
             ∙ ap (λ (k : List ℕ). seen at.leaf w.tree k home.client home.head buffer) key;
       }
 
-  pub read_shows : (left : Work) (shown : Shown) (turn : Turn Answer) → ReadsBy home who before after w c d left shown turn
+  pub read_shows : (left : Work) (shown : Shown) (turn : Turn Answer) → ReadsBy who before after (in_hand home w c) (acting_of buffer left d shown) turn
       → ReadShows who before after home buffer w (value_in left shown (shown_behind left d) buffer) turn
   read_shows left shown (Ended answer.Value) (m, page, steps, at, is, some) =
       subst (λ (v : Work). ShowsValue who before after home buffer w (value_in v shown (shown_behind v d) buffer)) (sym is)
@@ -236,7 +236,7 @@ module _ (who : Caller) (before after : Seen) (home : Home) (buffer : List Noted
         all_listed [] h = tt
         all_listed (x ∷ xs) h = (h.0.is_listed, all_listed xs h.1)
 
-    listed : (left : Work) (shown : Shown) (turn : Turn Answer) → ListsLeaf home buffer (record { scan = s; pairs = m.pairs }) d left shown turn
+    listed : (left : Work) (shown : Shown) (turn : Turn Answer) → ListsLeaf home (record { scan = s; pairs = m.pairs }) (acting_of buffer left d shown) turn
         → IsKnown buffer left d × ScanShows who before after home buffer m c shown turn
     listed left shown More (all, (items, are, all_is), going, is, none) =
         (subst (λ (w : Work). IsKnown buffer w d) (sym is) (goes all (grown items all are all_is) going), tt)
@@ -248,7 +248,7 @@ module _ (who : Caller) (before after : Seen) (home : Home) (buffer : List Noted
     listed left shown turn never = absurd never
 
   followed : (s : Scan) (moved : Turn ℕ) → StepsScan who before after (m.scan, c) (s, d) moved → (left : Work) (shown : Shown) (turn : Turn Answer)
-      → Follows home buffer (record { scan = s; pairs = m.pairs }) d moved left shown turn → IsKnown buffer left d × ScanShows who before after home buffer m c shown turn
+      → Follows home (record { scan = s; pairs = m.pairs }) moved (acting_of buffer left d shown) turn → IsKnown buffer left d × ScanShows who before after home buffer m c shown turn
   followed s More steps left shown turn (is, none, more) =
       let x : Move = record { deed = scan_deed who m.scan steps.answer before after; behind = None } in
       let same : range_of s ≡ r = (steps.meant r way.moves way.came).means in (
@@ -261,7 +261,7 @@ module _ (who : Caller) (before after : Seen) (home : Home) (buffer : List Noted
     subst (ScanShows who before after home buffer m c shown) (sym stopped) tt,
   )
 
-  pub scan_known : (left : Work) (shown : Shown) (turn : Turn Answer) → StepsScanning home buffer who before after m c d left shown turn
+  pub scan_known : (left : Work) (shown : Shown) (turn : Turn Answer) → StepsScanning who before after (in_hand home m c) (acting_of buffer left d shown) turn
       → IsKnown buffer left d × ScanShows who before after home buffer m c shown turn
   scan_known left shown turn p = followed p.scan p.moved p.steps left shown turn p.follows
 
@@ -284,7 +284,7 @@ module _ (who : Caller) (before after : Seen) (home : Home) (buffer : List Noted
       let found = p.means m.query way.calls way.visits way.came in
       record { calls = way.calls; visits = way.visits; came = way.came; answer = p.walked.answer; made = p.walked.made; found = found }
 
-  pub look_known : (left : Work) (shown : Shown) (turn : Turn Answer) → LooksBy home buffer who before after m c d left shown turn
+  pub look_known : (left : Work) (shown : Shown) (turn : Turn Answer) → LooksBy who before after (in_hand home m c) (acting_of buffer left d shown) turn
       → IsKnown buffer left d × LookShows who before after home buffer m c shown turn
   look_known left shown More (n, steps, is, none, less) = (subst (λ (w : Work). IsKnown buffer w d) (sym is) (looks_on n steps), tt)
   look_known left shown (Ended answer.Scan) (n, steps, is, some) = (
@@ -379,7 +379,7 @@ module _ (who : Caller) (before after : Seen) (buffer noted : List Noted) (c d :
       on turn h = tt
 
   reading_known : (home : Home) (w : Walk) (left : Work) (shown : Shown) (turn : Turn Answer) → StepsAt who before after (Reading home w) left turn
-      → ReadsBy home who before after w c d left shown turn → Known (Reading home w) left shown turn
+      → ReadsBy who before after (in_hand home w c) (acting_of noted left d shown) turn → Known (Reading home w) left shown turn
   reading_known home w left shown turn steps reads =
       (kept_known noted left d (plain_known noted left d (work_plain who before after (Reading home w) left turn tt steps)), on turn (read_shows who before after home noted w c d left shown turn reads))
     where
@@ -390,9 +390,9 @@ module _ (who : Caller) (before after : Seen) (buffer noted : List Noted) (c d :
       on turn h = tt
 
   scanning_known : (home : Home) (m : Listing) (left : Work) (shown : Shown) (turn : Turn Answer) → noted ≡ buffer → IsUnderWay home buffer m c
-      → StepsScanning home noted who before after m c d left shown turn → Known (Scanning home m) left shown turn
+      → StepsScanning who before after (in_hand home m c) (acting_of noted left d shown) turn → Known (Scanning home m) left shown turn
   scanning_known home m left shown turn same way p =
-      let both = scan_known who before after home buffer m c d way left shown turn (subst (λ (b : List Noted). StepsScanning home b who before after m c d left shown turn) same p) in
+      let both = scan_known who before after home buffer m c d way left shown turn (subst (λ (b : List Noted). StepsScanning who before after (in_hand home m c) (acting_of b left d shown) turn) same p) in
       (kept_known noted left d (subst (λ (b : List Noted). IsKnown b left d) (sym same) both.0), on turn both.1)
     where
       on : (turn : Turn Answer) → ScanShows who before after home buffer m c shown turn → ShowsWhole who before after (old_of (Scanning home m)) (new_of left shown) (Ok turn)
@@ -401,9 +401,9 @@ module _ (who : Caller) (before after : Seen) (buffer noted : List Noted) (c d :
       on turn h = tt
 
   looking_known : (home : Home) (m : Look) (left : Work) (shown : Shown) (turn : Turn Answer) → noted ≡ buffer → IsLooking home buffer m c
-      → LooksBy home noted who before after m c d left shown turn → Known (Looking home m) left shown turn
+      → LooksBy who before after (in_hand home m c) (acting_of noted left d shown) turn → Known (Looking home m) left shown turn
   looking_known home m left shown turn same way p =
-      let both = look_known who before after home buffer m c d way left shown turn (subst (λ (b : List Noted). LooksBy home b who before after m c d left shown turn) same p) in
+      let both = look_known who before after home buffer m c d way left shown turn (subst (λ (b : List Noted). LooksBy who before after (in_hand home m c) (acting_of b left d shown) turn) same p) in
       (kept_known noted left d (subst (λ (b : List Noted). IsKnown b left d) (sym same) both.0), on turn both.1)
     where
       on : (turn : Turn Answer) → LookShows who before after home buffer m c shown turn → ShowsWhole who before after (old_of (Looking home m)) (new_of left shown) (Ok turn)
@@ -412,7 +412,7 @@ module _ (who : Caller) (before after : Seen) (buffer noted : List Noted) (c d :
       on turn h = tt
 
   pub step_known : (was left : Work) (shown : Shown) (turn : Turn Answer) → noted ≡ noted_behind was buffer → IsKnown buffer was c → StepsAt who before after was left turn
-      → ShowsAt who before after noted was c d left shown turn → Known was left shown turn
+      → ShowsAt who before after (was, c) (acting_of noted left d shown) turn → Known was left shown turn
   step_known (Reading home w) left shown turn same known steps shows = reading_known home w left shown turn steps shows
   step_known (Scanning home m) left shown turn same known steps shows = scanning_known home m left shown turn same known shows
   step_known (Looking home m) left shown turn same known steps shows = looking_known home m left shown turn same known shows
@@ -431,7 +431,7 @@ module _ (who : Caller) (before after : Seen) (buffer noted : List Noted) (c d :
 -- ---- a begin
 
 begun_known : (home : Home) (buffer : List Noted) (tree : ℕ) (from to : Option (List ℕ)) (c d : Cache) (left : Work) (shown : Shown) (begun : Begun)
-    → ScansOf home buffer (scan_of (record { tree = tree; from = from; to = to })) c d left shown begun → IsKnown buffer left d
+    → ScansOf home (scan_of (record { tree = tree; from = from; to = to })) c (acting_of buffer left d shown) begun → IsKnown buffer left d
 begun_known home buffer tree from to c d left shown begun p = on p.moved p.moves p.turn p.follows where
   range : Range
   range = record { tree = tree; from = from; to = to }
@@ -439,7 +439,7 @@ begun_known home buffer tree from to c d left shown begun p = on p.moved p.moves
   ready : (page : ℕ) → Moves (scan_ready (scan_of range, c)) (p.scan, d) (Ended page) → ⊥
   ready page h = unended_ready (scan_of range, c) (p.scan, d) page h
 
-  on : (moved : Turn ℕ) → Moves (scan_ready (scan_of range, c)) (p.scan, d) moved → (turn : Turn Answer) → Follows home buffer (record { scan = p.scan; pairs = [] }) d moved left shown turn
+  on : (moved : Turn ℕ) → Moves (scan_ready (scan_of range, c)) (p.scan, d) moved → (turn : Turn Answer) → Follows home (record { scan = p.scan; pairs = [] }) moved (acting_of buffer left d shown) turn
       → IsKnown buffer left d
   on More moves turn (is, none, more) =
       let came : Scanned range [] (p.scan, d) = (c, moves) in
@@ -470,13 +470,13 @@ module _ (old new : Acting) (begun : Begun) where
   committed home (inl nothing) = plain_is (Idle home) nothing.work_is tt
   committed home (inr noted) = commits home begun noted.1
 
-  reads : (home : Home) (start : Walk) (b : Begun) → ReadsOf home start old.cache new.cache new.work new.shown b → IsKnown new.buffer new.work new.cache
+  reads : (home : Home) (start : Walk) (b : Begun) → ReadsOf home (start, old.cache) (new.work, new.cache) new.shown b → IsKnown new.buffer new.work new.cache
   reads home start Working h = plain_is (Reading home h.0) h.2 tt
   reads home start (Answered answer.Value) h = plain_is (Idle home) h.3 tt
   reads home start (Answered (answer.Trouble t)) h = plain_is (stopped_work t home) h.2 (stopped_plain t home)
   reads home start (Answered a) h = absurd h
 
-  looks : (home : Home) (q : Query) (b : Begun) → LooksOf home q old.cache new.cache new.work new.shown b → IsKnown new.buffer new.work new.cache
+  looks : (home : Home) (q : Query) (b : Begun) → LooksOf home q old.cache (new.work, new.cache) new.shown b → IsKnown new.buffer new.work new.cache
   looks home q Working (m, ready, is, none) =
       let came = ready_looked q (own_of home new.buffer) old.cache (m, new.cache) ready in
       subst (λ (w : Work). IsKnown new.buffer w new.cache) (sym is) (record { calls = []; visits = []; came = came })

@@ -1,5 +1,5 @@
 -- What one machine did, what is in hand did.
-use Rattle.std.proofs.Common.{◌≡◌, ℕ, false, List, Some, sym, subst}
+use Rattle.std.proofs.Common.{◌≡◌, ℕ, false, List, Some, Ok, sym, subst}
 use Rattle.txn_buffer.specs.Noted.{Noted}
 use Rattle.cloud_trait.specs.Caller.{Caller}
 use Rattle.cloud_trait.specs.Seen.{Seen}
@@ -12,37 +12,37 @@ use Rattle.client_work.specs.declared.answer.Begun.{Begun}
 use Rattle.client_work.specs.declared.op.Op.{Op}
 use Rattle.client_work.specs.declared.op.Op.TheVariants as op
 use Rattle.client_work.specs.declared.shown.Shown.{Shown}
+use Rattle.client_work.specs.declared.shown.Shown.TheVariants.{Nothing}
 use Rattle.client_work.specs.declared.work.Work.{Work}
 use Rattle.client_work.specs.declared.work.Work.TheVariants.{Idle}
 use Rattle.client_work.specs.Causes.{MachineSteps}
-use Rattle.client_work.specs.Phase.{BeginsAt}
-use Rattle.client_work.specs.Session.{StepsAt, ShowsAt, ReadsOf}
+use Rattle.client_work.specs.Session.{StepsAt, ShowsAt, ReadsOf, acting_of, Begins}
 
 pub steps_by : (who : Caller) (before after : Seen) (old was new left : Work) (turn : Turn Answer) → old ≡ was → new ≡ left → StepsAt who before after was left turn → StepsAt who before after old new turn
 steps_by who before after old was new left turn is_was is_left steps =
     subst (λ (w : Work). StepsAt who before after w new turn) (sym is_was) (subst (λ (w : Work). StepsAt who before after was w turn) (sym is_left) steps)
 
 pub shows_by : (who : Caller) (before after : Seen) (buffer : List Noted) (old was new left : Work) (c d : Cache) (shown : Shown) (turn : Turn Answer) → old ≡ was → new ≡ left
-    → ShowsAt who before after buffer was c d left shown turn → ShowsAt who before after buffer old c d new shown turn
+    → ShowsAt who before after (was, c) (acting_of buffer left d shown) turn → ShowsAt who before after (old, c) (acting_of buffer new d shown) turn
 shows_by who before after buffer old was new left c d shown turn is_was is_left shows =
-    subst (λ (w : Work). ShowsAt who before after buffer w c d new shown turn) (sym is_was)
-    (subst (λ (w : Work). ShowsAt who before after buffer was c d w shown turn) (sym is_left) shows)
+    subst (λ (w : Work). ShowsAt who before after (w, c) (acting_of buffer new d shown) turn) (sym is_was)
+    (subst (λ (w : Work). ShowsAt who before after (was, c) (acting_of buffer w d shown) turn) (sym is_left) shows)
 
 pub machine_by : (who : Caller) (before after : Seen) (old was new left : Work) (c d : Cache) (turn : Turn Answer) → old ≡ was → new ≡ left
-    → MachineSteps who before after was c d left turn → MachineSteps who before after old c d new turn
+    → MachineSteps who before after (was, c) (left, d) turn → MachineSteps who before after (old, c) (new, d) turn
 machine_by who before after old was new left c d turn is_was is_left steps =
-    subst (λ (w : Work). MachineSteps who before after w c d new turn) (sym is_was) (subst (λ (w : Work). MachineSteps who before after was c d w turn) (sym is_left) steps)
+    subst (λ (w : Work). MachineSteps who before after (w, c) (new, d) turn) (sym is_was) (subst (λ (w : Work). MachineSteps who before after (was, c) (w, d) turn) (sym is_left) steps)
 
 -- a read that begins beside an open client begins an operation
 pub reads_by : (o : Op) (tree : ℕ) (key : List ℕ) (buffer noted : List Noted) (old new left : Work) (home : Home) (start : Walk) (c d : Cache) (shown : Shown) (begun : Begun)
-    → o ≡ op.Read tree key → old ≡ Idle home → noted ≡ buffer → start ≡ new_walk tree (Some key) false → new ≡ left → ReadsOf home start c d left shown begun
-    → BeginsAt o buffer old c noted new d shown begun
+    → o ≡ op.Read tree key → old ≡ Idle home → noted ≡ buffer → start ≡ new_walk tree (Some key) false → new ≡ left → ReadsOf home (start, c) (left, d) shown begun
+    → Begins o (acting_of buffer old c Nothing) (acting_of noted new d shown) (Ok begun)
 reads_by o tree key buffer noted old new left home start c d shown begun is_read is_idle is_noted is_start is_left reads =
-    subst (λ (z : Op). BeginsAt z buffer old c noted new d shown begun) (sym is_read) (
+    subst (λ (z : Op). Begins z (acting_of buffer old c Nothing) (acting_of noted new d shown) (Ok begun)) (sym is_read) (
       home,
       is_idle,
       (
         is_noted,
-        subst (λ (w : Work). ReadsOf home (new_walk tree (Some key) false) c d w shown begun) (sym is_left) (subst (λ (s : Walk). ReadsOf home s c d left shown begun) is_start reads),
+        subst (λ (w : Work). ReadsOf home (new_walk tree (Some key) false, c) (w, d) shown begun) (sym is_left) (subst (λ (s : Walk). ReadsOf home (s, c) (left, d) shown begun) is_start reads),
       ),
     )

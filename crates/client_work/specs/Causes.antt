@@ -121,12 +121,12 @@ SweepingBy Step work turn = ⊥
 
 -- an opening, a commit and the two checkpoints took a step with all that their contracts say of its one answer; of the others what they show, or
 -- their step, says it
-abbrev pub MachineSteps : Caller → Seen → Seen → Work → Cache → Cache → Work → Turn Answer → Type 0
-MachineSteps who before after (Opening m) c d work turn = OpeningBy (StepsRecovery who before after m) work turn
-MachineSteps who before after (Committing m) c d work turn = CommitBy (λ n. StepsRun who before after (m, c) (n, d)) work turn
-MachineSteps who before after (Paging home m) c d work turn = PagingBy home (StepsPage who before after m) work turn
-MachineSteps who before after (Folding home m) c d work turn = FoldingBy home (StepsMaking who before after m) work turn
-MachineSteps who before after old c d work turn = Unit {0}
+abbrev pub MachineSteps : Caller → Seen → Seen → Work × Cache → Work × Cache → Turn Answer → Type 0
+MachineSteps who before after (Opening m, c) (work, d) turn = OpeningBy (StepsRecovery who before after m) work turn
+MachineSteps who before after (Committing m, c) (work, d) turn = CommitBy (λ n. StepsRun who before after (m, c) (n, d)) work turn
+MachineSteps who before after (Paging home m, c) (work, d) turn = PagingBy home (StepsPage who before after m) work turn
+MachineSteps who before after (Folding home m, c) (work, d) turn = FoldingBy home (StepsMaking who before after m) work turn
+MachineSteps who before after (old, c) (work, d) turn = Unit {0}
 
 -- ---- what led the machine here
 
@@ -230,18 +230,18 @@ pub record CallCauses {X : Type 0} (ask : Ask) (told : Heard → Result X Troubl
   pub shows : (t : Trouble) → turn ≡ Ended (answer.Trouble t) → told heard ≡ Err t
 
 -- of what is at work
-abbrev pub CausesAt : Caller → Seen → Seen → Work → Cache → Cache → Work → Turn Answer → Type 0
-CausesAt who before after (Opening m) c d work turn = OpeningBy (OpeningCauses who before after m) work turn
-CausesAt who before after (Committing m) c d work turn = CommitBy (λ n. CommitCauses who before after (m, c) (n, d)) work turn
-CausesAt who before after (Reading home m) c d work turn = ReadingBy home (λ n. ReadingCauses who before after (m, c) (n, d)) work turn
-CausesAt who before after (Scanning home m) c d work turn = ScanningBy (λ n. ScanningCauses who before after (m.scan, c) (n, d)) turn
-CausesAt who before after (Looking home m) c d work turn = LookingBy home (λ n. LookingCauses who before after (m, c) (n, d)) work turn
-CausesAt who before after (Paging home m) c d work turn = PagingBy home (PagingCauses who before after m) work turn
-CausesAt who before after (Folding home m) c d work turn = FoldingBy home (FoldingCauses who before after m) work turn
-CausesAt who before after (Closing lease) c d work turn = CallCauses (Release lease) done_of who before after turn
-CausesAt who before after (Renewing home) c d work turn = CallCauses (Renew home.lease 600) renewed_of who before after turn
-CausesAt who before after (Settling m) c d work turn = SettlingBy (SettlingCauses who before after m) work turn
-CausesAt who before after (Sweeping m) c d work turn = SweepingBy (SweepingCauses who before after m) work turn
-CausesAt who before after Closed c d work turn = ⊥
-CausesAt who before after (Idle home) c d work turn = ⊥
-CausesAt who before after (Broken lease) c d work turn = ⊥
+abbrev pub CausesAt : Caller → Seen → Seen → Work × Cache → Work × Cache → Turn Answer → Type 0
+CausesAt who before after (Opening m, c) (work, d) turn = OpeningBy (OpeningCauses who before after m) work turn
+CausesAt who before after (Committing m, c) (work, d) turn = CommitBy (λ n. CommitCauses who before after (m, c) (n, d)) work turn
+CausesAt who before after (Reading home m, c) (work, d) turn = ReadingBy home (λ n. ReadingCauses who before after (m, c) (n, d)) work turn
+CausesAt who before after (Scanning home m, c) (work, d) turn = ScanningBy (λ n. ScanningCauses who before after (m.scan, c) (n, d)) turn
+CausesAt who before after (Looking home m, c) (work, d) turn = LookingBy home (λ n. LookingCauses who before after (m, c) (n, d)) work turn
+CausesAt who before after (Paging home m, c) (work, d) turn = PagingBy home (PagingCauses who before after m) work turn
+CausesAt who before after (Folding home m, c) (work, d) turn = FoldingBy home (FoldingCauses who before after m) work turn
+CausesAt who before after (Closing lease, c) (work, d) turn = CallCauses (Release lease) done_of who before after turn
+CausesAt who before after (Renewing home, c) (work, d) turn = CallCauses (Renew home.lease 600) renewed_of who before after turn
+CausesAt who before after (Settling m, c) (work, d) turn = SettlingBy (SettlingCauses who before after m) work turn
+CausesAt who before after (Sweeping m, c) (work, d) turn = SweepingBy (SweepingCauses who before after m) work turn
+CausesAt who before after (Closed, c) (work, d) turn = ⊥
+CausesAt who before after (Idle home, c) (work, d) turn = ⊥
+CausesAt who before after (Broken lease, c) (work, d) turn = ⊥

@@ -91,8 +91,3 @@ bar_of (op.Scan tree from to) work = rule_of work
 bar_of (op.Lookup tree attr) work = index_bar tree (rule_of work)
 bar_of (op.Page tree page) work = rule_of work
 bar_of (op.Tree tree) work = rule_of work
-
--- an operation that no rule bars begins beside the changes and the cache
-abbrev pub BeginsAt : Op → List Noted → Work → Cache → List Noted → Work → Cache → Shown → Begun → Type 0
-BeginsAt op buffer work cache buffer' work' cache' shown begun =
-    Begins op (record { buffer = buffer; work = work; cache = cache; shown = Nothing }) (record { buffer = buffer'; work = work'; cache = cache'; shown = shown }) (Ok begun)

@@ -8,7 +8,7 @@ use Rattle.db_base.specs.Entry.{entry_bytes}
 use Rattle.db_base.specs.declared.pair.Pair.{Pair}
 use Rattle.db_base.specs.Value.{Value}
 use Rattle.db_base.specs.declared.change.Change.{Change}
-use Rattle.txn_buffer.specs.Noted.{Noted, found_in, put_in}
+use Rattle.txn_buffer.specs.Noted.{Noted, found_in, noted_in, put_in}
 use Rattle.db_base.specs.declared.refusal.Refused.{Refused}
 use Rattle.db_base.specs.declared.refusal.Refused.TheVariants as refused
 use Rattle.db_base.specs.declared.trouble.Trouble.{Trouble}
@@ -82,6 +82,18 @@ pub record Acting : Type 0 where
   pub cache : Cache
   pub shown : Shown
 
+abbrev pub acting_of : List Noted → Work → Cache → Shown → Acting
+acting_of buffer work cache shown = record { buffer = buffer; work = work; cache = cache; shown = shown }
+
+-- what a step of an open client has in hand: its home, the machine at work, and the cache
+pub record InHand (Machine : Type 0) : Type 0 where
+  pub home : Home
+  pub machine : Machine
+  pub cache : Cache
+
+abbrev pub in_hand : {Machine : Type 0} → Home → Machine → Cache → InHand Machine
+in_hand home machine cache = record { home = home; machine = machine; cache = cache }
+
 abbrev pub closed_session : Acting
 closed_session = record { buffer = []; work = Closed; cache = empty_cache; shown = Nothing }
 
@@ -126,6 +138,20 @@ open_client (Renewing home) = Err rule.AtWork
 open_client (Settling m) = Err rule.AtWork
 open_client (Sweeping m) = Err rule.AtWork
 open_client (Broken lease) = Err rule.Broken
+
+-- ---- what is noted
+
+-- an open client with nothing at work has noted a change, and nothing else of the session changed
+abbrev pub HasNoted : ℕ → Change → Acting → Acting → Type 0
+HasNoted tree change old new = (new ≡ record old { buffer = noted_in old.buffer tree change }) × (rule_of old.work ≡ None)
+
+-- .. has noted the insert of a record with an attribute, and that of its entry into the index of its tree
+abbrev pub HasPut : ℕ → List ℕ → List ℕ → List ℕ → Acting → Acting → Type 0
+HasPut tree key payload attr old new = (new ≡ record old { buffer = put_in old.buffer tree key payload attr }) × (rule_of old.work ≡ None)
+
+-- .. has dropped what was noted
+abbrev pub HasDropped : Acting → Acting → Type 0
+HasDropped old new = (new ≡ record old { buffer = [] }) × (rule_of old.work ≡ None)
 
 -- ---- what is refused
 
@@ -251,16 +277,17 @@ stopped_work trouble.Memory home = Broken home.lease
 stopped_work t home = Idle home
 
 -- a read is in hand, or it is answered at once and the home stays; want of memory leaves the lease alone
-abbrev pub ReadsOf : Home → Walk → Cache → Cache → Work → Shown → Begun → Type 0
-ReadsOf home start old new work shown Working = (m : Walk) × (walk_ready (start, old) ≡ Goes (m, new)) × (work ≡ Reading home m) × (shown ≡ Nothing)
-ReadsOf home start old new work shown (Answered answer.Value) =
-    (m : Walk) × (page : ℕ) × (walk_ready (start, old) ≡ Ends (m, new) page) × (work ≡ Idle home) × (shown ≡ Read m)
-ReadsOf home start old new work shown (Answered (answer.Trouble t)) =
-    (m : Walk) × (t ≢ trouble.Memory → walk_ready (start, old) ≡ Stops (m, new) t) × (work ≡ stopped_work t home) × (shown ≡ Nothing)
-ReadsOf home start old new work shown (Answered answer) = ⊥
+abbrev pub ReadsOf : Home → Walk × Cache → Work × Cache → Shown → Begun → Type 0
+ReadsOf home start (work, c) shown Working = (m : Walk) × (walk_ready start ≡ Goes (m, c)) × (work ≡ Reading home m) × (shown ≡ Nothing)
+ReadsOf home start (work, c) shown (Answered answer.Value) =
+    (m : Walk) × (page : ℕ) × (walk_ready start ≡ Ends (m, c) page) × (work ≡ Idle home) × (shown ≡ Read m)
+ReadsOf home start (work, c) shown (Answered (answer.Trouble t)) =
+    (m : Walk) × (t ≢ trouble.Memory → walk_ready start ≡ Stops (m, c) t) × (work ≡ stopped_work t home) × (shown ≡ Nothing)
+ReadsOf home start (work, c) shown (Answered answer) = ⊥
 
 abbrev pub ReadsIn : ℕ → List ℕ → Acting → Home → Acting → Begun → Type 0
-ReadsIn tree key old home new begun = (new.buffer ≡ old.buffer) × ReadsOf home (new_walk tree (Some key) false) old.cache new.cache new.work new.shown begun
+ReadsIn tree key old home new begun =
+    (new.buffer ≡ old.buffer) × ReadsOf home (new_walk tree (Some key) false, old.cache) (new.work, new.cache) new.shown begun
 
 -- ---- scans
 
@@ -269,20 +296,21 @@ abbrev pub IsListed : Home → List Noted → Scan → Cache → List Pair → L
 IsListed home buffer m c pairs all = (items : List Entry) × AreItemsIn (leaf_at c (scan_object m)) m home.client home.head buffer items × (all ≡ pairs ++ map pair_of items)
 
 -- at the end of a leaf: its records are listed, and the scan goes on behind it, or is over; want of memory leaves the lease alone
-abbrev pub ListsLeaf : Home → List Noted → Listing → Cache → Work → Shown → Turn Answer → Type 0
-ListsLeaf home buffer m c work shown More =
-    (all : List Pair) × IsListed home buffer m.scan c m.pairs all × (goes_on m.scan ≡ true)
-    × (work ≡ Scanning home (record { scan = moved_on m.scan; pairs = all })) × (shown ≡ Nothing)
-ListsLeaf home buffer m c work shown (Ended answer.Scan) =
-    (all : List Pair) × IsListed home buffer m.scan c m.pairs all × (goes_on m.scan ≡ false) × (work ≡ Idle home) × (shown ≡ Listed all)
-ListsLeaf home buffer m c work shown (Ended (answer.Trouble t)) = (t ≡ trouble.Memory) × (work ≡ Broken home.lease) × (shown ≡ Nothing)
-ListsLeaf home buffer m c work shown turn = ⊥
+abbrev pub ListsLeaf : Home → Listing → Acting → Turn Answer → Type 0
+ListsLeaf home m new More =
+    (all : List Pair) × IsListed home new.buffer m.scan new.cache m.pairs all × (goes_on m.scan ≡ true)
+    × (new.work ≡ Scanning home (record { scan = moved_on m.scan; pairs = all })) × (new.shown ≡ Nothing)
+ListsLeaf home m new (Ended answer.Scan) =
+    (all : List Pair) × IsListed home new.buffer m.scan new.cache m.pairs all × (goes_on m.scan ≡ false)
+    × (new.work ≡ Idle home) × (new.shown ≡ Listed all)
+ListsLeaf home m new (Ended (answer.Trouble t)) = (t ≡ trouble.Memory) × (new.work ≡ Broken home.lease) × (new.shown ≡ Nothing)
+ListsLeaf home m new turn = ⊥
 
 -- the session goes on by what a turn of its scan came to
-abbrev pub Follows : Home → List Noted → Listing → Cache → Turn ℕ → Work → Shown → Turn Answer → Type 0
-Follows home buffer m c More work shown turn = (work ≡ Scanning home m) × (shown ≡ Nothing) × (turn ≡ More)
-Follows home buffer m c (Ended page) work shown turn = ListsLeaf home buffer m c work shown turn
-Follows home buffer m c (Stopped t) work shown turn = (work ≡ stopped_work t home) × (shown ≡ Nothing) × (turn ≡ Ended (answer.Trouble t))
+abbrev pub Follows : Home → Listing → Turn ℕ → Acting → Turn Answer → Type 0
+Follows home m More new turn = (new.work ≡ Scanning home m) × (new.shown ≡ Nothing) × (turn ≡ More)
+Follows home m (Ended page) new turn = ListsLeaf home m new turn
+Follows home m (Stopped t) new turn = (new.work ≡ stopped_work t home) × (new.shown ≡ Nothing) × (turn ≡ Ended (answer.Trouble t))
 
 -- the begin of an operation that came to a turn
 abbrev pub begins_by : Turn Answer → Begun → Type 0
@@ -291,16 +319,16 @@ begins_by (Ended a) begun = begun ≡ Answered a
 begins_by (Stopped t) begun = begun ≡ Answered (answer.Trouble t)
 
 -- a scan is made ready, and the session goes on by what that came to
-pub record ScansOf (home : Home) (buffer : List Noted) (start : Scan) (old new : Cache) (work : Work) (shown : Shown) (begun : Begun) : Type 0 where
+pub record ScansOf (home : Home) (start : Scan) (old : Cache) (new : Acting) (begun : Begun) : Type 0 where
   pub scan : Scan
   pub moved : Turn ℕ
-  pub moves : Moves (scan_ready (start, old)) (scan, new) moved
+  pub moves : Moves (scan_ready (start, old)) (scan, new.cache) moved
   pub turn : Turn Answer
-  pub follows : Follows home buffer (record { scan = scan; pairs = [] }) new moved work shown turn
+  pub follows : Follows home (record { scan = scan; pairs = [] }) moved new turn
   pub begins : begins_by turn begun
 
-abbrev pub ScansIn : ℕ → Option (List ℕ) → Option (List ℕ) → Acting → Home → Acting → Begun → Type 0
-ScansIn tree from to old home new begun = (new.buffer ≡ old.buffer) × ScansOf home old.buffer (new_scan tree from to) old.cache new.cache new.work new.shown begun
+abbrev pub ScansIn : Scan → Acting → Home → Acting → Begun → Type 0
+ScansIn start old home new begun = (new.buffer ≡ old.buffer) × ScansOf home start old.cache (record new { buffer = old.buffer }) begun
 
 -- ---- look-ups
 
@@ -311,15 +339,15 @@ BeginsIndexed tree Does old new (Err e) =
     ((e ≡ refused.Rule rule.BadNumber) × (8 < tree) × (new ≡ old)) ⊎ ((tree ≤ 8) × BeginsWith Does old new (Err e))
 
 -- a look-up is in hand, or it stopped at once; want of memory leaves the lease alone
-abbrev pub LooksOf : Home → Query → Cache → Cache → Work → Shown → Begun → Type 0
-LooksOf home q old new work shown Working = (m : Look) × (look_ready q old ≡ Goes (m, new)) × (work ≡ Looking home m) × (shown ≡ Nothing)
-LooksOf home q old new work shown (Answered (answer.Trouble t)) =
-    (t ≢ trouble.Memory → (m : Look) × (look_ready q old ≡ Stops (m, new) t)) × (work ≡ stopped_work t home) × (shown ≡ Nothing)
-LooksOf home q old new work shown (Answered answer) = ⊥
+abbrev pub LooksOf : Home → Query → Cache → Work × Cache → Shown → Begun → Type 0
+LooksOf home q old (work, c) shown Working = (m : Look) × (look_ready q old ≡ Goes (m, c)) × (work ≡ Looking home m) × (shown ≡ Nothing)
+LooksOf home q old (work, c) shown (Answered (answer.Trouble t)) =
+    (t ≢ trouble.Memory → (m : Look) × (look_ready q old ≡ Stops (m, c) t)) × (work ≡ stopped_work t home) × (shown ≡ Nothing)
+LooksOf home q old (work, c) shown (Answered answer) = ⊥
 
 abbrev pub LooksIn : ℕ → List ℕ → Acting → Home → Acting → Begun → Type 0
 LooksIn tree attr old home new begun =
-    (new.buffer ≡ old.buffer) × LooksOf home (record { tree = tree; attr = attr }) old.cache new.cache new.work new.shown begun
+    (new.buffer ≡ old.buffer) × LooksOf home (record { tree = tree; attr = attr }) old.cache (new.work, new.cache) new.shown begun
 
 -- ---- every begin
 
@@ -329,7 +357,7 @@ Begins op.Close old new result = BeginsWith (λ home. HasInHand old (Closing hom
 Begins op.Renew old new result = BeginsWith (λ home. HasInHand old (Renewing home)) old new result
 Begins op.Commit old new result = BeginsWith (CommitsIn old) old new result
 Begins (op.Read tree key) old new result = BeginsWith (ReadsIn tree key old) old new result
-Begins (op.Scan tree from to) old new result = BeginsWith (ScansIn tree from to old) old new result
+Begins (op.Scan tree from to) old new result = BeginsWith (ScansIn (new_scan tree from to) old) old new result
 Begins (op.Lookup tree attr) old new result = BeginsIndexed tree (LooksIn tree attr old) old new result
 Begins (op.Page tree page) old new result = BeginsWith (λ home. HasInHand old (paging_begun_by tree page home)) old new result
 Begins (op.Tree tree) old new result = BeginsWith (λ home. HasInHand old (folding_begun_by tree home)) old new result
@@ -362,14 +390,15 @@ StepsOpening who before after old work (Ended (answer.Trouble k)) =
 StepsOpening who before after old work turn = ⊥
 
 -- one step of a commit beside the cache, and what it leaves in hand
-abbrev pub StepsCommit : Caller → Seen → Seen → Run → Cache → Cache → Work → Turn Answer → Type 0
-StepsCommit who before after old c d work More =
-    (m : Run) × Steps run_asks (LeadsBy run_next) KeepsHome who before after (old, c) (m, d) More × (work ≡ Committing m) × (commit_left m < commit_left old)
-StepsCommit who before after old c d work (Ended (answer.Commit a)) =
-    (m : Run) × Steps run_asks (LeadsBy run_next) KeepsHome who before after (old, c) (m, d) (Ended a) × (work ≡ committed_work a (home_of_run m))
-StepsCommit who before after old c d work (Ended (answer.Trouble k)) =
-    (m : Run) × Steps run_asks (LeadsBy run_next) KeepsHome who before after (old, c) (m, d) (Stopped k) × (work ≡ Broken (home_of_run m).lease)
-StepsCommit who before after old c d work turn = ⊥
+abbrev pub StepsCommit : Caller → Seen → Seen → Run × Cache → Work × Cache → Turn Answer → Type 0
+StepsCommit who before after old (work, c) More =
+    (m : Run) × Steps run_asks (LeadsBy run_next) KeepsHome who before after old (m, c) More
+    × (work ≡ Committing m) × (commit_left m < commit_left old.0)
+StepsCommit who before after old (work, c) (Ended (answer.Commit a)) =
+    (m : Run) × Steps run_asks (LeadsBy run_next) KeepsHome who before after old (m, c) (Ended a) × (work ≡ committed_work a (home_of_run m))
+StepsCommit who before after old (work, c) (Ended (answer.Trouble k)) =
+    (m : Run) × Steps run_asks (LeadsBy run_next) KeepsHome who before after old (m, c) (Stopped k) × (work ≡ Broken (home_of_run m).lease)
+StepsCommit who before after old (work, c) turn = ⊥
 
 -- what a commit leaves in hand whose newest step came to this
 abbrev pub behind_step : Run → Turn Answer → Work
@@ -414,21 +443,25 @@ pub record Asks (ask : Ask) (who : Caller) (before after : Seen) : Type 0 where
   pub made : Makes who ask answer before after
 
 -- one step of a read, and what it leaves in hand
-abbrev pub StepsReading : Home → Caller → Seen → Seen → Walk → Work → Turn Answer → Type 0
-StepsReading home who before after old work More = (m : Walk) × Asks (walk_ask old) who before after × (work ≡ Reading home m) × (reading_left m < reading_left old)
-StepsReading home who before after old work (Ended answer.Value) = Asks (walk_ask old) who before after × (work ≡ Idle home)
-StepsReading home who before after old work (Ended (answer.Trouble k)) = Asks (walk_ask old) who before after × (work ≡ stopped_work k home)
-StepsReading home who before after old work turn = ⊥
+abbrev pub StepsReading : Caller → Seen → Seen → Home × Walk → Work → Turn Answer → Type 0
+StepsReading who before after (home, old) work More =
+    (m : Walk) × Asks (walk_ask old) who before after × (work ≡ Reading home m) × (reading_left m < reading_left old)
+StepsReading who before after (home, old) work (Ended answer.Value) = Asks (walk_ask old) who before after × (work ≡ Idle home)
+StepsReading who before after (home, old) work (Ended (answer.Trouble k)) = Asks (walk_ask old) who before after × (work ≡ stopped_work k home)
+StepsReading who before after (home, old) work turn = ⊥
 
 -- the same beside the cache: what is got goes into it, and at the end the leaf whose range holds the key stands there
-abbrev pub ReadsBy : Home → Caller → Seen → Seen → Walk → Cache → Cache → Work → Shown → Turn Answer → Type 0
-ReadsBy home who before after old c d work shown More =
-    (m : Walk) × StepsWalk who before after (old, c) (m, d) More × (work ≡ Reading home m) × (shown ≡ Nothing)
-ReadsBy home who before after old c d work shown (Ended answer.Value) =
-    (m : Walk) × (page : ℕ) × StepsWalk who before after (old, c) (m, d) (Ended page) × IsAtLeaf m d page × (work ≡ Idle home) × (shown ≡ Read m)
-ReadsBy home who before after old c d work shown (Ended (answer.Trouble k)) =
-    (m : Walk) × StepsWalk who before after (old, c) (m, d) (Stopped k) × (work ≡ stopped_work k home) × (shown ≡ Nothing)
-ReadsBy home who before after old c d work shown turn = ⊥
+abbrev pub ReadsBy : Caller → Seen → Seen → InHand Walk → Acting → Turn Answer → Type 0
+ReadsBy who before after old new More =
+    (m : Walk) × StepsWalk who before after (old.machine, old.cache) (m, new.cache) More
+    × (new.work ≡ Reading old.home m) × (new.shown ≡ Nothing)
+ReadsBy who before after old new (Ended answer.Value) =
+    (m : Walk) × (page : ℕ) × StepsWalk who before after (old.machine, old.cache) (m, new.cache) (Ended page)
+    × IsAtLeaf m new.cache page × (new.work ≡ Idle old.home) × (new.shown ≡ Read m)
+ReadsBy who before after old new (Ended (answer.Trouble k)) =
+    (m : Walk) × StepsWalk who before after (old.machine, old.cache) (m, new.cache) (Stopped k)
+    × (new.work ≡ stopped_work k old.home) × (new.shown ≡ Nothing)
+ReadsBy who before after old new turn = ⊥
 
 -- a scan in hand has fewer calls left than so many
 abbrev pub ScansLess : ℕ → Work → Type 0
@@ -436,41 +469,45 @@ ScansLess left (Scanning home m) = scanning_left m.scan < left
 ScansLess left work = ⊥
 
 -- one step of a scan beside the cache: what is got goes into it, and the session goes on by what the turn came to
-pub record StepsScanning (home : Home) (buffer : List Noted) (who : Caller) (before after : Seen) (old : Listing) (c d : Cache) (work : Work) (shown : Shown) (turn : Turn Answer) : Type 0 where
+pub record StepsScanning (who : Caller) (before after : Seen) (old : InHand Listing) (new : Acting) (turn : Turn Answer) : Type 0 where
   pub scan : Scan
   pub moved : Turn ℕ
-  pub steps : StepsScan who before after (old.scan, c) (scan, d) moved
-  pub follows : Follows home buffer (record { scan = scan; pairs = old.pairs }) d moved work shown turn
-  pub less : turn ≡ More → ScansLess (scanning_left old.scan) work
+  pub steps : StepsScan who before after (old.machine.scan, old.cache) (scan, new.cache) moved
+  pub follows : Follows old.home (record { scan = scan; pairs = old.machine.pairs }) moved new turn
+  pub less : turn ≡ More → ScansLess (scanning_left old.machine.scan) new.work
 
 -- one step of a look-up beside the cache: what is got goes into it, and at the end the records found are shown
-abbrev pub LooksBy : Home → List Noted → Caller → Seen → Seen → Look → Cache → Cache → Work → Shown → Turn Answer → Type 0
-LooksBy home buffer who before after old c d work shown More =
-    (m : Look) × StepsLook (own_of home buffer) who before after (old, c) (m, d) More × (work ≡ Looking home m) × (shown ≡ Nothing)
-    × (looking_left m < looking_left old)
-LooksBy home buffer who before after old c d work shown (Ended answer.Scan) =
-    (m : Look) × StepsLook (own_of home buffer) who before after (old, c) (m, d) (Ended tt) × (work ≡ Idle home) × (shown ≡ Listed m.pairs)
-LooksBy home buffer who before after old c d work shown (Ended (answer.Trouble k)) =
-    (m : Look) × StepsLook (own_of home buffer) who before after (old, c) (m, d) (Stopped k) × (work ≡ stopped_work k home) × (shown ≡ Nothing)
-LooksBy home buffer who before after old c d work shown turn = ⊥
+abbrev pub LooksBy : Caller → Seen → Seen → InHand Look → Acting → Turn Answer → Type 0
+LooksBy who before after old new More =
+    (m : Look) × StepsLook (own_of old.home new.buffer) who before after (old.machine, old.cache) (m, new.cache) More
+    × (new.work ≡ Looking old.home m) × (new.shown ≡ Nothing) × (looking_left m < looking_left old.machine)
+LooksBy who before after old new (Ended answer.Scan) =
+    (m : Look) × StepsLook (own_of old.home new.buffer) who before after (old.machine, old.cache) (m, new.cache) (Ended tt)
+    × (new.work ≡ Idle old.home) × (new.shown ≡ Listed m.pairs)
+LooksBy who before after old new (Ended (answer.Trouble k)) =
+    (m : Look) × StepsLook (own_of old.home new.buffer) who before after (old.machine, old.cache) (m, new.cache) (Stopped k)
+    × (new.work ≡ stopped_work k old.home) × (new.shown ≡ Nothing)
+LooksBy who before after old new turn = ⊥
 
 -- one step of a page checkpoint, and what it leaves in hand
-abbrev pub StepsPaging : Home → Caller → Seen → Seen → Page → Work → Turn Answer → Type 0
-StepsPaging home who before after old work More = (m : Page) × Steps paging_ask PagingLeads KeepsPageLeases who before after old m More × (work ≡ Paging home m) × (paging_left m < paging_left old)
-StepsPaging home who before after old work (Ended (answer.Done n)) = (m : Page) × Steps paging_ask PagingLeads KeepsPageLeases who before after old m (Ended n) × (work ≡ Idle home)
-StepsPaging home who before after old work (Ended (answer.Trouble k)) =
+abbrev pub StepsPaging : Caller → Seen → Seen → Home × Page → Work → Turn Answer → Type 0
+StepsPaging who before after (home, old) work More =
+    (m : Page) × Steps paging_ask PagingLeads KeepsPageLeases who before after old m More × (work ≡ Paging home m) × (paging_left m < paging_left old)
+StepsPaging who before after (home, old) work (Ended (answer.Done n)) =
+    (m : Page) × Steps paging_ask PagingLeads KeepsPageLeases who before after old m (Ended n) × (work ≡ Idle home)
+StepsPaging who before after (home, old) work (Ended (answer.Trouble k)) =
     (m : Page) × Steps paging_ask PagingLeads KeepsPageLeases who before after old m (Stopped k) × (work ≡ stopped_work k home)
-StepsPaging home who before after old work turn = ⊥
+StepsPaging who before after (home, old) work turn = ⊥
 
 -- one step of a tree checkpoint, and what it leaves in hand
-abbrev pub StepsFolding : Home → Caller → Seen → Seen → Making → Work → Turn Answer → Type 0
-StepsFolding home who before after old work More =
+abbrev pub StepsFolding : Caller → Seen → Seen → Home × Making → Work → Turn Answer → Type 0
+StepsFolding who before after (home, old) work More =
     (m : Making) × Steps making_ask MakingLeads KeepsTreeLeases who before after old m More × (work ≡ Folding home m) × (calls_in m.work < calls_in old.work)
-StepsFolding home who before after old work (Ended (answer.Done n)) =
+StepsFolding who before after (home, old) work (Ended (answer.Done n)) =
     (m : Making) × Steps making_ask MakingLeads KeepsTreeLeases who before after old m (Ended n) × (work ≡ Idle home)
-StepsFolding home who before after old work (Ended (answer.Trouble k)) =
+StepsFolding who before after (home, old) work (Ended (answer.Trouble k)) =
     (m : Making) × Steps making_ask MakingLeads KeepsTreeLeases who before after old m (Stopped k) × (work ≡ stopped_work k home)
-StepsFolding home who before after old work turn = ⊥
+StepsFolding who before after (home, old) work turn = ⊥
 
 -- one step of a settling, and what it leaves in hand; at its end all its parts ran and all its calls are counted
 abbrev pub StepsSettling : Caller → Seen → Seen → SettlingState → Work → Turn Answer → Type 0
@@ -521,14 +558,14 @@ StepsRenewing home who before after work turn = ⊥
 -- one step of what is at work: an opening, a commit or a settling has the bytes in hand that it is to put or send
 abbrev pub StepsAt : Caller → Seen → Seen → Work → Work → Turn Answer → Type 0
 StepsAt who before after (Opening m) work turn = IsSoundOpening m × StepsOpening who before after m work turn
-StepsAt who before after (Committing m) work turn = IsSoundRun m × (c : Cache) × (d : Cache) × StepsCommit who before after m c d work turn
-StepsAt who before after (Reading home m) work turn = StepsReading home who before after m work turn
+StepsAt who before after (Committing m) work turn = IsSoundRun m × (c : Cache) × (d : Cache) × StepsCommit who before after (m, c) (work, d) turn
+StepsAt who before after (Reading home m) work turn = StepsReading who before after (home, m) work turn
 StepsAt who before after (Scanning home m) work turn =
-    (buffer : List Noted) × (c : Cache) × (d : Cache) × (shown : Shown) × StepsScanning home buffer who before after m c d work shown turn
+    (buffer : List Noted) × (c : Cache) × (d : Cache) × (shown : Shown) × StepsScanning who before after (in_hand home m c) (acting_of buffer work d shown) turn
 StepsAt who before after (Looking home m) work turn =
-    (buffer : List Noted) × (c : Cache) × (d : Cache) × (shown : Shown) × LooksBy home buffer who before after m c d work shown turn
-StepsAt who before after (Paging home m) work turn = StepsPaging home who before after m work turn
-StepsAt who before after (Folding home m) work turn = StepsFolding home who before after m work turn
+    (buffer : List Noted) × (c : Cache) × (d : Cache) × (shown : Shown) × LooksBy who before after (in_hand home m c) (acting_of buffer work d shown) turn
+StepsAt who before after (Paging home m) work turn = StepsPaging who before after (home, m) work turn
+StepsAt who before after (Folding home m) work turn = StepsFolding who before after (home, m) work turn
 StepsAt who before after (Closing lease) work turn = StepsClosing lease who before after work turn
 StepsAt who before after (Renewing home) work turn = StepsRenewing home who before after work turn
 StepsAt who before after (Settling m) work turn = IsSoundPart m.part × StepsSettling who before after m work turn
@@ -582,12 +619,12 @@ noted_behind (Closing lease) buffer = []
 noted_behind work buffer = buffer
 
 -- what one step of what is at work leaves of the cache, and what it shows
-abbrev pub ShowsAt : Caller → Seen → Seen → List Noted → Work → Cache → Cache → Work → Shown → Turn Answer → Type 0
-ShowsAt who before after buffer (Reading home m) c d work shown turn = ReadsBy home who before after m c d work shown turn
-ShowsAt who before after buffer (Scanning home m) c d work shown turn = StepsScanning home buffer who before after m c d work shown turn
-ShowsAt who before after buffer (Looking home m) c d work shown turn = LooksBy home buffer who before after m c d work shown turn
-ShowsAt who before after buffer (Committing m) c d work shown turn = StepsCommit who before after m c d work turn × (shown ≡ Nothing)
-ShowsAt who before after buffer old c d work shown turn = (d ≡ c) × (shown ≡ Nothing)
+abbrev pub ShowsAt : Caller → Seen → Seen → Work × Cache → Acting → Turn Answer → Type 0
+ShowsAt who before after (Reading home m, c) new turn = ReadsBy who before after (in_hand home m c) new turn
+ShowsAt who before after (Scanning home m, c) new turn = StepsScanning who before after (in_hand home m c) new turn
+ShowsAt who before after (Looking home m, c) new turn = LooksBy who before after (in_hand home m c) new turn
+ShowsAt who before after (Committing m, c) new turn = StepsCommit who before after (m, c) (new.work, new.cache) turn × (new.shown ≡ Nothing)
+ShowsAt who before after (work, c) new turn = (new.cache ≡ c) × (new.shown ≡ Nothing)
 
 -- a closed session keeps nothing of the cloud
 abbrev pub shown_behind : Work → Cache → Cache
@@ -597,7 +634,7 @@ shown_behind work c = c
 -- a step of a session: the cache as the step leaves it, or none
 abbrev pub Shows : Caller → Seen → Seen → Acting → Acting → Result (Turn Answer) Refused → Type 0
 Shows who before after old new (Ok turn) =
-    (c : Cache) × ShowsAt who before after new.buffer old.work old.cache c new.work new.shown turn × (new.cache ≡ shown_behind new.work c)
+    (c : Cache) × ShowsAt who before after (old.work, old.cache) (record new { cache = c }) turn × (new.cache ≡ shown_behind new.work c)
 Shows who before after old new (Err e) = (new.cache ≡ old.cache) × (new.shown ≡ old.shown)
 
 -- the value that the newest operation read, as the client sees it
@@ -631,7 +668,8 @@ ShowsWhole who before after old new result = Unit {0}
 
 -- each step has the cause that its machine's contract names, behind the calls that led to it
 abbrev pub HasCauses : Caller → Seen → Seen → Acting → Acting → Result (Turn Answer) Refused → Type 0
-HasCauses who before after old new (Ok turn) = (c : Cache) × CausesAt who before after old.work old.cache c new.work turn × (new.cache ≡ shown_behind new.work c)
+HasCauses who before after old new (Ok turn) =
+    (c : Cache) × CausesAt who before after (old.work, old.cache) (new.work, c) turn × (new.cache ≡ shown_behind new.work c)
 HasCauses who before after old new (Err e) = Unit {0}
 
 -- one step of a session

@@ -1,11 +1,10 @@
 //! The calls of a session that a world makes, whatever works inside it.
 
-ghost use Rattle.std.specs.Prelude.{◌≡◌, ◌≤◌, [], length, None, IfOk, IfErr, OnOk, OnErr};
+ghost use Rattle.std.specs.Prelude.{◌≡◌, ◌≤◌, length, IfOk, IfErr, OnOk, OnErr};
 ghost use Rattle.std.specs.Option.{option_map, option_copied};
 ghost use Rattle.cloud_trait.specs.Call.{ask_of};
-ghost use Rattle.txn_buffer.specs.Noted.{noted_in, put_in};
 ghost use Rattle.client_work.specs.BrokenOff.{broken_off};
-ghost use Rattle.client_work.specs.Session.{Acting, closed_session, settling_session, sweeping_session, rule_of, MayIndex, NoteRefused, PutRefused, AbortRefused, Begins, StepsSession, ask_of_work, committing_of, opens_of, applying_of, value_of, items_of, open_client};
+ghost use Rattle.client_work.specs.Session.{Acting, HasNoted, HasPut, HasDropped, closed_session, settling_session, sweeping_session, MayIndex, NoteRefused, PutRefused, AbortRefused, Begins, StepsSession, ask_of_work, committing_of, opens_of, applying_of, value_of, items_of, open_client};
 
 use crate::answer::{Answer, Begun};
 use crate::op::Op;
@@ -47,7 +46,7 @@ pub trait SessionCalls: Drop {
 
     /// Notes a change of an open client. A refusal changes nothing.
     fn note(&mut self, tree: TreeId, change: Change) -> Result<(), Refused>
-        ensures ok { OnOk result ((acting self.new ≡ record (acting self.old) { buffer = noted_in (acting self.old).buffer tree change }) × (rule_of (acting self.old).work ≡ None)) }
+        ensures ok { OnOk result (HasNoted tree change (acting self.old) (acting self.new)) }
         ensures err { OnErr result (acting self.new ≡ acting self.old) }
         ensures cause { IfErr result (NoteRefused (acting self.old) tree change) }
         ensures few { OnOk result (length (acting self.new).buffer ≤ 200) };
@@ -61,7 +60,7 @@ pub trait SessionCalls: Drop {
         payload: Payload,
         attr: Attr,
     ) -> Result<(), Refused>
-        ensures ok { OnOk result ((acting self.new ≡ record (acting self.old) { buffer = put_in (acting self.old).buffer tree key payload attr }) × (rule_of (acting self.old).work ≡ None)) }
+        ensures ok { OnOk result (HasPut tree key payload attr (acting self.old) (acting self.new)) }
         ensures indexed { OnOk result (MayIndex tree key attr) }
         ensures err { OnErr result (acting self.new ≡ acting self.old) }
         ensures cause { IfErr result (PutRefused (acting self.old) tree key payload attr) }
@@ -69,7 +68,7 @@ pub trait SessionCalls: Drop {
 
     /// Drops the changes of an open client. A refusal changes nothing.
     fn abort(&mut self) -> Result<(), Refused>
-        ensures ok { OnOk result ((acting self.new ≡ record (acting self.old) { buffer = [] }) × (rule_of (acting self.old).work ≡ None)) }
+        ensures ok { OnOk result (HasDropped (acting self.old) (acting self.new)) }
         ensures err { OnErr result (acting self.new ≡ acting self.old) }
         ensures cause { IfErr result (AbortRefused (acting self.old)) };
 
@@ -93,7 +92,8 @@ pub trait SessionCalls: Drop {
         cloud: &mut C,
         who: Who,
     ) -> Result<Turn<Answer>, Refused>
-        ensures { StepsSession who (C.seen cloud.old) (C.seen cloud.new) (acting self.old) (acting self.new) result };
+        ensures { StepsSession who (C.seen cloud.old) (C.seen cloud.new)
+            (acting self.old) (acting self.new) result };
 
     /// The client of an open session with nothing at work; or the rule that refuses an operation of it.
     fn client(&self) -> Result<ClientId, Refusal>

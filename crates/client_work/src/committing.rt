@@ -71,8 +71,11 @@ pub(crate) fn advance<C: Cloud>(
     cache: &mut PageCache,
 ) -> Turn<Answer>
     ensures sound { IsSoundRun machine.old }
-    ensures steps { StepsCommit who (C.seen cloud.old) (C.seen cloud.new) machine.old cache.old cache.new (behind_step machine.new result) result }
-    ensures machine { CommitBy (λ n. StepsRun who (C.seen cloud.old) (C.seen cloud.new) (machine.old, cache.old) (n, cache.new)) (behind_step machine.new result) result }
+    ensures steps { StepsCommit who (C.seen cloud.old) (C.seen cloud.new)
+        (machine.old, cache.old) (behind_step machine.new result, cache.new) result }
+    ensures machine { CommitBy
+        (λ n. StepsRun who (C.seen cloud.old) (C.seen cloud.new) (machine.old, cache.old) (n, cache.new))
+        (behind_step machine.new result) result }
 {
     match machine.step(alloc, cloud, who, cache) {
         Turn::More => Turn::More,

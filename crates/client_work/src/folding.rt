@@ -22,8 +22,11 @@ pub(crate) fn fold<C: Cloud>(
     who: Who,
     machine: &mut TreeCkpt,
 ) -> Turn<Answer>
-    ensures steps { (home : AnyHome) → StepsFolding home who (C.seen cloud.old) (C.seen cloud.new) machine.old (behind_fold home machine.new result) result }
-    ensures machine { (home : AnyHome) → FoldingBy home (StepsMaking who (C.seen cloud.old) (C.seen cloud.new) machine.old) (behind_fold home machine.new result) result }
+    ensures steps { (home : AnyHome) → StepsFolding who (C.seen cloud.old) (C.seen cloud.new)
+        (home, machine.old) (behind_fold home machine.new result) result }
+    ensures machine { (home : AnyHome) → FoldingBy home
+        (StepsMaking who (C.seen cloud.old) (C.seen cloud.new) machine.old)
+        (behind_fold home machine.new result) result }
 {
     match machine.step(alloc, cloud, who) {
         Turn::More => Turn::More,

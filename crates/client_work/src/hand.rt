@@ -1,16 +1,17 @@
 //! What a session has in hand, whatever machines work in it.
 
-ghost use Rattle.std.specs.Prelude.{◌≡◌, true, None};
+ghost use Rattle.std.specs.Prelude.{◌≡◌, true, None, Ok};
 ghost use Rattle.std.specs.Option.{option_map, option_copied};
 ghost use Rattle.cloud_trait.specs.Call.{ask_of};
 ghost use Rattle.orphan_sweep.specs.Sweeping.{new_sweeping};
 ghost use Rattle.settle_run.specs.Settling.{new_settling};
+ghost use Rattle.client_work.specs.declared.shown.Shown.TheVariants.{Nothing};
 ghost use Rattle.client_work.specs.declared.work.Work.{Work};
 ghost use Rattle.client_work.specs.declared.work.Work.TheVariants.{Closed, Settling, Sweeping};
 ghost use Rattle.client_work.specs.BrokenOff.{broken_work};
 ghost use Rattle.client_work.specs.Causes.{MachineSteps};
-ghost use Rattle.client_work.specs.Phase.{BeginsAt, bar_of, phase_of};
-ghost use Rattle.client_work.specs.Session.{ShowsAt, StepsAt, ask_of_work, committing_of, opens_of, applying_of, value_in, is_working, open_client};
+ghost use Rattle.client_work.specs.Phase.{bar_of, phase_of};
+ghost use Rattle.client_work.specs.Session.{ShowsAt, StepsAt, ask_of_work, committing_of, opens_of, applying_of, value_in, is_working, open_client, acting_of, Begins};
 
 use crate::answer::{Answer, Begun};
 use crate::op::Op;
@@ -89,7 +90,8 @@ pub trait Hand: Drop {
         cache: &mut PageCache,
     ) -> (Self, Shown, Begun)
         requires { bar_of op (work self) ≡ None }
-        ensures { BeginsAt op buffer.old (work self) cache.old buffer.new (work result.0) cache.new result.1 result.2 };
+        ensures { Begins op (acting_of buffer.old (work self) cache.old Nothing)
+            (acting_of buffer.new (work result.0) cache.new result.1) (Ok result.2) };
 
     /// What is left in hand once this is broken off: of an open client its lease, and nothing of an opening, a close, a settling
     /// or a sweep.
@@ -107,7 +109,10 @@ pub trait Hand: Drop {
         shown: &mut Shown,
     ) -> Turn<Answer>
         requires { is_working (work self.old) ≡ true }
-        ensures steps { StepsAt who (C.seen cloud.old) (C.seen cloud.new) (work self.old) (work self.new) result }
-        ensures shows { ShowsAt who (C.seen cloud.old) (C.seen cloud.new) buffer.now (work self.old) cache.old cache.new (work self.new) shown.new result }
-        ensures machine { MachineSteps who (C.seen cloud.old) (C.seen cloud.new) (work self.old) cache.old cache.new (work self.new) result };
+        ensures steps { StepsAt who (C.seen cloud.old) (C.seen cloud.new)
+            (work self.old) (work self.new) result }
+        ensures shows { ShowsAt who (C.seen cloud.old) (C.seen cloud.new) (work self.old, cache.old)
+            (acting_of buffer.now (work self.new) cache.new shown.new) result }
+        ensures machine { MachineSteps who (C.seen cloud.old) (C.seen cloud.new)
+            (work self.old, cache.old) (work self.new, cache.new) result };
 }

@@ -1,6 +1,6 @@
 ghost use Rattle.std.specs.Prelude.{◌≤◌};
 ghost use Rattle.client_work.specs.Left.{behind_look};
-ghost use Rattle.client_work.specs.Session.{LooksBy, LooksOf};
+ghost use Rattle.client_work.specs.Session.{LooksBy, LooksOf, acting_of, in_hand};
 
 use crate::answer::{Answer, Begun};
 use crate::left::{Left, Rest};
@@ -26,7 +26,8 @@ pub(crate) fn begin_looking(
     cache: &mut PageCache,
 ) -> (Left<(Home, Lookup)>, Shown, Begun)
     requires { tree ≤ 8 }
-    ensures { LooksOf home (record { tree = tree; attr = attr }) cache.old cache.new (behind_look result.0) result.1 result.2 }
+    ensures { LooksOf home (record { tree = tree; attr = attr }) cache.old
+        (behind_look result.0, cache.new) result.1 result.2 }
 {
     match Lookup::begin(alloc, tree, attr, cache) {
         Ok(look) => (Left::Goes((home, look)), Shown::Nothing, Begun::Working),
@@ -48,7 +49,8 @@ pub(crate) fn step_looking<C: Cloud>(
     cache: &mut PageCache,
     buffer: &TxnBuffer,
 ) -> (Left<(Home, Lookup)>, Shown, Turn<Answer>)
-    ensures { LooksBy home buffer.now who (C.seen cloud.old) (C.seen cloud.new) look cache.old cache.new (behind_look result.0) result.1 result.2 }
+    ensures { LooksBy who (C.seen cloud.old) (C.seen cloud.new) (in_hand home look cache.old)
+        (acting_of buffer.now (behind_look result.0) cache.new result.1) result.2 }
 {
     let own = Own {
         client: home.client,

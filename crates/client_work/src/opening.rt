@@ -69,8 +69,10 @@ impl OpeningRun {
         who: Who,
     ) -> (Left<OpeningRun>, Turn<Answer>)
         ensures sound { IsSoundOpening self }
-        ensures steps { StepsOpening who (C.seen cloud.old) (C.seen cloud.new) self (behind_opening result.0) result.1 }
-        ensures machine { OpeningBy (StepsRecovery who (C.seen cloud.old) (C.seen cloud.new) self) (behind_opening result.0) result.1 }
+        ensures steps { StepsOpening who (C.seen cloud.old) (C.seen cloud.new) self
+            (behind_opening result.0) result.1 }
+        ensures machine { OpeningBy (StepsRecovery who (C.seen cloud.old) (C.seen cloud.new) self)
+            (behind_opening result.0) result.1 }
     {
         let OpeningRun { mut run } = self;
         match run.step(alloc, cloud, who) {

@@ -22,8 +22,11 @@ pub(crate) fn page<C: Cloud>(
     who: Who,
     machine: &mut PageCkpt,
 ) -> Turn<Answer>
-    ensures steps { (home : AnyHome) → StepsPaging home who (C.seen cloud.old) (C.seen cloud.new) machine.old (behind_paging home machine.new result) result }
-    ensures machine { (home : AnyHome) → PagingBy home (StepsPage who (C.seen cloud.old) (C.seen cloud.new) machine.old) (behind_paging home machine.new result) result }
+    ensures steps { (home : AnyHome) → StepsPaging who (C.seen cloud.old) (C.seen cloud.new)
+        (home, machine.old) (behind_paging home machine.new result) result }
+    ensures machine { (home : AnyHome) → PagingBy home
+        (StepsPage who (C.seen cloud.old) (C.seen cloud.new) machine.old)
+        (behind_paging home machine.new result) result }
 {
     match machine.step(alloc, cloud, who) {
         Turn::More => Turn::More,

@@ -1,5 +1,7 @@
+ghost use Rattle.std.specs.Prelude.{List};
+ghost use Rattle.txn_buffer.specs.Noted.{Noted};
 ghost use Rattle.client_work.specs.Left.{behind_read};
-ghost use Rattle.client_work.specs.Session.{ReadsBy, ReadsOf, StepsReading};
+ghost use Rattle.client_work.specs.Session.{ReadsBy, ReadsOf, StepsReading, acting_of, in_hand};
 
 use crate::answer::{Answer, Begun};
 use crate::left::{Left, Rest};
@@ -20,7 +22,7 @@ pub(crate) fn begin_reading(
     mut read: RecordRead,
     cache: &mut PageCache,
 ) -> (Left<(Home, RecordRead)>, Shown, Begun)
-    ensures { ReadsOf home read cache.old cache.new (behind_read result.0) result.1 result.2 }
+    ensures { ReadsOf home (read, cache.old) (behind_read result.0, cache.new) result.1 result.2 }
 {
     match read.ready(alloc, cache) {
         Turn::More => (Left::Goes((home, read)), Shown::Nothing, Begun::Working),
@@ -46,8 +48,10 @@ pub(crate) fn step_reading<C: Cloud>(
     mut read: RecordRead,
     cache: &mut PageCache,
 ) -> (Left<(Home, RecordRead)>, Shown, Turn<Answer>)
-    ensures steps { StepsReading home who (C.seen cloud.old) (C.seen cloud.new) read (behind_read result.0) result.2 }
-    ensures reads { ReadsBy home who (C.seen cloud.old) (C.seen cloud.new) read cache.old cache.new (behind_read result.0) result.1 result.2 }
+    ensures steps { StepsReading who (C.seen cloud.old) (C.seen cloud.new)
+        (home, read) (behind_read result.0) result.2 }
+    ensures reads { (buffer : List Noted) → ReadsBy who (C.seen cloud.old) (C.seen cloud.new)
+        (in_hand home read cache.old) (acting_of buffer (behind_read result.0) cache.new result.1) result.2 }
 {
     match read.step(alloc, cloud, who, cache) {
         Turn::More => (Left::Goes((home, read)), Shown::Nothing, Turn::More),

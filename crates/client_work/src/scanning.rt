@@ -1,6 +1,6 @@
 ghost use Rattle.std.specs.Prelude.{◌≡◌, IfSome};
 ghost use Rattle.client_work.specs.Left.{behind_scan};
-ghost use Rattle.client_work.specs.Session.{Follows, IsListed, ListsLeaf, ScansOf, StepsScanning, begins_by};
+ghost use Rattle.client_work.specs.Session.{Follows, IsListed, ListsLeaf, ScansOf, StepsScanning, begins_by, acting_of, in_hand};
 
 use crate::answer::{Answer, Begun};
 use crate::left::{Left, Rest};
@@ -27,7 +27,8 @@ pub(crate) fn begin_scanning(
     cache: &mut PageCache,
     buffer: &TxnBuffer,
 ) -> (Left<(Home, Listing)>, Shown, Begun)
-    ensures { ScansOf home buffer.now scan cache.old cache.new (behind_scan result.0) result.1 result.2 }
+    ensures { ScansOf home scan cache.old
+        (acting_of buffer.now (behind_scan result.0) cache.new result.1) result.2 }
 {
     let turn = scan.ready(alloc, cache);
     let listing = Listing {
@@ -59,7 +60,8 @@ pub(crate) fn step_scanning<C: Cloud>(
     cache: &mut PageCache,
     buffer: &TxnBuffer,
 ) -> (Left<(Home, Listing)>, Shown, Turn<Answer>)
-    ensures { StepsScanning home buffer.now who (C.seen cloud.old) (C.seen cloud.new) listing cache.old cache.new (behind_scan result.0) result.1 result.2 }
+    ensures { StepsScanning who (C.seen cloud.old) (C.seen cloud.new) (in_hand home listing cache.old)
+        (acting_of buffer.now (behind_scan result.0) cache.new result.1) result.2 }
 {
     let turn = listing.scan.step(alloc, cloud, who, cache);
     follow(alloc, home, listing, cache, buffer, turn)
@@ -74,7 +76,8 @@ fn follow(
     buffer: &TxnBuffer,
     turn: Turn<PageId>,
 ) -> (Left<(Home, Listing)>, Shown, Turn<Answer>)
-    ensures { Follows home buffer.now listing cache.now turn (behind_scan result.0) result.1 result.2 }
+    ensures { Follows home listing turn
+        (acting_of buffer.now (behind_scan result.0) cache.now result.1) result.2 }
 {
     match turn {
         Turn::More => (Left::Goes((home, listing)), Shown::Nothing, Turn::More),
@@ -95,7 +98,8 @@ fn list_leaf(
     cache: &PageCache,
     buffer: &TxnBuffer,
 ) -> (Left<(Home, Listing)>, Shown, Turn<Answer>)
-    ensures { ListsLeaf home buffer.now listing cache.now (behind_scan result.0) result.1 result.2 }
+    ensures { ListsLeaf home listing
+        (acting_of buffer.now (behind_scan result.0) cache.now result.1) result.2 }
 {
     let Listing { mut scan, pairs } = listing;
     let Some(pairs) = with_leaf(alloc, &home, &scan, pairs, cache, buffer) else {

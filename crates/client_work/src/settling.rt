@@ -65,7 +65,8 @@ impl SettlingRun {
     /// Makes the call in hand where the settling stands.
     pub(crate) fn step<C: Cloud>(&mut self, alloc: Global, cloud: &mut C, who: Who) -> Turn<Answer>
         ensures sound { IsSoundPart self.old.part }
-        ensures steps { StepsSettling who (C.seen cloud.old) (C.seen cloud.new) self.old (behind_settling self.new result) result }
+        ensures steps { StepsSettling who (C.seen cloud.old) (C.seen cloud.new)
+            self.old (behind_settling self.new result) result }
     {
         match self.run.step(alloc, cloud, who) {
             Turn::More => Turn::More,

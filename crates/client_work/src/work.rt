@@ -1,7 +1,7 @@
 ghost use Rattle.std.specs.Prelude.{◌≡◌, true, None};
 ghost use Rattle.client_work.specs.Causes.{MachineSteps};
 ghost use Rattle.client_work.specs.Left.{at_rest, behind_opening, behind_commit, behind_read, behind_scan, behind_look, behind_page, behind_tree};
-ghost use Rattle.client_work.specs.Session.{ShowsAt, StepsAt, behind_settling, behind_sweeping, ended_by, is_other, old_lease, rule_of, stopped_work};
+ghost use Rattle.client_work.specs.Session.{ShowsAt, StepsAt, behind_settling, behind_sweeping, ended_by, is_other, old_lease, rule_of, stopped_work, acting_of};
 
 use crate::answer::{Answer, Begun};
 use crate::closing::step_close;
@@ -424,8 +424,10 @@ impl Work {
     ) -> Turn<Answer>
         requires { is_other self.old ≡ true }
         ensures steps { StepsAt who (C.seen cloud.old) (C.seen cloud.new) self.old self.new result }
-        ensures shows { ShowsAt who (C.seen cloud.old) (C.seen cloud.new) buffer.now self.old cache.old cache.new self.new shown.new result }
-        ensures machine { MachineSteps who (C.seen cloud.old) (C.seen cloud.new) self.old cache.old cache.new self.new result }
+        ensures shows { ShowsAt who (C.seen cloud.old) (C.seen cloud.new) (self.old, cache.old)
+            (acting_of buffer.now self.new cache.new shown.new) result }
+        ensures machine { MachineSteps who (C.seen cloud.old) (C.seen cloud.new)
+            (self.old, cache.old) (self.new, cache.new) result }
     {
         let work = mem::replace(self, Work::Closed);
         let (work, shows, turn) = work.step_other(alloc, cloud, who, cache, buffer);
@@ -445,8 +447,10 @@ impl Work {
     ) -> (Work, Shown, Turn<Answer>)
         requires { is_other self ≡ true }
         ensures steps { StepsAt who (C.seen cloud.old) (C.seen cloud.new) self result.0 result.2 }
-        ensures shows { ShowsAt who (C.seen cloud.old) (C.seen cloud.new) buffer.now self cache.old cache.new result.0 result.1 result.2 }
-        ensures machine { MachineSteps who (C.seen cloud.old) (C.seen cloud.new) self cache.old cache.new result.0 result.2 }
+        ensures shows { ShowsAt who (C.seen cloud.old) (C.seen cloud.new) (self, cache.old)
+            (acting_of buffer.now result.0 cache.new result.1) result.2 }
+        ensures machine { MachineSteps who (C.seen cloud.old) (C.seen cloud.new)
+            (self, cache.old) (result.0, cache.new) result.2 }
     {
         match self {
             Work::Reading(home, read) => {

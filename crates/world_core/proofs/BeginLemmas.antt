@@ -28,7 +28,7 @@ use Rattle.client_work.specs.declared.listing.Listing.{Listing}
 use Rattle.client_work.specs.declared.shown.Shown.TheVariants.{Nothing}
 use Rattle.client_work.specs.declared.work.Work.{Work}
 use Rattle.client_work.specs.declared.work.Work.TheVariants as work
-use Rattle.client_work.specs.Session.{Acting, Begins, BeginsOpening, BeginsWith, BeginsIndexed, HasInHand, CommitsNothing, CommitsNoted, CommitsIn, CommitsOf, Follows, LooksIn, LooksOf, ReadsIn, ReadsOf, ScansIn, ScansOf, begins_by, paging_begun_by, folding_begun_by, old_lease, rule_of, stopped_work}
+use Rattle.client_work.specs.Session.{Acting, Begins, BeginsOpening, BeginsWith, BeginsIndexed, HasInHand, CommitsNothing, CommitsNoted, CommitsIn, CommitsOf, Follows, LooksIn, LooksOf, ReadsIn, ReadsOf, ScansIn, ScansOf, begins_by, paging_begun_by, folding_begun_by, old_lease, rule_of, stopped_work, acting_of}
 use Rattle.session_facts.specs.Sessions.Knows.{Sessions, SessionsStand, IsRightOp}
 use Rattle.session_facts.proofs.Sessions.Begins.{begins_keeps}
 use Rattle.session_facts.proofs.Sessions.Laws.{buffer_keeps, same_sessions}
@@ -173,7 +173,7 @@ stays_idle t home never = refl
 
 -- a read begins, or it is answered at once
 reads_of : (k tree : ℕ) (key : List ℕ) (r : Reply) (lines : List Line) (home : Home) (old : Cache) (b : Acting) (begun : Begun) → b.buffer ≡ (standing lines k).buffer
-    → WorksAs (work.Idle home) (standing lines k) → ReadsOf home (new_walk tree (Some key) false) old b.cache b.work b.shown begun → RepliesBegun (Ok begun) b (Ok r)
+    → WorksAs (work.Idle home) (standing lines k) → ReadsOf home (new_walk tree (Some key) false, old) (b.work, b.cache) b.shown begun → RepliesBegun (Ok begun) b (Ok r)
     → LeavesSession (event.Read k tree key) r k lines b
 reads_of k tree key r lines home old b Working same idle reads e =
     let is : r ≡ reply.Begun = cc in
@@ -252,7 +252,7 @@ module _ (k tree : ℕ) (first last : List ℕ) (r : Reply) (lines : List Line) 
       absurd ((replies_to (answer.Trouble t) b r answered).0.1 memory)
 
   scans_by : (buffer : List Noted) (old : Cache) (n : Scan) (moved : Turn ℕ) (turn : Turn Answer) → Moves (scan_ready (new_scan tree (bound_of first) (bound_of last), old)) (n, b.cache) moved
-      → Follows home buffer (record { scan = n; pairs = [] }) b.cache moved b.work b.shown turn → begins_by turn begun → Left r
+      → Follows home (record { scan = n; pairs = [] }) moved (acting_of buffer b.work b.cache b.shown) turn → begins_by turn begun → Left r
   scans_by buffer old n More turn moves f is =
       scan_works (record { scan = n; pairs = [] }) f.0 (scanning_begins tree (bound_of first) (bound_of last) old b.cache n moves) (subst (λ z. begins_by z begun) f.2 is)
   scans_by buffer old n (Ended page) More moves (all, listed, goes, e, shown) is =
@@ -264,16 +264,16 @@ module _ (k tree : ℕ) (first last : List ℕ) (r : Reply) (lines : List Line) 
   scans_by buffer old n (Stopped t) turn moves f is = scan_stops t f.0 (subst (λ z. begins_by z begun) f.2 is)
 
 pub scans : (k tree : ℕ) (first last : List ℕ) (r : Reply) (lines : List Line) (a b : Acting) (begun : Result Begun Refused) → ActsAs a (standing lines k)
-    → BeginsWith (ScansIn tree (bound_of first) (bound_of last) a) a b begun → RepliesBegun begun b (Ok r) → LeavesSession (event.Scan k tree first last) r k lines b
+    → BeginsWith (ScansIn (new_scan tree (bound_of first) (bound_of last)) a) a b begun → RepliesBegun begun b (Ok r) → LeavesSession (event.Scan k tree first last) r k lines b
 scans k tree first last r lines a b (Ok begun) acts begins e =
-    let s : ScansOf begins.0 a.buffer (new_scan tree (bound_of first) (bound_of last)) a.cache b.cache b.work b.shown begun = begins.2.1 in
+    let s : ScansOf begins.0 (new_scan tree (bound_of first) (bound_of last)) a.cache (acting_of a.buffer b.work b.cache b.shown) begun = begins.2.1 in
     scans_by k tree first last r lines begins.0 b begun (begins.2.0 ∙ acts.buffer) (idle_of k lines a begins.0 begins.1 acts) e a.buffer a.cache s.scan s.moved s.turn s.moves s.follows s.begins
 scans k tree first last r lines a b (Err (refused.Rule rule)) acts begins e = refused_session (event.Scan k tree first last) r rule k lines a b e begins.1 acts
 scans k tree first last r lines a b (Err refused.Memory) acts begins e = absurd begins
 
 -- a look-up begins, or it stops at once
 looks_of : (k tree : ℕ) (attr : List ℕ) (r : Reply) (lines : List Line) (home : Home) (old : Cache) (b : Acting) (begun : Begun) → b.buffer ≡ (standing lines k).buffer
-    → WorksAs (work.Idle home) (standing lines k) → LooksOf home (record { tree = tree; attr = attr }) old b.cache b.work b.shown begun → RepliesBegun (Ok begun) b (Ok r)
+    → WorksAs (work.Idle home) (standing lines k) → LooksOf home (record { tree = tree; attr = attr }) old (b.work, b.cache) b.shown begun → RepliesBegun (Ok begun) b (Ok r)
     → LeavesSession (event.Lookup k tree attr) r k lines b
 looks_of k tree attr r lines home old b Working same idle (m, ready, is, none) e =
     let begins : r ≡ reply.Begun = cc in

@@ -24,7 +24,7 @@ use Rattle.commit_run.proofs.Causes.{ready_causes}
 use Rattle.commit_run.proofs.CallDemands.{ready_exact}
 use Rattle.commit_run.proofs.Meaning.{ready_means}
 use Rattle.client_work.specs.declared.listing.Listing.{Listing}
-use Rattle.client_work.specs.Session.{Acting, CommitsNoted, LooksOf, ReadsOf, ScansOf, Follows, begins_by, Begins}
+use Rattle.client_work.specs.Session.{Acting, CommitsNoted, LooksOf, ReadsOf, ScansOf, Follows, begins_by, Begins, acting_of}
 use Rattle.client_work.specs.declared.answer.Answer.{Answer}
 use Rattle.client_work.specs.declared.answer.Answer.TheVariants as answer
 use Rattle.client_work.specs.declared.answer.Begun.{Begun}
@@ -54,12 +54,12 @@ commit_shown home changes c d work a (inr some) = inr (
   ready_exact home changes c (new_run home changes) (some.1.0, d) (Ended a) refl some.1.1,
 )
 
-read_shown : (home : Home) (start : Walk) (c d : Cache) (work : Work) (shown : Shown) (t : Trouble) → ReadsOf home start c d work shown (Answered (answer.Trouble t)) → KeptShows start c t
+read_shown : (home : Home) (start : Walk) (c d : Cache) (work : Work) (shown : Shown) (t : Trouble) → ReadsOf home (start, c) (work, d) shown (Answered (answer.Trouble t)) → KeptShows start c t
 read_shown home start c d work shown t h other = (h.0, ready_shows start c (h.0, d) (Stopped t) h.1 t refl other)
 
 -- a scan that is answered a trouble at its begin stopped by it in its walk, if memory did not run out
 scan_stopped : (home : Home) (buffer : List Noted) (m : Listing) (c : Cache) (moved : Turn ℕ) (work : Work) (shown : Shown) (turn : Turn Answer) (begun : Begun) (t : Trouble)
-    → Follows home buffer m c moved work shown turn → begins_by turn begun → begun ≡ Answered (answer.Trouble t) → t ≢ trouble.Memory → moved ≡ Stopped t
+    → Follows home m moved (acting_of buffer work c shown) turn → begins_by turn begun → begun ≡ Answered (answer.Trouble t) → t ≢ trouble.Memory → moved ≡ Stopped t
 scan_stopped home buffer m c More work shown turn begun t follows begins is other =
     let over : begun ≡ Working = subst (λ x. begins_by x begun) follows.2 begins in absurd (let both : Working ≡ Answered (answer.Trouble t) = cc (over, is) in cc (both))
 scan_stopped home buffer m c (Stopped s) work shown turn begun t follows begins is other =
@@ -80,13 +80,13 @@ scan_stopped home buffer m c (Ended page) work shown (Ended (answer.Settled a)) 
 scan_stopped home buffer m c (Ended page) work shown (Ended (answer.Swept a)) begun t follows begins is other = absurd follows
 scan_stopped home buffer m c (Ended page) work shown (Stopped s) begun t follows begins is other = absurd follows
 
-scan_shown : (home : Home) (buffer : List Noted) (start : Scan) (c d : Cache) (work : Work) (shown : Shown) (begun : Begun) (t : Trouble) → ScansOf home buffer start c d work shown begun
+scan_shown : (home : Home) (buffer : List Noted) (start : Scan) (c d : Cache) (work : Work) (shown : Shown) (begun : Begun) (t : Trouble) → ScansOf home start c (acting_of buffer work d shown) begun
     → begun ≡ Answered (answer.Trouble t) → KeptShows start.walk c t
 scan_shown home buffer start c d work shown begun t s is other =
     (s.scan.walk, scan_ready_shows start c (s.scan, d) s.moved s.moves t (scan_stopped home buffer (record { scan = s.scan; pairs = [] }) d s.moved work shown s.turn begun t s.follows s.begins is other) other)
 
 -- a look-up that is answered a trouble at its begin stopped by it in its first walk, if memory did not run out
-look_shown : (home : Home) (q : Query) (c d : Cache) (work : Work) (shown : Shown) (t : Trouble) → LooksOf home q c d work shown (Answered (answer.Trouble t)) → KeptShows (new_look q).walk c t
+look_shown : (home : Home) (q : Query) (c d : Cache) (work : Work) (shown : Shown) (t : Trouble) → LooksOf home q c (work, d) shown (Answered (answer.Trouble t)) → KeptShows (new_look q).walk c t
 look_shown home q c d work shown t (must, is, none) other = let leads = must other in on leads.0 (walk_ready ((new_look q).walk, c)) refl leads.1
   where
     on : (m : Look) (x : Next (Walk × Cache) ℕ) → walk_ready ((new_look q).walk, c) ≡ x → set_out (new_look q) x ≡ Stops (m, d) t
@@ -102,7 +102,7 @@ commit_begun old new begun h a is = (h.0, h.1, commit_shown h.0 old.buffer old.c
 
 read_begun : (tree : ℕ) (key : List ℕ) (old new : Acting) (begun : Begun) → Begins (op.Read tree key) old new (Ok begun) → BeginShows (op.Read tree key) old begun
 read_begun tree key old new begun h t is =
-    read_shown h.0 (new_walk tree (Some key) false) old.cache new.cache new.work new.shown t (subst (ReadsOf h.0 (new_walk tree (Some key) false) old.cache new.cache new.work new.shown) is h.2.1)
+    read_shown h.0 (new_walk tree (Some key) false) old.cache new.cache new.work new.shown t (subst (ReadsOf h.0 (new_walk tree (Some key) false, old.cache) (new.work, new.cache) new.shown) is h.2.1)
 
 scan_begun : (tree : ℕ) (from to : Option (List ℕ)) (old new : Acting) (begun : Begun) → Begins (op.Scan tree from to) old new (Ok begun) → BeginShows (op.Scan tree from to) old begun
 scan_begun tree from to old new begun h t is = scan_shown h.0 old.buffer (new_scan tree from to) old.cache new.cache new.work new.shown begun t h.2.1 is
@@ -110,7 +110,7 @@ scan_begun tree from to old new begun h t is = scan_shown h.0 old.buffer (new_sc
 look_begun : (tree : ℕ) (attr : List ℕ) (old new : Acting) (begun : Begun) → Begins (op.Lookup tree attr) old new (Ok begun) → BeginShows (op.Lookup tree attr) old begun
 look_begun tree attr old new begun (few, (home, idle, does)) t is =
     let q : Query = record { tree = tree; attr = attr } in
-    look_shown home q old.cache new.cache new.work new.shown t (subst (LooksOf home q old.cache new.cache new.work new.shown) is does.1)
+    look_shown home q old.cache new.cache new.work new.shown t (subst (LooksOf home q old.cache (new.work, new.cache) new.shown) is does.1)
 
 was_begun : (o : Op) (old new : Acting) (begun : Result Begun Refused) → Begins o old new begun → WasBegun o old begun
 was_begun o old new (Err why) h = tt

@@ -1,7 +1,7 @@
 -- What an operation answers, and that it did well where no call brought it a trouble.
 use Rattle.std.proofs.Common.{◌≡◌, ℕ, List, [], Option, Some, None, Ok, refl, sym, subst, ◌∙◌}
 use Rattle.std.specs.Prelude.{unwrap_or}
-use Rattle.client_work.specs.Session.{Acting, StepsAt, Follows, value_of}
+use Rattle.client_work.specs.Session.{Acting, StepsAt, Follows, value_of, acting_of}
 use Rattle.client_work.specs.declared.answer.Answer.{Answer}
 use Rattle.client_work.specs.declared.answer.Answer.TheVariants as answer
 use Rattle.client_work.specs.declared.listing.Listing.{Listing}
@@ -63,7 +63,7 @@ pub record AnswersAs (w : Work) (s : Standing) (a : Answer) : Type 0 where
   pub of : IsAnswerOf task a
 
 scan_answers : (home : Home) (buffer : List Noted) (m : Listing) (c : Cache) (moved : Turn ℕ) (new : Work) (shown : Shown) (a : Answer) (tree : ℕ) (from to : List ℕ)
-    → Follows home buffer m c moved new shown (Ended a) → IsAnswerOf (Scanning tree from to) a
+    → Follows home m moved (acting_of buffer new c shown) (Ended a) → IsAnswerOf (Scanning tree from to) a
 scan_answers home buffer m c moved new shown answer.Scan tree from to f = tt
 scan_answers home buffer m c moved new shown (answer.Trouble k) tree from to f = tt
 scan_answers home buffer m c More new shown a tree from to f = absurd (cc (f.2))

@@ -2,7 +2,7 @@
 use Rattle.std.proofs.Common.{◌≡◌, ◌≢◌, ◌+◌, ◌≤◌, ◌⊎◌, inl, inr, ℕ, Bool, true, false, cond, List, [], ◌∷◌, ◌++◌, length, Option, Some, Result, Ok, Err, refl, sym, ap, subst, ◌∙◌, arith, ne_eqb}
 use Rattle.std.specs.Prelude.{◌==◌}
 use Rattle.std.proofs.lemmas.Bool.{cases_eq, eq-eqb}
-use Rattle.client_work.specs.Session.{Acting, Follows, Begins, BeginsWith, HasInHand, CommitsNoted, CommitsOf, StepsSession, closed_session, stopped_work, paging_begun_by, folding_begun_by}
+use Rattle.client_work.specs.Session.{Acting, Follows, Begins, BeginsWith, HasInHand, CommitsNoted, CommitsOf, StepsSession, closed_session, stopped_work, paging_begun_by, folding_begun_by, acting_of}
 use Rattle.client_work.specs.declared.answer.Answer.{Answer}
 use Rattle.client_work.specs.declared.answer.Answer.TheVariants as answer
 use Rattle.client_work.specs.declared.answer.Begun.{Begun}
@@ -211,7 +211,7 @@ module _ (r : Reply) (calls : ℕ) (s : CloudState) (a b : Acting) where
   read_counts tree key (Err refused.Memory) begins e k = absurd begins
 
   follows_counts : (home : Home) (buffer : List Noted) (m : Listing) (c : Cache) (moved : Turn ℕ) (shown : Shown) (turn : Turn Answer)
-      → Follows home buffer m c moved b.work shown turn → Left
+      → Follows home m moved (acting_of buffer b.work c shown) turn → Left
   follows_counts home buffer m c More shown turn f = other_by (counted r calls) s b.work (Scanning home m) f.0 tt
   follows_counts home buffer m c (Ended page) shown More f = other_by (counted r calls) s b.work (Scanning home _) f.3 tt
   follows_counts home buffer m c (Ended page) shown (Ended answer.Scan) f = other_by (counted r calls) s b.work (Idle home) f.3 tt

@@ -15,7 +15,7 @@ use Rattle.client_work.specs.declared.work.Work.{Work}
 use Rattle.client_work.specs.declared.work.Work.TheVariants.{Closed, Idle, Opening, Committing, Reading, Scanning, Looking, Paging, Folding, Closing, Renewing, Settling, Sweeping, Broken}
 use Rattle.client_work.specs.declared.listing.Listing.{Listing}
 use Rattle.client_work.specs.declared.shown.Shown.{Shown}
-use Rattle.client_work.specs.Session.{Acting, closed_session, Follows, StepsAt, ask_of_work, calls_left}
+use Rattle.client_work.specs.Session.{Acting, closed_session, Follows, StepsAt, ask_of_work, calls_left, acting_of}
 use Rattle.client_work.proofs.End.{session_less}
 use Rattle.cloud_trait.specs.Ask.{Ask}
 use Rattle.world_core.specs.declared.put.Put.{Put}
@@ -58,7 +58,7 @@ pub after_there : (number : ℕ) (Does : Acting → Acting → Type 0) (old new 
 after_there number Does old new c = ap (λ l. slice_get l number) c.rest ∙ set_there old number c.before c.after c.there
 
 -- a scan that goes on has a call in hand
-follows_asks : (home : Home) (buffer : List Noted) (m : Listing) (c : Cache) (moved : Turn ℕ) (new : Work) (shown : Shown) → Follows home buffer m c moved new shown More
+follows_asks : (home : Home) (buffer : List Noted) (m : Listing) (c : Cache) (moved : Turn ℕ) (new : Work) (shown : Shown) → Follows home m moved (acting_of buffer new c shown) More
     → (ask : Ask) × (ask_of_work new ≡ Some ask)
 follows_asks home buffer m c More new shown f = (_, ap ask_of_work f.0)
 follows_asks home buffer m c (Ended page) new shown f = (_, ap ask_of_work f.3)

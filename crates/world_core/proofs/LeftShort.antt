@@ -41,7 +41,7 @@ use Rattle.client_work.specs.declared.shown.Shown.{Shown}
 use Rattle.client_work.specs.declared.work.Work.{Work}
 use Rattle.client_work.specs.declared.work.Work.TheVariants.{Closed, Idle, Opening, Committing, Reading, Scanning, Looking, Paging, Folding, Closing, Renewing, Settling, Sweeping, Broken}
 use Rattle.client_work.specs.BrokenOff.{broken_off, broken_work}
-use Rattle.client_work.specs.Session.{Acting, closed_session, Begins, BeginsWith, CommitsIn, CommitsNoted, CommitsOf, Follows, HasInHand, LooksIn, LooksOf, ReadsIn, ReadsOf, ScansIn, folding_begun_by, paging_begun_by, StepsAt, StepsSession, ask_of_work, committed_work, stopped_work}
+use Rattle.client_work.specs.Session.{Acting, closed_session, Begins, BeginsWith, CommitsIn, CommitsNoted, CommitsOf, Follows, HasInHand, LooksIn, LooksOf, ReadsIn, ReadsOf, ScansIn, folding_begun_by, paging_begun_by, StepsAt, StepsSession, ask_of_work, committed_work, stopped_work, acting_of}
 use Rattle.session_facts.proofs.Rows.CallKinds.{HasCheckpoint}
 use Rattle.db_base.specs.declared.names.QueueName.{QueueName}
 use Rattle.ckpt_policy.specs.declared.role.Role.{Role}
@@ -49,6 +49,7 @@ use Rattle.session_facts.specs.Sessions.Knows.{Sessions}
 use Rattle.session_facts.specs.Lines.Facts.{session_at}
 use Rattle.session_facts.proofs.Sessions.Lists.{session_there}
 use Rattle.client_work.specs.declared.shown.Shown.TheVariants.{Nothing}
+use Rattle.range_scan.specs.Scan.{new_scan}
 use Rattle.world_core.proofs.Workers.{IsBetween, IsInside, open_rests, within_begun, within_works}
 use Rattle.world_core.specs.declared.asked.Asked.{Asked}
 use Rattle.world_core.specs.declared.asked.Asked.TheVariants.{Session, Wait, Report, Settle, Sweep}
@@ -85,7 +86,7 @@ committed_lease w (NotCommitted t) home is = with_lease w (Idle home) home.lease
 committed_lease w InDoubt home is = with_lease w (Broken home.lease) home.lease is refl
 committed_lease w (CommittedOpen t) home is = with_lease w (Broken home.lease) home.lease is refl
 
-followed_lease : (home : Home) (buffer : List Noted) (m : Listing) (c : Cache) (moved : Turn ℕ) (w : Work) (shown : Shown) (turn : Turn Answer) → Follows home buffer m c moved w shown turn
+followed_lease : (home : Home) (buffer : List Noted) (m : Listing) (c : Cache) (moved : Turn ℕ) (w : Work) (shown : Shown) (turn : Turn Answer) → Follows home m moved (acting_of buffer w c shown) turn
     → HasLease (broken_work w)
 followed_lease home buffer m c More w shown turn f = with_lease w (Scanning home m) home.lease f.0 refl
 followed_lease home buffer m c (Ended page) w shown More (all, listed, goes, is, nothing) = with_lease w (Scanning home _) home.lease is refl
@@ -116,7 +117,7 @@ broken_now (Broken lease) ask e = absurd (cc (e))
 to_lease : (w v u : Work) → v ≡ w → IsBroken v u → IsBroken w u
 to_lease w v u is h = subst (λ z. IsBroken z u) is h
 
-followed_more : (home : Home) (buffer : List Noted) (m : Listing) (c : Cache) (moved : Turn ℕ) (v u : Work) (shown : Shown) → Follows home buffer m c moved v shown More → IsBroken v u → HasLease u
+followed_more : (home : Home) (buffer : List Noted) (m : Listing) (c : Cache) (moved : Turn ℕ) (v u : Work) (shown : Shown) → Follows home m moved (acting_of buffer v c shown) More → IsBroken v u → HasLease u
 followed_more home buffer m c More v u shown f h = to_lease (Scanning home m) v u f.0 h
 followed_more home buffer m c (Ended page) v u shown (all, listed, goes, is, nothing) h = to_lease (Scanning home _) v u is h
 followed_more home buffer m c (Stopped t) v u shown f h = absurd (cc (f.2))
@@ -216,7 +217,7 @@ ends_no_put _ _ _ m x (stopped r a t is) e = absurd (cc (e))
 ends_no_put _ _ _ m x (astray r a is) e = absurd (cc (e))
 ends_no_put _ _ _ m x (does_nothing r a) e = absurd (cc (e))
 
-not_followed : (home : Home) (buffer : List Noted) (m : Listing) (c : Cache) (moved : Turn ℕ) (w : Work) (shown : Shown) (epoch : ℕ) → Follows home buffer m c moved w shown (Ended (answer.Opened epoch)) → ⊥
+not_followed : (home : Home) (buffer : List Noted) (m : Listing) (c : Cache) (moved : Turn ℕ) (w : Work) (shown : Shown) (epoch : ℕ) → Follows home m moved (acting_of buffer w c shown) (Ended (answer.Opened epoch)) → ⊥
 not_followed home buffer m c More w shown epoch f = absurd (cc (f.2))
 not_followed home buffer m c (Ended page) w shown epoch f = absurd f
 not_followed home buffer m c (Stopped t) w shown epoch f = absurd (cc (f.2))
@@ -456,12 +457,12 @@ noted_lease : (home : Home) (changes : List Noted) (c d : Cache) (w : Work) (a :
 noted_lease home changes c d w a (inl nothing) = with_lease w (Idle home) home.lease nothing.work_is refl
 noted_lease home changes c d w a (inr some) = commits_lease home changes c d w a some.1
 
-reads_lease : (home : Home) (walk : Walk) (c d : Cache) (w : Work) (shown : Shown) (a : Answer) → ReadsOf home walk c d w shown (Answered a) → HasLease (broken_work w)
+reads_lease : (home : Home) (walk : Walk) (c d : Cache) (w : Work) (shown : Shown) (a : Answer) → ReadsOf home (walk, c) (w, d) shown (Answered a) → HasLease (broken_work w)
 reads_lease home walk c d w shown answer.Value p = with_lease w (Idle home) home.lease p.3 refl
 reads_lease home walk c d w shown (answer.Trouble t) p = stopped_lease w t home p.2
 reads_lease home walk c d w shown a p = absurd p
 
-looks_lease : (home : Home) (q : Query) (c d : Cache) (w : Work) (shown : Shown) (a : Answer) → LooksOf home q c d w shown (Answered a) → HasLease (broken_work w)
+looks_lease : (home : Home) (q : Query) (c d : Cache) (w : Work) (shown : Shown) (a : Answer) → LooksOf home q c (w, d) shown (Answered a) → HasLease (broken_work w)
 looks_lease home q c d w shown (answer.Trouble t) (leads, is, none) = stopped_lease w t home is
 looks_lease home q c d w shown a never = absurd never
 
@@ -494,7 +495,7 @@ begun_short op.Commit a left result why p replies =
 begun_short (op.Read tree key) a left result why p replies =
     in_client (ReadsIn tree key a) a left result why p replies (λ home x has. reads_lease home (new_walk tree (Some key) false) a.cache left.cache left.work left.shown x has.1)
 begun_short (op.Scan tree low high) a left result why p replies =
-    in_client (ScansIn tree low high a) a left result why p replies
+    in_client (ScansIn (new_scan tree low high) a) a left result why p replies
     (λ home x has. followed_lease home a.buffer (record { scan = has.1.scan; pairs = [] }) left.cache has.1.moved left.work left.shown has.1.turn has.1.follows)
 begun_short (op.Lookup tree attr) a left result why p replies = look_short tree attr a left result why p replies
 begun_short (op.Page tree page) a left result why p replies = in_client (λ home. HasInHand a (paging_begun_by tree page home)) a left result why p replies (λ home x has. absurd (cc (has.0)))

@@ -8,7 +8,7 @@ use Rattle.attr_index.specs.Look.{Query, Own, Look}
 use Rattle.attr_index.specs.Stepped.{Stepped as StepsLook, deed_of}
 use Rattle.attr_index.specs.Tagged.{FindsTagged}
 use Rattle.client_work.proofs.Looks.{step_looked}
-use Rattle.client_work.specs.Session.{Acting, StepsSession, ShowsAt, LooksBy, items_in, items_of, noted_behind, shown_behind}
+use Rattle.client_work.specs.Session.{Acting, StepsSession, ShowsAt, LooksBy, items_in, items_of, noted_behind, shown_behind, acting_of, in_hand}
 use Rattle.client_work.specs.Shows.{own_of}
 use Rattle.client_work.specs.declared.answer.Answer.{Answer}
 use Rattle.client_work.specs.declared.answer.Answer.TheVariants as answer
@@ -175,10 +175,10 @@ module _ (lines : List Line) (who : Caller) (number : who.event ≡ length lines
     none_noted : left.buffer ≡ []
     none_noted = steps.buffer ∙ (ap (λ (w : Work). noted_behind w (mine old).buffer) a.works ∙ a.unchanged)
 
-    looks : LooksBy home [] who p.under p.to a.look (mine old).cache kept left.work left.shown turn
+    looks : LooksBy who p.under p.to (in_hand home a.look (mine old).cache) (acting_of [] left.work kept left.shown) turn
     looks =
-        subst (λ (b : List Noted). LooksBy home b who p.under p.to a.look (mine old).cache kept left.work left.shown turn) none_noted
-        (subst (λ (w : Work). ShowsAt who p.under p.to left.buffer w (mine old).cache kept left.work left.shown turn) a.works steps.shown.1)
+        subst (λ (b : List Noted). LooksBy who p.under p.to (in_hand home a.look (mine old).cache) (acting_of b left.work kept left.shown) turn) none_noted
+        (subst (λ (w : Work). ShowsAt who p.under p.to (w, (mine old).cache) (record left { cache = kept }) turn) a.works steps.shown.1)
 
     fresh : p.to.counts.stale ≡ p.under.counts.stale
     fresh =

@@ -56,26 +56,26 @@ pub record AnswersCall (ask : Ask) (Leads : Answer → Type 0) (who : Caller) (b
   pub took : Leads answer
   pub found : answer ≢ Memory
 
-pub folding_more : (who : Caller) (before after : Seen) (home : Home) (m : Making) (c d : Cache) (work : Work) → CausesAt who before after (Folding home m) c d work More
+pub folding_more : (who : Caller) (before after : Seen) (home : Home) (m : Making) (c d : Cache) (work : Work) → CausesAt who before after (Folding home m, c) (work, d) More
     → (n : Making) × (AnswersCall (making_ask m) (λ a. MakingLeads m a (Goes n)) who before after × (work ≡ Folding home n))
 folding_more who before after home m c d work (n, causes, is) =
     let s = causes.stepped in
     (n, (record { answer = s.did.answer; made = s.did.made; took = s.did.took; found = λ e. absurd (let never = s.memory e in cc (never)) }, is))
 
 pub folding_ends : (who : Caller) (before after : Seen) (home : Home) (m : Making) (c d : Cache) (work : Work) (x : CkptAnswer)
-    → CausesAt who before after (Folding home m) c d work (Ended (told.Done x)) → (n : Making) × AnswersCall (making_ask m) (λ a. MakingLeads m a (Ends n x)) who before after
+    → CausesAt who before after (Folding home m, c) (work, d) (Ended (told.Done x)) → (n : Making) × AnswersCall (making_ask m) (λ a. MakingLeads m a (Ends n x)) who before after
 folding_ends who before after home m c d work x (n, causes) =
     let s = causes.stepped in
     (n, record { answer = s.did.answer; made = s.did.made; took = s.did.took; found = λ e. absurd (let never = s.memory e in cc (never)) })
 
-pub paging_more : (who : Caller) (before after : Seen) (home : Home) (m : Page) (c d : Cache) (work : Work) → CausesAt who before after (Paging home m) c d work More
+pub paging_more : (who : Caller) (before after : Seen) (home : Home) (m : Page) (c d : Cache) (work : Work) → CausesAt who before after (Paging home m, c) (work, d) More
     → (n : Page) × (AnswersCall (paging_ask m) (λ a. PagingLeads m a (Goes n)) who before after × (work ≡ Paging home n))
 paging_more who before after home m c d work (n, causes, is) =
     let s = causes.stepped in
     (n, (record { answer = s.did.answer; made = s.did.made; took = s.did.took; found = λ e. absurd (let never = s.memory e in cc (never)) }, is))
 
 pub paging_ends : (who : Caller) (before after : Seen) (home : Home) (m : Page) (c d : Cache) (work : Work) (x : CkptAnswer)
-    → CausesAt who before after (Paging home m) c d work (Ended (told.Done x)) → (n : Page) × AnswersCall (paging_ask m) (λ a. PagingLeads m a (Ends n x)) who before after
+    → CausesAt who before after (Paging home m, c) (work, d) (Ended (told.Done x)) → (n : Page) × AnswersCall (paging_ask m) (λ a. PagingLeads m a (Ends n x)) who before after
 paging_ends who before after home m c d work x (n, causes) =
     let s = causes.stepped in
     (n, record { answer = s.did.answer; made = s.did.made; took = s.did.took; found = λ e. absurd (let never = s.memory e in cc (never)) })
@@ -120,10 +120,10 @@ more_less a b c one two place =
 
 module _ {M : Type 0} (ask : M → Ask) (leads : M → Answer → Next M CkptAnswer → Type 0) (wrap : Home → M → Work) (begin : M) (queue : QueueName)
     (hand : (home : Home) (m : M) → ask_of_work (wrap home m) ≡ Some (ask m)) (quiet : (m : M) → SendsNothing (ask m))
-    (goes : (who : Caller) (before after : Seen) (home : Home) (m : M) (c d : Cache) (work : Work) → CausesAt who before after (wrap home m) c d work More
+    (goes : (who : Caller) (before after : Seen) (home : Home) (m : M) (c d : Cache) (work : Work) → CausesAt who before after (wrap home m, c) (work, d) More
     → (n : M) × (AnswersCall (ask m) (λ a. leads m a (Goes n)) who before after × (work ≡ wrap home n)))
     (ends : (who : Caller) (before after : Seen) (home : Home) (m : M) (c d : Cache) (work : Work) (x : CkptAnswer)
-    → CausesAt who before after (wrap home m) c d work (Ended (told.Done x)) → (n : M) × AnswersCall (ask m) (λ a. leads m a (Ends n x)) who before after)
+    → CausesAt who before after (wrap home m, c) (work, d) (Ended (told.Done x)) → (n : M) × AnswersCall (ask m) (λ a. leads m a (Ends n x)) who before after)
     (first : Moment)
     (empties : (m n : M) (s t : CloudState) → Comes ask leads begin first.state m s → (end : Deed) (x : CkptAnswer) → IsBetween end s t → end.ask ≡ ask m → leads m end.answer (Ends n x)
     → end.after.counts.withheld ≡ end.before.counts.withheld → length (waiting first.state queue) ≤ 256 → waiting t queue ≡ [])
@@ -148,9 +148,9 @@ module _ {M : Type 0} (ask : M → Ask) (leads : M → Answer → Next M CkptAns
     asks : ask_of_work p.session.before.work ≡ Some (ask m)
     asks = ap ask_of_work works ∙ hand on.home m
 
-    causes : CausesAt who p.under p.to (wrap on.home m) p.session.before.cache p.session.does.causes.0 p.session.after.work turn
+    causes : CausesAt who p.under p.to (wrap on.home m, p.session.before.cache) (p.session.after.work, p.session.does.causes.0) turn
     causes =
-        subst (λ (w : Work). CausesAt who p.under p.to w p.session.before.cache p.session.does.causes.0 p.session.after.work turn) works p.session.does.causes.1
+        subst (λ (w : Work). CausesAt who p.under p.to (w, p.session.before.cache) (p.session.after.work, p.session.does.causes.0) turn) works p.session.does.causes.1
 
     abbrev later : List Note
     later = with_note on.notes (note_of_ask (ask m))

@@ -32,6 +32,7 @@ use Rattle.head_codec.specs.declared.head.Head.{Head}
 use Rattle.client_work.specs.declared.work.Work.TheVariants as work
 use Rattle.client_work.specs.BrokenOff.{broken_off}
 use Rattle.client_work.specs.Session.{Acting, closed_session, StepsSession, Begins, BeginsWith, BeginsOpening, HasInHand, CommitsIn, CommitsOf, CommitsNoted, LooksIn, LooksOf, ReadsOf, ReadsIn, ScansIn, old_lease, stopped_work, paging_begun_by, folding_begun_by}
+use Rattle.range_scan.specs.Scan.{new_scan}
 use Rattle.replay_meaning.specs.Standing.{Line, Closed, standing}
 use Rattle.session_facts.specs.Lines.Facts.{session_at, ActsAs}
 use Rattle.session_facts.specs.Sessions.Knows.{Sessions}
@@ -160,13 +161,13 @@ commits_noted : (home : Home) (buffer : List Noted) (c d : Cache) (w : Work) (be
 commits_noted home buffer c d w begun (inl nothing) = to_work home w (work.Idle home) nothing.work_is (λ head h. h, tt, λ client h. h)
 commits_noted home buffer c d w begun (inr some) = commits_so home buffer c d w begun some.1
 
-reads_so : (home : Home) (tree : ℕ) (key : List ℕ) (c d : Cache) (w : Work) (shown : Shown) (begun : Begun) → ReadsOf home (new_walk tree (Some key) false) c d w shown begun → LeadsHome home w
+reads_so : (home : Home) (tree : ℕ) (key : List ℕ) (c d : Cache) (w : Work) (shown : Shown) (begun : Begun) → ReadsOf home (new_walk tree (Some key) false, c) (w, d) shown begun → LeadsHome home w
 reads_so home tree key c d w shown Working reads = to_work home w (work.Reading home reads.0) reads.2 (λ head h. h, tt, λ client h. h)
 reads_so home tree key c d w shown (Answered answer.Value) reads = to_work home w (work.Idle home) reads.3 (λ head h. h, tt, λ client h. h)
 reads_so home tree key c d w shown (Answered (answer.Trouble t)) reads = to_work home w (stopped_work t home) reads.2 (stopped_leads t home)
 reads_so home tree key c d w shown (Answered a) reads = absurd reads
 
-looks_so : (home : Home) (q : Query) (c d : Cache) (w : Work) (shown : Shown) (begun : Begun) → LooksOf home q c d w shown begun → LeadsHome home w
+looks_so : (home : Home) (q : Query) (c d : Cache) (w : Work) (shown : Shown) (begun : Begun) → LooksOf home q c (w, d) shown begun → LeadsHome home w
 looks_so home q c d w shown Working (m, ready, is, none) = to_work home w (work.Looking home m) is (λ head h. h, tt, λ client h. h)
 looks_so home q c d w shown (Answered (answer.Trouble t)) (stopped, is, none) = to_work home w (stopped_work t home) is (stopped_leads t home)
 looks_so home q c d w shown (Answered a) never = absurd never
@@ -198,7 +199,7 @@ begins_so op.Commit a b result within begins takes =
 begins_so (op.Read tree key) a b result within begins takes =
     with_home (ReadsIn tree key a) a b result (λ home begun reads. reads_so home tree key a.cache b.cache b.work b.shown begun reads.1) begins takes
 begins_so (op.Scan tree low high) a b result within begins takes =
-    with_home (ScansIn tree low high a) a b result
+    with_home (ScansIn (new_scan tree low high) a) a b result
     (λ home begun scans. scan_leads home a.buffer (record { scan = scans.1.scan; pairs = [] }) b.cache scans.1.moved b.work b.shown scans.1.turn scans.1.follows) begins takes
 begins_so (op.Lookup tree attr) a b result within begins takes = look_so tree attr a b result begins takes
 begins_so (op.Page tree page) a b result within begins takes = hands (paging_begun_by tree page) a b result (λ home. (λ head h. h, tt, λ client h. h)) begins takes

@@ -1,6 +1,6 @@
 -- A session's client has begun as many transactions as the lines of a load tell.
 use Rattle.std.proofs.Common.{◌≡◌, ◌≢◌, ◌+◌, ◌≤◌, ◌⊎◌, inl, inr, ℕ, List, Option, Some, None, Result, Ok, Err, refl, sym, ap, subst, ◌∙◌, arith}
-use Rattle.client_work.specs.Session.{Acting, Begins, BeginsWith, CommitsNoted, Follows, HasInHand, StepsAt, StepsSession, committed_work, opened_work, stopped_work, value_of}
+use Rattle.client_work.specs.Session.{Acting, Begins, BeginsWith, CommitsNoted, Follows, HasInHand, StepsAt, StepsSession, committed_work, opened_work, stopped_work, value_of, acting_of, in_hand}
 use Rattle.client_work.specs.declared.listing.Listing.{Listing}
 use Rattle.client_work.specs.declared.answer.Answer.{Answer}
 use Rattle.client_work.specs.declared.answer.Answer.TheVariants as answer
@@ -142,7 +142,7 @@ module _ (n : ℕ) where
   step_numbered who before after (Scanning home m) new turn (buffer, c, d, shown, p) h =
       scanned (record { scan = p.scan; pairs = m.pairs }) p.moved turn p.follows
     where
-      scanned : (l : Listing) (moved : Turn ℕ) (turn : Turn Answer) → Follows home buffer l d moved new shown turn → Numbered n new
+      scanned : (l : Listing) (moved : Turn ℕ) (turn : Turn Answer) → Follows home l moved (acting_of buffer new d shown) turn → Numbered n new
       scanned l More turn f = then (Scanning home l) new f.0 h
       scanned l (Ended page) More (all, listed, goes, is, nothing) = then (Scanning home _) new is h
       scanned l (Ended page) (Ended answer.Scan) (all, listed, over, is, shown) = then (Idle home) new is h

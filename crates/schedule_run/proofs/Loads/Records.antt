@@ -1,7 +1,7 @@
 -- A commit that is answered as committed has a record of each change in the log, under the change's place.
 use Rattle.std.proofs.Common.{◌≡◌, ◌+◌, ℕ, Bool, true, false, List, [], ◌∷◌, ◌++◌, Option, Some, None, Result, Ok, Err, refl, sym, subst}
 use Rattle.std.specs.Prelude.{slice_get}
-use Rattle.client_work.specs.Session.{Acting, StepsSession, StepsCommit, ShowsAt}
+use Rattle.client_work.specs.Session.{Acting, StepsSession, StepsCommit, ShowsAt, acting_of}
 use Rattle.client_work.specs.declared.answer.Answer.TheVariants as answer
 use Rattle.client_work.specs.declared.shown.Shown.{Shown}
 use Rattle.client_work.specs.declared.work.Work.{Work}
@@ -197,7 +197,7 @@ module _ (who : Caller) (before after : Seen) (s : CloudState) (book : Book) (or
   abbrev kept : Cache
   kept = (sessions who.session).cache
 
-  commit_keeps : (r : Run) → old ≡ work.Committing r → (c : Cache) (new : Work) (a : CommitAnswer) → StepsCommit who before after r kept c new (Ended (answer.Commit a))
+  commit_keeps : (r : Run) → old ≡ work.Committing r → (c : Cache) (new : Work) (a : CommitAnswer) → StepsCommit who before after (r, kept) (new, c) (Ended (answer.Commit a))
       → HasThese book.log (home_of r).client r.draft.writes.changes a
   commit_keeps r is c new a (m, steps, left) =
       subst (RunKeeps book.log (home_of r).client r.draft.writes.changes) steps.took
@@ -205,7 +205,7 @@ module _ (who : Caller) (before after : Seen) (s : CloudState) (book : Book) (or
       (subst (λ x. KnowsWork (store_of book order s) s.now kept x (stand.parts who.session)) is (stand.each who.session).work))
 
   by_commit : (buffer : List Noted) (x new : Work) (c : Cache) (shown : Shown) (a : CommitAnswer) → old ≡ x
-      → ShowsAt who before after buffer x kept c new shown (Ended (answer.Commit a)) → HasFor book.log x a
+      → ShowsAt who before after (x, kept) (acting_of buffer new c shown) (Ended (answer.Commit a)) → HasFor book.log x a
   by_commit buffer (work.Committing r) new c shown a is shows = commit_keeps r is c new a shows.0
   by_commit buffer x new c shown a is shows = tt
 

@@ -1,6 +1,6 @@
 -- When a line of a load is answered that no attempt is left: where it begins a commit behind as many lines as there are numbers of attempts.
 use Rattle.std.proofs.Common.{◌≡◌, ◌-◌, ◌^◌, ◌≤◌, inl, inr, ℕ, List, Option, Some, None, Result, Ok, Err, sym, ap, subst, ◌∙◌, arith}
-use Rattle.client_work.specs.Session.{Acting, Begins, CommitsNoted, CommitsOf, Follows, StepsAt, value_of}
+use Rattle.client_work.specs.Session.{Acting, Begins, CommitsNoted, CommitsOf, Follows, StepsAt, value_of, acting_of}
 use Rattle.client_work.specs.declared.listing.Listing.{Listing}
 use Rattle.client_work.specs.declared.answer.Answer.{Answer}
 use Rattle.client_work.specs.declared.answer.Answer.TheVariants as answer
@@ -66,7 +66,7 @@ answers_commit (answer.Trouble t) left r y e is = absurd (cc)
 -- ---- steps
 
 module _ (y : CommitAnswer) (is : y ≡ NotCommitted no_attempt) where
-  lists : (home : Home) (buffer : List Noted) (l : Listing) (d : Cache) (moved : Turn ℕ) (new : Work) (shown : Shown) → Follows home buffer l d moved new shown (Ended (answer.Commit y)) → ⊥
+  lists : (home : Home) (buffer : List Noted) (l : Listing) (d : Cache) (moved : Turn ℕ) (new : Work) (shown : Shown) → Follows home l moved (acting_of buffer new d shown) (Ended (answer.Commit y)) → ⊥
   lists home buffer l d More new shown f = let clash = f.2 in absurd (cc)
   lists home buffer l d (Ended page) new shown f = absurd f
   lists home buffer l d (Stopped t) new shown f = let clash = f.2 in absurd (cc)

@@ -2,7 +2,7 @@
 use Rattle.std.proofs.Common.{inl, inr, ◌≡◌, ℕ, Bool, true, false, List, [], Option, Some, Ok, refl, sym, ap, subst, ◌∙◌}
 use Rattle.std.specs.Prelude.{All}
 use Rattle.std.proofs.lemmas.List.{append-nil}
-use Rattle.client_work.specs.Session.{Acting, StepsSession, StepsAt, StepsCommit, ShowsAt}
+use Rattle.client_work.specs.Session.{Acting, StepsSession, StepsAt, StepsCommit, ShowsAt, acting_of}
 use Rattle.client_work.specs.declared.answer.Answer.{Answer}
 use Rattle.client_work.specs.declared.answer.Answer.TheVariants as answer
 use Rattle.client_work.specs.declared.shown.Shown.{Shown}
@@ -172,7 +172,7 @@ module _ (who : Caller) (before after : Seen) (s : CloudState) (book : Book) (or
   abbrev kept : Cache
   kept = (sessions who.session).cache
 
-  commit_keeps : (r : Run) → old ≡ work.Committing r → (c : Cache) (new : Work) (a : CommitAnswer) → StepsCommit who before after r kept c new (Ended (answer.Commit a))
+  commit_keeps : (r : Run) → old ≡ work.Committing r → (c : Cache) (new : Work) (a : CommitAnswer) → StepsCommit who before after (r, kept) (new, c) (Ended (answer.Commit a))
       → IsKeptCommit (entries_of book.log) (home_of r).client r.draft.writes.changes a
   commit_keeps r is c new a (m, steps, left) =
       subst (RunKeeps (entries_of book.log) (home_of r).client r.draft.writes.changes) steps.took
@@ -180,7 +180,7 @@ module _ (who : Caller) (before after : Seen) (s : CloudState) (book : Book) (or
       (subst (λ x. KnowsWork (store_of book order s) s.now kept x (stand.parts who.session)) is (stand.each who.session).work))
 
   by_commit : (buffer : List Noted) (x new : Work) (c : Cache) (shown : Shown) (a : CommitAnswer) → old ≡ x
-      → ShowsAt who before after buffer x kept c new shown (Ended (answer.Commit a)) → IsKeptFor (entries_of book.log) x a
+      → ShowsAt who before after (x, kept) (acting_of buffer new c shown) (Ended (answer.Commit a)) → IsKeptFor (entries_of book.log) x a
   by_commit buffer (work.Committing r) new c shown a is shows = commit_keeps r is c new a shows.0
   by_commit buffer x new c shown a is shows = tt
 

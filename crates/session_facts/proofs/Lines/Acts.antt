@@ -26,7 +26,7 @@ use Rattle.client_work.specs.declared.work.Work.{Work}
 use Rattle.client_work.specs.declared.work.Work.TheVariants.{Closed, Idle, Opening, Committing, Reading, Scanning, Looking, Paging, Folding, Closing, Renewing, Settling, Sweeping, Broken}
 use Rattle.page_cache.specs.Cache.{Cache}
 use Rattle.tree_walk.specs.Walk.{sought}
-use Rattle.client_work.specs.Session.{Follows, StepsAt, ShowsAt, noted_behind, opened_work, committed_work, stopped_work}
+use Rattle.client_work.specs.Session.{Follows, StepsAt, ShowsAt, noted_behind, opened_work, committed_work, stopped_work, acting_of}
 use Rattle.reply_text.specs.declared.reply.Reply.{Reply}
 use Rattle.reply_text.specs.declared.reply.Reply.TheVariants as reply
 use Rattle.replay_meaning.specs.Standing.{Standing, Posture, Working, Opening as OpeningTask, Closing as ClosingTask, Renewing as RenewingTask, Committing as Noting, Reading as ReadingKey, LookingUp, Paging as PagingPage, Folding as FoldingTree, steps, answered, idle, broken, shut}
@@ -61,7 +61,7 @@ works_same w z s e h = subst (λ x. WorksAs x s) (sym e) h
 
 -- a scan that goes on looks through the same range
 scan_goes_as : (home : Home) (buffer : List Noted) (l : Listing) (c d : Cache) (n : Scan) (a : Heard) (moved : Turn ℕ) (new : Work) (shows : Shown) (s : Standing)
-    → Took (LeadsBy scan_next) KeepsServed (l.scan, c) a (n, d) moved → Follows home buffer (record { scan = n; pairs = l.pairs }) d moved new shows More
+    → Took (LeadsBy scan_next) KeepsServed (l.scan, c) a (n, d) moved → Follows home (record { scan = n; pairs = l.pairs }) moved (acting_of buffer new d shows) More
     → WorksAs (Scanning home l) s → WorksAs new s
 scan_goes_as home buffer l c d n a More new shows s took f acts =
     works_same new (Scanning home (record { scan = n; pairs = l.pairs })) s f.0 (acts.0 ∙ sym (scanning_goes l.scan n c d a took), acts.1)
@@ -70,7 +70,7 @@ scan_goes_as home buffer l c d n a (Ended page) new shows s took (all, listed, g
 scan_goes_as home buffer l c d n a (Stopped t) new shows s took f acts = absurd (cc (f.2))
 
 pub goes_as : (who : Caller) (before after : Seen) (buffer : List Noted) (w new : Work) (c d : Cache) (shows : Shown) (s : Standing) → StepsAt who before after w new More
-    → ShowsAt who before after buffer w c d new shows More → WorksAs w s → WorksAs new s
+    → ShowsAt who before after (w, c) (acting_of buffer new d shows) More → WorksAs w s → WorksAs new s
 goes_as who before after buffer (Opening m) new c d shows s (sound, p) shown acts =
     let on : OpensFor m.client (Goes p.0) = subst (OpensFor m.client) p.1.took (opens_on m p.1.answer acts.3) in
     works_same new (Opening p.0) s p.2 (acts.0, acts.1 ∙ sym on.0, acts.2, on.1, settled_on m p.0 p.1.answer p.1.took acts.4)
@@ -169,7 +169,7 @@ stopped_idle t home never = refl
 
 -- a scan that ends leaves the client open
 scan_ends_as : (home : Home) (buffer : List Noted) (l : Listing) (d : Cache) (n : Scan) (moved : Turn ℕ) (new : Work) (shows : Shown) (s : Standing) (a : Answer) (r : Reply)
-    → Follows home buffer (record { scan = n; pairs = l.pairs }) d moved new shows (Ended a) → IsReplyTo a r → WorksAs (Scanning home l) s → StandsEnded (Scanning home l) new s (steps r s)
+    → Follows home (record { scan = n; pairs = l.pairs }) moved (acting_of buffer new d shows) (Ended a) → IsReplyTo a r → WorksAs (Scanning home l) s → StandsEnded (Scanning home l) new s (steps r s)
 scan_ends_as home buffer l d n More new shows s a r f is acts = absurd (cc (f.2))
 scan_ends_as home buffer l d n (Ended page) new shows s answer.Scan r (all, listed, over, e, shown) is acts =
     ends_idle (Scanning home l) new home s (range_of l.scan) r (reply.Scan is.0) is.1 acts.0 refl refl e acts.1 refl

@@ -2,7 +2,7 @@
 use Rattle.std.proofs.Common.{◌≡◌, ℕ, zero, suc, Bool, true, false, List, [], ◌∷◌, ◌++◌, Option, Some, Ok, Err, refl, sym, ap, subst, ◌∙◌, arith}
 use Rattle.std.specs.Prelude.{All, map, slice_get}
 use Rattle.std.proofs.lemmas.List.{append-nil}
-use Rattle.client_work.specs.Session.{Acting, StepsSession, StepsCommit, ShowsAt}
+use Rattle.client_work.specs.Session.{Acting, StepsSession, StepsCommit, ShowsAt, acting_of}
 use Rattle.client_work.specs.declared.answer.Answer.TheVariants as answer
 use Rattle.client_work.specs.declared.shown.Shown.{Shown}
 use Rattle.client_work.specs.declared.work.Work.{Work}
@@ -258,7 +258,7 @@ module _ (n : ℕ) (lines : List Line) (who : Caller) (before after : Seen) (x y
       (subst (λ es. IsIn es e) (ap (committed lines) (same_Some y l.after (sym told_after ∙ l.told)) ∙ (none_added lines who (ask_at r.hand r.draft.writes) a before.counts after.counts x after.state l k.call h.cloud.placed ∙ sym h.cloud.committed)) is)
       (client ∙ k.own_is.client_is) (epoch ∙ k.own_is.epoch_is) (txn ∙ k.own_is.attempt_is)
 
-  commit_leaves : (r : Run) → (sessions who.session).work ≡ work.Committing r → (c : Cache) (new : Work) (t : Trouble) → StepsCommit who before after r kept c new (Ended (answer.Commit (NotCommitted t)))
+  commit_leaves : (r : Run) → (sessions who.session).work ≡ work.Committing r → (c : Cache) (new : Work) (t : Trouble) → StepsCommit who before after (r, kept) (new, c) (Ended (answer.Commit (NotCommitted t)))
       → HasLeftNone (committed lines y) new
   commit_leaves r is c new t (m, steps, left) = record {
     home = home_of m;
@@ -273,13 +273,13 @@ module _ (n : ℕ) (lines : List Line) (who : Caller) (before after : Seen) (x y
       knows = subst (λ w. KnowsWork st x.now kept w (h.stand.parts who.session)) is (h.stand.each who.session).work
 
   by_commit : (buffer : List Noted) (w new : Work) (c : Cache) (shown : Shown) (t : Trouble) (s : Standing) → (sessions who.session).work ≡ w → WorksAs w s
-      → ShowsAt who before after buffer w kept c new shown (Ended (answer.Commit (NotCommitted t))) → LeavesNoneAt (committed lines y) s.posture new (NotCommitted t)
+      → ShowsAt who before after (w, kept) (acting_of buffer new c shown) (Ended (answer.Commit (NotCommitted t))) → LeavesNoneAt (committed lines y) s.posture new (NotCommitted t)
   by_commit buffer w new c shown t s = on w
     where
       At : Posture → Type 0
       At p = LeavesNoneAt (committed lines y) p new (NotCommitted t)
 
-      on : (w : Work) → (sessions who.session).work ≡ w → WorksAs w s → ShowsAt who before after buffer w kept c new shown (Ended (answer.Commit (NotCommitted t))) → At s.posture
+      on : (w : Work) → (sessions who.session).work ≡ w → WorksAs w s → ShowsAt who before after (w, kept) (acting_of buffer new c shown) (Ended (answer.Commit (NotCommitted t))) → At s.posture
       on (work.Committing r) is acts shows = subst At (sym acts.0) (commit_leaves r is c new t shows.0)
       on (work.Opening r) is acts shows = subst At (sym acts.0) tt
       on (work.Reading home m) is acts shows = subst At (sym acts.0) tt

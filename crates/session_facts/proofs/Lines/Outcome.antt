@@ -28,7 +28,7 @@ use Rattle.client_work.specs.declared.listing.Listing.{Listing}
 use Rattle.client_work.specs.declared.shown.Shown.{Shown}
 use Rattle.client_work.specs.declared.work.Work.{Work}
 use Rattle.client_work.specs.declared.work.Work.TheVariants.{Closed, Idle, Opening, Committing, Reading, Scanning, Looking, Paging, Folding, Closing, Renewing, Settling, Sweeping, Broken}
-use Rattle.client_work.specs.Session.{Acting, Follows, StepsSession, StepsAt, ask_of_work, committing_of}
+use Rattle.client_work.specs.Session.{Acting, Follows, StepsSession, StepsAt, ask_of_work, committing_of, acting_of}
 use Rattle.txn_buffer.specs.Noted.{Noted}
 use Rattle.replay_meaning.specs.Standing.{Line, standing}
 use Rattle.replay_meaning.specs.Committed.{committed}
@@ -111,7 +111,7 @@ made_call who before after (Idle home) new turn p = absurd p
 made_call who before after (Broken lease) new turn p = absurd p
 
 -- a step of a scan never stops
-scan_goes_on : (home : Home) (buffer : List Noted) (m : Listing) (c : Cache) (moved : Turn ℕ) (new : Work) (shown : Shown) (t : Trouble) → Follows home buffer m c moved new shown (Stopped t) → ⊥
+scan_goes_on : (home : Home) (buffer : List Noted) (m : Listing) (c : Cache) (moved : Turn ℕ) (new : Work) (shown : Shown) (t : Trouble) → Follows home m moved (acting_of buffer new c shown) (Stopped t) → ⊥
 scan_goes_on home buffer m c More new shown t f = cc (f.2)
 scan_goes_on home buffer m c (Ended page) new shown t f = f
 scan_goes_on home buffer m c (Stopped k) new shown t f = cc (f.2)

@@ -47,7 +47,7 @@ use Rattle.client_work.specs.declared.listing.Listing.{Listing}
 use Rattle.client_work.specs.declared.shown.Shown.{Shown}
 use Rattle.client_work.specs.declared.work.Work.{Work}
 use Rattle.client_work.specs.declared.work.Work.TheVariants.{Closed, Idle, Opening, Committing, Reading, Scanning, Looking, Paging, Folding, Closing, Renewing, Settling, Sweeping, Broken}
-use Rattle.client_work.specs.Session.{Acting, closed_session, opening_of, Follows, StepsAt, ask_of_work, opened_work, committed_work, stopped_work}
+use Rattle.client_work.specs.Session.{Acting, closed_session, opening_of, Follows, StepsAt, ask_of_work, opened_work, committed_work, stopped_work, acting_of}
 use Rattle.recover_run.specs.declared.stage.RecoverAnswer.TheVariants as opening
 use Rattle.session_facts.specs.Rows.Asks.{MayAsk}
 use Rattle.session_facts.specs.Sessions.HeadPuts.{IsSoundWork}
@@ -358,7 +358,7 @@ below_later : (epoch bound own next : ℕ) (head : Head) → own ≡ epoch → b
 below_later epoch bound own next head e le h = (h.0 ∙ sym e, omega (arith, h.1, le))
 
 -- a scan
-pub scan_leads : (home : Home) (buffer : List Noted) (l : Listing) (d : Cache) (moved : Turn ℕ) (new : Work) (shows : Shown) (turn : Turn Answer) → Follows home buffer l d moved new shows turn
+pub scan_leads : (home : Home) (buffer : List Noted) (l : Listing) (d : Cache) (moved : Turn ℕ) (new : Work) (shows : Shown) (turn : Turn Answer) → Follows home l moved (acting_of buffer new d shows) turn
     → LeadsHome home new
 scan_leads home buffer l d More new shows turn f = own_leads home (Scanning home l) new f.0 (λ head h. h, tt, λ client h. h)
 scan_leads home buffer l d (Ended page) new shows More (all, listed, goes, is, nothing) = own_leads home (Scanning home _) new is (λ head h. h, tt, λ client h. h)

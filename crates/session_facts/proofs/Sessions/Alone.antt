@@ -3,7 +3,7 @@ use Rattle.std.proofs.Common.{◌≡◌, ◌≢◌, ◌≤◌, inl, inr, ℕ, Li
 use Rattle.cloud_trait.specs.Calm.{TakesFree}
 use Rattle.ckpt_parts.specs.Leasing.{outstanding_after}
 use Rattle.attr_index.specs.Look.{Look, look_ask}
-use Rattle.client_work.specs.Session.{Acting, LooksBy, ReadsBy, RenewsHome, ShowsAt, StepsAt, StepsClosing, StepsCommit, StepsFolding, StepsOpening, StepsPaging, StepsRenewing, StepsScanning, StepsSession, StepsSettling, StepsSweeping, ask_of_work}
+use Rattle.client_work.specs.Session.{Acting, LooksBy, ReadsBy, RenewsHome, ShowsAt, StepsAt, StepsClosing, StepsCommit, StepsFolding, StepsOpening, StepsPaging, StepsRenewing, StepsScanning, StepsSession, StepsSettling, StepsSweeping, ask_of_work, acting_of, in_hand}
 use Rattle.client_work.specs.declared.answer.Answer.{Answer}
 use Rattle.client_work.specs.declared.answer.Answer.TheVariants as answer
 use Rattle.client_work.specs.declared.listing.Listing.{Listing}
@@ -153,7 +153,7 @@ module _ (who : Caller) (before after : Seen) (s t : CloudState) (told : before.
         (commit.next_leases (home_of_run r).lease step d new to (subst (RunLeaseStays (home_of_run r).lease) leads (run_lease (r, c) a))
         ∙ sym (quiet_after (run_ask r) a ((home_of_run r).lease ∷ []) (run_moves_none r)))
 
-    commit_alone : (new : Work) (turn : Turn Answer) → (p : StepsCommit who before after r c d new turn) → commit_reply who before after r c d new turn p ≢ Memory → FindsMemory turn
+    commit_alone : (new : Work) (turn : Turn Answer) → (p : StepsCommit who before after (r, c) (new, d) turn) → commit_reply who before after (r, c) (new, d) turn p ≢ Memory → FindsMemory turn
         → Goes_on (run_ask r) new
     commit_alone new More (m, steps, is, less) found fair = commits steps.answer steps.made found (Goes (m, d)) new steps.took (is, refl)
     commit_alone new (Ended (answer.Commit a)) (m, steps, is) found fair = commits steps.answer steps.made found (Ends (m, d) a) new steps.took (is, refl)
@@ -167,21 +167,21 @@ module _ (who : Caller) (before after : Seen) (s t : CloudState) (told : before.
     gets : (name : ObjName) (a : Reply) → Makes who (Get name) a before after → a ≢ Memory → (new : Work) → leases_of new ≡ home.lease ∷ [] → Goes_on (Get name) new
     gets name a made found new e = turns (Get name) a (home.lease ∷ []) new made found tt alone e
 
-    reading_alone : (w : Walk) (c d : Cache) (new : Work) (shown : Shown) (turn : Turn Answer) → (p : ReadsBy home who before after w c d new shown turn)
-        → reading_reply home who before after w c d new shown turn p ≢ Memory → Goes_on (walk_ask w) new
-    reading_alone w c d new shown More (m, steps, is, none) found = gets (object_of w) steps.answer steps.made found new (ap leases_of is)
-    reading_alone w c d new shown (Ended answer.Value) (m, page, steps, there, is, some) found = gets (object_of w) steps.answer steps.made found new (ap leases_of is)
-    reading_alone w c d new shown (Ended (answer.Trouble q)) (m, steps, is, none) found =
+    reading_alone : (buffer : List Noted) (w : Walk) (c d : Cache) (new : Work) (shown : Shown) (turn : Turn Answer) → (p : ReadsBy who before after (in_hand home w c) (acting_of buffer new d shown) turn)
+        → reading_reply who before after (in_hand home w c) (acting_of buffer new d shown) turn p ≢ Memory → Goes_on (walk_ask w) new
+    reading_alone buffer w c d new shown More (m, steps, is, none) found = gets (object_of w) steps.answer steps.made found new (ap leases_of is)
+    reading_alone buffer w c d new shown (Ended answer.Value) (m, page, steps, there, is, some) found = gets (object_of w) steps.answer steps.made found new (ap leases_of is)
+    reading_alone buffer w c d new shown (Ended (answer.Trouble q)) (m, steps, is, none) found =
         gets (object_of w) steps.answer steps.made found new (ap leases_of is ∙ stopped_leases q home)
-    reading_alone w c d new shown turn p found = absurd p
+    reading_alone buffer w c d new shown turn p found = absurd p
 
-    scanning_alone : (buffer : List Noted) (l : Listing) (c d : Cache) (new : Work) (shown : Shown) (turn : Turn Answer) → (p : StepsScanning home buffer who before after l c d new shown turn)
+    scanning_alone : (buffer : List Noted) (l : Listing) (c d : Cache) (new : Work) (shown : Shown) (turn : Turn Answer) → (p : StepsScanning who before after (in_hand home l c) (acting_of buffer new d shown) turn)
         → p.steps.answer ≢ Memory → Goes_on (scan_ask l.scan) new
     scanning_alone buffer l c d new shown turn p found =
         gets (scan_object l.scan) p.steps.answer p.steps.made found new (follows_leases home buffer (record { scan = p.scan; pairs = l.pairs }) d p.moved new shown turn p.follows)
 
-    looking_alone : (buffer : List Noted) (l : Look) (c d : Cache) (new : Work) (shown : Shown) (turn : Turn Answer) → (p : LooksBy home buffer who before after l c d new shown turn)
-        → looking_reply home buffer who before after l c d new shown turn p ≢ Memory → Goes_on (look_ask l) new
+    looking_alone : (buffer : List Noted) (l : Look) (c d : Cache) (new : Work) (shown : Shown) (turn : Turn Answer) → (p : LooksBy who before after (in_hand home l c) (acting_of buffer new d shown) turn)
+        → looking_reply who before after (in_hand home l c) (acting_of buffer new d shown) turn p ≢ Memory → Goes_on (look_ask l) new
     looking_alone buffer l c d new shown More (m, steps, is, none, less) found = gets (object_of l.walk) steps.walked.answer steps.walked.made found new (ap leases_of is)
     looking_alone buffer l c d new shown (Ended answer.Scan) (m, steps, is, some) found = gets (object_of l.walk) steps.walked.answer steps.walked.made found new (ap leases_of is)
     looking_alone buffer l c d new shown (Ended (answer.Trouble q)) (m, steps, is, none) found =
@@ -191,8 +191,8 @@ module _ (who : Caller) (before after : Seen) (s t : CloudState) (told : before.
   -- ---- checkpoints
 
   module _ (st : Store) (now : ℕ) (home : Home) (client : ℕ) (is_lock : home.lease.lock ≡ lock.Client client) where
-    paging_alone : (p : Page) → KnowsPaging st now p → HoldsAlone (home.lease ∷ leases_of_paging p) s → (new : Work) (turn : Turn Answer) → (q : StepsPaging home who before after p new turn)
-        → paging_reply home who before after p new turn q ≢ Memory → FindsMemory turn → Goes_on (paging_ask p) new
+    paging_alone : (p : Page) → KnowsPaging st now p → HoldsAlone (home.lease ∷ leases_of_paging p) s → (new : Work) (turn : Turn Answer) → (q : StepsPaging who before after (home, p) new turn)
+        → paging_reply who before after (home, p) new turn q ≢ Memory → FindsMemory turn → Goes_on (paging_ask p) new
     paging_alone p k alone = on
       where
         goes : (a : Reply) → Makes who (paging_ask p) a before after → a ≢ Memory → (new : Work) (left : List Claim) → leases_of new ≡ home.lease ∷ left
@@ -200,7 +200,7 @@ module _ (who : Caller) (before after : Seen) (s t : CloudState) (told : before.
         goes a made found new left e same =
             beside home (paging_ask p) a (leases_of_paging p) made found (paging_other home.lease client is_lock p) (paging_uses st now p k) alone new left e same
 
-        on : (new : Work) (turn : Turn Answer) → (q : StepsPaging home who before after p new turn) → paging_reply home who before after p new turn q ≢ Memory → FindsMemory turn
+        on : (new : Work) (turn : Turn Answer) → (q : StepsPaging who before after (home, p) new turn) → paging_reply who before after (home, p) new turn q ≢ Memory → FindsMemory turn
             → Goes_on (paging_ask p) new
         on new More (m, steps, is, less) found fair =
             goes steps.answer steps.made found new (leases_of_paging m) (ap leases_of is) (paging_holds st now p k steps.answer (Goes m) steps.took)
@@ -211,8 +211,8 @@ module _ (who : Caller) (before after : Seen) (s t : CloudState) (told : before.
             (sym (paging_holds st now p k steps.answer (Stops m q) (steps.took.0 (no_want q fair))))
         on new turn q found fair = absurd q
 
-    folding_alone : (m : Making) → KnowsMaking st now m → HoldsAlone (home.lease ∷ leases_of_making m) s → (new : Work) (turn : Turn Answer) → (q : StepsFolding home who before after m new turn)
-        → folding_reply home who before after m new turn q ≢ Memory → FindsMemory turn → Goes_on (making_ask m) new
+    folding_alone : (m : Making) → KnowsMaking st now m → HoldsAlone (home.lease ∷ leases_of_making m) s → (new : Work) (turn : Turn Answer) → (q : StepsFolding who before after (home, m) new turn)
+        → folding_reply who before after (home, m) new turn q ≢ Memory → FindsMemory turn → Goes_on (making_ask m) new
     folding_alone m k alone = on
       where
         goes : (a : Reply) → Makes who (making_ask m) a before after → a ≢ Memory → (new : Work) (left : List Claim) → leases_of new ≡ home.lease ∷ left
@@ -220,7 +220,7 @@ module _ (who : Caller) (before after : Seen) (s t : CloudState) (told : before.
         goes a made found new left e same =
             beside home (making_ask m) a (leases_of_making m) made found (making_other home.lease client is_lock m) (making_uses st now m k) alone new left e same
 
-        on : (new : Work) (turn : Turn Answer) → (q : StepsFolding home who before after m new turn) → folding_reply home who before after m new turn q ≢ Memory → FindsMemory turn
+        on : (new : Work) (turn : Turn Answer) → (q : StepsFolding who before after (home, m) new turn) → folding_reply who before after (home, m) new turn q ≢ Memory → FindsMemory turn
             → Goes_on (making_ask m) new
         on new More (n, steps, is, less) found fair =
             goes steps.answer steps.made found new (leases_of_making n) (ap leases_of is) (making_holds st now m k steps.answer (Goes n) steps.took)
@@ -319,13 +319,13 @@ module _ (who : Caller) (before after : Seen) (s t : CloudState) (book : Book) (
   found_so work new ask hand goes = (ask, hand, goes.0, goes.1)
 
   by_work : (buffer : List Noted) (work new : Work) (d : Cache) (shown : Shown) (turn : Turn Answer) → old ≡ work → IsAlone work s → (p : StepsAt who before after work new turn)
-      → (q : ShowsAt who before after buffer work kept d new shown turn) → reply_at who before after buffer work kept d new shown turn p q ≢ Memory → FindsMemory turn → StepsAlone work new
+      → (q : ShowsAt who before after (work, kept) (acting_of buffer new d shown) turn) → reply_at who before after (work, kept) (acting_of buffer new d shown) turn p q ≢ Memory → FindsMemory turn → StepsAlone work new
   by_work buffer (Opening r) new d shown turn is alone p q found fair =
       found_so (Opening r) new (recovery_ask r) refl (opening_alone who before after s t told told_after counts st s.now r (stand.parts who.session) (known (Opening r) is) p.0 alone new turn p.1 found fair)
   by_work buffer (Committing r) new d shown turn is alone p q found fair =
       found_so (Committing r) new (run_ask r) refl (commit_alone who before after s t told told_after counts r kept d alone new turn q.0 found fair)
   by_work buffer (Reading home w) new d shown turn is alone p q found fair =
-      found_so (Reading home w) new (walk_ask w) refl (reading_alone who before after s t told told_after counts home alone w kept d new shown turn q found)
+      found_so (Reading home w) new (walk_ask w) refl (reading_alone who before after s t told told_after counts home alone buffer w kept d new shown turn q found)
   by_work buffer (Scanning home l) new d shown turn is alone p q found fair =
       found_so (Scanning home l) new (scan_ask l.scan) refl (scanning_alone who before after s t told told_after counts home alone buffer l kept d new shown turn q found)
   by_work buffer (Looking home l) new d shown turn is alone p q found fair =

@@ -2,7 +2,7 @@
 use Rattle.std.proofs.Common.{◌≡◌, ◌≢◌, ◌≤◌, ◌⊎◌, inl, inr, ℕ, List, [], ◌∷◌, ◌++◌, Option, Some, None, Result, Ok, Err, refl, sym, ap, subst, ◌∙◌}
 use Rattle.ckpt_parts.specs.Deleting.{next_id}
 use Rattle.ckpt_parts.specs.Leasing.{newest_lease, outstanding_after}
-use Rattle.client_work.specs.Session.{Acting, Begins, BeginsIndexed, BeginsOpening, BeginsWith, CommitsIn, CommitsNoted, CommitsOf, Follows, HasInHand, ListsLeaf, LooksIn, ReadsIn, ScansIn, folding_begun_by, old_lease, opening_rule_of, paging_begun_by, stopped_work}
+use Rattle.client_work.specs.Session.{Acting, Begins, BeginsIndexed, BeginsOpening, BeginsWith, CommitsIn, CommitsNoted, CommitsOf, Follows, HasInHand, ListsLeaf, LooksIn, ReadsIn, ScansIn, folding_begun_by, old_lease, opening_rule_of, paging_begun_by, stopped_work, acting_of}
 use Rattle.client_work.specs.declared.answer.Answer.{Answer}
 use Rattle.client_work.specs.declared.answer.Answer.TheVariants as answer
 use Rattle.client_work.specs.declared.answer.Begun.{Begun}
@@ -13,6 +13,7 @@ use Rattle.client_work.specs.declared.op.Op.TheVariants as op
 use Rattle.client_work.specs.declared.shown.Shown.{Shown}
 use Rattle.client_work.specs.declared.work.Work.{Work}
 use Rattle.client_work.specs.declared.work.Work.TheVariants.{Closed, Idle, Opening, Committing, Reading, Scanning, Looking, Folding, Paging, Closing, Renewing, Settling, Sweeping, Broken}
+use Rattle.range_scan.specs.Scan.{new_scan}
 use Rattle.cloud_facts.proofs.Book.Places.{get_single, in_either, in_front, in_behind}
 use Rattle.cloud_facts.specs.Book.Records.{IsIn}
 use Rattle.cloud_facts.specs.Calls.Acting.{of_option}
@@ -239,12 +240,12 @@ pub stopped_leases : (k : Trouble) (home : Home) → leases_of (stopped_work k h
 stopped_leases trouble.Memory home = refl
 stopped_leases k home = refl
 
-pub follows_leases : (home : Home) (buffer : List Noted) (m : Listing) (c : Cache) (moved : Turn ℕ) (new : Work) (shown : Shown) (turn : Turn Answer) → Follows home buffer m c moved new shown turn
+pub follows_leases : (home : Home) (buffer : List Noted) (m : Listing) (c : Cache) (moved : Turn ℕ) (new : Work) (shown : Shown) (turn : Turn Answer) → Follows home m moved (acting_of buffer new c shown) turn
     → leases_of new ≡ home.lease ∷ []
 follows_leases home buffer m c More new shown turn f = ap leases_of f.0
 follows_leases home buffer m c (Ended page) new shown turn f = lists turn f
   where
-    lists : (turn : Turn Answer) → ListsLeaf home buffer m c new shown turn → leases_of new ≡ home.lease ∷ []
+    lists : (turn : Turn Answer) → ListsLeaf home m (acting_of buffer new c shown) turn → leases_of new ≡ home.lease ∷ []
     lists More (all, listed, goes, is, none) = ap leases_of is
     lists (Ended answer.Scan) (all, listed, over, is, some) = ap leases_of is
     lists (Ended (answer.Trouble t)) (memory, is, none) = ap leases_of is
@@ -333,7 +334,7 @@ module _ (old new : Acting) where
   begun_leases op.Commit result b = with_home (CommitsIn old) result commit_leases b
   begun_leases (op.Read tree key) result b = with_home (ReadsIn tree key old) result (read_leases tree key) b
   begun_leases (op.Scan tree from to) result b =
-      with_home (ScansIn tree from to old) result (λ home begun d. follows_leases home old.buffer _ new.cache d.1.moved new.work new.shown d.1.turn d.1.follows) b
+      with_home (ScansIn (new_scan tree from to) old) result (λ home begun d. follows_leases home old.buffer _ new.cache d.1.moved new.work new.shown d.1.turn d.1.follows) b
   begun_leases (op.Lookup tree attr) result b = indexed_leases tree attr result b
   begun_leases (op.Page tree page) result b =
       with_home (λ home. HasInHand old (paging_begun_by tree page home)) result (λ home begun d. ap (λ (a : Acting). leases_of a.work) d.1) b

@@ -1,6 +1,6 @@
 -- An operation that begins is untroubled, and one that is answered at once is answered well.
 use Rattle.std.proofs.Common.{◌≡◌, ◌≤◌, ◌⊎◌, inl, inr, ℕ, List, [], Option, Some, None, Result, Ok, Err, refl, sym, ap, subst}
-use Rattle.client_work.specs.Session.{Acting, Begins, BeginsOpening, BeginsWith, BeginsIndexed, HasInHand, CommitsIn, CommitsOf, CommitsNoted, ReadsIn, ScansIn, LooksIn, ListsLeaf, Follows, begins_by, opening_of, old_lease, stopped_work, paging_begun_by, folding_begun_by}
+use Rattle.client_work.specs.Session.{Acting, Begins, BeginsOpening, BeginsWith, BeginsIndexed, HasInHand, CommitsIn, CommitsOf, CommitsNoted, ReadsIn, ScansIn, LooksIn, ListsLeaf, Follows, begins_by, opening_of, old_lease, stopped_work, paging_begun_by, folding_begun_by, acting_of}
 use Rattle.client_work.specs.declared.answer.Answer.{Answer}
 use Rattle.client_work.specs.declared.answer.Answer.TheVariants as answer
 use Rattle.client_work.specs.declared.answer.Begun.{Begun}
@@ -25,7 +25,7 @@ use Rattle.db_base.specs.declared.trouble.CommitAnswer.TheVariants.{Committed, N
 use Rattle.db_base.specs.declared.trouble.Trouble.{Trouble}
 use Rattle.db_base.specs.declared.trouble.Trouble.TheVariants as trouble
 use Rattle.page_cache.specs.Cache.{Cache}
-use Rattle.range_scan.specs.Scan.{moved_on}
+use Rattle.range_scan.specs.Scan.{moved_on, new_scan}
 use Rattle.recover_run.specs.declared.home.Home.{Home}
 use Rattle.report_types.specs.declared.entry.Entry.{Entry}
 use Rattle.session_facts.specs.Machines.CommitRuns.Stops.{MayStopAtOnce, EndsBy}
@@ -44,14 +44,14 @@ opening_rests client (Some l) = at_rest (opening_of client (Some l)) refl refl
 opening_rests client None = at_rest (opening_of client None) refl refl
 
 -- a scan that goes on, or is answered
-listed_rests : (home : Home) (buffer : List Noted) (m : Listing) (c : Cache) (new : Work) (shown : Shown) (turn : Turn Answer) → ListsLeaf home buffer m c new shown turn → IsAtRest new
+listed_rests : (home : Home) (buffer : List Noted) (m : Listing) (c : Cache) (new : Work) (shown : Shown) (turn : Turn Answer) → ListsLeaf home m (acting_of buffer new c shown) turn → IsAtRest new
 listed_rests home buffer m c new shown More l =
     rests_as new (Scanning home (record { scan = moved_on m.scan; pairs = l.0 })) l.3 (at_rest (Scanning home (record { scan = moved_on m.scan; pairs = l.0 })) refl refl)
 listed_rests home buffer m c new shown (Ended answer.Scan) l = rests_as new (Idle home) l.3 (idle_rests home)
 listed_rests home buffer m c new shown (Ended (answer.Trouble t)) l = rests_as new (Broken home.lease) l.1 (at_rest (Broken home.lease) refl refl)
 listed_rests home buffer m c new shown turn never = absurd never
 
-scan_rests : (home : Home) (buffer : List Noted) (m : Listing) (c : Cache) (moved : Turn ℕ) (new : Work) (shown : Shown) (turn : Turn Answer) → Follows home buffer m c moved new shown turn
+scan_rests : (home : Home) (buffer : List Noted) (m : Listing) (c : Cache) (moved : Turn ℕ) (new : Work) (shown : Shown) (turn : Turn Answer) → Follows home m moved (acting_of buffer new c shown) turn
     → IsAtRest new
 scan_rests home buffer m c More new shown turn f = rests_as new (Scanning home m) f.0 (at_rest (Scanning home m) refl refl)
 scan_rests home buffer m c (Ended page) new shown turn f = listed_rests home buffer m c new shown turn f
@@ -115,7 +115,7 @@ begins_untroubled t op.Renew old new result b well =
 begins_untroubled t op.Commit old new result b well = begun_rests t (CommitsIn old) old new result (λ home begun does. commit_rests home old new begun does.1) b well
 begins_untroubled t (op.Read tree key) old new result b well = begun_rests t (ReadsIn tree key old) old new result (λ home begun. read_rests home tree key old new begun) b well
 begins_untroubled t (op.Scan tree from to) old new result b well =
-    begun_rests t (ScansIn tree from to old) old new result
+    begun_rests t (ScansIn (new_scan tree from to) old) old new result
     (λ home begun does. scan_rests home old.buffer (record { scan = does.1.scan; pairs = [] }) new.cache does.1.moved new.work new.shown does.1.turn does.1.follows) b well
 begins_untroubled t (op.Lookup tree attr) old new result b well = looks_rest t tree attr old new result b well
 begins_untroubled t (op.Page tree page) old new result b well =
@@ -183,27 +183,27 @@ module _ (book : Book) (order : List Entry) (s : CloudState) (sessions : Session
   looks_at_once tree attr home a is few idle (same, never) = absurd never
 
   -- a scan
-  scans_at_once : (tree : ℕ) (from to : Option (List ℕ)) (home : Home) (a : Answer) → IsTree tree → old.work ≡ Idle home → ScansIn tree from to old home new (Answered a)
+  scans_at_once : (tree : ℕ) (from to : Option (List ℕ)) (home : Home) (a : Answer) → IsTree tree → old.work ≡ Idle home → ScansIn (new_scan tree from to) old home new (Answered a)
       → IsAtOnce s (op.Scan tree from to) a
   scans_at_once tree from to home a is idle does = on a does does.1.moved does.1.turn does.1.follows does.1.begins
     where
       same : (b c : Answer) → c ≡ b → IsAtOnce s (op.Scan tree from to) b → IsAtOnce s (op.Scan tree from to) c
       same b c e at = subst (IsAtOnce s (op.Scan tree from to)) (sym e) at
 
-      stopped : (c : Answer) (t : Trouble) → ScansIn tree from to old home new (Answered c) → c ≡ answer.Trouble t → IsAtOnce s (op.Scan tree from to) c
+      stopped : (c : Answer) (t : Trouble) → ScansIn (new_scan tree from to) old home new (Answered c) → c ≡ answer.Trouble t → IsAtOnce s (op.Scan tree from to) c
       stopped c t does e =
           same (answer.Trouble t) c e
-          (begin_stops book order s sessions session new stand (op.Scan tree from to) t is (home, idle, subst (λ x. ScansIn tree from to old home new (Answered x)) e does))
+          (begin_stops book order s sessions session new stand (op.Scan tree from to) t is (home, idle, subst (λ x. ScansIn (new_scan tree from to) old home new (Answered x)) e does))
 
-      lists : (c : Answer) → ScansIn tree from to old home new (Answered c) → (turn : Turn Answer) → ListsLeaf home old.buffer (record { scan = does.1.scan; pairs = [] }) new.cache new.work new.shown turn
+      lists : (c : Answer) → ScansIn (new_scan tree from to) old home new (Answered c) → (turn : Turn Answer) → ListsLeaf home (record { scan = does.1.scan; pairs = [] }) (acting_of old.buffer new.work new.cache new.shown) turn
           → begins_by turn (Answered c) → IsAtOnce s (op.Scan tree from to) c
       lists c does More listed begun = absurd (cc)
       lists c does (Ended answer.Scan) listed begun = same answer.Scan c (answer_is c answer.Scan begun) tt
       lists c does (Ended (answer.Trouble t)) listed begun = stopped c t does (answer_is c (answer.Trouble t) begun)
       lists c does turn never begun = absurd never
 
-      on : (c : Answer) → ScansIn tree from to old home new (Answered c) → (moved : Turn ℕ) (turn : Turn Answer)
-          → Follows home old.buffer (record { scan = does.1.scan; pairs = [] }) new.cache moved new.work new.shown turn → begins_by turn (Answered c) → IsAtOnce s (op.Scan tree from to) c
+      on : (c : Answer) → ScansIn (new_scan tree from to) old home new (Answered c) → (moved : Turn ℕ) (turn : Turn Answer)
+          → Follows home (record { scan = does.1.scan; pairs = [] }) moved (acting_of old.buffer new.work new.cache new.shown) turn → begins_by turn (Answered c) → IsAtOnce s (op.Scan tree from to) c
       on c does More turn (work_is, none, more) begun = absurd (working (subst (λ x. begins_by x (Answered c)) more begun))
         where
           working : (let x : Begun = Answered c in x ≡ Working) → ⊥

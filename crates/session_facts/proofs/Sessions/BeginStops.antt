@@ -1,7 +1,7 @@
 -- The begin of an operation that is answered at once stops for want of memory alone, and a commit ends so with no damage.
 use Rattle.std.proofs.Common.{◌≡◌, ◌≢◌, ◌⊎◌, inl, inr, ℕ, false, List, [], Option, Some, Ok, sym, subst, ◌∙◌}
 use Rattle.attr_index.specs.Look.{look_ready}
-use Rattle.client_work.specs.Session.{Acting, Begins, HasInHand, CommitsNoted, ReadsIn, LooksIn, ScansIn, ListsLeaf, Follows, begins_by, paging_begun_by, folding_begun_by}
+use Rattle.client_work.specs.Session.{Acting, Begins, HasInHand, CommitsNoted, ReadsIn, LooksIn, ScansIn, ListsLeaf, Follows, begins_by, paging_begun_by, folding_begun_by, acting_of}
 use Rattle.client_work.specs.declared.answer.Answer.{Answer}
 use Rattle.client_work.specs.declared.answer.Answer.TheVariants as answer
 use Rattle.client_work.specs.declared.answer.Begun.{Begun}
@@ -103,14 +103,14 @@ module _ (book : Book) (order : List Entry) (s : CloudState) (sessions : Session
       by_memory t
       (λ other. let stops = leads other in goes_not (look_ready (record { tree = tree; attr = attr }) old.cache) begins.0 (stops.0, new.cache) t begins.1 stops.1)
 
-  scan_stops : (tree : ℕ) (from to : Option (List ℕ)) (home : Home) (t : Trouble) → IsTree tree → old.work ≡ Idle home → ScansIn tree from to old home new (Answered (answer.Trouble t))
+  scan_stops : (tree : ℕ) (from to : Option (List ℕ)) (home : Home) (t : Trouble) → IsTree tree → old.work ≡ Idle home → ScansIn (new_scan tree from to) old home new (Answered (answer.Trouble t))
       → t ≡ trouble.Memory
   scan_stops tree from to home t is idle (same, p) = on p.moved p.turn p.moves p.follows p.begins
     where
       ready : (m : Scan × Cache) × (scan_ready (new_scan tree from to, old.cache) ≡ Goes m)
       ready = let b = scan_begins st stand.cloud.holds.chains tree from to old.cache is (cache_known home idle) in (b.0, b.1)
 
-      lists : (turn : Turn Answer) → ListsLeaf home old.buffer (record { scan = p.scan; pairs = [] }) new.cache new.work new.shown turn → begins_by turn (Answered (answer.Trouble t))
+      lists : (turn : Turn Answer) → ListsLeaf home (record { scan = p.scan; pairs = [] }) (acting_of old.buffer new.work new.cache new.shown) turn → begins_by turn (Answered (answer.Trouble t))
           → t ≡ trouble.Memory
       lists (Ended (answer.Trouble q)) (memory, broken, none) begun = trouble_is t q begun ∙ memory
       lists (Ended answer.Scan) listed begun = absurd (cc)
@@ -126,7 +126,7 @@ module _ (book : Book) (order : List Entry) (s : CloudState) (sessions : Session
       lists (Ended (answer.Swept x)) never begun = absurd never
 
       on : (moved : Turn ℕ) (turn : Turn Answer) → Moves (scan_ready (new_scan tree from to, old.cache)) (p.scan, new.cache) moved
-          → Follows home old.buffer (record { scan = p.scan; pairs = [] }) new.cache moved new.work new.shown turn → begins_by turn (Answered (answer.Trouble t)) → t ≡ trouble.Memory
+          → Follows home (record { scan = p.scan; pairs = [] }) moved (acting_of old.buffer new.work new.cache new.shown) turn → begins_by turn (Answered (answer.Trouble t)) → t ≡ trouble.Memory
       on More turn moves (work_is, none, more) begun = absurd (working (subst (λ x. begins_by x (Answered (answer.Trouble t))) more begun))
         where
           working : (let x : Begun = Answered (answer.Trouble t) in x ≡ Working) → ⊥
@@ -162,10 +162,10 @@ module _ (book : Book) (order : List Entry) (s : CloudState) (sessions : Session
       subst (EndsWell (MayStopAtOnce s)) leads
       (ready_ends_by (MayStopAtOnce s) tt book order s stand.cloud (near_told book order s stand.cloud) s.now (stand.parts session) home old.buffer old.cache (home_known home idle) (stand.each session).buffer (cache_known home idle))
 
-  scan_no_end : (tree : ℕ) (from to : Option (List ℕ)) (home : Home) (a : CommitAnswer) → ScansIn tree from to old home new (Answered (answer.Commit a)) → ⊥
+  scan_no_end : (tree : ℕ) (from to : Option (List ℕ)) (home : Home) (a : CommitAnswer) → ScansIn (new_scan tree from to) old home new (Answered (answer.Commit a)) → ⊥
   scan_no_end tree from to home a (same, p) = on p.moved p.turn p.follows p.begins
     where
-      lists : (turn : Turn Answer) → ListsLeaf home old.buffer (record { scan = p.scan; pairs = [] }) new.cache new.work new.shown turn → begins_by turn (Answered (answer.Commit a)) → ⊥
+      lists : (turn : Turn Answer) → ListsLeaf home (record { scan = p.scan; pairs = [] }) (acting_of old.buffer new.work new.cache new.shown) turn → begins_by turn (Answered (answer.Commit a)) → ⊥
       lists (Ended (answer.Commit b)) never begun = never
       lists (Ended (answer.Trouble q)) listed begun = cc
       lists (Ended answer.Scan) listed begun = cc
@@ -188,7 +188,7 @@ module _ (book : Book) (order : List Entry) (s : CloudState) (sessions : Session
       troubled : (q : Trouble) → (let x : Begun = Answered (answer.Commit a) in let y : Begun = Answered (answer.Trouble q) in x ≡ y) → ⊥
       troubled q e = cc
 
-      on : (moved : Turn ℕ) (turn : Turn Answer) → Follows home old.buffer (record { scan = p.scan; pairs = [] }) new.cache moved new.work new.shown turn → begins_by turn (Answered (answer.Commit a)) → ⊥
+      on : (moved : Turn ℕ) (turn : Turn Answer) → Follows home (record { scan = p.scan; pairs = [] }) moved (acting_of old.buffer new.work new.cache new.shown) turn → begins_by turn (Answered (answer.Commit a)) → ⊥
       on More turn (work_is, none, more) begun = working (at turn More more begun)
       on (Ended page) turn listed begun = lists turn listed begun
       on (Stopped q) turn (work_is, none, stopped) begun = troubled q (at turn (Ended (answer.Trouble q)) stopped begun)

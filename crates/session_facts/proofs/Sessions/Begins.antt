@@ -2,7 +2,7 @@
 use Rattle.std.specs.Prelude.{false}
 use Rattle.std.proofs.Common.{◌≡◌, ◌≢◌, ◌≤◌, ◌⊎◌, inl, inr, ℕ, List, [], ◌∷◌, length, Option, Some, None, Result, Ok, Err, refl, sym, ap, subst, ◌∙◌}
 use Rattle.attr_index.specs.Look.{Query, look_ready}
-use Rattle.client_work.specs.Session.{Acting, closed_session, settling_session, sweeping_session, ReadsIn, ReadsOf, LooksIn, LooksOf, ScansIn, ScansOf, Follows, ListsLeaf, stopped_work, Begins, BeginsOpening, BeginsWith, BeginsIndexed, HasInHand, folding_begun_by, paging_begun_by, opening_rule_of, opening_of, old_lease, CommitsOf, CommitsNoted, CommitsIn}
+use Rattle.client_work.specs.Session.{Acting, closed_session, settling_session, sweeping_session, ReadsIn, ReadsOf, LooksIn, LooksOf, ScansIn, ScansOf, Follows, ListsLeaf, stopped_work, Begins, BeginsOpening, BeginsWith, BeginsIndexed, HasInHand, folding_begun_by, paging_begun_by, opening_rule_of, opening_of, old_lease, CommitsOf, CommitsNoted, CommitsIn, acting_of}
 use Rattle.client_work.specs.declared.answer.Answer.{Answer}
 use Rattle.client_work.specs.declared.answer.Answer.TheVariants as answer
 use Rattle.client_work.specs.declared.answer.Begun.{Begun}
@@ -277,7 +277,7 @@ module _ (book : Book) (order : List Entry) (s : CloudState) (sessions : Session
       subst (WalkLeads st MayStopWalk) (sym begins.1) begins.2
 
   reads_of : (tree : ℕ) (key : List ℕ) (home : Home) (new : Acting) (begun : Begun) → IsTree tree → old.work ≡ Idle home → new.buffer ≡ old.buffer
-      → ReadsOf home (new_walk tree (Some key) false) old.cache new.cache new.work new.shown begun → After new
+      → ReadsOf home (new_walk tree (Some key) false, old.cache) (new.work, new.cache) new.shown begun → After new
   reads_of tree key home new Working is idle same (m, leads, e, none) =
       let k : KnowsWalking st m new.cache = subst (WalkLeads st MayStopWalk) leads (walks tree key home is idle) in
       hands_on new (Reading home m) (same_buffer new same) e (mine home idle) ((home_known home idle, k.walk), k.cache)
@@ -312,7 +312,7 @@ module _ (book : Book) (order : List Entry) (s : CloudState) (sessions : Session
     goes_on_well m e k looks = hands_on new (Scanning home m) (same_buffer new same) e (mine home idle) ((home_known home idle, k), looks)
 
     lists_well : (m : Scan) (page : ℕ) (turn : Turn Answer) → KnowsScanning st m new.cache → IsAtScannedLeaf st m new.cache page
-        → ListsLeaf home old.buffer (record { scan = m; pairs = [] }) new.cache new.work new.shown turn → After new
+        → ListsLeaf home (record { scan = m; pairs = [] }) (acting_of old.buffer new.work new.cache new.shown) turn → After new
     lists_well m page More k there (all, listed, goes, e, none) =
         goes_on_well (record { scan = moved_on m; pairs = all }) e (scan_moves_on st m k.scan new.cache page there) k.cache
     lists_well m page (Ended answer.Scan) k there (all, listed, over, e, some) =
@@ -329,7 +329,7 @@ module _ (book : Book) (order : List Entry) (s : CloudState) (sessions : Session
     lists_well m page (Ended (answer.Swept x)) k there never = absurd never
 
     follows_well : (m : Scan) (moved : Turn ℕ) (turn : Turn Answer) → Moves (scan_ready (new_scan tree from to, old.cache)) (m, new.cache) moved
-        → Follows home old.buffer (record { scan = m; pairs = [] }) new.cache moved new.work new.shown turn → After new
+        → Follows home (record { scan = m; pairs = [] }) moved (acting_of old.buffer new.work new.cache new.shown) turn → After new
     follows_well m More turn leads (e, none, more) =
         let k : KnowsScanning st m new.cache = subst (ScanLeads st MayStopWalk) leads scans in
         goes_on_well (record { scan = m; pairs = [] }) e k.scan k.cache
@@ -339,11 +339,11 @@ module _ (book : Book) (order : List Entry) (s : CloudState) (sessions : Session
     follows_well m (Stopped t) turn leads (e, none, stopped) =
         stops_well home t new idle same e (λ other. let k : KnowsCache st new.cache × MayStopWalk t = subst (ScanLeads st MayStopWalk) (leads other) scans in k.0)
 
-    scans_of : (begun : Begun) → ScansOf home old.buffer (new_scan tree from to) old.cache new.cache new.work new.shown begun → After new
+    scans_of : (begun : Begun) → ScansOf home (new_scan tree from to) old.cache (acting_of old.buffer new.work new.cache new.shown) begun → After new
     scans_of begun p = follows_well p.scan p.moved p.turn p.moves p.follows
 
-  begins_scan : (tree : ℕ) (from to : Option (List ℕ)) (new : Acting) (result : Result Begun Refused) → IsTree tree → BeginsWith (ScansIn tree from to old) old new result → After new
-  begins_scan tree from to new result is = begins_with (ScansIn tree from to old) new result (λ home begun idle d. scans_of tree from to home new is idle d.0 begun d.1)
+  begins_scan : (tree : ℕ) (from to : Option (List ℕ)) (new : Acting) (result : Result Begun Refused) → IsTree tree → BeginsWith (ScansIn (new_scan tree from to) old) old new result → After new
+  begins_scan tree from to new result is = begins_with (ScansIn (new_scan tree from to) old) new result (λ home begun idle d. scans_of tree from to home new is idle d.0 begun d.1)
 
   -- ---- a look-up
 
@@ -357,7 +357,7 @@ module _ (book : Book) (order : List Entry) (s : CloudState) (sessions : Session
         let begins = look_begins st stand.cloud.holds.chains query old.cache is (cache_known home idle) in
         subst (LookLeads st MayStopWalk) (sym begins.1) begins.2
 
-    looks_of : (begun : Begun) → LooksOf home query old.cache new.cache new.work new.shown begun → After new
+    looks_of : (begun : Begun) → LooksOf home query old.cache (new.work, new.cache) new.shown begun → After new
     looks_of Working (m, leads, e, none) =
         let k : KnowsLooking st m new.cache = subst (LookLeads st MayStopWalk) leads looks in
         hands_on new (Looking home m) (same_buffer new same) e (mine home idle) ((home_known home idle, k.look), k.cache)

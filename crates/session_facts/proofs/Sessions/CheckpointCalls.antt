@@ -1,7 +1,7 @@
 -- The checkpoints of sessions from call to call: each makes few.
 use Rattle.std.proofs.Common.{◌≡◌, ◌≢◌, ◌+◌, ◌≤◌, ◌⊎◌, inl, inr, ℕ, List, [], ◌∷◌, Option, Some, None, Ok, refl, sym, subst, ◌∙◌, arith}
 use Rattle.std.proofs.lemmas.Bool.{cases_eq}
-use Rattle.client_work.specs.Session.{Acting, Asks, Follows, ScansLess, StepsSession, StepsAt, StepsFolding, StepsPaging, opened_work, committed_work, stopped_work}
+use Rattle.client_work.specs.Session.{Acting, Asks, Follows, ScansLess, StepsSession, StepsAt, StepsFolding, StepsPaging, opened_work, committed_work, stopped_work, acting_of}
 use Rattle.client_work.specs.declared.answer.Answer.{Answer}
 use Rattle.client_work.specs.declared.answer.Answer.TheVariants as answer
 use Rattle.client_work.specs.declared.listing.Listing.{Listing}
@@ -151,7 +151,7 @@ other_goes who before after (Idle home) new is p = absurd p
 other_goes who before after (Broken l) new is p = absurd p
 
 scan_ended : (home : Home) (buffer : List Noted) (m : Listing) (c : Cache) (moved : Turn ℕ) (new : Work) (shown : Shown) (a : Answer)
-    → Follows home buffer m c moved new shown (Ended a) → IsOther new
+    → Follows home m moved (acting_of buffer new c shown) (Ended a) → IsOther new
 scan_ended home buffer m c More new shown a f = absurd (cc (f.2))
 scan_ended home buffer m c (Ended page) new shown answer.Scan (all, listed, over, e, shows) = other_by new (Idle home) e tt
 scan_ended home buffer m c (Ended page) new shown (answer.Trouble t) f = other_by new (Broken home.lease) f.1 tt
@@ -240,7 +240,7 @@ module _ (who : Caller) (before after : Seen) (s t : CloudState) (book : Book) (
               subst (λ (a : Acting). Knows (store_of next order_next t) t.now a (stand_next.parts who.session)) (at_same who.session new sessions who.session refl)
               (stand_next.each who.session)
 
-      goes_by : CameTold s m → StepsFolding home who before after m new.work More → CountsWork (calls + 1) t new.work
+      goes_by : CameTold s m → StepsFolding who before after (home, m) new.work More → CountsWork (calls + 1) t new.work
       goes_by came (n, steps, works, less) = subst (λ (w : Work). CountsWork (calls + 1) t w) (sym works) (
         record {
           early = let was = k.early in omega (arith, was, less);
@@ -254,13 +254,13 @@ module _ (who : Caller) (before after : Seen) (s t : CloudState) (book : Book) (
       )
 
     -- whatever a step comes to
-    call_made : (work : Work) (turn : Turn Answer) → StepsFolding home who before after m work turn → Asks (making_ask m) who before after
+    call_made : (work : Work) (turn : Turn Answer) → StepsFolding who before after (home, m) work turn → Asks (making_ask m) who before after
     call_made work More (n, steps, works, less) = record { answer = steps.answer; made = steps.made }
     call_made work (Ended (answer.Done done)) (n, steps, works) = record { answer = steps.answer; made = steps.made }
     call_made work (Ended (answer.Trouble t)) (n, steps, works) = record { answer = steps.answer; made = steps.made }
     call_made work turn never = absurd never
 
-    few_by : (work : Work) (turn : Turn Answer) → StepsFolding home who before after m work turn → IsFew (calls + 1) m.received t m.tree
+    few_by : (work : Work) (turn : Turn Answer) → StepsFolding who before after (home, m) work turn → IsFew (calls + 1) m.received t m.tree
     few_by work turn steps =
         let asks = call_made work turn steps in
         ends_few m.tree calls s t who asks.answer m.work m.received book order stand.cloud known (asked asks.answer asks.made) (grows m.tree) k.made
@@ -268,7 +268,7 @@ module _ (who : Caller) (before after : Seen) (s t : CloudState) (book : Book) (
   -- ---- the checkpoint of a page
 
   module _ (calls : ℕ) (home : Home) (p : Page) (k : CameBy calls s p) where
-    page_goes : (work : Work) → StepsPaging home who before after p work More → CountsWork (calls + 1) t work
+    page_goes : (work : Work) → StepsPaging who before after (home, p) work More → CountsWork (calls + 1) t work
     page_goes work (n, steps, works, less) = subst (λ (w : Work). CountsWork (calls + 1) t w) (sym works) (record {
       tree = k.tree;
       page = k.page;
@@ -310,15 +310,15 @@ module _ (who : Caller) (before after : Seen) (s t : CloudState) (book : Book) (
   -- a tree checkpoint that is done named its pieces
   pub session_names : (calls : ℕ → ℕ) (new : Acting) (turn : Turn Answer) → CountsAll calls s sessions → StepsSession who before after (sessions who.session) new (Ok turn)
       → (home : Home) (m : Making) (x : CkptAnswer) → (sessions who.session).work ≡ Folding home m → turn ≡ Ended (answer.Done x) → NamesPieces s m x
-  session_names calls new turn all p home m x works ends = on (subst (λ (u : Turn Answer). StepsFolding home who before after m new.work u) ends folds)
+  session_names calls new turn all p home m x works ends = on (subst (λ (u : Turn Answer). StepsFolding who before after (home, m) new.work u) ends folds)
     where
-      folds : StepsFolding home who before after m new.work turn
+      folds : StepsFolding who before after (home, m) new.work turn
       folds = subst (λ (w : Work). StepsAt who before after w new.work turn) works p.work
 
       came : CameTold s m
       came = (subst (λ (w : Work). CountsWork (calls who.session) s w) works (all who.session)).1
 
-      on : StepsFolding home who before after m new.work (Ended (answer.Done x)) → NamesPieces s m x
+      on : StepsFolding who before after (home, m) new.work (Ended (answer.Done x)) → NamesPieces s m x
       on (n, steps, is) = told_names who before after s told m came steps.answer steps.made n x steps.took
 
   -- a step leaves each session counted

@@ -166,7 +166,7 @@ module _ (who : Caller) (before after : Seen) (s t : CloudState) (book : Book) (
   same_cache : (c : Cache) → c ≡ kept → KnowsCache st kept → KnowsCache st c
   same_cache c same k = subst (KnowsCache st) (sym same) k
 
-  works : (work : Work) (turn : Turn Answer) (c : Cache) → old ≡ work → StepsAt who before after work new.work turn → ShowsAt who before after new.buffer work kept c new.work new.shown turn
+  works : (work : Work) (turn : Turn Answer) (c : Cache) → old ≡ work → StepsAt who before after work new.work turn → ShowsAt who before after (work, kept) (record new { cache = c }) turn
       → new.cache ≡ shown_behind new.work c → Goes book order s t sessions who.session new
   works (Opening r) turn c is steps shown left =
       goes_by (recovery_ask r) (λ a. a) c (ap ask_of_work is)
@@ -184,7 +184,7 @@ module _ (who : Caller) (before after : Seen) (s t : CloudState) (book : Book) (
       (sym (ap (λ q. noted_at q (walk_ask w) (audit_of book order)) is ∙ nothing_noted (Reading home w) (walk_ask w) (audit_of book order) refl refl)) left
       (subst (Stepped (walk_ask w) (λ a. a) c) (sym is)
       (reading_step who before after book order s t stand.parts home w (setting_at (Reading home w) is) (λ later. (known_in (Reading home w) is later).0) (known_now (Reading home w) is).1
-      kept c (cache_now (Reading home w) is) told told_after new.work new.shown turn shown))
+      kept c (cache_now (Reading home w) is) told told_after new.buffer new.work new.shown turn shown))
   works (Scanning home m) turn c is steps shown left =
       goes_by (scan_ask m.scan) (λ a. a) c (ap ask_of_work is)
       (sym (ap (λ q. noted_at q (scan_ask m.scan) (audit_of book order)) is ∙ nothing_noted (Scanning home m) (scan_ask m.scan) (audit_of book order) refl refl)) left

@@ -1,6 +1,6 @@
 -- The one call of a step was made, and was answered so.
 use Rattle.std.proofs.Common.{◌≡◌, List, Some, Ok, refl}
-use Rattle.client_work.specs.Session.{Acting, ShowsAt, StepsAt, StepsSession, ask_of_work}
+use Rattle.client_work.specs.Session.{Acting, ShowsAt, StepsAt, StepsSession, ask_of_work, acting_of}
 use Rattle.client_work.specs.declared.answer.Answer.{Answer}
 use Rattle.client_work.specs.declared.answer.Answer.TheVariants as answer
 use Rattle.client_work.specs.declared.shown.Shown.{Shown}
@@ -33,7 +33,7 @@ pub record IsReplied (who : Caller) (before after : Seen) (w : Work) (reply : Re
   pub made : Makes who ask reply before after
 
 replied_at : (who : Caller) (before after : Seen) (buffer : List Noted) (old : Work) (c d : Cache) (new : Work) (shown : Shown) (turn : Turn Answer) → (p : StepsAt who before after old new turn)
-    → (q : ShowsAt who before after buffer old c d new shown turn) → IsReplied who before after old (reply_at who before after buffer old c d new shown turn p q)
+    → (q : ShowsAt who before after (old, c) (acting_of buffer new d shown) turn) → IsReplied who before after old (reply_at who before after (old, c) (acting_of buffer new d shown) turn p q)
 replied_at who before after buffer (Opening m) c d new shown More p q = record { ask = recovery_ask m; hand = refl; made = p.1.1.made }
 replied_at who before after buffer (Opening m) c d new shown (Ended (answer.Opened epoch)) p q = record { ask = recovery_ask m; hand = refl; made = p.1.1.made }
 replied_at who before after buffer (Opening m) c d new shown (Ended (answer.Trouble k)) p q = record { ask = recovery_ask m; hand = refl; made = p.1.1.made }

@@ -1,7 +1,7 @@
 -- A session is answered with no trouble that only damage could cause, and a commit ends with none.
 use Rattle.std.proofs.Common.{◌≡◌, ◌≢◌, ◌≤◌, ◌⊎◌, inl, inr, ℕ, List, [], ◌∷◌, Some, Result, Ok, Err, refl, sym, subst}
 use Rattle.attr_index.specs.Look.{Look, look_ask}
-use Rattle.client_work.specs.Session.{Acting, StepsSession, StepsAt, ShowsAt, StepsOpening, StepsCommit, ReadsBy, LooksBy, Follows, StepsScanning, StepsPaging, StepsFolding, StepsSettling, StepsSweeping}
+use Rattle.client_work.specs.Session.{Acting, StepsSession, StepsAt, ShowsAt, StepsOpening, StepsCommit, ReadsBy, LooksBy, Follows, StepsScanning, StepsPaging, StepsFolding, StepsSettling, StepsSweeping, acting_of, in_hand}
 use Rattle.client_work.specs.Shows.{own_of}
 use Rattle.client_work.specs.declared.answer.Answer.{Answer}
 use Rattle.client_work.specs.declared.answer.Answer.TheVariants as answer
@@ -129,23 +129,23 @@ module _ (who : Caller) (before after : Seen) (s t : CloudState) (book : Book) (
       or_memory MayStopOpening k tt
       (λ other. opening_stops st t.now r (stand.parts who.session) steps.answer (known_in (Opening r) is call.later) m k (steps.took.0 other))
 
-  commit_may : (r : Run) → old ≡ Committing r → (c : Cache) (work : Work) (k : Trouble) → StepsCommit who before after r kept c work (Ended (answer.Trouble k)) → MayStopCommit k
+  commit_may : (r : Run) → old ≡ Committing r → (c : Cache) (work : Work) (k : Trouble) → StepsCommit who before after (r, kept) (work, c) (Ended (answer.Trouble k)) → MayStopCommit k
   commit_may r is c work k (m, steps, broken) =
       let call = called (run_ask r) steps.answer steps.made in
       or_memory MayStopCommit k tt
       (λ other. subst (EndsWell MayStopCommit) (steps.took.0 other)
       (run_ends book order s stand.cloud who t (r, kept) (stand.parts who.session) steps.answer (known_in (Committing r) is call.later) call))
 
-  reading_may : (home : Home) (w : Walk) → old ≡ Reading home w → (d : Cache) (work : Work) (shown : Shown) (k : Trouble) → ReadsBy home who before after w kept d work shown (Ended (answer.Trouble k))
+  reading_may : (home : Home) (w : Walk) → old ≡ Reading home w → (buffer : List Noted) (d : Cache) (work : Work) (shown : Shown) (k : Trouble) → ReadsBy who before after (in_hand home w kept) (acting_of buffer work d shown) (Ended (answer.Trouble k))
       → MayStopWalk k
-  reading_may home w is d work shown k (m, steps, left, none) =
+  reading_may home w is buffer d work shown k (m, steps, left, none) =
       let call = called (walk_ask w) steps.answer steps.made in
       or_memory MayStopWalk k tt
       (λ other. walk_stops book order s stand.cloud who w kept steps.answer t (m, d) k call
       (record { walk = (known_now (Reading home w) is).1; cache = cache_now (Reading home w) is }) (steps.took.0 other))
 
   scanning_may : (home : Home) (l : Listing) → old ≡ Scanning home l → (buffer : List Noted) (d : Cache) (work : Work) (shown : Shown) (k : Trouble)
-      → StepsScanning home buffer who before after l kept d work shown (Ended (answer.Trouble k)) → MayStopWalk k
+      → StepsScanning who before after (in_hand home l kept) (acting_of buffer work d shown) (Ended (answer.Trouble k)) → MayStopWalk k
   scanning_may home l is buffer d work shown k p = on p.moved p.steps.took p.follows
     where
       call : IsCall who (scan_ask l.scan) p.steps.answer s t
@@ -158,7 +158,7 @@ module _ (who : Caller) (before after : Seen) (s t : CloudState) (book : Book) (
       never e = cc
 
       on : (moved : Turn ℕ) → Took (LeadsBy scan_next) KeepsServed (l.scan, kept) p.steps.answer (p.scan, d) moved
-          → Follows home buffer (record { scan = p.scan; pairs = l.pairs }) d moved work shown (Ended (answer.Trouble k)) → MayStopWalk k
+          → Follows home (record { scan = p.scan; pairs = l.pairs }) moved (acting_of buffer work d shown) (Ended (answer.Trouble k)) → MayStopWalk k
       on More took (work_is, none, more) = absurd (never more)
       on (Ended page) took (memory, broken, none) = subst MayStopWalk (sym memory) tt
       on (Stopped q) took (work_is, none, stopped) =
@@ -168,21 +168,21 @@ module _ (who : Caller) (before after : Seen) (s t : CloudState) (book : Book) (
           (record { scan = (known_now (Scanning home l) is).1; cache = cache_now (Scanning home l) is }) (took.0 other)).1))
 
   looking_may : (home : Home) (l : Look) → old ≡ Looking home l → (buffer : List Noted) (d : Cache) (work : Work) (shown : Shown) (k : Trouble)
-      → LooksBy home buffer who before after l kept d work shown (Ended (answer.Trouble k)) → MayStopWalk k
+      → LooksBy who before after (in_hand home l kept) (acting_of buffer work d shown) (Ended (answer.Trouble k)) → MayStopWalk k
   looking_may home l is buffer d work shown k (m, steps, left, none) =
       let call = called (look_ask l) steps.walked.answer steps.walked.made in
       or_memory MayStopWalk k tt
       (λ other. look_stops book order s stand.cloud who (own_of home buffer) l kept steps.walked.answer t (m, d) k call
       (record { look = (known_now (Looking home l) is).1; cache = cache_now (Looking home l) is }) (steps.took.0 other))
 
-  folding_may : (home : Home) (m : Making) → old ≡ Folding home m → (work : Work) (k : Trouble) → StepsFolding home who before after m work (Ended (answer.Trouble k)) → MayStopTree k
+  folding_may : (home : Home) (m : Making) → old ≡ Folding home m → (work : Work) (k : Trouble) → StepsFolding who before after (home, m) work (Ended (answer.Trouble k)) → MayStopTree k
   folding_may home m is work k (n, steps, left) =
       let call = called (making_ask m) steps.answer steps.made in
       or_memory MayStopTree k tt
       (λ other. making_stops who s t book order stand.parts (leases_of (Folding home m)) m steps.answer (setting_at (Folding home m) is call.later)
       (λ x there. in_behind (home.lease ∷ []) (leases_of_making m) x there) (known_now (Folding home m) is).1 call n k (steps.took.0 other))
 
-  paging_may : (home : Home) (p : Page) → old ≡ Paging home p → (work : Work) (k : Trouble) → StepsPaging home who before after p work (Ended (answer.Trouble k)) → MayStopPage p.page k
+  paging_may : (home : Home) (p : Page) → old ≡ Paging home p → (work : Work) (k : Trouble) → StepsPaging who before after (home, p) work (Ended (answer.Trouble k)) → MayStopPage p.page k
   paging_may home p is work k (q, steps, left) =
       let call = called (paging_ask p) steps.answer steps.made in
       or_memory (MayStopPage p.page) k tt
@@ -204,10 +204,10 @@ module _ (who : Caller) (before after : Seen) (s t : CloudState) (book : Book) (
   -- ---- the whole
 
   by_work : (buffer : List Noted) (work new : Work) (c : Cache) (shown : Shown) (k : Trouble) → old ≡ work → StepsAt who before after work new (Ended (answer.Trouble k))
-      → ShowsAt who before after buffer work kept c new shown (Ended (answer.Trouble k)) → MayAnswer work k
+      → ShowsAt who before after (work, kept) (acting_of buffer new c shown) (Ended (answer.Trouble k)) → MayAnswer work k
   by_work buffer (Opening r) new c shown k is steps shows = opening_may r is new k steps.1
   by_work buffer (Committing r) new c shown k is steps shows = commit_may r is c new k shows.0
-  by_work buffer (Reading home w) new c shown k is steps shows = reading_may home w is c new shown k shows
+  by_work buffer (Reading home w) new c shown k is steps shows = reading_may home w is buffer c new shown k shows
   by_work buffer (Scanning home l) new c shown k is steps shows = scanning_may home l is buffer c new shown k shows
   by_work buffer (Looking home l) new c shown k is steps shows = looking_may home l is buffer c new shown k shows
   by_work buffer (Folding home m) new c shown k is steps shows = folding_may home m is new k steps
@@ -226,20 +226,20 @@ module _ (who : Caller) (before after : Seen) (s t : CloudState) (book : Book) (
 
   -- ---- a commit
 
-  commit_ends : (r : Run) → old ≡ Committing r → (c : Cache) (work : Work) (a : CommitAnswer) → StepsCommit who before after r kept c work (Ended (answer.Commit a)) → MayEnd a
+  commit_ends : (r : Run) → old ≡ Committing r → (c : Cache) (work : Work) (a : CommitAnswer) → StepsCommit who before after (r, kept) (work, c) (Ended (answer.Commit a)) → MayEnd a
   commit_ends r is c work a (m, steps, left) =
       let call = called (run_ask r) steps.answer steps.made in
       subst (EndsWell MayStopCommit) steps.took
       (run_ends book order s stand.cloud who t (r, kept) (stand.parts who.session) steps.answer (known_in (Committing r) is call.later) call)
 
   by_commit : (buffer : List Noted) (work new : Work) (c : Cache) (shown : Shown) (a : CommitAnswer) → old ≡ work → StepsAt who before after work new (Ended (answer.Commit a))
-      → ShowsAt who before after buffer work kept c new shown (Ended (answer.Commit a)) → MayEnd a
+      → ShowsAt who before after (work, kept) (acting_of buffer new c shown) (Ended (answer.Commit a)) → MayEnd a
   by_commit buffer (Committing r) new c shown a is steps shows = commit_ends r is c new a shows.0
   by_commit buffer (Opening r) new c shown a is never shows = absurd never.1
   by_commit buffer (Reading home w) new c shown a is never shows = absurd never
   by_commit buffer (Scanning home l) new c shown a is steps shows = absurd (lists shows.moved shows.follows)
     where
-      lists : (moved : Turn ℕ) → Follows home buffer (record { scan = shows.scan; pairs = l.pairs }) c moved new shown (Ended (answer.Commit a)) → ⊥
+      lists : (moved : Turn ℕ) → Follows home (record { scan = shows.scan; pairs = l.pairs }) moved (acting_of buffer new c shown) (Ended (answer.Commit a)) → ⊥
       lists More (work_is, none, more) = cc
       lists (Ended page) never = never
       lists (Stopped q) (work_is, none, stopped) = cc

@@ -1,7 +1,7 @@
 -- A calm step leaves a session untroubled, and brings no answer that a call brought about.
 use Rattle.std.proofs.Common.{◌≡◌, ◌≢◌, ◌≤◌, ◌<◌, ◌⊎◌, inl, inr, ℕ, List, Option, Some, None, Ok, refl, sym, ap, subst, ◌∙◌, arith}
 use Rattle.cloud_trait.specs.Calm.{NamesLasting, TakesFree}
-use Rattle.client_work.specs.Session.{Acting, StepsSession, StepsAt, ShowsAt, Follows, ListsLeaf, ask_of_work, opened_work, committed_work, stopped_work}
+use Rattle.client_work.specs.Session.{Acting, StepsSession, StepsAt, ShowsAt, Follows, ListsLeaf, ask_of_work, opened_work, committed_work, stopped_work, acting_of}
 use Rattle.client_work.specs.declared.answer.Answer.{Answer}
 use Rattle.client_work.specs.declared.answer.Answer.TheVariants as answer
 use Rattle.client_work.specs.declared.listing.Listing.{Listing}
@@ -343,7 +343,7 @@ committed_rests (Committed txn) home = idle_rests home
 committed_rests (NotCommitted t) home = idle_rests home
 
 -- a scan that is answered
-follows_rests : (home : Home) (buffer : List Noted) (m : Listing) (c : Cache) (moved : Turn ℕ) (new : Work) (shown : Shown) (a : Answer) → Follows home buffer m c moved new shown (Ended a)
+follows_rests : (home : Home) (buffer : List Noted) (m : Listing) (c : Cache) (moved : Turn ℕ) (new : Work) (shown : Shown) (a : Answer) → Follows home m moved (acting_of buffer new c shown) (Ended a)
     → IsAtRest new
 follows_rests home buffer m c More new shown a f = absurd (goes_on a f.2)
   where
@@ -351,7 +351,7 @@ follows_rests home buffer m c More new shown a f = absurd (goes_on a f.2)
     goes_on a e = cc
 follows_rests home buffer m c (Ended page) new shown a f = lists a f
   where
-    lists : (a : Answer) → ListsLeaf home buffer m c new shown (Ended a) → IsAtRest new
+    lists : (a : Answer) → ListsLeaf home m (acting_of buffer new c shown) (Ended a) → IsAtRest new
     lists answer.Scan l = rests_as new (Idle home) l.3 (idle_rests home)
     lists (answer.Trouble t) l = rests_as new (Broken home.lease) l.1 (at_rest (Broken home.lease) refl refl)
     lists a never = absurd never
@@ -397,14 +397,14 @@ answered_rests who before after (Broken lease) new a p = absurd p
 -- ---- the end of a commit
 
 scan_no_commit : (home : Home) (buffer : List Noted) (m : Listing) (c : Cache) (moved : Turn ℕ) (new : Work) (shown : Shown) (a : CommitAnswer)
-    → Follows home buffer m c moved new shown (Ended (answer.Commit a)) → ⊥
+    → Follows home m moved (acting_of buffer new c shown) (Ended (answer.Commit a)) → ⊥
 scan_no_commit home buffer m c More new shown a f = cc (f.2)
 scan_no_commit home buffer m c (Ended page) new shown a never = never
 scan_no_commit home buffer m c (Stopped t) new shown a f = cc (f.2)
 
 tells_at : (who : Caller) (before after : Seen) (buffer : List Noted) (w : Work) (c d : Cache) (new : Work) (shown : Shown) (a : CommitAnswer)
-    → (p : StepsAt who before after w new (Ended (answer.Commit a))) → (q : ShowsAt who before after buffer w c d new shown (Ended (answer.Commit a)))
-    → reply_at who before after buffer w c d new shown (Ended (answer.Commit a)) p q ≢ Memory → IsTold a
+    → (p : StepsAt who before after w new (Ended (answer.Commit a))) → (q : ShowsAt who before after (w, c) (acting_of buffer new d shown) (Ended (answer.Commit a)))
+    → reply_at who before after (w, c) (acting_of buffer new d shown) (Ended (answer.Commit a)) p q ≢ Memory → IsTold a
 tells_at who before after buffer (Committing m) c d new shown a p q found = subst EndsTold q.0.1.took (run_tells (m, c) q.0.1.answer found)
 tells_at who before after buffer (Opening m) c d new shown a p q found = absurd p.1
 tells_at who before after buffer (Reading home m) c d new shown a p q found = absurd p

@@ -1,7 +1,7 @@
 -- The steps of session 0, which settles: each leads along its parts, and the last one to the end.
 use Rattle.std.proofs.Common.{◌≡◌, ◌≢◌, ℕ, List, Some, Ok, refl, sym, ap, subst, ◌∙◌, arith}
 use Rattle.cloud_trait.specs.Calm.{IsCalm, NamesLasting}
-use Rattle.client_work.specs.Session.{Acting, closed_session, settling_session, StepsSession, StepsAt, ShowsAt}
+use Rattle.client_work.specs.Session.{Acting, closed_session, settling_session, StepsSession, StepsAt, ShowsAt, acting_of}
 use Rattle.client_work.specs.declared.answer.Answer.{Answer}
 use Rattle.client_work.specs.declared.answer.Answer.TheVariants as answer
 use Rattle.client_work.specs.declared.shown.Shown.{Shown}
@@ -57,8 +57,8 @@ same_settling : (k m : Settling) → work.Settling k ≡ work.Settling m → k �
 same_settling k m e = cc (e)
 
 stepped : (who : Caller) (before after : Seen) (buffer : List Noted) (old : Work) (c d : Cache) (new : Work) (shown : Shown) (turn : Turn Answer)
-    → (p : StepsAt who before after old new turn) → (q : ShowsAt who before after buffer old c d new shown turn) → (m : Settling) → old ≡ work.Settling m
-    → IsStep who before after m (reply_at who before after buffer old c d new shown turn p q) new turn
+    → (p : StepsAt who before after old new turn) → (q : ShowsAt who before after (old, c) (acting_of buffer new d shown) turn) → (m : Settling) → old ≡ work.Settling m
+    → IsStep who before after m (reply_at who before after (old, c) (acting_of buffer new d shown) turn p q) new turn
 stepped who before after buffer (work.Settling k) c d new shown More p q m e =
     subst (λ (x : Settling). IsStep who before after x p.1.1.did.answer new More) (same_settling k m e) (p.1.1.did.made, (p.1.0, (p.1.1.did.took, p.1.2)))
 stepped who before after buffer (work.Settling k) c d new shown (Ended (answer.Settled x)) p q m e =

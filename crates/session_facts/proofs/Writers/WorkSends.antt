@@ -11,7 +11,7 @@ use Rattle.client_work.specs.declared.shown.Shown.{Shown}
 use Rattle.client_work.specs.declared.work.Work.{Work}
 use Rattle.client_work.specs.declared.work.Work.TheVariants.{Closed, Idle, Opening, Committing, Reading, Scanning, Looking, Paging, Folding, Closing, Renewing, Settling, Sweeping, Broken}
 use Rattle.attr_index.specs.Look.{Query}
-use Rattle.client_work.specs.Session.{LooksOf, Acting, Begins, CommitsNoted, CommitsOf, Follows, ListsLeaf, ReadsOf, StepsAt, StepsCommit, ask_of_work, committed_work, stopped_work}
+use Rattle.client_work.specs.Session.{LooksOf, Acting, Begins, CommitsNoted, CommitsOf, Follows, ListsLeaf, ReadsOf, StepsAt, StepsCommit, ask_of_work, committed_work, stopped_work, acting_of}
 use Rattle.cloud_trait.specs.Caller.{Caller}
 use Rattle.cloud_trait.specs.Seen.{Seen}
 use Rattle.cloud_trait.specs.declared.turn.Turn.{Turn}
@@ -64,7 +64,7 @@ pub record SendsOn (n : ℕ) (old new : Work) (turn : Turn Answer) : Type 0 wher
 same_left : (n : ℕ) (old new : Work) (turn : Turn Answer) → hand_sends (ask_of_work old) ≡ 0 → SendsAtMost n new → IsNoDone turn → SendsOn n old new turn
 same_left n old new turn none leaves no_done = record { left = n; spent = omega (arith, none); leaves = leaves; none_done = no_done }
 
-commit_spends : (n : ℕ) (who : Caller) (before after : Seen) (m : Run) (c d : Cache) (new : Work) (turn : Turn Answer) → StepsCommit who before after m c d new turn → sends_left m ≤ n
+commit_spends : (n : ℕ) (who : Caller) (before after : Seen) (m : Run) (c d : Cache) (new : Work) (turn : Turn Answer) → StepsCommit who before after (m, c) (new, d) turn → sends_left m ≤ n
     → SendsOn n (Committing m) new turn
 commit_spends n who before after m c d new More (k, steps, is, less) few =
     let s = run_spends n (m, c) steps.answer few in
@@ -82,7 +82,7 @@ commit_spends n who before after m c d new (Ended (answer.Trouble t)) (k, steps,
     record { left = s.left; spent = s.spent; leaves = is_as s.left new (Broken (home_of k).lease) is tt; none_done = tt }
 commit_spends n who before after m c d new turn never few = absurd never
 
-listed_sends : (n : ℕ) (home : Home) (buffer : List Noted) (m : Listing) (c : Cache) (new : Work) (shown : Shown) (turn : Turn Answer) → ListsLeaf home buffer m c new shown turn
+listed_sends : (n : ℕ) (home : Home) (buffer : List Noted) (m : Listing) (c : Cache) (new : Work) (shown : Shown) (turn : Turn Answer) → ListsLeaf home m (acting_of buffer new c shown) turn
     → SendsAtMost n new × IsNoDone turn
 listed_sends n home buffer m c new shown More (all, listed, goes, is, none) = (is_as n new _ is tt, tt)
 listed_sends n home buffer m c new shown (Ended answer.Scan) (all, listed, goes, is, none) = (is_as n new (Idle home) is tt, tt)
@@ -90,7 +90,7 @@ listed_sends n home buffer m c new shown (Ended (answer.Trouble t)) (memory, is,
 listed_sends n home buffer m c new shown turn never = absurd never
 
 scan_sends : (n : ℕ) (home : Home) (buffer : List Noted) (m : Listing) (c : Cache) (moved : Turn ℕ) (new : Work) (shown : Shown) (turn : Turn Answer)
-    → Follows home buffer m c moved new shown turn → SendsAtMost n new × IsNoDone turn
+    → Follows home m moved (acting_of buffer new c shown) turn → SendsAtMost n new × IsNoDone turn
 scan_sends n home buffer m c More new shown turn (is, none, same) = (is_as n new (Scanning home m) is tt, subst IsNoDone (sym same) tt)
 scan_sends n home buffer m c (Ended page) new shown turn lists = listed_sends n home buffer m c new shown turn lists
 scan_sends n home buffer m c (Stopped t) new shown turn (is, none, same) = (is_as n new (stopped_work t home) is (stopped_none n t home), subst IsNoDone (sym same) tt)
@@ -168,13 +168,13 @@ commits_noted : (n : ℕ) (home : Home) (buffer : List Noted) (old c : Cache) (n
 commits_noted n home buffer old c new begun few (inl nothing) = is_as n new (Idle home) nothing.work_is tt
 commits_noted n home buffer old c new begun few (inr (some, commits)) = commits_of n home buffer old c new begun few commits
 
-reads_of : (n : ℕ) (home : Home) (start : Walk) (old c : Cache) (new : Work) (shown : Shown) (begun : Begun) → ReadsOf home start old c new shown begun → SendsAtMost n new
+reads_of : (n : ℕ) (home : Home) (start : Walk) (old c : Cache) (new : Work) (shown : Shown) (begun : Begun) → ReadsOf home (start, old) (new, c) shown begun → SendsAtMost n new
 reads_of n home start old c new shown Working (m, ready, is, none) = is_as n new (Reading home m) is tt
 reads_of n home start old c new shown (Answered answer.Value) (m, page, ready, is, none) = is_as n new (Idle home) is tt
 reads_of n home start old c new shown (Answered (answer.Trouble t)) (m, ready, is, none) = is_as n new (stopped_work t home) is (stopped_none n t home)
 reads_of n home start old c new shown (Answered a) never = absurd never
 
-looks_of : (n : ℕ) (home : Home) (q : Query) (old c : Cache) (new : Work) (shown : Shown) (begun : Begun) → LooksOf home q old c new shown begun → SendsAtMost n new
+looks_of : (n : ℕ) (home : Home) (q : Query) (old c : Cache) (new : Work) (shown : Shown) (begun : Begun) → LooksOf home q old (new, c) shown begun → SendsAtMost n new
 looks_of n home q old c new shown Working (m, ready, is, none) = is_as n new (Looking home m) is tt
 looks_of n home q old c new shown (Answered (answer.Trouble t)) (ready, is, none) = is_as n new (stopped_work t home) is (stopped_none n t home)
 looks_of n home q old c new shown (Answered a) never = absurd never

@@ -1,7 +1,7 @@
 -- The one service call of a step of a session, and what the step explains of it.
 use Rattle.std.specs.Prelude.{ℕ, ◌≡◌, ◌≢◌, ◌⊎◌, List, Some, None, Ok}
 use Rattle.attr_index.specs.Look.{Look}
-use Rattle.client_work.specs.Session.{Acting, StepsSession, StepsAt, ShowsAt, StepsOpening, StepsCommit, ReadsBy, LooksBy, StepsPaging, StepsFolding, StepsClosing, StepsRenewing, StepsSettling, StepsSweeping, ask_of_work}
+use Rattle.client_work.specs.Session.{Acting, StepsSession, StepsAt, ShowsAt, StepsOpening, StepsCommit, ReadsBy, LooksBy, StepsPaging, StepsFolding, StepsClosing, StepsRenewing, StepsSettling, StepsSweeping, ask_of_work, in_hand, InHand}
 use Rattle.client_work.specs.declared.answer.Answer.{Answer}
 use Rattle.client_work.specs.declared.answer.Answer.TheVariants as answer
 use Rattle.client_work.specs.declared.shown.Shown.{Shown}
@@ -40,37 +40,40 @@ opening_reply who before after m work (Ended (answer.Opened epoch)) p = p.1.answ
 opening_reply who before after m work (Ended (answer.Trouble k)) p = p.1.answer
 opening_reply who before after m work turn p = absurd p
 
-abbrev pub commit_reply : (who : Caller) (before after : Seen) (r : Run) (kept c : Cache) (work : Work) (turn : Turn Answer) → StepsCommit who before after r kept c work turn → Reply
-commit_reply who before after r kept c work More p = p.1.answer
-commit_reply who before after r kept c work (Ended (answer.Commit a)) p = p.1.answer
-commit_reply who before after r kept c work (Ended (answer.Trouble k)) p = p.1.answer
-commit_reply who before after r kept c work turn p = absurd p
+abbrev pub commit_reply : (who : Caller) (before after : Seen) (old : Run × Cache) (new : Work × Cache) (turn : Turn Answer)
+    → StepsCommit who before after old new turn → Reply
+commit_reply who before after old new More p = p.1.answer
+commit_reply who before after old new (Ended (answer.Commit a)) p = p.1.answer
+commit_reply who before after old new (Ended (answer.Trouble k)) p = p.1.answer
+commit_reply who before after old new turn p = absurd p
 
-abbrev pub reading_reply : (home : Home) (who : Caller) (before after : Seen) (w : Walk) (kept c : Cache) (work : Work) (shown : Shown) (turn : Turn Answer)
-    → ReadsBy home who before after w kept c work shown turn → Reply
-reading_reply home who before after w kept c work shown More p = p.1.answer
-reading_reply home who before after w kept c work shown (Ended answer.Value) p = p.2.answer
-reading_reply home who before after w kept c work shown (Ended (answer.Trouble k)) p = p.1.answer
-reading_reply home who before after w kept c work shown turn p = absurd p
+abbrev pub reading_reply : (who : Caller) (before after : Seen) (old : InHand Walk) (new : Acting) (turn : Turn Answer)
+    → ReadsBy who before after old new turn → Reply
+reading_reply who before after old new More p = p.1.answer
+reading_reply who before after old new (Ended answer.Value) p = p.2.answer
+reading_reply who before after old new (Ended (answer.Trouble k)) p = p.1.answer
+reading_reply who before after old new turn p = absurd p
 
-abbrev pub looking_reply : (home : Home) (buffer : List Noted) (who : Caller) (before after : Seen) (l : Look) (kept c : Cache) (work : Work) (shown : Shown) (turn : Turn Answer)
-    → LooksBy home buffer who before after l kept c work shown turn → Reply
-looking_reply home buffer who before after l kept c work shown More p = p.1.walked.answer
-looking_reply home buffer who before after l kept c work shown (Ended answer.Scan) p = p.1.walked.answer
-looking_reply home buffer who before after l kept c work shown (Ended (answer.Trouble k)) p = p.1.walked.answer
-looking_reply home buffer who before after l kept c work shown turn p = absurd p
+abbrev pub looking_reply : (who : Caller) (before after : Seen) (old : InHand Look) (new : Acting) (turn : Turn Answer)
+    → LooksBy who before after old new turn → Reply
+looking_reply who before after old new More p = p.1.walked.answer
+looking_reply who before after old new (Ended answer.Scan) p = p.1.walked.answer
+looking_reply who before after old new (Ended (answer.Trouble k)) p = p.1.walked.answer
+looking_reply who before after old new turn p = absurd p
 
-abbrev pub paging_reply : (home : Home) (who : Caller) (before after : Seen) (p : Page) (work : Work) (turn : Turn Answer) → StepsPaging home who before after p work turn → Reply
-paging_reply home who before after p work More steps = steps.1.answer
-paging_reply home who before after p work (Ended (answer.Done n)) steps = steps.1.answer
-paging_reply home who before after p work (Ended (answer.Trouble k)) steps = steps.1.answer
-paging_reply home who before after p work turn steps = absurd steps
+abbrev pub paging_reply : (who : Caller) (before after : Seen) (old : Home × Page) (work : Work) (turn : Turn Answer)
+    → StepsPaging who before after old work turn → Reply
+paging_reply who before after old work More p = p.1.answer
+paging_reply who before after old work (Ended (answer.Done n)) p = p.1.answer
+paging_reply who before after old work (Ended (answer.Trouble k)) p = p.1.answer
+paging_reply who before after old work turn p = absurd p
 
-abbrev pub folding_reply : (home : Home) (who : Caller) (before after : Seen) (m : Making) (work : Work) (turn : Turn Answer) → StepsFolding home who before after m work turn → Reply
-folding_reply home who before after m work More p = p.1.answer
-folding_reply home who before after m work (Ended (answer.Done n)) p = p.1.answer
-folding_reply home who before after m work (Ended (answer.Trouble k)) p = p.1.answer
-folding_reply home who before after m work turn p = absurd p
+abbrev pub folding_reply : (who : Caller) (before after : Seen) (old : Home × Making) (work : Work) (turn : Turn Answer)
+    → StepsFolding who before after old work turn → Reply
+folding_reply who before after old work More p = p.1.answer
+folding_reply who before after old work (Ended (answer.Done n)) p = p.1.answer
+folding_reply who before after old work (Ended (answer.Trouble k)) p = p.1.answer
+folding_reply who before after old work turn p = absurd p
 
 abbrev pub closing_reply : (lease : Claim) (who : Caller) (before after : Seen) (work : Work) (turn : Turn Answer) → StepsClosing lease who before after work turn → Reply
 closing_reply lease who before after work (Ended answer.Closed) p = p.0.answer
@@ -95,28 +98,28 @@ sweeping_reply who before after m work (Ended (answer.Trouble k)) p = p.1.did.an
 sweeping_reply who before after m work turn p = absurd p
 
 -- whatever was at work
-abbrev pub reply_at : (who : Caller) (before after : Seen) (buffer : List Noted) (old : Work) (c d : Cache) (new : Work) (shown : Shown) (turn : Turn Answer) → StepsAt who before after old new turn
-    → ShowsAt who before after buffer old c d new shown turn → Reply
-reply_at who before after buffer (Opening m) c d new shown turn p q = opening_reply who before after m new turn p.1
-reply_at who before after buffer (Committing m) c d new shown turn p q = commit_reply who before after m c d new turn q.0
-reply_at who before after buffer (Reading home m) c d new shown turn p q = reading_reply home who before after m c d new shown turn q
-reply_at who before after buffer (Scanning home m) c d new shown turn p q = q.steps.answer
-reply_at who before after buffer (Looking home m) c d new shown turn p q = looking_reply home buffer who before after m c d new shown turn q
-reply_at who before after buffer (Paging home m) c d new shown turn p q = paging_reply home who before after m new turn p
-reply_at who before after buffer (Folding home m) c d new shown turn p q = folding_reply home who before after m new turn p
-reply_at who before after buffer (Closing lease) c d new shown turn p q = closing_reply lease who before after new turn p
-reply_at who before after buffer (Renewing home) c d new shown turn p q = renewing_reply home who before after new turn p
-reply_at who before after buffer (Settling m) c d new shown turn p q = settling_reply who before after m new turn p.1
-reply_at who before after buffer (Sweeping m) c d new shown turn p q = sweeping_reply who before after m new turn p
-reply_at who before after buffer Closed c d new shown turn p q = absurd p
-reply_at who before after buffer (Idle home) c d new shown turn p q = absurd p
-reply_at who before after buffer (Broken lease) c d new shown turn p q = absurd p
+abbrev pub reply_at : (who : Caller) (before after : Seen) (old : Work × Cache) (new : Acting) (turn : Turn Answer)
+    → StepsAt who before after old.0 new.work turn → ShowsAt who before after old new turn → Reply
+reply_at who before after (Opening m, c) new turn p q = opening_reply who before after m new.work turn p.1
+reply_at who before after (Committing m, c) new turn p q = commit_reply who before after (m, c) (new.work, new.cache) turn q.0
+reply_at who before after (Reading home m, c) new turn p q = reading_reply who before after (in_hand home m c) new turn q
+reply_at who before after (Scanning home m, c) new turn p q = q.steps.answer
+reply_at who before after (Looking home m, c) new turn p q = looking_reply who before after (in_hand home m c) new turn q
+reply_at who before after (Paging home m, c) new turn p q = paging_reply who before after (home, m) new.work turn p
+reply_at who before after (Folding home m, c) new turn p q = folding_reply who before after (home, m) new.work turn p
+reply_at who before after (Closing lease, c) new turn p q = closing_reply lease who before after new.work turn p
+reply_at who before after (Renewing home, c) new turn p q = renewing_reply home who before after new.work turn p
+reply_at who before after (Settling m, c) new turn p q = settling_reply who before after m new.work turn p.1
+reply_at who before after (Sweeping m, c) new turn p q = sweeping_reply who before after m new.work turn p
+reply_at who before after (Closed, c) new turn p q = absurd p
+reply_at who before after (Idle home, c) new turn p q = absurd p
+reply_at who before after (Broken lease, c) new turn p q = absurd p
 
 -- ---- a step of a session
 
 -- what the call of a step answered
 abbrev pub reply_of : (who : Caller) (before after : Seen) (old new : Acting) (turn : Turn Answer) → StepsSession who before after old new (Ok turn) → Reply
-reply_of who before after old new turn p = reply_at who before after new.buffer old.work old.cache p.shown.0 new.work new.shown turn p.work p.shown.1
+reply_of who before after old new turn p = reply_at who before after (old.work, old.cache) (record new { cache = p.shown.0 }) turn p.work p.shown.1
 
 -- the lease that is given back next is over
 abbrev pub GivesLateBack : Work → ℕ → Type 0

@@ -74,6 +74,6 @@ never_in (First w) d c a n x fits took is =
 never_in (Change w) d c a n x fits took is =
     never_walk w c a d.writes.changes n.0 no_attempt (subst (TellsOf (WalkCause w c a d.writes.changes n.0)) is (walk_causes false d w c a n (Ended x) fits took)) refl
 
-pub steps_unspent : (who : Caller) (before after : Seen) (m : Run) (c d : Cache) (work : Work) (x : CommitAnswer) → StepsCommit who before after m c d work (Ended (answer.Commit x))
+pub steps_unspent : (who : Caller) (before after : Seen) (m : Run) (c d : Cache) (work : Work) (x : CommitAnswer) → StepsCommit who before after (m, c) (work, d) (Ended (answer.Commit x))
     → x ≢ NotCommitted no_attempt
 steps_unspent who before after m c d work x p = never_in m.hand m.draft c p.1.answer (p.0, d) x p.1.made.fits p.1.took

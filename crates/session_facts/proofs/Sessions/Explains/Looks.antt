@@ -2,7 +2,7 @@
 use Rattle.std.proofs.Common.{◌≡◌, ◌≢◌, List, Some, None, refl, sym, ap, subst, ◌∙◌}
 use Rattle.std.proofs.lemmas.Option.{same_Some}
 use Rattle.attr_index.specs.Look.{Look, look_ask}
-use Rattle.client_work.specs.Session.{LooksBy}
+use Rattle.client_work.specs.Session.{LooksBy, acting_of, in_hand}
 use Rattle.client_work.specs.Shows.{own_of}
 use Rattle.client_work.specs.declared.answer.Answer.{Answer}
 use Rattle.client_work.specs.declared.answer.Answer.TheVariants as answer
@@ -42,7 +42,7 @@ module _ (who : Caller) (before after : Seen) (s t : CloudState) (book : Book) (
   abbrev ShowsLook : Trouble → Type 0
   ShowsLook k = IsShown (look_ask l) (leases_of (Looking home l)) (spent_for (Looking home l)) before.counts after.counts s t k
 
-  pub looking_explains : (buffer : List Noted) (d : Cache) (work : Work) (shown : Shown) (turn : Turn Answer) → LooksBy home buffer who before after l kept d work shown turn → Explained work turn
+  pub looking_explains : (buffer : List Noted) (d : Cache) (work : Work) (shown : Shown) (turn : Turn Answer) → LooksBy who before after (in_hand home l kept) (acting_of buffer work d shown) turn → Explained work turn
   looking_explains buffer d work shown More (m, steps, work_is, none, less) =
       goes_explains (look_ask l) before.counts after.counts s t (Looking home l) work refl (ap trouble_in work_is) (ap left_in work_is)
   looking_explains buffer d work shown (Ended answer.Scan) (m, steps, work_is, some) =

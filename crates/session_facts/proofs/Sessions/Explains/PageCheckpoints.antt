@@ -74,7 +74,7 @@ module _ (who : Caller) (before after : Seen) (s t : CloudState) (told : before.
           (steps.took.0 (λ memory. other (sym same ∙ memory))) k same
 
   -- a step of a page checkpoint, where there was memory for its call
-  pub paging_explains : (turn : Turn Answer) (steps : StepsPaging home who before after p work turn) → paging_reply home who before after p work turn steps ≢ Memory → Does turn
+  pub paging_explains : (turn : Turn Answer) (steps : StepsPaging who before after (home, p) work turn) → paging_reply who before after (home, p) work turn steps ≢ Memory → Does turn
   paging_explains More steps found = goes_on steps.0 steps.1 found steps.2
   paging_explains (Ended (answer.Done n)) steps found = ends n steps.0 steps.1 found steps.2
   paging_explains (Ended (answer.Trouble q)) steps found = stops q steps.0 steps.1 steps.2

@@ -1,7 +1,7 @@
 -- A step of a session explains what it brought.
 use Rattle.std.proofs.Common.{◌≡◌, ◌≢◌, ◌≤◌, ◌⊎◌, ℕ, List, Some, None, Ok, refl, sym, subst, ◌∙◌}
 use Rattle.attr_index.specs.Look.{look_ask}
-use Rattle.client_work.specs.Session.{Acting, StepsSession, StepsAt, ShowsAt, ask_of_work}
+use Rattle.client_work.specs.Session.{Acting, StepsSession, StepsAt, ShowsAt, ask_of_work, acting_of}
 use Rattle.client_work.specs.declared.answer.Answer.{Answer}
 use Rattle.client_work.specs.declared.shown.Shown.{Shown}
 use Rattle.client_work.specs.declared.work.Work.{Work}
@@ -100,7 +100,7 @@ module _ (who : Caller) (before after : Seen) (s t : CloudState) (book : Book) (
       → Rose before.counts.withheld after.counts.withheld ⊎ WaitsLate new turn t.now
 
   by_work : (buffer : List Noted) (work new : Work) (c : Cache) (shown : Shown) (turn : Turn Answer) → old ≡ work → (steps : StepsAt who before after work new turn)
-      → (shows : ShowsAt who before after buffer work kept c new shown turn) → Explained work new turn (reply_at who before after buffer work kept c new shown turn steps shows)
+      → (shows : ShowsAt who before after (work, kept) (acting_of buffer new c shown) turn) → Explained work new turn (reply_at who before after (work, kept) (acting_of buffer new c shown) turn steps shows)
   by_work buffer (Opening r) new c shown turn is steps shows =
       (recovery_ask r, refl, λ found. opening_explains who before after s t book order sessions told told_after stand r is steps.0 new turn steps.1)
   by_work buffer (Committing r) new c shown turn is steps shows = (
@@ -111,7 +111,7 @@ module _ (who : Caller) (before after : Seen) (s t : CloudState) (book : Book) (
   )
   by_work buffer (Reading home w) new c shown turn is steps shows =
       let knows : KnowsWalking st w kept = record { walk = (known_now (Reading home w) is).1; cache = cache_now (Reading home w) is } in
-      (walk_ask w, refl, λ found. reading_explains who before after s t book order told told_after stand.cloud home w kept knows c new shown turn shows)
+      (walk_ask w, refl, λ found. reading_explains who before after s t book order told told_after stand.cloud home w kept knows buffer c new shown turn shows)
   by_work buffer (Scanning home l) new c shown turn is steps shows =
       let knows : KnowsScanning st l.scan kept = record { scan = (known_now (Scanning home l) is).1; cache = cache_now (Scanning home l) is } in
       (scan_ask l.scan, refl, λ found. scanning_explains who before after s t book order told told_after stand.cloud home l kept knows buffer c new shown turn shows)

@@ -71,7 +71,7 @@ module _ (who : Caller) (before after : Seen) (s t : CloudState) (told : before.
         shown none k other same =
             making_shows who before after s t told told_after (leases_of (Folding home m)) (IsSpentInTree m.tree) reply st now m knows made tells (λ what is. is) (Stops n q) (leads (λ memory. other (sym same ∙ memory))) none k same
 
-  making_explains : (work : Work) (turn : Turn Answer) → (steps : StepsFolding home who before after m work turn) → folding_reply home who before after m work turn steps ≢ Memory
+  making_explains : (work : Work) (turn : Turn Answer) → (steps : StepsFolding who before after (home, m) work turn) → folding_reply who before after (home, m) work turn steps ≢ Memory
       → Explained work turn
   making_explains work More (n, steps, is, less) found = subst (λ (w : Work). Explained w More) (sym is) (goes_on steps.answer steps.made found n steps.took)
   making_explains work (Ended (answer.Done done)) (n, steps, is) found =
@@ -96,8 +96,8 @@ module _ (who : Caller) (before after : Seen) (s t : CloudState) (book : Book) (
   abbrev old : Work
   old = (sessions who.session).work
 
-  pub folding_explains : (home : Home) (m : Making) → old ≡ Folding home m → HasAll s t → (work : Work) (turn : Turn Answer) → (steps : StepsFolding home who before after m work turn)
-      → folding_reply home who before after m work turn steps ≢ Memory → Explains (making_ask m) before.counts after.counts s t (Folding home m) work turn
+  pub folding_explains : (home : Home) (m : Making) → old ≡ Folding home m → HasAll s t → (work : Work) (turn : Turn Answer) → (steps : StepsFolding who before after (home, m) work turn)
+      → folding_reply who before after (home, m) work turn steps ≢ Memory → Explains (making_ask m) before.counts after.counts s t (Folding home m) work turn
   folding_explains home m is grown work turn steps found =
       making_explains who before after s t told told_after (store_of book order s) s.now home m known (told_later book order s t stand.cloud grown) work turn steps found
     where

@@ -1,6 +1,6 @@
 -- Why a read, a scan or a commit is answered with a trouble: its call shows it.
 use Rattle.std.proofs.Common.{◌≡◌, ◌≢◌, ◌≤◌, inl, inr, ℕ, List, Option, Some, None, refl, sym, ap, subst, ◌∙◌, arith}
-use Rattle.client_work.specs.Session.{StepsCommit, ReadsBy, ListsLeaf, Follows, StepsScanning, committed_work}
+use Rattle.client_work.specs.Session.{StepsCommit, ReadsBy, ListsLeaf, Follows, StepsScanning, committed_work, acting_of, in_hand}
 use Rattle.client_work.specs.declared.answer.Answer.{Answer}
 use Rattle.client_work.specs.declared.answer.Answer.TheVariants as answer
 use Rattle.client_work.specs.declared.listing.Listing.{Listing}
@@ -100,12 +100,12 @@ module _ (who : Caller) (before after : Seen) (s t : CloudState) (book : Book) (
     abbrev ShowsRead : Trouble → Type 0
     ShowsRead k = IsShown (walk_ask w) (leases_of (Reading home w)) (spent_for (Reading home w)) before.counts after.counts s t k
 
-    pub reading_explains : (d : Cache) (work : Work) (shown : Shown) (turn : Turn Answer) → ReadsBy home who before after w kept d work shown turn → Explained work turn
-    reading_explains d work shown More (m, steps, work_is, none) =
+    pub reading_explains : (buffer : List Noted) (d : Cache) (work : Work) (shown : Shown) (turn : Turn Answer) → ReadsBy who before after (in_hand home w kept) (acting_of buffer work d shown) turn → Explained work turn
+    reading_explains buffer d work shown More (m, steps, work_is, none) =
         goes_explains (walk_ask w) before.counts after.counts s t (Reading home w) work refl (ap trouble_in work_is) (ap left_in work_is)
-    reading_explains d work shown (Ended answer.Value) (m, page, steps, at, work_is, none) =
+    reading_explains buffer d work shown (Ended answer.Value) (m, page, steps, at, work_is, none) =
         ends_explains (walk_ask w) before.counts after.counts s t (Reading home w) work refl (ap trouble_in work_is) answer.Value refl (λ k e other. absurd (no_trouble None k refl e))
-    reading_explains d work shown (Ended (answer.Trouble q)) (m, steps, work_is, none) =
+    reading_explains buffer d work shown (Ended (answer.Trouble q)) (m, steps, work_is, none) =
         ends_explains (walk_ask w) before.counts after.counts s t (Reading home w) work refl (ap trouble_in work_is ∙ stopped_none q home) (answer.Trouble q) refl
         (λ k e other. subst ShowsRead (same_Some q k e) (stops (λ memory. other (sym (same_Some q k e) ∙ memory))))
       where
@@ -113,15 +113,15 @@ module _ (who : Caller) (before after : Seen) (s t : CloudState) (book : Book) (
         stops other =
             (subst (WalkLeads st ShowsRead) (steps.took.0 other)
             (walk_shown book order s stands who before after t told told_after (leases_of (Reading home w)) (spent_for (Reading home w)) w kept known steps.answer steps.made)).1
-    reading_explains d work shown (Stopped q) never = absurd never
-    reading_explains d work shown (Ended (answer.Opened epoch)) never = absurd never
-    reading_explains d work shown (Ended answer.Closed) never = absurd never
-    reading_explains d work shown (Ended (answer.Renewed end)) never = absurd never
-    reading_explains d work shown (Ended (answer.Done n)) never = absurd never
-    reading_explains d work shown (Ended (answer.Commit a)) never = absurd never
-    reading_explains d work shown (Ended answer.Scan) never = absurd never
-    reading_explains d work shown (Ended (answer.Settled n)) never = absurd never
-    reading_explains d work shown (Ended (answer.Swept x)) never = absurd never
+    reading_explains buffer d work shown (Stopped q) never = absurd never
+    reading_explains buffer d work shown (Ended (answer.Opened epoch)) never = absurd never
+    reading_explains buffer d work shown (Ended answer.Closed) never = absurd never
+    reading_explains buffer d work shown (Ended (answer.Renewed end)) never = absurd never
+    reading_explains buffer d work shown (Ended (answer.Done n)) never = absurd never
+    reading_explains buffer d work shown (Ended (answer.Commit a)) never = absurd never
+    reading_explains buffer d work shown (Ended answer.Scan) never = absurd never
+    reading_explains buffer d work shown (Ended (answer.Settled n)) never = absurd never
+    reading_explains buffer d work shown (Ended (answer.Swept x)) never = absurd never
 
   -- ---- a scan
 
@@ -133,7 +133,7 @@ module _ (who : Caller) (before after : Seen) (s t : CloudState) (book : Book) (
     ShowsScan k = IsShown (scan_ask l.scan) (leases_of (Scanning home l)) (spent_for (Scanning home l)) before.counts after.counts s t k
 
     -- at the end of a leaf memory alone runs out
-    lists : (buffer : List Noted) (m : Listing) (d : Cache) (work : Work) (shown : Shown) (turn : Turn Answer) → ListsLeaf home buffer m d work shown turn → ScanExplained work turn
+    lists : (buffer : List Noted) (m : Listing) (d : Cache) (work : Work) (shown : Shown) (turn : Turn Answer) → ListsLeaf home m (acting_of buffer work d shown) turn → ScanExplained work turn
     lists buffer m d work shown More (all, listed, on, work_is, none) =
         goes_explains (scan_ask l.scan) before.counts after.counts s t (Scanning home l) work refl (ap trouble_in work_is) (ap left_in work_is)
     lists buffer m d work shown (Ended answer.Scan) (all, listed, on, work_is, none) =
@@ -151,7 +151,7 @@ module _ (who : Caller) (before after : Seen) (s t : CloudState) (book : Book) (
     lists buffer m d work shown (Ended (answer.Settled n)) never = absurd never
     lists buffer m d work shown (Ended (answer.Swept x)) never = absurd never
 
-    pub scanning_explains : (buffer : List Noted) (d : Cache) (work : Work) (shown : Shown) (turn : Turn Answer) → StepsScanning home buffer who before after l kept d work shown turn
+    pub scanning_explains : (buffer : List Noted) (d : Cache) (work : Work) (shown : Shown) (turn : Turn Answer) → StepsScanning who before after (in_hand home l kept) (acting_of buffer work d shown) turn
         → ScanExplained work turn
     scanning_explains buffer d work shown turn p = on p.moved p.steps.took p.follows
       where
@@ -162,7 +162,7 @@ module _ (who : Caller) (before after : Seen) (s t : CloudState) (book : Book) (
         stops q took other = (subst (ScanLeads st ShowsScan) (took.0 other) leads).1
 
         on : (moved : Turn ℕ) → Took (LeadsBy scan_next) KeepsServed (l.scan, kept) p.steps.answer (p.scan, d) moved
-            → Follows home buffer (record { scan = p.scan; pairs = l.pairs }) d moved work shown turn → ScanExplained work turn
+            → Follows home (record { scan = p.scan; pairs = l.pairs }) moved (acting_of buffer work d shown) turn → ScanExplained work turn
         on More took (work_is, none, more) =
             subst (λ x. ScanExplained work x) (sym more)
             (goes_explains (scan_ask l.scan) before.counts after.counts s t (Scanning home l) work refl (ap trouble_in work_is) (ap left_in work_is))
@@ -195,8 +195,8 @@ module _ (who : Caller) (before after : Seen) (s t : CloudState) (book : Book) (
     end_shown (CommittedOpen q) k e shows = subst ShowsCommit (same_Some q k e) shows
 
     -- by a call that found memory
-    pub committing_explains : (c : Cache) (work : Work) (turn : Turn Answer) (steps : StepsCommit who before after r kept c work turn)
-        → commit_reply who before after r kept c work turn steps ≢ Memory → CommitExplained work turn
+    pub committing_explains : (c : Cache) (work : Work) (turn : Turn Answer) (steps : StepsCommit who before after (r, kept) (work, c) turn)
+        → commit_reply who before after (r, kept) (work, c) turn steps ≢ Memory → CommitExplained work turn
     committing_explains c work More (m, steps, work_is, less) some =
         goes_explains (run_ask r) before.counts after.counts s t (Committing r) work refl (ap trouble_in work_is) (ap left_in work_is)
     committing_explains c work (Ended (answer.Commit a)) (m, steps, work_is) some =

@@ -221,7 +221,7 @@ module _ (who : Caller) (before after : Seen) (book : Book) (order : List Entry)
           (gives_up who book order s t parts mine (run_ask r) note (KnowsRunNext (run_next (r, c) reply)) outcome);
     })
 
-  pub commit_step : (work : Work) (turn : Turn Answer) → StepsCommit who before after r c d work turn → Stepped work
+  pub commit_step : (work : Work) (turn : Turn Answer) → StepsCommit who before after (r, c) (work, d) turn → Stepped work
   commit_step work More (m, steps, is, less) = by_next steps.answer steps.made (Goes (m, d)) steps.took work (is, refl)
   commit_step work (Ended (answer.Commit a)) (m, steps, is) = by_next steps.answer steps.made (Ends (m, d) a) steps.took work (is, refl)
   commit_step work (Ended (answer.Trouble k)) (m, steps, is) = on (memory_or k)

@@ -1,7 +1,7 @@
 -- One step of a session's look-up: a get, which changes nothing.
 use Rattle.std.proofs.Common.{◌≡◌, ◌≢◌, ◌≤◌, ◌⊎◌, inl, inr, List, [], ◌∷◌, Some, sym, ap, subst, ◌∙◌}
 use Rattle.attr_index.specs.Look.{Own, Look, look_ask, look_next}
-use Rattle.client_work.specs.Session.{LooksBy, stopped_work}
+use Rattle.client_work.specs.Session.{LooksBy, stopped_work, acting_of, in_hand}
 use Rattle.client_work.specs.Shows.{own_of}
 use Rattle.client_work.specs.declared.answer.Answer.{Answer}
 use Rattle.client_work.specs.declared.answer.Answer.TheVariants as answer
@@ -96,7 +96,7 @@ module _ (who : Caller) (before after : Seen) (book : Book) (order : List Entry)
             let known : KnowsCache st d × MayStopWalk k = subst (LookLeads st MayStopWalk) (took other) leads in
             subst Stepped (sym (is ∙ stays_open home k other)) (ends known.0)
 
-  pub looking_step : (work : Work) (shown : Shown) (turn : Turn Answer) → LooksBy home buffer who before after l c d work shown turn → Stepped work
+  pub looking_step : (work : Work) (shown : Shown) (turn : Turn Answer) → LooksBy who before after (in_hand home l c) (acting_of buffer work d shown) turn → Stepped work
   looking_step work shown More (n, steps, is, none, less) = subst Stepped (sym is) (goes_on steps.walked.answer steps.walked.made n steps.took)
   looking_step work shown (Ended answer.Scan) (n, steps, is, some) =
       let k : KnowsCache st d = subst (LookLeads st MayStopWalk) steps.took (leads steps.walked.answer steps.walked.made) in

@@ -147,7 +147,7 @@ module _ (who : Caller) (before after : Seen) (book : Book) (order : List Entry)
     stops (trouble.Loop page) work is = ends work is
     stops (trouble.Exhausted what) work is = ends work is
 
-  pub paging_step : (work : Work) (turn : Turn Answer) → StepsPaging home who before after p work turn → Stepped work
+  pub paging_step : (work : Work) (turn : Turn Answer) → StepsPaging who before after (home, p) work turn → Stepped work
   paging_step work More (n, steps, is, less) = subst Stepped (sym is) (goes_on steps.answer steps.made n steps.took)
   paging_step work (Ended (answer.Done done)) (n, steps, is) = ends steps.answer steps.made work is
   paging_step work (Ended (answer.Trouble k)) (n, steps, is) = stops steps.answer steps.made k work is

@@ -1,6 +1,6 @@
 -- One step of a session's scan: a get, which changes nothing, and behind it the records of a leaf where the scan is at one.
 use Rattle.std.proofs.Common.{◌≡◌, ◌≢◌, ◌≤◌, ◌⊎◌, inl, inr, ℕ, List, [], ◌∷◌, Some, sym, ap, subst, ◌∙◌}
-use Rattle.client_work.specs.Session.{StepsScanning, Follows, ListsLeaf, stopped_work}
+use Rattle.client_work.specs.Session.{StepsScanning, Follows, ListsLeaf, stopped_work, acting_of, in_hand}
 use Rattle.client_work.specs.declared.answer.Answer.{Answer}
 use Rattle.client_work.specs.declared.answer.Answer.TheVariants as answer
 use Rattle.client_work.specs.declared.listing.Listing.{Listing}
@@ -92,7 +92,7 @@ module _ (who : Caller) (before after : Seen) (book : Book) (order : List Entry)
 
     -- at a leaf the scan goes on behind it, or is over
     lists : (m : Scan) (page : ℕ) (work : Work) (shown : Shown) (turn : Turn Answer) → KnowsScanning st m d → IsAtScannedLeaf st m d page
-        → ListsLeaf home buffer (record { scan = m; pairs = l.pairs }) d work shown turn → Stepped work
+        → ListsLeaf home (record { scan = m; pairs = l.pairs }) (acting_of buffer work d shown) turn → Stepped work
     lists m page work shown More k at (all, listed, goes, is, none) =
         subst Stepped (sym is) (goes_on (record { scan = moved_on m; pairs = all }) (scan_moves_on st m k.scan d page at) k.cache)
     lists m page work shown (Ended answer.Scan) k at (all, listed, over, is, some) = subst Stepped (sym is) (ends k.cache)
@@ -108,7 +108,7 @@ module _ (who : Caller) (before after : Seen) (book : Book) (order : List Entry)
     lists m page work shown (Ended (answer.Swept x)) k at never = absurd never
 
     follows : (m : Scan) (moved : Turn ℕ) (work : Work) (shown : Shown) (turn : Turn Answer) → Took (LeadsBy scan_next) KeepsServed (l.scan, c) reply (m, d) moved
-        → Follows home buffer (record { scan = m; pairs = l.pairs }) d moved work shown turn → Stepped work
+        → Follows home (record { scan = m; pairs = l.pairs }) moved (acting_of buffer work d shown) turn → Stepped work
     follows m More work shown turn took (is, none, more) =
         let k : KnowsScanning st m d = subst (ScanLeads st MayStopWalk) took leads in
         subst Stepped (sym is) (goes_on (record { scan = m; pairs = l.pairs }) k.scan k.cache)
@@ -117,5 +117,5 @@ module _ (who : Caller) (before after : Seen) (book : Book) (order : List Entry)
         lists m page work shown turn k.0 k.1 listed
     follows m (Stopped k) work shown turn took (is, none, stopped) = stops m k work took.0 is
 
-  pub scanning_step : (work : Work) (shown : Shown) (turn : Turn Answer) → StepsScanning home buffer who before after l c d work shown turn → Stepped work
+  pub scanning_step : (work : Work) (shown : Shown) (turn : Turn Answer) → StepsScanning who before after (in_hand home l c) (acting_of buffer work d shown) turn → Stepped work
   scanning_step work shown turn p = follows p.steps.answer p.steps.made p.scan p.moved work shown turn p.steps.took p.follows

@@ -154,7 +154,7 @@ module _ (who : Caller) (before after : Seen) (book : Book) (order : List Entry)
     stops (trouble.Loop page) work is = ends work is
     stops (trouble.Exhausted what) work is = ends work is
 
-  pub making_step : (work : Work) (turn : Turn Answer) → StepsFolding home who before after m work turn → Stepped work
+  pub making_step : (work : Work) (turn : Turn Answer) → StepsFolding who before after (home, m) work turn → Stepped work
   making_step work More (n, steps, is, less) = subst Stepped (sym is) (goes_on steps.answer steps.made n steps.took)
   making_step work (Ended (answer.Done done)) (n, steps, is) = ends steps.answer steps.made work is
   making_step work (Ended (answer.Trouble k)) (n, steps, is) = stops steps.answer steps.made k work is

@@ -10,23 +10,24 @@ ghost use Rattle.tree_phases.specs.Folding.{folding_next};
 ghost use Rattle.tree_phases.specs.Descent.{descent_next};
 ghost use Rattle.tree_phases.specs.Rising.{rising_next};
 ghost use Rattle.tree_ckpt.specs.Work.{claims_in};
-ghost use Rattle.tree_ckpt.specs.Moves.{Moves, MovesOn, descending_on, page_taken, folding_on, onward_from, page_left, rising_on, Absorbs};
+ghost use Rattle.tree_ckpt.specs.Moves.{Moves, MovesTo, MovesOn, descending_on, page_taken, folding_on, onward_from, page_left, rising_on, Absorbs};
 
 use crate::ending::{deleted, released};
 use crate::going::{ascend, descend, go};
 use crate::moved::Moved;
 use crate::opening::{received, tree_got, tree_taken};
 use crate::release::{
-    both_leases, drop_answer, drop_coming, drop_onward, drop_placing, tree_lease,
+    both_leases, drop_answer, drop_coming, drop_onward, drop_placing, stand, take, tree_lease,
 };
 use crate::work::{Coming, Held, Onward, Work};
 use cloud_trait::answer::Answer;
 use cloud_trait::lease::Lease;
-use cloud_trait::turn::Turn;
+use cloud_trait::turn::{CkptAnswer, Turn};
 use db_base::ids::TreeId;
 use db_base::names::Lock;
 use db_base::trouble::Trouble;
 use std::alloc::Global;
+use std::mem;
 use tree_phases::descent::Descent;
 use tree_phases::folding::{Folding, Left};
 use tree_phases::pace::Pace;
@@ -177,15 +178,75 @@ fn lead(alloc: Global, tree: TreeId, work: Work, answer: Answer) -> Moved
     }
 }
 
+/// Goes on so.
+fn moves_to(place: &mut Work, moved: Moved) -> Turn<CkptAnswer>
+    ensures work { place.new ≡ moved.work }
+    ensures turn { result ≡ moved.turn }
+{
+    let Moved { work, turn } = moved;
+    stand(place, work);
+    turn
+}
+
+/// Goes where an answer leads, with what stands taken out for it.
+fn lead_apart(alloc: Global, tree: TreeId, place: &mut Work, answer: Answer) -> Turn<CkptAnswer>
+    ensures { MovesTo (Absorbs tree place.old answer) (claims_in place.old) place.new result }
+{
+    let work = take(place);
+    moves_to(place, lead(alloc, tree, work, answer))
+}
+
+/// The same, where the tree object was got.
+fn lead_got(alloc: Global, tree: TreeId, place: &mut Work, answer: Answer) -> Turn<CkptAnswer>
+    ensures { MovesTo (Absorbs tree place.old answer) (claims_in place.old) place.new result }
+{
+    match take(place) {
+        Work::GettingTree(lease) => moves_to(place, tree_got(tree, lease, answer.got())),
+        work => moves_to(place, lead(alloc, tree, work, answer)),
+    }
+}
+
+/// The same, where the queue was received from.
+fn lead_received(alloc: Global, tree: TreeId, place: &mut Work, answer: Answer) -> Turn<CkptAnswer>
+    ensures { MovesTo (Absorbs tree place.old answer) (claims_in place.old) place.new result }
+{
+    match take(place) {
+        Work::Receiving(lease, root) => moves_to(
+            place,
+            received(alloc, tree, lease, root, answer.received()),
+        ),
+        work => moves_to(place, lead(alloc, tree, work, answer)),
+    }
+}
+
+/// Goes where an answer leads. The calls of a tree without a run stand apart, each with room for what it moves alone.
+fn lead_on(alloc: Global, tree: TreeId, place: &mut Work, answer: Answer) -> Turn<CkptAnswer>
+    ensures { MovesTo (Absorbs tree place.old answer) (claims_in place.old) place.new result }
+{
+    match place {
+        Work::TakingTree => moves_to(place, tree_taken(answer.given(Lock::Tree(tree)))),
+        Work::GettingTree(_) => lead_got(alloc, tree, place, answer),
+        Work::Receiving(_, _) => lead_received(alloc, tree, place, answer),
+        Work::Releasing(held, end) => {
+            drop_answer(answer);
+            match held.newest() {
+                Some(_) => Turn::More,
+                None => {
+                    let end = mem::replace(end, Err(Trouble::Failed));
+                    moves_to(place, Moved::finished(end))
+                }
+            }
+        }
+        _ => lead_apart(alloc, tree, place, answer),
+    }
+}
+
 /// Takes the answer of the call in hand. At want of memory it stays where it is.
-pub fn absorbed(alloc: Global, tree: TreeId, work: Work, answer: Answer) -> Moved
-    ensures { Moves (Absorbs tree work answer) (claims_in work) result }
+pub fn absorbed(alloc: Global, tree: TreeId, place: &mut Work, answer: Answer) -> Turn<CkptAnswer>
+    ensures { MovesTo (Absorbs tree place.old answer) (claims_in place.old) place.new result }
 {
     match answer {
-        Answer::Memory => Moved {
-            work,
-            turn: Turn::Stopped(Trouble::Memory),
-        },
-        answer => lead(alloc, tree, work, answer),
+        Answer::Memory => Turn::Stopped(Trouble::Memory),
+        answer => lead_on(alloc, tree, place, answer),
     }
 }

@@ -4,6 +4,7 @@ ghost use Rattle.std.specs.Prelude.{◌≡◌};
 ghost use Rattle.cloud_trait.specs.Weather.{Makes};
 ghost use Rattle.tree_ckpt.specs.Work.{work_ask, handed, leaving};
 
+use crate::release::{stand, take};
 use crate::work::Work;
 use cloud_trait::answer::Answer;
 use cloud_trait::cloud::Cloud;
@@ -11,15 +12,6 @@ use cloud_trait::lease::Lease;
 use cloud_trait::perform::{let_go, perform};
 use cloud_trait::who::Who;
 use db_base::ids::TreeId;
-
-/// What a call answered, and where the checkpoint stands behind it.
-#[derive(Drop)]
-pub struct Called {
-    /// The answer.
-    pub answer: Answer,
-    /// Where the checkpoint stands; a lease that the call gave back has left.
-    pub work: Work,
-}
 
 /// The lease that a call gives back, apart from the rest.
 #[derive(Drop)]
@@ -50,20 +42,35 @@ fn part(work: Work) -> Parted
     }
 }
 
-/// Makes the call in hand; a release hands its lease out.
-pub fn make_call<C: Cloud>(cloud: &mut C, who: Who, tree: TreeId, work: Work) -> Called
-    ensures made { Makes who (work_ask tree work) result.answer (C.seen cloud.old) (C.seen cloud.new) }
-    ensures left { result.work ≡ handed work }
+/// Takes the lease out of what is taken apart for it.
+fn part_page(place: &mut Work) -> Option<Lease>
+    ensures lease { result ≡ leaving place.old }
+    ensures left { place.new ≡ handed place.old }
 {
-    let Parted { lease, work } = part(work);
-    match lease {
-        Some(lease) => Called {
-            answer: let_go(cloud, who, lease),
-            work,
-        },
-        None => {
-            let answer = perform(cloud, who, &work.in_hand(tree));
-            Called { answer, work }
-        }
+    let Parted { lease, work } = part(take(place));
+    stand(place, work);
+    lease
+}
+
+/// Takes the lease out that the call in hand gives back, where it gives one back. Most calls give none, and move nothing.
+fn give(place: &mut Work) -> Option<Lease>
+    ensures lease { result ≡ leaving place.old }
+    ensures left { place.new ≡ handed place.old }
+{
+    match place {
+        Work::Releasing(held, _) => held.give_newest(),
+        Work::ReleasingPage(_, _, _) => part_page(place),
+        _ => None,
+    }
+}
+
+/// Makes the call in hand; a release hands its lease out.
+pub fn make_call<C: Cloud>(cloud: &mut C, who: Who, tree: TreeId, place: &mut Work) -> Answer
+    ensures made { Makes who (work_ask tree place.old) result (C.seen cloud.old) (C.seen cloud.new) }
+    ensures left { place.new ≡ handed place.old }
+{
+    match give(place) {
+        Some(lease) => let_go(cloud, who, lease),
+        None => perform(cloud, who, &place.in_hand(tree)),
     }
 }

@@ -6,8 +6,7 @@ ghost use Rattle.cloud_trait.specs.Weather.{Makes};
 ghost use Rattle.cloud_trait.specs.Machine.{Took, Deed};
 
 use crate::absorbed::absorbed;
-use crate::called::{Called, make_call};
-use crate::moved::Moved;
+use crate::called::make_call;
 use crate::release::let_go;
 use crate::short::work_is_short;
 use crate::work::Work;
@@ -22,7 +21,6 @@ use db_base::trouble::Trouble;
 use log_codec::record::PuItem;
 use std::alloc::{AllocError, Global};
 use std::marker::Model;
-use std::mem;
 
 /// A checkpoint of a tree (the right links and the cuts after Lehman and Yao, 1981).
 pub struct TreeCkpt {
@@ -105,38 +103,12 @@ impl TreeCkpt {
         Ok(())
     }
 
-    /// Its tree.
-    fn tree(&self) -> TreeId
-        ensures { result ≡ self.now.tree }
-    {
-        self.tree
-    }
-
-    /// Hands out where it stands.
-    fn take_work(&mut self) -> Work
-        ensures work { result ≡ self.old.work }
-        ensures left { self.new ≡ with_work self.old Work.Finished }
-    {
-        mem::replace(&mut self.work, Work::Finished)
-    }
-
-    /// It stands so.
-    fn keep(&mut self, work: Work)
-        ensures { self.new ≡ with_work self.old work }
-    {
-        let_go(mem::replace(&mut self.work, work));
-    }
-
     /// Makes the call in hand; a release hands its lease out.
     fn call<C: Cloud>(&mut self, cloud: &mut C, who: Who) -> Answer
         ensures made { Makes who (making_ask self.old) result (C.seen cloud.old) (C.seen cloud.new) }
         ensures left { self.new ≡ handed_over self.old }
     {
-        let tree = self.tree();
-        let work = self.take_work();
-        let Called { answer, work } = make_call(cloud, who, tree, work);
-        self.keep(work);
-        answer
+        make_call(cloud, who, self.tree, &mut self.work)
     }
 
     /// Goes where the answer of the call in hand leads.
@@ -144,11 +116,8 @@ impl TreeCkpt {
         ensures went { WentBy self.old answer self.new result }
         ensures short { IsShort self.new.work }
     {
-        let tree = self.tree();
-        let work = self.take_work();
-        let Moved { work, turn } = absorbed(alloc, tree, work, answer);
-        work_is_short(&work);
-        self.keep(work);
+        let turn = absorbed(alloc, self.tree, &mut self.work, answer);
+        work_is_short(&self.work);
         turn
     }
 

@@ -6,6 +6,7 @@ ghost use Rattle.tree_ckpt.specs.Work.{one_lease, two_leases};
 use crate::work::{Coming, Held, Onward, Work, one_lease, two_leases};
 use ckpt_parts::Leases;
 use cloud_trait::answer::Answer;
+use std::mem;
 use tree_phases::chart::Chart;
 use tree_phases::descent::Descent;
 use tree_phases::folding::Folding;
@@ -70,6 +71,21 @@ pub(crate) fn let_go(work: Work) {
         Work::Releasing(_, _) => {}
         Work::Finished => {}
     }
+}
+
+/// Hands out where a checkpoint stands.
+pub(crate) fn take(place: &mut Work) -> Work
+    ensures work { result ≡ place.old }
+    ensures left { place.new ≡ Work.Finished }
+{
+    mem::replace(place, Work::Finished)
+}
+
+/// A checkpoint stands so from now on.
+pub(crate) fn stand(place: &mut Work, work: Work)
+    ensures { place.new ≡ work }
+{
+    let_go(mem::replace(place, work));
 }
 
 fn drop_folding(folding: Folding) {

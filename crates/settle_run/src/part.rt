@@ -43,6 +43,33 @@ impl Part {
     ghost use Rattle.settle_run.specs.Stepped.{PartSteps};
     ghost use Rattle.settle_run.specs.End.{part_left};
 
+    /// The recovery of the client is at work from now on, before its first call. One that was at work is begun anew where it stands.
+    pub(crate) fn recover(&mut self, alloc: Global, client: ClientId)
+        ensures { self.new ≡ part_of_client client }
+    {
+        match self {
+            Part::Client(at, machine) => {
+                *at = client;
+                *machine = RecoverRun::new(alloc, client, Aim::Settling, None);
+            }
+            _ => put(self, Part::client(alloc, client)),
+        }
+    }
+
+    /// A checkpoint of the tree is at work from now on, before its first call.
+    pub(crate) fn fold(&mut self, alloc: Global, tree: TreeId)
+        ensures { self.new ≡ part_of_tree tree }
+    {
+        put(self, Part::tree(alloc, tree));
+    }
+
+    /// A checkpoint of the page is at work from now on, before its first call.
+    pub(crate) fn fold_page(&mut self, alloc: Global, tree: TreeId, page: PageId)
+        ensures { self.new ≡ part_of_page tree page }
+    {
+        put(self, Part::page(alloc, tree, page));
+    }
+
     /// The recovery of a client, before its first call.
     pub(crate) fn client(alloc: Global, client: ClientId) -> Part
         ensures { result ≡ part_of_client client }
@@ -51,14 +78,14 @@ impl Part {
     }
 
     /// A checkpoint of a tree, before its first call.
-    pub(crate) fn tree(alloc: Global, tree: TreeId) -> Part
+    fn tree(alloc: Global, tree: TreeId) -> Part
         ensures { result ≡ part_of_tree tree }
     {
         Part::Tree(tree, TreeCkpt::new(alloc, tree))
     }
 
     /// A checkpoint of a page, before its first call.
-    pub(crate) fn page(alloc: Global, tree: TreeId, page: PageId) -> Part
+    fn page(alloc: Global, tree: TreeId, page: PageId) -> Part
         ensures { result ≡ part_of_page tree page }
     {
         Part::Page(tree, page, PageCkpt::new(alloc, tree, page))
@@ -122,6 +149,13 @@ impl Part {
             Part::Page(_, _, machine) => left_turn(machine.step(alloc, cloud, who)),
         }
     }
+}
+
+/// This is at work from now on.
+fn put(place: &mut Part, part: Part)
+    ensures { place.new ≡ part }
+{
+    *place = part;
 }
 
 /// A recovery's turn; no deletion of it counts.

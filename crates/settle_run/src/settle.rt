@@ -3,8 +3,6 @@
 ghost use Rattle.std.specs.Prelude.{◌≡◌, ◌<◌, ◌≤◌, ◌^◌, List, [], length};
 ghost use Rattle.cloud_trait.specs.Call.{ask_of};
 ghost use Rattle.cloud_trait.specs.Machine.{Took, Deed};
-ghost use Rattle.settle_run.specs.Parts.{part_of_tree};
-ghost use Rattle.settle_run.specs.Settling.{behind_client};
 
 use crate::known::add_new;
 use crate::part::Part;
@@ -54,7 +52,7 @@ impl SettleRun {
     ghost use Rattle.settle_run.specs.End.{calls_left};
     ghost use Rattle.settle_run.specs.Meaning.{Went, Stepped};
     ghost use Rattle.settle_run.specs.Leases.{Holds, GivesBack};
-    ghost use Rattle.settle_run.specs.Settling.{Settling, new_settling, settle_ask, SamePart, after_turn, ended_by, passed, goes_on, to_page, goes_right, behind_tree, is_visited};
+    ghost use Rattle.settle_run.specs.Settling.{Settling, new_settling, settle_ask, SamePart, begins, behind_client, after_turn, ended_by, passed, goes_on, to_page, goes_right, behind_tree, is_visited};
 
     /// A settling before its first call. Takes no memory.
     pub fn new(alloc: Global) -> SettleRun
@@ -84,14 +82,6 @@ impl SettleRun {
 
     // ---- what comes next
 
-    /// This is at work from now on, with a queue of which nothing is known.
-    fn has(&mut self, alloc: Global, part: Part)
-        ensures { self.new ≡ record self.old { part = part; known = [] } }
-    {
-        self.part = part;
-        self.known = Vec::new(alloc);
-    }
-
     fn is_visited(&self, page: PageId) -> bool
         ensures { result ≡ is_visited self.now page }
     {
@@ -105,7 +95,8 @@ impl SettleRun {
         if self.visited.push(page).is_err() {
             return Turn::Stopped(Trouble::Memory);
         }
-        self.has(alloc, Part::page(alloc, tree, page));
+        self.part.fold_page(alloc, tree, page);
+        self.known.clear();
         Turn::More
     }
 
@@ -128,12 +119,25 @@ impl SettleRun {
     {
         match TreeId::new(tree.get() + 1) {
             Ok(next) => {
-                self.has(alloc, Part::tree(alloc, next));
-                self.visited = Vec::new(alloc);
+                self.part.fold(alloc, next);
+                self.known.clear();
+                self.visited.clear();
                 Turn::More
             }
             Err(_) => Turn::Ended(Settled { calls: self.calls }),
         }
+    }
+
+    /// The next client's recovery is at work, or behind the last client the first tree's checkpoint.
+    fn leave_client(&mut self, alloc: Global, client: ClientId) -> Turn<Settled>
+        ensures { Took (λ s _ n. begins s (behind_client client) ≡ n) SamePart self.old Answer.Failed self.new result }
+    {
+        match ClientId::new(client.get() + 1) {
+            Ok(next) => self.part.recover(alloc, next),
+            Err(_) => self.part.fold(alloc, first_tree()),
+        }
+        self.known.clear();
+        Turn::More
     }
 
     /// What comes next once nothing new was received.
@@ -142,13 +146,12 @@ impl SettleRun {
     {
         match &self.part {
             Part::Client(client, _) => {
-                let part = behind_client(alloc, *client);
-                self.has(alloc, part);
-                Turn::More
+                let client = *client;
+                self.leave_client(alloc, client)
             }
             Part::Tree(tree, _) => {
                 let tree = *tree;
-                self.visited = Vec::new(alloc);
+                self.visited.clear();
                 self.to_page(alloc, tree, PageId::first())
             }
             Part::Page(tree, _, machine) => {
@@ -244,15 +247,5 @@ fn first_tree() -> TreeId
     match TreeId::new(1) {
         Ok(tree) => tree,
         Err(_) => unreachable!(),
-    }
-}
-
-/// The next client's recovery, or behind the last client the first tree's checkpoint.
-fn behind_client(alloc: Global, client: ClientId) -> Part
-    ensures { result ≡ behind_client client }
-{
-    match ClientId::new(client.get() + 1) {
-        Ok(next) => Part::client(alloc, next),
-        Err(_) => Part::tree(alloc, first_tree()),
     }
 }

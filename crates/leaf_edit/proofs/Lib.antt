@@ -6,6 +6,7 @@ pub mod Edits
 pub mod Folding
 pub mod HeadBytes
 pub mod InOrder
+pub mod Lengthened
 pub mod Parted
 pub mod Passed
 pub mod Sizes

@@ -1,7 +1,10 @@
 -- How many bytes the parts of a leaf's spelling have.
 use Rattle.std.specs.Prelude.{◌≡◌, ◌≤◌, ℕ, ◌+◌, ◌^◌, List, [], ◌∷◌, length, Option, Some, None, MatchOption}
+use Rattle.db_base.specs.Change.{key_of, payload_set_by, attr_of}
+use Rattle.db_base.specs.declared.change.Change.{Change}
 use Rattle.leaf_view.specs.declared.done.Done.{Done}
 use Rattle.leaf_view.specs.Leaf.{Entry, Leaf}
+use Rattle.log_codec.specs.declared.record.PuItem.{PuItem}
 
 abbrev pub high_size : Option (List ℕ) → ℕ
 high_size None = 0
@@ -36,6 +39,20 @@ entries_size (e ∷ es) = entry_size e + entries_size es
 
 abbrev pub leaf_size : Leaf → ℕ
 leaf_size l = fields_size l.low l.high + dones_size l.done + 1 + entries_size l.records
+
+-- ---- how many they have at most behind changes
+
+-- by so much a change lengthens records at most
+abbrev pub brought_size : Change → ℕ
+brought_size c = 5 + length (key_of c) + length (payload_set_by c) + attr_size (attr_of c)
+
+abbrev pub brought_by : List PuItem → ℕ
+brought_by [] = 0
+brought_by (x ∷ xs) = brought_size x.rec.change + brought_by xs
+
+-- all that is there, an entry of the table for each of the 64 clients, and what the changes bring
+abbrev pub most_size : Leaf → List Entry → List PuItem → ℕ
+most_size l es xs = fields_size l.low l.high + (dones_size l.done + 1152) + 1 + (entries_size es + brought_by xs)
 
 -- a number of bytes; none where it is above the greatest usize
 abbrev pub IsSize : Option ℕ → ℕ → Type 0

@@ -6,7 +6,9 @@ ghost use Rattle.leaf_edit.specs.Applied.{applied, applied_length};
 ghost use Rattle.leaf_edit.specs.Raised.{RaisesNumbers};
 
 use crate::buffer::LeafBuf;
-use crate::merging::{VersionSpent, merge, need};
+use crate::changes::Changes;
+use crate::merging::spell;
+use crate::most::most_len;
 use db_base::pair::EditFault;
 use leaf_view::LeafView;
 use log_codec::record::PuItem;
@@ -30,12 +32,12 @@ pub fn apply(
     if leaf.version() == u64::MAX {
         return Err(EditFault::Exhausted);
     }
-    let Some(length) = need(leaf, queue, run) else {
+    let done = leaf.numbers(queue);
+    let changes = Changes::of(leaf, queue, &done, run);
+    let Some(most) = most_len(leaf, changes.again()) else {
         return Err(EditFault::Memory);
     };
-    let mut out = Vec::with_capacity(alloc, length)?;
-    match merge(leaf, queue, run, &mut out) {
-        Ok(()) => Ok(LeafBuf::of(out)),
-        Err(VersionSpent) => Err(EditFault::Exhausted),
-    }
+    let mut out = Vec::with_capacity(alloc, most)?;
+    spell(&mut out, leaf, queue, run, changes);
+    Ok(LeafBuf::of(out))
 }

@@ -3,6 +3,7 @@
 ghost use Rattle.std.specs.Prelude.{◌≡◌, ◌++◌, ℕ};
 ghost use Rattle.db_base.specs.Change.{key_of};
 ghost use Rattle.byte_format.specs.Order.{bytes_below};
+ghost use Rattle.log_codec.specs.Order.{IsOrdered};
 ghost use Rattle.leaf_edit.specs.Lacked.{lacked, AllHeld};
 ghost use Rattle.leaf_edit.specs.Merging.{AllBelow, AllFrom, Rises};
 
@@ -36,4 +37,23 @@ pub(crate) fn held<'a>(leaf: &LeafView<'_>, run: &'a [PuItem]) -> &'a [PuItem]
         None => from_low,
         Some(high) => parted(from_low, high).0,
     }
+}
+
+/// The items of a run at the keys of the leaf's range, in the run's order: the leaf lacks no others. Takes no memory.
+pub fn within<'a>(leaf: &LeafView<'_>, run: &'a [PuItem]) -> &'a [PuItem]
+    requires { IsOrdered run.now }
+    ensures held { AllHeld leaf.now result.now }
+    ensures same { (queue : ℕ) → lacked leaf.now queue result.now ≡ lacked leaf.now queue run.now }
+{
+    held(leaf, run)
+}
+
+/// The items of a run at keys below a key, and those from it on. Takes no memory.
+pub fn parted_at<'a>(run: &'a [PuItem], key: &[u8]) -> (&'a [PuItem], &'a [PuItem])
+    requires { IsOrdered run.now }
+    ensures whole { run.now ≡ result.0.now ++ result.1.now }
+    ensures below { AllBelow key.now result.0.now }
+    ensures from { AllFrom key.now result.1.now }
+{
+    parted(run, key)
 }

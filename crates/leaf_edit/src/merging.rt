@@ -1,6 +1,6 @@
 //! A run merged into a leaf, straight from bytes to bytes.
 
-ghost use Rattle.std.specs.Prelude.{◌≡◌, ◌+◌, ◌≤◌, ◌↔◌, [], IfSome, IsErr, length, OnErr, OnOk, vec_len};
+ghost use Rattle.std.specs.Prelude.{◌≡◌, ◌+◌, ◌<◌, ◌≤◌, ◌↔◌, [], IfSome, IsErr, length, OnErr, OnOk, vec_len};
 ghost use Rattle.std.specs.Option.{option_map};
 ghost use Rattle.std.specs.Vec.{vec_capacity};
 ghost use Rattle.byte_format.specs.Adds.{Adds};
@@ -9,6 +9,7 @@ ghost use Rattle.log_codec.specs.Order.{IsOrdered};
 ghost use Rattle.leaf_view.specs.Shown.{valued};
 ghost use Rattle.leaf_edit.specs.Applied.{applied, applied_length};
 ghost use Rattle.leaf_edit.specs.Edited.{edited_by};
+ghost use Rattle.leaf_edit.specs.Lacked.{lacked};
 ghost use Rattle.leaf_edit.specs.Merging.{AreChanges, AreRecords, IsSized};
 ghost use Rattle.leaf_edit.specs.Sizes.{entries_size, entry_size_of, fields_size, IsSize};
 ghost use Rattle.leaf_edit.specs.Spelled.{entries_bytes, entry_bytes_of, head_bytes};
@@ -58,7 +59,7 @@ fn add_record(out: &mut Vec<u8>, next: &Option<(&[u8], Value<'_>)>)
 }
 
 /// So many bytes, and those of the records as a list.
-fn rest_len(total: usize, records: Records<'_>) -> Option<usize>
+pub(crate) fn rest_len(total: usize, records: Records<'_>) -> Option<usize>
     requires { AreRecords records }
     ensures { IsSize result (total + entries_size records.entry) }
 {
@@ -167,6 +168,28 @@ pub fn need(leaf: &LeafView<'_>, queue: u64, run: &[PuItem]) -> Option<usize>
     records_len(table, leaf.records(), Changes::of(leaf, queue, &done, run))
 }
 
+/// Writes the leaf behind a run, by what it lacks of the run, into room that is there.
+pub(crate) fn spell<'a>(
+    out: &mut Vec<u8>,
+    leaf: &LeafView<'a>,
+    queue: u64,
+    run: &[PuItem],
+    changes: Changes<'a>,
+)
+    requires ordered { IsOrdered run.now }
+    requires version { leaf.now.version < 18446744073709551615 }
+    requires empty { out.old.items ≡ [] }
+    requires room { applied_length leaf.now queue run.now ≤ vec_capacity out.old }
+    requires changes { changes ≡ lacked leaf.now queue run.now }
+    ensures spelled { IsLeaf out.new.items (applied leaf.now queue run.now) }
+    ensures room { vec_capacity out.new ≡ vec_capacity out.old }
+{
+    add_head(out, leaf, leaf.version() + 1);
+    add_table(out, leaf, queue, run);
+    add_u8(out, 0);
+    add_records(out, leaf.records(), changes);
+}
+
 /// Writes the leaf behind a run, the one that `apply` gives, in format 2, into room that is there. Takes no memory.
 ///
 /// Where the leaf has no next version, nothing changes.
@@ -187,10 +210,8 @@ pub fn merge(
     if leaf.version() == u64::MAX {
         return Err(VersionSpent);
     }
-    add_head(out, leaf, leaf.version() + 1);
-    add_table(out, leaf, queue, run);
-    add_u8(out, 0);
     let done = leaf.numbers(queue);
-    add_records(out, leaf.records(), Changes::of(leaf, queue, &done, run));
+    let changes = Changes::of(leaf, queue, &done, run);
+    spell(out, leaf, queue, run, changes);
     Ok(())
 }

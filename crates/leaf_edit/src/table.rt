@@ -13,6 +13,9 @@ use db_base::ids::ClientId;
 use leaf_view::{Done, DoneList, LeafView, Numbers};
 use log_codec::record::PuItem;
 
+/// How many bytes the entries of a queue have at most, one for each of the 64 clients.
+pub(crate) const OWN_LEN: usize = 64 * DONE_LEN;
+
 /// Raises the client of an item to the item's number.
 fn raise(numbers: &mut Numbers, x: &PuItem)
     ensures { (client : ℕ) → slice_index numbers.new client ≡ max (slice_index numbers.old client) (number_in x.now client) }
@@ -155,6 +158,19 @@ fn add_others(out: &mut Vec<u8>, above: bool, queue: u64, list: DoneList<'_>)
         add_if_beside(out, above, queue, &entry);
         left = rest;
     }
+}
+
+/// So many bytes, and those of all entries.
+pub(crate) fn all_len(total: usize, list: DoneList<'_>) -> Option<usize>
+    ensures { IsSize result (total + dones_size list.entry) }
+{
+    let mut sum = total;
+    let mut left = list;
+    while let Some((_, rest)) = left.again().split() {
+        sum = sum.checked_add(DONE_LEN)?;
+        left = rest;
+    }
+    Some(sum)
 }
 
 /// So many bytes, and those of the table behind the run.

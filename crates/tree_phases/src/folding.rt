@@ -24,6 +24,7 @@ use db_base::blob::Blob;
 use db_base::ids::PageId;
 use db_base::names::ObjName;
 use db_base::trouble::Trouble;
+use leaf_edit::within;
 use leaf_view::LeafView;
 use log_codec::record::PuItem;
 use std::alloc::{AllocError, Global};
@@ -213,7 +214,7 @@ impl Folding {
         ensures went { Went (handle self.old view.now) self.new result }
         ensures lease { self.new.lease ≡ self.old.lease }
     {
-        let Ok(lacked) = lacked_of(alloc, view, 0, self.chart.run.items()) else {
+        let Ok(lacked) = lacked_of(alloc, view, 0, within(view, self.chart.run.items())) else {
             return Pace::Memory;
         };
         if lacked.is_empty() {

@@ -54,6 +54,10 @@ pub record IsPuRecord (r : PuRec) : Type 0 where
   pub number : IsCount r.number
   pub change : IsChange r.change
 
+-- a record of its parts
+abbrev pub pu_with : ℕ → ℕ → ℕ → ℕ → Change → PuRec
+pu_with client epoch txn number change = record { client = client; epoch = epoch; txn = txn; number = number; change = change }
+
 -- what of it the types leave open: its numbers count from 1
 pub record CountsFromOne (r : PuRec) : Type 0 where
   pub epoch : 1 ≤ r.epoch

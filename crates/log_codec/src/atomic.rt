@@ -6,6 +6,7 @@ ghost use Rattle.log_codec.specs.Atomic.{position, atomic_at, atomic_record, ato
 ghost use Rattle.log_codec.specs.declared.record.AtomicRec.{AtomicRec};
 
 use crate::fault::RecFault;
+use crate::pu::USUAL_LEN;
 use crate::record::AtomicRec;
 use byte_format::{ReadFault, Stop, mark_at, try_add, try_add_u64, u8_at, u64_at};
 use change_codec::{add_change, client_of, read_change, tree_of};
@@ -112,7 +113,7 @@ impl AtomicRec {
         ensures decoded { IfOk result (λ b. atomic_of b ≡ Some self.now) }
         ensures memory { IfErr result (λ e. e ≡ RecFault.Memory) }
     {
-        let mut out = Vec::new(alloc);
+        let mut out = Vec::with_capacity(alloc, USUAL_LEN)?;
         add_record(&mut out, self)?;
         Ok(Blob::of(out))
     }

@@ -5,10 +5,10 @@ use Rattle.log_codec.proofs.record.PuRec.write.Goals as goal
 
 pub returns-clause-spelling : goal.returns-clause-spelling
 returns-clause-spelling c =
-    let same : c.of.result ≡ pu_bytes c.args.self.now = c.of.ensures ∙ c.in_ok-add_record.ensures.spelling ∙ ap (λ (old : List ℕ). old ++ pu_bytes c.args.self.now) c.new-out.ensures.items in
+    let same : c.of.result ≡ pu_bytes c.args.self.now = c.of.ensures ∙ c.in_ok-add_record.ensures.spelling ∙ ap (λ (old : List ℕ). old ++ pu_bytes c.args.self.now) c.in_ok-out.ensures.items in
     (c.in_ok-add_record.ensures.valid, pu_spells c.args.self.now c.of.result c.in_ok-add_record.ensures.valid same)
 
 pub returns-clause-decoded : goal.returns-clause-decoded
 returns-clause-decoded c =
-    let same : c.of.result ≡ pu_bytes c.args.self.now = c.of.ensures ∙ c.in_ok-add_record.ensures.spelling ∙ ap (λ (old : List ℕ). old ++ pu_bytes c.args.self.now) c.new-out.ensures.items in
+    let same : c.of.result ≡ pu_bytes c.args.self.now = c.of.ensures ∙ c.in_ok-add_record.ensures.spelling ∙ ap (λ (old : List ℕ). old ++ pu_bytes c.args.self.now) c.in_ok-out.ensures.items in
     pu_of-spelling c.of.result c.args.self.now (pu_spells c.args.self.now c.of.result c.in_ok-add_record.ensures.valid same)

@@ -5,7 +5,7 @@ use Rattle.std.specs.Int.{w8, w64}
 use Rattle.byte_format.specs.Format.{greatest, ◌>>=◌, Format, number, text, behind, ◌then◌, list_of, seen_as}
 use Rattle.byte_format.specs.Whole.{IsSpelling, whole}
 use Rattle.byte_format.specs.HighKey.{high_key}
-use Rattle.node_codec.specs.Node.{Entry, entry, plain_entry}
+use Rattle.node_codec.specs.Node.{Entry, entry, plain_entry, with_entry}
 use Rattle.node_codec.specs.Tree.{Tree}
 use Rattle.node_codec.specs.Plain.{items_of, IsWholeList}
 
@@ -80,3 +80,15 @@ right_node n node = record node { version = 1; low = unwrap_or (first_low_of (dr
 -- the entries of a root as a node without a right page that was never put before
 abbrev pub node_of_root : Tree → Inner
 node_of_root t = record { version = 1; level = t.level; low = []; right = 0; high = None; entries = t.entries }
+
+-- the node, where the bytes of its entries are these
+abbrev pub with_list : Inner → List ℕ → Inner
+with_list n entries = inner_in n.version n.level n.low n.right n.high entries
+
+-- these are the bytes of the entries of such a node
+abbrev pub IsListOf : Inner → List ℕ → Type 0
+IsListOf n entries = AreInnerParts n.version n.level n.low n.right n.high entries
+
+-- the node with one more entry in its place
+abbrev pub with_link : Inner → List ℕ → ℕ → Inner
+with_link n low page = record n { entries = with_entry low page n.entries }

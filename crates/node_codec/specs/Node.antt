@@ -1,5 +1,6 @@
 -- The entries of roots and inner nodes, and the numbers by client of a root.
 use Rattle.std.specs.Prelude.{◌≡◌, ℕ, zero, suc, max, ◌==◌, ◌+◌, Bool, false, List, [], ◌∷◌, ◌++◌, length, Option, Some, None, nat_le, if◌then◌else◌}
+use Rattle.std.specs.List.{AllByRecursion}
 use Rattle.std.specs.Int.{w8, w64, to_be_bytes}
 use Rattle.byte_format.specs.Format.{Format, greatest, number, text, ruled, ◌then◌}
 use Rattle.db_base.specs.Cursor.{number_of}
@@ -36,9 +37,13 @@ abbrev pub child_of : List ℕ → List Entry → Option Entry
 child_of key [] = None
 child_of key (e ∷ es) = later_of (if bytes_below key e.0 then None else Some e) (child_of key es)
 
--- a client and its number as they stand in the bytes
+-- a client from `least` on and its number
+abbrev pub number_from : ℕ → Format (ℕ × ℕ)
+number_from least = number w8 least 64 then λ _. number w64 1 greatest
+
+-- as they stand in the bytes
 abbrev pub plain_number : Format (ℕ × ℕ)
-plain_number = number w8 1 64 then λ _. number w64 1 greatest
+plain_number = number_from 1
 
 -- clients ascend strictly
 abbrev pub least_client : Option (ℕ × ℕ) → ℕ
@@ -47,7 +52,7 @@ least_client (Some before) = before.0 + 1
 
 -- a client and its number by their rules
 abbrev pub client_number : Option (ℕ × ℕ) → Format (ℕ × ℕ)
-client_number before = number w8 (least_client before) 64 then λ _. number w64 1 greatest
+client_number before = number_from (least_client before)
 
 -- the clients from c on, as many as count, each with its number where that is above 0
 unfoldable pub pairs_from : (ℕ → ℕ) → ℕ → ℕ → List (ℕ × ℕ)
@@ -82,3 +87,7 @@ with_entry low page (e ∷ es) = if bytes_below low e.0 then (low, page) ∷ e �
 -- what an entry adds to the bytes of a list
 abbrev pub entry_bytes : List ℕ → ℕ → List ℕ
 entry_bytes low page = 1 ∷ (to_be_bytes w8 (length low) ++ low) ++ to_be_bytes w64 page
+
+-- each low key stands somewhere in the bytes
+abbrev pub LowKeysLieIn : List ℕ → List Entry → Type 0
+LowKeysLieIn bytes entries = AllByRecursion (λ (e : Entry). LiesIn e.0 bytes) entries

@@ -37,3 +37,7 @@ pub record IsFirst {A : Type 0} (f : Format A) (bytes : List ℕ) (x : A) (after
   pub behind : behind_of f bytes ≡ behind_of f after
   pub list : IsList f after
   pub fits : IsBytes after
+
+-- the bytes begin with a list, and the rest is behind it
+abbrev pub StartsList : {A : Type 0} → Format A → List ℕ → List ℕ → Type 0
+StartsList f bytes rest = plain_list f bytes ≡ Ok (items_of f bytes, rest)

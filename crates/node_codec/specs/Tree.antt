@@ -4,7 +4,7 @@ use Rattle.std.specs.Result.{result_ok}
 use Rattle.std.specs.Int.{w8, w64}
 use Rattle.byte_format.specs.Format.{greatest, ◌>>=◌, Format, number, behind, ◌then◌, list_of, seen_as}
 use Rattle.byte_format.specs.Whole.{IsSpelling, whole}
-use Rattle.node_codec.specs.Node.{Entry, entry, plain_entry, client_number, plain_number, with_entry}
+use Rattle.node_codec.specs.Node.{Entry, entry, plain_entry, client_number, plain_number, raised, with_entry}
 use Rattle.node_codec.specs.Plain.{items_of, IsWholeList}
 
 -- the root of a tree: the next free page, the level above the leaves, for each client the number up to which the records
@@ -84,3 +84,11 @@ raised_root page t = record t { level = t.level + 1; entries = ([], page) ∷ []
 -- the root with one more entry; as it is where the page is not reserved or the low key is there
 abbrev pub with_child : List ℕ → ℕ → Tree → Tree
 with_child low page t = if nat_lt page t.next then record t { entries = with_entry low page t.entries } else t
+
+-- the root, where the bytes of its numbers and of its entries are these
+abbrev pub with_lists : Tree → List ℕ → List ℕ → Tree
+with_lists t cursor entries = tree_in t.version t.next t.level cursor entries
+
+-- the root with its numbers raised to these
+abbrev pub with_raised : Tree → List (ℕ × ℕ) → Tree
+with_raised t cursor = record t { cursor = raised t.cursor cursor }

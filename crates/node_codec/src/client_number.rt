@@ -1,13 +1,13 @@
 //! A client's number in a root.
 
-ghost use Rattle.std.specs.Prelude.{◌≡◌, true, None, Ok, IfOk, IfErr, [], ◌≤◌, MatchOption};
+ghost use Rattle.std.specs.Prelude.{◌≡◌, true, None, IfOk, IfErr, [], ◌≤◌, MatchOption};
 ghost use Rattle.std.specs.Option.{option_copied};
 ghost use Rattle.byte_format.specs.Gives.{Gives};
-ghost use Rattle.std.specs.Int.{w8, w64};
-ghost use Rattle.byte_format.specs.Format.{greatest, list_at, list_fits, number, ◌then◌};
+ghost use Rattle.byte_format.specs.Format.{list_fits};
 ghost use Rattle.db_base.specs.Cursor.{number_of};
-ghost use Rattle.node_codec.specs.Node.{plain_number, client_number, least_client};
-ghost use Rattle.node_codec.specs.Plain.{items_of, plain_list, IsList, IsWholeList, IsFirst};
+ghost use Rattle.node_codec.specs.Node.{plain_number, client_number, number_from, least_client};
+ghost use Rattle.node_codec.specs.Lists.{numbers_in, numbers_at};
+ghost use Rattle.node_codec.specs.Plain.{IsList, IsWholeList, IsFirst, StartsList};
 
 use byte_format::{Rules, Stop, more_at, skip_list, u8_at, u64_at};
 use db_base::cursor::Cursor;
@@ -48,7 +48,7 @@ impl ClientNumber {
 /// The client from `least` on and its number at the front of the bytes, and the bytes behind them.
 fn number_from(least: u8, bytes: &[u8]) -> Result<(ClientNumber, &[u8]), Stop>
     requires { 1 ≤ least }
-    ensures { Gives (λ x. (x.0, x.1.now)) result ((number w8 least 64 then λ _. number w64 1 greatest).reading bytes.now) }
+    ensures { Gives (λ x. (x.0, x.1.now)) result ((number_from least).reading bytes.now) }
 {
     let (client, behind) = u8_at(bytes, least, 64)?;
     let (number, rest) = u64_at(behind, 1, u64::MAX)?;
@@ -61,7 +61,7 @@ fn number_from(least: u8, bytes: &[u8]) -> Result<(ClientNumber, &[u8]), Stop>
 /// The first number of a list, and the bytes behind it.
 pub(crate) fn first_number(bytes: &[u8]) -> Option<(ClientNumber, &[u8])>
     requires { IsList plain_number bytes.now }
-    ensures { MatchOption result (items_of plain_number bytes.now ≡ []) (λ x. IsFirst plain_number bytes.now x.0 x.1.now) }
+    ensures { MatchOption result (numbers_in bytes.now ≡ []) (λ x. IsFirst plain_number bytes.now x.0 x.1.now) }
 {
     let Ok((more, behind)) = more_at(bytes, true) else {
         return None;
@@ -105,15 +105,15 @@ impl<'a> Rules<'a> for NumberRules {
 
 /// The bytes behind the numbers of a root.
 fn skip_numbers(bytes: &[u8]) -> Result<&[u8], Stop>
-    ensures gives { Gives (λ rest. (items_of plain_number bytes.now, rest.now)) result (list_at true client_number None bytes.now) }
-    ensures listed { IfOk result (λ rest. plain_list plain_number bytes.now ≡ Ok (items_of plain_number bytes.now, rest.now)) }
+    ensures gives { Gives (λ rest. (numbers_in bytes.now, rest.now)) result (numbers_at bytes.now) }
+    ensures listed { IfOk result (λ rest. StartsList plain_number bytes.now rest.now) }
 {
     skip_list(&NumberRules {}, true, bytes)
 }
 
 /// The numbers of a root, and the bytes behind them.
 pub(crate) fn split_numbers(bytes: &[u8]) -> Result<(&[u8], &[u8]), Stop>
-    ensures gives { Gives (λ x. (items_of plain_number x.0.now, x.1.now)) result (list_at true client_number None bytes.now) }
+    ensures gives { Gives (λ x. (numbers_in x.0.now, x.1.now)) result (numbers_at bytes.now) }
     ensures listed { IfOk result (λ x. IsWholeList plain_number x.0.now) }
 {
     let rest = skip_numbers(bytes)?;
@@ -124,7 +124,7 @@ pub(crate) fn split_numbers(bytes: &[u8]) -> Result<(&[u8], &[u8]), Stop>
 /// A client's number in a list, 0 where it has none.
 pub(crate) fn number_in(numbers: &[u8], client: ClientId) -> u64
     requires { IsList plain_number numbers.now }
-    ensures { result ≡ number_of (items_of plain_number numbers.now) client }
+    ensures { result ≡ number_of (numbers_in numbers.now) client }
 {
     let mut rest = numbers;
     'numbers: while let Some((first, behind)) = first_number(rest) {
@@ -139,8 +139,8 @@ pub(crate) fn number_in(numbers: &[u8], client: ClientId) -> u64
 /// The numbers of a list as a cursor. Refused for memory alone.
 pub(crate) fn cursor_of(alloc: Global, numbers: &[u8]) -> Result<Cursor, Refused>
     requires listed { IsList plain_number numbers.now }
-    requires fits { list_fits true client_number None (items_of plain_number numbers.now) ≡ true }
-    ensures ok { IfOk result (λ c. c ≡ items_of plain_number numbers.now) }
+    requires fits { list_fits true client_number None (numbers_in numbers.now) ≡ true }
+    ensures ok { IfOk result (λ c. c ≡ numbers_in numbers.now) }
     ensures memory { IfErr result (λ e. e ≡ Refused.Memory) }
 {
     let mut cursor = Cursor::new(alloc);

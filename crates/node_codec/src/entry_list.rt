@@ -1,9 +1,9 @@
 //! Lists of entries that are counted, added to and cut.
 
-ghost use Rattle.std.specs.Prelude.{◌≡◌, ◌≤◌, ◌<◌, ◌++◌, ◌∷◌, [], None, take, drop, length, unwrap_or, IfOk, OnOk};
-ghost use Rattle.byte_format.specs.Format.{list_spelling};
+ghost use Rattle.std.specs.Prelude.{◌≡◌, ◌≤◌, ◌<◌, ◌++◌, ◌∷◌, [], take, drop, length, unwrap_or, IfOk, OnOk};
 ghost use Rattle.node_codec.specs.Node.{plain_entry, entry_bytes, with_entry};
-ghost use Rattle.node_codec.specs.Plain.{items_of, IsWholeList};
+ghost use Rattle.node_codec.specs.Plain.{IsWholeList};
+ghost use Rattle.node_codec.specs.Lists.{entries_in, spelled};
 ghost use Rattle.node_codec.specs.Inner.{first_low_of};
 
 use crate::entries::Entries;
@@ -15,7 +15,7 @@ use std::alloc::{AllocError, Global};
 #[tactic(auto, using(crate::proofs::PlainLemmas::list_from_whole))]
 pub(crate) fn count_entries(entries: &[u8]) -> usize
     requires { IsWholeList plain_entry entries.now }
-    ensures { result ≡ length (items_of plain_entry entries.now) }
+    ensures { result ≡ length (entries_in entries.now) }
 {
     let most = entries.len();
     let count = Entries::of(entries).count();
@@ -50,7 +50,7 @@ fn add_one_more(out: &mut Vec<u8>, entries: &[u8], low: &[u8], page: u64) -> Res
     requires empty { out.old.items ≡ [] }
     requires listed { IsWholeList plain_entry entries.now }
     requires short { length low.now ≤ 64 }
-    ensures { OnOk result (out.new.items ≡ list_spelling (λ _. plain_entry) None (with_entry low.now page (items_of plain_entry entries.now))) }
+    ensures { OnOk result (out.new.items ≡ spelled (with_entry low.now page (entries_in entries.now))) }
 {
     let mut rest = entries;
     'entries: while let Some((entry, behind)) = first_entry(rest) {
@@ -79,7 +79,7 @@ pub(crate) fn with_one_more(
 ) -> Result<Vec<u8>, AllocError>
     requires listed { IsWholeList plain_entry entries.now }
     requires short { length low.now ≤ 64 }
-    ensures { IfOk result (λ v. v.items ≡ list_spelling (λ _. plain_entry) None (with_entry low.now page (items_of plain_entry entries.now))) }
+    ensures { IfOk result (λ v. v.items ≡ spelled (with_entry low.now page (entries_in entries.now))) }
 {
     let mut out = Vec::new(alloc);
     add_one_more(&mut out, entries, low, page)?;
@@ -95,8 +95,8 @@ fn add_front<'a>(
 ) -> Result<&'a [u8], AllocError>
     requires empty { front.old.items ≡ [] }
     requires listed { IsWholeList plain_entry entries.now }
-    ensures front { OnOk result (front.new.items ≡ list_spelling (λ _. plain_entry) None (take count (items_of plain_entry entries.now))) }
-    ensures back { IfOk result (λ rest. rest.now ≡ list_spelling (λ _. plain_entry) None (drop count (items_of plain_entry entries.now))) }
+    ensures front { OnOk result (front.new.items ≡ spelled (take count (entries_in entries.now))) }
+    ensures back { IfOk result (λ rest. rest.now ≡ spelled (drop count (entries_in entries.now))) }
 {
     let mut left = count;
     let mut rest = entries;
@@ -120,8 +120,8 @@ pub(crate) fn cut_entries(
     count: usize,
 ) -> Result<(Vec<u8>, Vec<u8>), AllocError>
     requires { IsWholeList plain_entry entries.now }
-    ensures front { IfOk result (λ v. v.0.items ≡ list_spelling (λ _. plain_entry) None (take count (items_of plain_entry entries.now))) }
-    ensures back { IfOk result (λ v. v.1.items ≡ list_spelling (λ _. plain_entry) None (drop count (items_of plain_entry entries.now))) }
+    ensures front { IfOk result (λ v. v.0.items ≡ spelled (take count (entries_in entries.now))) }
+    ensures back { IfOk result (λ v. v.1.items ≡ spelled (drop count (entries_in entries.now))) }
 {
     let mut front = Vec::new(alloc);
     let rest = add_front(&mut front, entries, count)?;
@@ -131,7 +131,7 @@ pub(crate) fn cut_entries(
 
 /// A list of one entry, from the empty key to the page.
 pub(crate) fn one_entry(alloc: Global, page: u64) -> Result<Vec<u8>, AllocError>
-    ensures { IfOk result (λ v. v.items ≡ list_spelling (λ _. plain_entry) None (([], page) ∷ [])) }
+    ensures { IfOk result (λ v. v.items ≡ spelled (([], page) ∷ [])) }
 {
     let mut out = Vec::new(alloc);
     push_entry(&mut out, &[], page)?;
@@ -143,7 +143,7 @@ pub(crate) fn one_entry(alloc: Global, page: u64) -> Result<Vec<u8>, AllocError>
 #[tactic(auto, using(crate::proofs::PlainLemmas::list_from_whole))]
 pub(crate) fn first_low(entries: &[u8]) -> &[u8]
     requires { IsWholeList plain_entry entries.now }
-    ensures { result.now ≡ unwrap_or (first_low_of (items_of plain_entry entries.now)) [] }
+    ensures { result.now ≡ unwrap_or (first_low_of (entries_in entries.now)) [] }
 {
     match first_entry(entries) {
         Some((entry, _rest)) => entry.low(),

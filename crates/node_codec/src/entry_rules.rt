@@ -1,12 +1,12 @@
 //! What the entries of a node may be.
 
-ghost use Rattle.std.specs.Prelude.{◌≡◌, false, None, Ok, IfOk};
+ghost use Rattle.std.specs.Prelude.{◌≡◌, IfOk};
 ghost use Rattle.std.specs.Option.{option_copied};
 ghost use Rattle.byte_format.specs.Gives.{Gives};
-ghost use Rattle.byte_format.specs.Format.{list_at, list_of};
 ghost use Rattle.byte_format.specs.Whole.{whole};
 ghost use Rattle.node_codec.specs.Node.{plain_entry, entry, may_stand, follows};
-ghost use Rattle.node_codec.specs.Plain.{items_of, plain_list, IsWholeList};
+ghost use Rattle.node_codec.specs.Plain.{IsWholeList, StartsList};
+ghost use Rattle.node_codec.specs.Lists.{entries_in, entries_at, entries_of};
 
 use crate::entry::Entry;
 use byte_format::{Rules, Stop, is_below, is_below_bound, is_same, skip_list, text8_at, u64_at};
@@ -67,8 +67,8 @@ fn skip_entries<'a>(
     last: u64,
     bytes: &'a [u8],
 ) -> Result<&'a [u8], Stop>
-    ensures gives { Gives (λ rest. (items_of plain_entry bytes.now, rest.now)) result (list_at false (entry low.now (option_copied high.entry) last) None bytes.now) }
-    ensures listed { IfOk result (λ rest. plain_list plain_entry bytes.now ≡ Ok (items_of plain_entry bytes.now, rest.now)) }
+    ensures gives { Gives (λ rest. (entries_in bytes.now, rest.now)) result (entries_at low.now (option_copied high.entry) last bytes.now) }
+    ensures listed { IfOk result (λ rest. StartsList plain_entry bytes.now rest.now) }
 {
     skip_list(&EntryRules { low, high, last }, false, bytes)
 }
@@ -80,7 +80,7 @@ pub(crate) fn check_entries(
     last: u64,
     bytes: &[u8],
 ) -> Result<(), Stop>
-    ensures gives { Gives (λ _. items_of plain_entry bytes.now) result (whole (list_of false (entry low.now (option_copied high.entry) last) None) bytes.now) }
+    ensures gives { Gives (λ _. entries_in bytes.now) result (whole (entries_of low.now (option_copied high.entry) last) bytes.now) }
     ensures listed { IfOk result (λ _. IsWholeList plain_entry bytes.now) }
 {
     let rest = skip_entries(low, high, last, bytes)?;

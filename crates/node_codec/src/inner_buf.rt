@@ -5,8 +5,7 @@ ghost use Rattle.std.specs.Option.{option_copied};
 ghost use Rattle.std.specs.Int.{w8};
 ghost use Rattle.byte_format.specs.Format.{option_spelling, text};
 ghost use Rattle.byte_format.specs.Order.{bytes_below, below_bound};
-ghost use Rattle.node_codec.specs.Node.{with_entry};
-ghost use Rattle.node_codec.specs.Inner.{Inner, IsInner, HasInnerSpelling, inner_in, AreInnerParts, left_node, right_node};
+ghost use Rattle.node_codec.specs.Inner.{Inner, IsInner, HasInnerSpelling, inner_in, AreInnerParts, left_node, right_node, with_link};
 
 use crate::entry_list::{count_entries, cut_entries, first_low, with_one_more};
 use crate::inner_view::InnerView;
@@ -122,7 +121,7 @@ impl InnerBuf {
         requires short { length low.now ≤ 64 }
         requires from_low { bytes_below low.now self.old.low ≡ false }
         requires to_high { below_bound low.now self.old.high ≡ true }
-        ensures ok { OnOk result (self.new ≡ record self.old { entries = with_entry low.now page self.old.entries }) }
+        ensures ok { OnOk result (self.new ≡ with_link self.old low.now page) }
         ensures err { OnErr result (self.new ≡ self.old) }
         ensures memory { IfErr result (λ e. e ≡ EditFault.Memory) }
     {

@@ -6,7 +6,7 @@ ghost use Rattle.byte_format.specs.Gives.{Gives};
 ghost use Rattle.byte_format.specs.Whole.{whole, offset};
 ghost use Rattle.byte_format.specs.Order.{bytes_below};
 ghost use Rattle.node_codec.specs.Node.{child_of, page_at};
-ghost use Rattle.node_codec.specs.Inner.{Inner, inner_format, inner_in, inner_read, IsInner, HasInnerSpelling, AreInnerParts};
+ghost use Rattle.node_codec.specs.Inner.{Inner, inner_format, inner_in, inner_read, with_list, IsInner, IsListOf, HasInnerSpelling, AreInnerParts};
 
 use crate::entries::Entries;
 use crate::entry::child_in;
@@ -193,8 +193,8 @@ impl<'a> InnerView<'a> {
 
     /// The bytes of the entries.
     pub(crate) fn list(&self) -> &'a [u8]
-        ensures parts { AreInnerParts self.now.version self.now.level self.now.low self.now.right self.now.high result.now }
-        ensures value { self.now ≡ inner_in self.now.version self.now.level self.now.low self.now.right self.now.high result.now }
+        ensures parts { IsListOf self.now result.now }
+        ensures value { self.now ≡ with_list self.now result.now }
     {
         self.entries
     }

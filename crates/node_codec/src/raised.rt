@@ -1,11 +1,12 @@
 //! The numbers of a root raised to those of a cursor.
 
-ghost use Rattle.std.specs.Prelude.{◌≡◌, ◌≤◌, ◌++◌, true, None, max, IfOk, OnOk};
+ghost use Rattle.std.specs.Prelude.{◌≡◌, ◌++◌, true, None, max, IfOk, OnOk};
 ghost use Rattle.db_base.specs.Ids.{IsClient};
 ghost use Rattle.db_base.specs.Cursor.{number_of};
 ghost use Rattle.byte_format.specs.Format.{list_fits};
 ghost use Rattle.node_codec.specs.Node.{plain_number, client_number, number_bytes, raised};
-ghost use Rattle.node_codec.specs.Plain.{items_of, IsList, IsWholeList};
+ghost use Rattle.node_codec.specs.Plain.{IsList, IsWholeList};
+ghost use Rattle.node_codec.specs.Lists.{numbers_in};
 
 use crate::client_number::number_in;
 use byte_format::{try_add_u8, try_add_u64};
@@ -17,7 +18,7 @@ use std::alloc::{AllocError, Global};
 fn greater_number(numbers: &[u8], cursor: &Cursor, client: u64) -> u64
     requires listed { IsList plain_number numbers.now }
     requires client { IsClient client }
-    ensures { result ≡ max (number_of (items_of plain_number numbers.now) client) (number_of cursor.now client) }
+    ensures { result ≡ max (number_of (numbers_in numbers.now) client) (number_of cursor.now client) }
 {
     match ClientId::new(client) {
         Ok(client) => number_in(numbers, client).max(cursor.get(client)),
@@ -45,8 +46,8 @@ pub(crate) fn raised_numbers(
 ) -> Result<Vec<u8>, AllocError>
     requires { IsList plain_number numbers.now }
     ensures listed { IfOk result (λ v. IsWholeList plain_number v.items) }
-    ensures value { IfOk result (λ v. items_of plain_number v.items ≡ raised (items_of plain_number numbers.now) cursor.now) }
-    ensures fits { IfOk result (λ v. list_fits true client_number None (items_of plain_number v.items) ≡ true) }
+    ensures value { IfOk result (λ v. numbers_in v.items ≡ raised (numbers_in numbers.now) cursor.now) }
+    ensures fits { IfOk result (λ v. list_fits true client_number None (numbers_in v.items) ≡ true) }
 {
     let mut out = Vec::new(alloc);
     for client in 1..65u8 {

@@ -1,8 +1,7 @@
 //! A root under edit.
 
 ghost use Rattle.std.specs.Prelude.{◌≡◌, ◌+◌, ◌<◌, ◌≤◌, ◌↔◌, [], length, IfOk, IfErr, OnOk, OnErr, IsErrOf};
-ghost use Rattle.node_codec.specs.Node.{raised};
-ghost use Rattle.node_codec.specs.Tree.{Tree, IsTree, HasTreeSpelling, with_child, raised_root};
+ghost use Rattle.node_codec.specs.Tree.{Tree, IsTree, HasTreeSpelling, with_child, with_raised, raised_root};
 ghost use Rattle.node_codec.specs.Inner.{node_of_root};
 
 use crate::entry_list::{count_entries, one_entry, with_one_more};
@@ -85,7 +84,7 @@ impl TreeBuf {
 
     /// Gives each client the greater of its number and its number in the cursor. Refused for memory alone, and then nothing changes.
     pub fn raise(&mut self, cursor: &Cursor) -> Result<(), EditFault>
-        ensures ok { OnOk result (self.new ≡ record self.old { cursor = raised self.old.cursor cursor.now }) }
+        ensures ok { OnOk result (self.new ≡ with_raised self.old cursor.now) }
         ensures err { OnErr result (self.new ≡ self.old) }
         ensures memory { IfErr result (λ e. e ≡ EditFault.Memory) }
     {

@@ -6,7 +6,7 @@ ghost use Rattle.byte_format.specs.Whole.{whole, offset};
 ghost use Rattle.db_base.specs.Cursor.{number_of};
 ghost use Rattle.node_codec.specs.Node.{child_of, plain_number};
 ghost use Rattle.node_codec.specs.Plain.{IsWholeList};
-ghost use Rattle.node_codec.specs.Tree.{Tree, empty_tree, tree_format, tree_in, tree_read, IsTree, IsSoundTree, AreTreeParts};
+ghost use Rattle.node_codec.specs.Tree.{Tree, empty_tree, tree_format, tree_in, tree_read, with_lists, IsTree, IsSoundTree, AreTreeParts};
 
 use crate::client_number::{cursor_of, number_in, split_numbers};
 use crate::entries::Entries;
@@ -207,7 +207,7 @@ impl<'a> TreeView<'a> {
     /// The bytes of the numbers by client and of the entries.
     pub(crate) fn lists(&self) -> (&'a [u8], &'a [u8])
         ensures parts { AreTreeParts self.now.next self.now.level result.0.now result.1.now }
-        ensures value { self.now ≡ tree_in self.now.version self.now.next self.now.level result.0.now result.1.now }
+        ensures value { self.now ≡ with_lists self.now result.0.now result.1.now }
     {
         (self.cursor, self.entries)
     }

@@ -446,6 +446,16 @@ impl Store {
     fn take_plain(&mut self, lock: &Lock, ticks: u64) -> Result<Grant, CloudFault>
         ensures { Meets Plain (Take lock.now ticks) (taken_answer result) self.old self.new }
     {
+        match self.give_again(lock, ticks) {
+            Some(lease) => Ok(Grant::Given(lease)),
+            None => self.take_anew(lock, ticks),
+        }
+    }
+
+    // A take of a lock that was never taken, or is not free.
+    fn take_anew(&mut self, lock: &Lock, ticks: u64) -> Result<Grant, CloudFault>
+        ensures { Meets Plain (Take lock.now ticks) (taken_answer result) self.old self.new }
+    {
         let hold = locks::hold(&self.locks, lock);
         if is_spent(hold, self.clock) {
             return self.take_spent(lock, hold.until);

@@ -1,5 +1,9 @@
-ghost use Rattle.std.specs.Prelude.{◌≡◌, OnErr};
+ghost use Rattle.std.specs.Prelude.{◌≡◌, ◌+◌, true, OnErr, IfSome, IfNone};
+ghost use Rattle.db_base.specs.declared.names.Lock.{Lock};
+ghost use Rattle.cloud_trait.specs.Names.{lock_cmp};
+ghost use Rattle.cloud_trait.specs.State.{put_at};
 ghost use Rattle.memory_cloud.specs.Maps.{hold_in, SetsHold, MovesHold};
+ghost use Rattle.memory_cloud.specs.Outcome.{is_free};
 
 use cloud_trait::state::Hold;
 use db_base::names::Lock;
@@ -29,6 +33,22 @@ pub fn set_hold(locks: &mut Locks, lock: &Lock, hold: Hold) -> Result<(), AllocE
 {
     locks.insert(*lock, hold)?;
     Ok(())
+}
+
+/// Gives a lock that was taken before anew until then, where it is free: how it stands from now on. Takes no memory.
+pub fn give_again(locks: &mut Locks, lock: &Lock, now: u64, until: u64) -> Option<Hold>
+    ensures free { IfSome result (λ hold. is_free (hold_in locks.old lock.now) now ≡ true) }
+    ensures hold { IfSome result (λ hold. hold ≡ record { generation = (hold_in locks.old lock.now).generation + 1; until = until }) }
+    ensures given { (q : Lock) → IfSome result (λ hold. hold_in locks.new q ≡ put_at lock_cmp (hold_in locks.old) lock.now hold q) }
+    ensures none { (q : Lock) → IfNone result (hold_in locks.new q ≡ hold_in locks.old q) }
+{
+    let hold = locks.get_mut(lock)?;
+    if hold.until > now || hold.generation == u64::MAX {
+        return None;
+    }
+    hold.generation += 1;
+    hold.until = until;
+    Some(*hold)
 }
 
 /// Moves the end of a lock that stands in this generation. Takes no memory.

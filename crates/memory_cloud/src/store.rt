@@ -1,4 +1,4 @@
-ghost use Rattle.std.specs.Prelude.{◌≡◌, ◌+◌, ◌<◌, ◌∷◌, [], OnOk, OnErr, IfOk, length};
+ghost use Rattle.std.specs.Prelude.{◌≡◌, ◌+◌, ◌<◌, ◌∷◌, [], true, OnOk, OnErr, IfOk, IfSome, IfNone, length};
 ghost use Rattle.std.specs.Option.{option_copied};
 ghost use Rattle.memory_cloud.specs.Outcome.{positions_in};
 
@@ -63,9 +63,9 @@ impl Drop for Store {
 
 impl Store {
     ghost use Rattle.db_base.specs.declared.wish.Wish.TheVariants.{Plain};
-    ghost use Rattle.cloud_trait.specs.State.{IsEmptyCloud, stored, landed, removed, sent, deleted, held_so, moved, released, greatest};
+    ghost use Rattle.cloud_trait.specs.State.{IsEmptyCloud, stored, landed, removed, sent, deleted, held_so, taken, lease_given, moved, released, greatest};
     ghost use Rattle.cloud_trait.specs.Listing.{IsListing};
-    ghost use Rattle.memory_cloud.specs.Outcome.{one_fault, one_withheld, one_stale, positions_of};
+    ghost use Rattle.memory_cloud.specs.Outcome.{one_fault, one_withheld, one_stale, is_free, positions_of};
     ghost use Rattle.memory_cloud.specs.Memory.{store_state, store_counts};
 
     /// Nothing, at clock 0. Takes no memory.
@@ -177,6 +177,21 @@ impl Store {
     {
         locks::set_hold(&mut self.locks, lock, hold)?;
         Ok(())
+    }
+
+    /// Gives a lock that was taken before anew, where it is free: one look at it. Takes no memory.
+    pub fn give_again(&mut self, lock: &Lock, ticks: u64) -> Option<Lease>
+        ensures free { IfSome result (λ l. is_free ((store_state self.old).locks lock.now) (store_state self.old).now ≡ true) }
+        ensures lease { IfSome result (λ l. l ≡ lease_given lock.now ticks (store_state self.old)) }
+        ensures taken { IfSome result (λ l. store_state self.new ≡ taken lock.now ticks (store_state self.old)) }
+        ensures none { IfNone result (store_state self.new ≡ store_state self.old) }
+        ensures counts { store_counts self.new ≡ store_counts self.old }
+    {
+        let until = self.clock.saturating_add(ticks);
+        match locks::give_again(&mut self.locks, lock, self.clock, until) {
+            Some(hold) => Some(Lease::given(*lock, hold.generation, hold.until)),
+            None => None,
+        }
     }
 
     /// Moves the end of the lock of a lease, where the lease is of its generation. Takes no memory.

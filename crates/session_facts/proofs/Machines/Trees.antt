@@ -1,7 +1,6 @@
 -- The way down of a tree checkpoint, and what its phases share: the root and the inner nodes that it read, its way over them, and pieces on reserved numbers.
 pub mod Forks
-pub mod Unseen
-pub mod Descents
+pub mod Seen
 pub mod Strides
 pub mod Ways
 pub mod Others

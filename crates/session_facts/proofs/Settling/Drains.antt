@@ -28,7 +28,7 @@ use Rattle.run_cursor.specs.Covered.{is_covered, is_seen, new_ones, covered_ids}
 use Rattle.run_cursor.specs.Run.{IsRun}
 use Rattle.session_facts.proofs.Machines.Runs.Received.{each_in, all_in, items_sent, item_client, new_in, covered_in}
 use Rattle.session_facts.proofs.Machines.Risings.Grounds.{in_dropped}
-use Rattle.session_facts.proofs.Machines.Trees.Unseen.{seen_in}
+use Rattle.session_facts.proofs.Machines.Trees.Seen.{seen_in}
 use Rattle.session_facts.specs.Machines.Runs.Knows.{IsSentItem}
 use Rattle.cloud_facts.proofs.Orders.Filters.{nothing_in}
 use Rattle.session_facts.proofs.Machines.Folds.Cuts.{each_by}

@@ -36,7 +36,7 @@ use Rattle.tree_phases.specs.Read.{leaf_read}
 use Rattle.session_facts.specs.Machines.Trees.Ways.{IsOnWay}
 use Rattle.session_facts.proofs.Machines.Trees.Forks.{in_more}
 use Rattle.cloud_facts.proofs.Calls.Pages.{none_landed}
-use Rattle.session_facts.proofs.Machines.Trees.Unseen.{seen_in}
+use Rattle.session_facts.proofs.Machines.Trees.Seen.{seen_in}
 
 -- a right page that is named
 named_right : (n page : ℕ) → page_at n ≡ Some page → n ≡ page

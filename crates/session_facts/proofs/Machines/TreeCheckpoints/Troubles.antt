@@ -1,7 +1,6 @@
 -- The troubles that the local work of a checkpoint meets: that of the answer in hand, or one of what was read or planned, which no call shows.
-use Rattle.std.proofs.Common.{◌≡◌, ◌==◌, ◌&&◌, ℕ, Bool, true, false, cond, List, Option, Some, None, Result, Ok, Err, refl, sym, ap, subst, ◌∙◌}
-use Rattle.std.specs.Prelude.{not, is_some}
-use Rattle.byte_format.specs.Order.{bytes_below, bytes_same}
+use Rattle.std.proofs.Common.{◌≡◌, ℕ, Bool, true, false, cond, List, Option, Some, None, Result, Ok, Err, refl, sym, ap, subst, ◌∙◌}
+use Rattle.std.specs.Prelude.{is_some}
 use Rattle.byte_format.specs.Whole.{offset}
 use Rattle.cloud_trait.specs.declared.answer.Answer.{Answer}
 use Rattle.cloud_trait.specs.Machine.{Next, Goes, Ends, Stops}
@@ -21,17 +20,16 @@ use Rattle.tree_ckpt.specs.Working.{HoldsLeaf}
 use Rattle.tree_ckpt.proofs.LeafOutcomes.{reads, put_lands}
 use Rattle.tree_ckpt.proofs.LeafOutcomes as leaf
 use Rattle.tree_ckpt.proofs.RiseOutcomes as rise
-use Rattle.session_facts.proofs.Machines.Trees.Descents.{Arrives, arrives_at, Gets, gets}
-use Rattle.session_facts.proofs.Machines.Trees.Descents as way
+use Rattle.tree_ckpt.proofs.WayOutcomes.{Arrives, arrives, Gets, gets}
+use Rattle.tree_ckpt.proofs.WayOutcomes as way
 use Rattle.tree_phases.specs.declared.descent.Descent.{Descent}
 use Rattle.tree_phases.specs.declared.fork.Fork.{Fork}
-use Rattle.tree_phases.specs.Descent.{begun, forked, forked_by, fork_of, passed, arrive, absent_node, descent_got}
-use Rattle.tree_phases.specs.Fork.{bad_fence, forked_on}
+use Rattle.tree_phases.specs.Descent.{begun, arrive, descent_got}
 use Rattle.tree_ckpt.specs.Moves.{down_from, root_entry}
 use Rattle.tree_phases.specs.declared.chart.Chart.{Chart}
 use Rattle.tree_phases.specs.declared.kept.KeptNode.{KeptNode}
 use Rattle.tree_phases.specs.Placing.{has_nothing}
-use Rattle.tree_phases.specs.Read.{damaged, inner_or, inner_read, tree_held}
+use Rattle.tree_phases.specs.Read.{damaged, inner_or, tree_held}
 use Rattle.tree_phases.specs.declared.node.NodePlan.{NodePlan}
 use Rattle.tree_phases.specs.declared.rising.Rising.{Rising}
 use Rattle.tree_phases.specs.declared.root.RootPlan.{RootPlan}
@@ -46,29 +44,9 @@ HasFree (Err t) = IsFree t
 
 -- ---- what is read
 
-inner_free : (tree page at : ℕ) (o : Option Inner) → HasFree (inner_or tree page at o)
-inner_free tree page at (Some n) = tt
-inner_free tree page at None = tt
-
-forked_free : (d : Descent) (n : Inner) → HasFree (forked d n)
-forked_free d n = on (n.level == d.level)
-  where
-    fenced : (b : Bool) → (let kept : Result Fork Trouble = Ok (forked_on d.chart.key n) in HasFree (cond b kept (Err (bad_fence d.page d.low n.low))))
-    fenced true = tt
-    fenced false = tt
-
-    on : (b : Bool)
-        → (let kept : Result Fork Trouble = Ok (forked_on d.chart.key n) in
-        HasFree (cond b (cond (bytes_same n.low d.low && not (bytes_below d.chart.key n.low)) kept (Err (bad_fence d.page d.low n.low))) (Err (damaged d.chart.tree d.page 10))))
-    on true = fenced (bytes_same n.low d.low && not (bytes_below d.chart.key n.low))
-    on false = tt
-
-forked_by_free : (d : Descent) (r : Result Inner Trouble) → HasFree r → HasFree (forked_by d r)
-forked_by_free d (Ok n) is = forked_free d n
-forked_by_free d (Err t) is = is
-
-fork_free : (d : Descent) (bytes : List ℕ) → HasFree (fork_of d bytes)
-fork_free d bytes = forked_by_free d (inner_read d.chart.tree d.page bytes) (inner_free d.chart.tree d.page (offset inner_format bytes) (inner_of bytes))
+node_free : {d : Descent} {bytes : List ℕ} {r : Result Fork Trouble} → way.Reads d bytes r → HasFree r
+node_free (way.leads n f is on) = tt
+node_free r = tt
 
 -- a step stops for such a trouble alone
 abbrev pub StopsFor : {M A : Type 0} → (Trouble → Type 0) → Next M A → Type 0
@@ -83,27 +61,20 @@ MeetsSpent Met due = (t : Trouble) → IsSpentFor due t → Met t
 module _ (Met : Trouble → Type 0) (free : (t : Trouble) → IsFree t → Met t) where
   -- ---- down
 
-  arrives_for : {n : ℕ} {d : Descent} {next : Next Descent (Unit {0})} → Arrives n d next → StopsFor Met next
-  arrives_for (way.round d seen) = free (trouble.Loop d.page) tt
-  arrives_for (way.breaks d k t new kept e) = free t (subst HasFree e (fork_free d k.bytes))
-  arrives_for (way.too_far d k fork p) = free (trouble.Loop (passed d fork).page) tt
+  arrives_for : {d : Descent} {next : Next Descent (Unit {0})} → Arrives d next → StopsFor Met next
+  arrives_for (way.round d above seen) = free (trouble.Loop d.page) tt
+  arrives_for (way.breaks d k t fresh kept e reads) = free t (node_free reads)
   arrives_for (way.further d k fork p on) = arrives_for on
   arrives_for w = tt
 
   arrive_for : (d : Descent) → StopsFor Met (arrive d)
-  arrive_for d = arrives_for (arrives_at d)
-
-  absent_for : (d : Descent) → Met (absent_node d)
-  absent_for d = on (d.page == 1)
-    where
-      on : (b : Bool) → Met (cond b (damaged d.chart.tree d.page 0) (trouble.Absent d.page))
-      on true = free (damaged d.chart.tree d.page 0) tt
-      on false = free (trouble.Absent d.page) tt
+  arrive_for d = arrives_for (arrives d)
 
   gets_for : {d : Descent} {g : Result (Option (List ℕ)) Trouble} {next : Next Descent (Unit {0})} → Gets d g next → ((t : Trouble) → g ≡ Err t → Met t) → StopsFor Met next
-  gets_for (way.leads bytes fork e on) refused = arrives_for on
-  gets_for {d = d} (way.wrong bytes t e) refused = free t (subst HasFree e (fork_free d bytes))
-  gets_for {d = d} way.absent refused = absent_for d
+  gets_for (way.goes_on bytes n fork is leads on) refused = arrives_for on
+  gets_for (way.wrong bytes t reads) refused = free t (node_free reads)
+  gets_for {d = d} (way.no_root first) refused = free (damaged d.chart.tree d.page 0) tt
+  gets_for {d = d} (way.absent other) refused = free (trouble.Absent d.page) tt
   gets_for (way.refused t) refused = refused t refl
 
   pub descent_for : (d : Descent) (g : Result (Option (List ℕ)) Trouble) → ((t : Trouble) → g ≡ Err t → Met t) → StopsFor Met (descent_got d g)

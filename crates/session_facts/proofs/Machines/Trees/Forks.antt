@@ -152,12 +152,3 @@ passed_known st now lease d (Right low page) k leads = record {
   way = leads;
 }
 passed_known st now lease d (Down low page) k leads = record { chart = k; way = leads }
-
--- the page is passed, and the nodes are those that were got before
-pub passed_visited : (d : Descent) (fork : Fork) → (passed d fork).visited ≡ d.visited ++ d.page ∷ []
-passed_visited d (Right low page) = refl
-passed_visited d (Down low page) = refl
-
-pub passed_nodes : (d : Descent) (fork : Fork) → (passed d fork).chart.nodes ≡ d.chart.nodes
-passed_nodes d (Right low page) = refl
-passed_nodes d (Down low page) = refl

@@ -1,5 +1,5 @@
 -- The way over inner nodes that were got: it comes to a node that was not, or to a leaf, and to no page twice.
-use Rattle.std.proofs.Common.{◌≡◌, ◌<◌, ◌≤◌, ◌==◌, ℕ, true, false, List, [], ◌∷◌, ◌++◌, Some, Result, Ok, sym, ap, subst, ◌∙◌, arith}
+use Rattle.std.proofs.Common.{◌≡◌, ◌==◌, ℕ, true, List, Some, Result, Ok, sym, ap, subst, ◌∙◌, arith}
 use Rattle.std.proofs.lemmas.Bool.{eqb-true}
 use Rattle.cloud_facts.specs.Chains.Chain.{ChainHolds}
 use Rattle.cloud_facts.proofs.Meanings.Steps.{not_passed}
@@ -18,16 +18,12 @@ use Rattle.tree_phases.specs.Fork.{forked_on}
 use Rattle.tree_phases.proofs.Reading.{inner_is}
 use Rattle.tree_phases.specs.declared.kept.KeptNode.{KeptNode}
 use Rattle.tree_phases.specs.Read.{inner_read}
-use Rattle.session_facts.proofs.Machines.Trees.Descents.{Passes, Arrives, arrives_at}
-use Rattle.session_facts.proofs.Machines.Trees.Descents as way
+use Rattle.tree_ckpt.proofs.WayOutcomes.{Passes, Arrives}
+use Rattle.tree_ckpt.proofs.WayOutcomes as way
 use Rattle.session_facts.specs.Machines.Trees.Charts.{KnowsNode}
 use Rattle.session_facts.specs.Machines.Trees.Ways.{KnowsWay, WayLeads}
-use Rattle.session_facts.proofs.Machines.Trees.Forks.{is_forked, fork_leads, passed_known, passed_visited, passed_nodes}
-use Rattle.session_facts.proofs.Machines.Trees.Unseen.{seen_in, unseen, unseen_most, unseen_less}
-
--- how many nodes that were got are before the way still
-abbrev pub ahead : Descent → ℕ
-ahead d = unseen d.visited d.chart.nodes
+use Rattle.session_facts.proofs.Machines.Trees.Forks.{is_forked, fork_leads, passed_known}
+use Rattle.session_facts.proofs.Machines.Trees.Seen.{seen_in}
 
 module _ (st : Store) (now : ℕ) (lease : Claim) (h : ChainHolds st) where
   -- a node's bytes lead on where the node landed
@@ -50,12 +46,6 @@ module _ (st : Store) (now : ℕ) (lease : Claim) (h : ChainHolds st) where
       not_passed (st.book.chain d.chart.tree) (st.tally.nodes d.chart.tree) (st.tally.roots d.chart.tree) (st.tally.done d.chart.tree) (st.tally.cursor d.chart.tree 0)
       (h d.chart.tree k.chart.tree) d.level d.page d.low d.chart.key k.way.at (k.way.behind d.page (seen_in d.visited d.page seen))
 
-  fork_fewer : (d : Descent) (fork : Fork) (k : KeptNode) → IsIn d.chart.nodes k → k.page ≡ d.page → is_seen d.visited d.page ≡ false → ahead (passed d fork) < ahead d
-  fork_fewer d fork k there same fresh =
-      subst (λ (v : List ℕ). unseen v (passed d fork).chart.nodes < ahead d) (sym (passed_visited d fork))
-      (subst (λ (ks : List KeptNode). unseen (d.visited ++ d.page ∷ []) ks < ahead d) (sym (passed_nodes d fork))
-      (unseen_less d.visited d.page d.chart.nodes k there same fresh))
-
   -- where one that was got leads
   leads_over : (d : Descent) → KnowsWay st now lease d → (kept : KeptNode) → kept_at d ≡ Some kept
       → (n : Inner) × (fork_of d kept.bytes ≡ Ok (forked_on d.chart.key n)) × KnowsWay st now lease (passed d (forked_on d.chart.key n))
@@ -72,30 +62,23 @@ module _ (st : Store) (now : ℕ) (lease : Claim) (h : ChainHolds st) where
           bytes_lead d kept.bytes known.inner k (inner_is d.chart.tree d.page kept.bytes known.inner known.spells)
           (subst (λ (p : ℕ). IsIn (st.tally.nodes d.chart.tree p) (Branch known.inner)) (eqb-true kept.page d.page there.1) known.landed)
 
-  -- it leads on to another link and leaves fewer nodes ahead
-  passes_on : (d : Descent) (kept : KeptNode) (fork : Fork) → Passes d kept fork → KnowsWay st now lease d → KnowsWay st now lease (passed d fork) × (ahead (passed d fork) < ahead d)
-  passes_on d kept fork p k = (
-    subst (λ (f : Fork). KnowsWay st now lease (passed d f)) (same_Ok (forked_on d.chart.key leads.0) fork (sym leads.1 ∙ p.forks)) leads.2,
-    fork_fewer d fork kept there.0 (eqb-true kept.page d.page there.1) p.new.unseen,
-  )
+  -- it leads on to another link
+  passes_on : (d : Descent) (kept : KeptNode) (fork : Fork) → Passes d kept fork → KnowsWay st now lease d → KnowsWay st now lease (passed d fork)
+  passes_on d kept fork p k = subst (λ (f : Fork). KnowsWay st now lease (passed d f)) (same_Ok (forked_on d.chart.key leads.0) fork (sym leads.1 ∙ p.forks)) leads.2
     where
       leads : (n : Inner) × (fork_of d kept.bytes ≡ Ok (forked_on d.chart.key n)) × KnowsWay st now lease (passed d (forked_on d.chart.key n))
       leads = leads_over d k kept p.kept
-
-      there : IsIn d.chart.nodes kept × ((kept.page == d.page) ≡ true)
-      there = found (λ (n : KeptNode). n.page == d.page) d.chart.nodes kept p.kept
 
       same_Ok : (f g : Fork) → ◌≡◌ {A = Result Fork Trouble} (Ok f) (Ok g) → f ≡ g
       same_Ok f g e = cc (e)
 
   -- the way ends at a node that is to be got, or at a leaf; it stops for nothing
-  arrives_on : (May : Trouble → Type 0) {n : ℕ} {d : Descent} {x : Next Descent (Unit {0})} → Arrives n d x → KnowsWay st now lease d → ahead d ≤ n → WayLeads st now lease May x
-  arrives_on May (way.at_leaf d level) k most = (k, level)
-  arrives_on May (way.at_node d new none) k most = (k, new.above)
-  arrives_on May (way.round d seen) k most = absurd (never_seen d k seen)
-  arrives_on May (way.breaks d kept t new at e) k most = absurd (let clash = sym (leads_over d k kept at).1 ∙ e in cc (clash))
-  arrives_on May (way.further d kept fork p on) k most = let next = passes_on d kept fork p k in let fewer = next.1 in arrives_on May on next.0 (omega (arith, fewer, most))
-  arrives_on May (way.too_far d kept fork p) k most = let fewer = (passes_on d kept fork p k).1 in absurd (omega (arith, fewer, most))
+  arrives_on : (May : Trouble → Type 0) {d : Descent} {x : Next Descent (Unit {0})} → Arrives d x → KnowsWay st now lease d → WayLeads st now lease May x
+  arrives_on May (way.at_leaf d level) k = (k, level)
+  arrives_on May (way.at_node d fresh none) k = let above = fresh.0 in (k, omega (arith, above))
+  arrives_on May (way.round d above seen) k = absurd (never_seen d k seen)
+  arrives_on May (way.breaks d kept t fresh at e reads) k = absurd (let clash = sym (leads_over d k kept at).1 ∙ e in cc (clash))
+  arrives_on May (way.further d kept fork p on) k = arrives_on May on (passes_on d kept fork p k)
 
   pub arrives : (May : Trouble → Type 0) (d : Descent) → KnowsWay st now lease d → WayLeads st now lease May (arrive d)
-  arrives May d k = arrives_on May (arrives_at d) k (unseen_most d.visited d.chart.nodes)
+  arrives May d k = arrives_on May (way.arrives d) k

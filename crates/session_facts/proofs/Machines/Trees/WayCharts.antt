@@ -18,8 +18,8 @@ use Rattle.tree_phases.specs.Descent.{passed, arrive, with_node, descent_next}
 use Rattle.tree_phases.specs.declared.chart.Chart.{Chart}
 use Rattle.tree_phases.specs.declared.kept.KeptNode.{KeptNode}
 use Rattle.tree_phases.specs.Kept.{place_of}
-use Rattle.session_facts.proofs.Machines.Trees.Descents.{Arrives, arrives_at, Gets, gets}
-use Rattle.session_facts.proofs.Machines.Trees.Descents as way
+use Rattle.tree_ckpt.proofs.WayOutcomes.{Arrives, arrives, Gets, gets}
+use Rattle.tree_ckpt.proofs.WayOutcomes as way
 use Rattle.session_facts.specs.Machines.Folds.Knows.{KnowsRun, IsLeast}
 use Rattle.session_facts.specs.Machines.Trees.Leaves.{IsGetting, IsCome}
 use Rattle.session_facts.specs.Machines.Risings.Knows.{AreApart}
@@ -88,19 +88,19 @@ passed_apart : (d : Descent) (fork : Fork) → AreApart d.chart.nodes → KeepsC
 passed_apart d (Right low page) a = (refl, a)
 passed_apart d (Down low page) a = (refl, a)
 
-arrives_apart : {n : ℕ} {d : Descent} {s : Next Descent (Unit {0})} → Arrives n d s → AreApart d.chart.nodes → LeadsApart d.chart s
+arrives_apart : {d : Descent} {s : Next Descent (Unit {0})} → Arrives d s → AreApart d.chart.nodes → LeadsApart d.chart s
 arrives_apart (way.at_leaf d level) a = (refl, a)
-arrives_apart (way.at_node d new none) a = (refl, a, fresh_of d.page d.chart.nodes none)
+arrives_apart (way.at_node d unseen none) a = (refl, a, fresh_of d.page d.chart.nodes none)
 arrives_apart {s = s} (way.further d k fork p on) a =
     let more = passed_apart d fork a in
     later d.chart (passed d fork).chart s more.0 (arrives_apart on more.1)
 arrives_apart w a = tt
 
 pub arrive_apart : (d : Descent) → AreApart d.chart.nodes → LeadsApart d.chart (arrive d)
-arrive_apart d a = arrives_apart (arrives_at d) a
+arrive_apart d a = arrives_apart (arrives d) a
 
 gets_apart : {d : Descent} {g : Result (Option (List ℕ)) Trouble} {s : Next Descent (Unit {0})} → Gets d g s → AreApart d.chart.nodes → IsFresh d.page d.chart.nodes → LeadsApart d.chart s
-gets_apart {d = d} {s = s} (way.leads bytes fork e on) a fresh =
+gets_apart {d = d} {s = s} (way.goes_on bytes n fork is leads on) a fresh =
     let node : KeptNode = record { page = d.page; level = d.level; low = d.low; bytes = bytes } in
     let more = passed_apart (with_node d bytes) fork (apart_more (place_of node d.chart.nodes) d.chart.nodes node a fresh) in
     later d.chart (passed (with_node d bytes) fork).chart s (keeps_on d.chart (with_node d bytes).chart (passed (with_node d bytes) fork).chart refl more.0) (arrives_apart on more.1)

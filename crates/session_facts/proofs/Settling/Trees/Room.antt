@@ -27,7 +27,7 @@ use Rattle.session_facts.proofs.Settling.Trees.Calls.{HasRoom, Reserving, own_of
 use Rattle.session_facts.proofs.Settling.Trees.Lists.{pages_fit}
 use Rattle.session_facts.proofs.Settling.Trees.Pieces.{puts_as_many}
 use Rattle.session_facts.proofs.Settling.Trees.Visits.{IsUnvisited}
-use Rattle.session_facts.proofs.Machines.Trees.Unseen.{seen_in}
+use Rattle.session_facts.proofs.Machines.Trees.Seen.{seen_in}
 use Rattle.session_facts.specs.Machines.TreeCheckpoints.Knows.{IsUnder, KnowsWork}
 use Rattle.session_facts.specs.Machines.TreeCheckpoints.Counting.{next_of, HasRoot, Once}
 use Rattle.session_facts.specs.Machines.Trees.Charts.{KnowsNodes}

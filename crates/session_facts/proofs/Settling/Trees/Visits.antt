@@ -15,8 +15,8 @@ use Rattle.tree_phases.specs.Folding as fold
 use Rattle.run_cursor.specs.Covered.{is_seen}
 use Rattle.session_facts.proofs.Settling.Trees.Lists.{apart_more}
 use Rattle.session_facts.specs.Machines.TreeCheckpoints.Counting.{Once}
-use Rattle.session_facts.proofs.Machines.Trees.Descents.{Arrives, arrives_at, Gets, gets}
-use Rattle.session_facts.proofs.Machines.Trees.Descents as way
+use Rattle.tree_ckpt.proofs.WayOutcomes.{Arrives, arrives, Gets, gets}
+use Rattle.tree_ckpt.proofs.WayOutcomes as way
 use Rattle.tree_ckpt.proofs.LeafOutcomes.{reads, put_lands}
 use Rattle.tree_ckpt.proofs.LeafOutcomes as leaf
 use Rattle.tree_ckpt.proofs.Outcomes.{Descends, Comes, comes}
@@ -64,21 +64,21 @@ passed_once : (d : Descent) (f : Fork) → is_seen d.visited d.page ≡ false �
 passed_once d (fork.Right low page) unseen apart = one_more d.visited d.page unseen apart
 passed_once d (fork.Down low page) unseen apart = one_more d.visited d.page unseen apart
 
-arrives_once : {n : ℕ} {d : Descent} {s : Next Descent (Unit {0})} → Arrives n d s → Apart d.visited → WayOnce s
+arrives_once : {d : Descent} {s : Next Descent (Unit {0})} → Arrives d s → Apart d.visited → WayOnce s
 arrives_once (way.at_leaf d level) apart = apart
-arrives_once (way.at_node d new none) apart = apart
-arrives_once (way.further d k f p on) apart = arrives_once on (passed_once d f p.new.unseen apart)
+arrives_once (way.at_node d fresh none) apart = apart
+arrives_once (way.further d k f p on) apart = arrives_once on (passed_once d f p.fresh.1 apart)
 arrives_once w apart = tt
 
 gets_once : {d : Descent} {g : Result (Option (List ℕ)) Trouble} {s : Next Descent (Unit {0})} → Gets d g s → is_seen d.visited d.page ≡ false → Apart d.visited → WayOnce s
-gets_once {d = d} (way.leads bytes f e on) unseen apart = arrives_once on (passed_once (with_node d bytes) f unseen apart)
+gets_once {d = d} (way.goes_on bytes n f is leads on) unseen apart = arrives_once on (passed_once (with_node d bytes) f unseen apart)
 gets_once w unseen apart = tt
 
 -- the way begins with no page, and goes on from one that was not visited
 descends_once : {tree : ℕ} {w : Work} {a : Answer} {h : Held} {next : Next Descent (Unit {0})} → Once w → IsUnvisited w → Descends tree w a h next → WayOnce next
 descends_once is new (step.begins {c = c} key s e) =
     let to : Chart = record c { key = key } in
-    arrives_once (arrives_at (begun to (root_entry to).0 (root_entry to).1)) tt
+    arrives_once (arrives (begun to (root_entry to).0 (root_entry to).1)) tt
 descends_once is new (step.goes_on h d a) = gets_once (gets d (got_of a)) new is
 
 -- ---- a leaf

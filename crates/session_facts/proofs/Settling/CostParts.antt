@@ -1,8 +1,7 @@
 -- Each part of a settling whose calls go well makes no more calls than its client or its queue needs, and empties it.
-use Rattle.std.proofs.Common.{◌≡◌, ◌≢◌, ◌+◌, ◌*◌, ◌<◌, ◌≤◌, ◌⊎◌, inl, inr, ℕ, zero, suc, Bool, true, false, cond, List, [], ◌∷◌, ◌++◌, length, map, Option, Some, None, refl, sym, ap, subst, ◌∙◌, arith}
-use Rattle.std.specs.Prelude.{nat_lt, ◌==◌, ◌||◌}
+use Rattle.std.proofs.Common.{◌≡◌, ◌≢◌, ◌+◌, ◌*◌, ◌<◌, ◌≤◌, ◌⊎◌, inl, inr, ℕ, zero, suc, Bool, true, false, List, [], ◌∷◌, ◌++◌, length, map, None, refl, sym, ap, subst, ◌∙◌, arith}
+use Rattle.std.specs.Prelude.{◌==◌, ◌||◌}
 use Rattle.std.proofs.lemmas.Bool.{cases_eq, eq-eqb}
-use Rattle.std.proofs.lemmas.Bool.Decides.{nat_tests}
 use Rattle.cloud_trait.specs.Calm.{IsCalm, AreCalm}
 use Rattle.cloud_trait.specs.Plenty.{HadMemory}
 use Rattle.cloud_facts.proofs.Book.Places.{in_front}
@@ -18,7 +17,6 @@ use Rattle.cloud_trait.specs.declared.state.Version.{Version}
 use Rattle.db_base.specs.Ids.{IsClient, IsTree}
 use Rattle.db_base.specs.declared.names.QueueName.{QueueName}
 use Rattle.db_base.specs.declared.names.QueueName.TheVariants as queue
-use Rattle.db_base.specs.declared.trouble.Trouble.TheVariants as trouble
 use Rattle.head_codec.specs.Head.{empty_head}
 use Rattle.leaf_view.specs.Lookup.{page_at, empty_leaf}
 use Rattle.node_codec.specs.Tree.{empty_tree}
@@ -40,8 +38,10 @@ use Rattle.session_facts.specs.Settling.Bound.{sum_upto, sum_over, newest_head, 
 use Rattle.session_facts.specs.Settling.Runs.{AreDelivered, waiting, right_at, Drains, TreeRun, PageRun, RecoveryRun, TreesRun, PagesRun, RecoveriesRun}
 use Rattle.session_facts.specs.Settling.Story.{Moment, store_at, IsAtWork, PartRan}
 use Rattle.session_facts.specs.Machines.Settlings.Knows.{KnowsAtWork}
-use Rattle.settle_run.specs.Parts.{part_again, part_of_client, part_of_tree}
-use Rattle.settle_run.specs.Settling.{Settling, Step, begins, to_page, behind_tree, is_visited, goes_right, passed_with, passed}
+use Rattle.settle_run.specs.Parts.{part_again, part_of_tree, part_of_page, part_received}
+use Rattle.settle_run.specs.Settling.{Settling, Step, begins, to_page, is_visited, passed}
+use Rattle.settle_run.proofs.Outcomes.{Passes, passes}
+use Rattle.settle_run.proofs.Outcomes as step
 use Rattle.settle_run.specs.declared.part.Part.{Part}
 use Rattle.settle_run.specs.declared.part.Part.TheVariants.{Client, Tree, Page}
 use Rattle.settle_run.specs.declared.settled.Settled.{Settled as Answered}
@@ -109,10 +109,10 @@ again_cost begin (Client client r) visited calls m k = k
 again_cost begin (Tree tree r) visited calls m k = k
 again_cost begin (Page tree page r) visited calls m k = k
 
-cost_again : (begin : CloudState) (w : Part) (visited : List ℕ) (calls : ℕ) (m : Moment) → CostAt begin (part_again w) visited calls m → CostAt begin w visited calls m
-cost_again begin (Client client r) visited calls m k = k
-cost_again begin (Tree tree r) visited calls m k = k
-cost_again begin (Page tree page r) visited calls m k = k
+cost_begun : (begin : CloudState) (w : Part) (visited : List ℕ) (calls : ℕ) (m : Moment) → CostAt begin (part_again w) visited calls m → CostAt begin w visited calls m
+cost_begun begin (Client client r) visited calls m k = k
+cost_begun begin (Tree tree r) visited calls m k = k
+cost_begun begin (Page tree page r) visited calls m k = k
 
 -- ---- lists and numbers
 
@@ -137,11 +137,12 @@ sum_zero a b = omega arith
 sum_both : (a b c d : ℕ) → b ≡ c + d → a + b ≡ a + c + d
 sum_both a b c d e = omega (arith, e)
 
-no_more : (run calls needed : ℕ) → run ≤ needed → calls + run + 0 ≤ calls + needed
-no_more run calls needed few = omega (arith, few)
+no_more : (run needed : ℕ) → run ≤ needed → run + 0 ≤ needed
+no_more run needed few = omega (arith, few)
 
-some_more : (run calls left needed : ℕ) → run + left ≤ needed → calls + run + left ≤ calls + needed
-some_more run calls left needed few = omega (arith, few)
+-- what a part leaves to be called is no more than what was before it
+in_all : (all calls run left needed : ℕ) → all ≡ calls + run → run + left ≤ needed → all + left ≤ calls + needed
+in_all all calls run left needed made few = omega (arith, made, few)
 
 -- ---- the clients of a part
 
@@ -186,21 +187,17 @@ module _ (own : Bool) (tree : ℕ) (q : QueueName) (first last : Moment)
 
 -- ---- each part
 
-module _ (begin : CloudState) (trees : TreesRun) (pages : PagesRun) (clients : RecoveriesRun) (s : Settling) (h : List Deed) (first last : Moment)
-    (calm : AreCalm h) (memory : HadMemory h) where
+module _ (begin : CloudState) (trees : TreesRun) (pages : PagesRun) (clients : RecoveriesRun) (h : List Deed) (first last : Moment) (calm : AreCalm h) (memory : HadMemory h) where
   abbrev HandsOn : Step → Type 0
   HandsOn next = Handed (Cost begin) (CostsFew begin) next last
-
-  abbrev more : ℕ
-  more = s.calls + length h
 
   delivered : AreDelivered h
   delivered = calm_delivered h calm
 
   -- ---- a client
 
-  module _ (client : ℕ) (r : Recovery) (is_client : IsClient client) (cost : LogsRest client first.state × Recovering begin client s.calls first.state)
-      (ran : PartRan (Client client r) h first last) where
+  module _ (s : Settling) (calls : ℕ) (made : s.calls ≡ calls + length h) (client : ℕ) (r : Recovery) (is_client : IsClient client)
+      (cost : LogsRest client first.state × Recovering begin client calls first.state) (ran : PartRan (Client client r) h first last) where
     recovered : RecoveryRun client h first last
     recovered = clients client r h first last ran
 
@@ -223,7 +220,7 @@ module _ (begin : CloudState) (trees : TreesRun) (pages : PagesRun) (clients : R
         ap (λ (vs : List Version). count_of (last_or empty_head (map head_in vs)).phase) (cost.1.heads client (omega arith)) in
         omega (arith, run, messages, records)
 
-    recovering : Recovering begin (client + 1) more last.state
+    recovering : Recovering begin (client + 1) s.calls last.state
     recovering = record {
       few = few;
       heads = λ k from. client_keeps.heads k (λ e. omega (arith, from, e)) ∙ cost.1.heads k (omega (arith, from));
@@ -232,44 +229,36 @@ module _ (begin : CloudState) (trees : TreesRun) (pages : PagesRun) (clients : R
       longer = λ q. let one = client_keeps.longer q in let two = cost.1.longer q in omega (arith, one, two);
     }
       where
-        few : (n : ℕ) → client + 1 ≡ n + 1 → more ≤ sum_upto (λ k. 8 + client_calls begin k) n
+        few : (n : ℕ) → client + 1 ≡ n + 1 → s.calls ≤ sum_upto (λ k. 8 + client_calls begin k) n
         few zero e = let some = is_client.some in absurd (omega (arith, e, some))
         few (suc n) e =
             let same : client ≡ suc n = omega (arith, e) in
-            let was : s.calls ≤ sum_upto (λ k. 8 + client_calls begin k) n = cost.1.few n (omega (arith, same)) in
+            let was : calls ≤ sum_upto (λ k. 8 + client_calls begin k) n = cost.1.few n (omega (arith, same)) in
             let run : length h ≤ 8 + client_calls begin (suc n) = subst (λ (k : ℕ). length h ≤ 8 + client_calls begin k) same one_client in
-            close s.calls (length h) (sum_upto (λ k. 8 + client_calls begin k) n) (8 + client_calls begin (suc n)) (sum_upto (λ k. 8 + client_calls begin k) (suc n))
-            was run (sum_next (λ k. 8 + client_calls begin k) n)
+            close s.calls calls (length h) (sum_upto (λ k. 8 + client_calls begin k) n) (8 + client_calls begin (suc n)) (sum_upto (λ k. 8 + client_calls begin k) (suc n))
+            made was run (sum_next (λ k. 8 + client_calls begin k) n)
           where
-            close : (calls run a b c : ℕ) → calls ≤ a → run ≤ b → c ≡ a + b → calls + run ≤ c
-            close calls run a b c was few e = omega (arith, was, few, e)
+            close : (all calls run a b c : ℕ) → all ≡ calls + run → calls ≤ a → run ≤ b → c ≡ a + b → all ≤ c
+            close all calls run a b c made was few e = omega (arith, made, was, few, e)
 
-    client_cost : HandsOn (passed (behind_part s (Client client r) h))
-    client_cost = on (nat_lt client 64) refl
+    to_trees : 64 ≤ client → HandsOn (begins s (part_of_tree 1))
+    to_trees far =
+        let most = is_client.most in (
+          λ k is less. let bound = is.most in client_logs k is (omega (arith, far, bound)),
+          takes begin 1 no_need (own_tree 1) IsPending (RestTree 1) s.calls last.state (queue.TreePu 1) tt tt
+              (λ messages pages. zero_sum (queue_calls (messages (queue.TreePu 1)) (pages 1))) pending
+              (trees_begin begin last.state (client + 1) s.calls (omega (arith, far, most)) recovering),
+        )
       where
-        enough : nat_lt client 64 ≡ false → 64 ≤ client
-        enough e = grind (arith, nat_tests, e)
-
         pending : (x : QueueName) → RestTree 1 x → IsPending x
         pending (queue.Atomic k) is = is
         pending (queue.TreePu t) is = tt
         pending (queue.PagePu t p) is = tt
 
-        on : (b : Bool) → nat_lt client 64 ≡ b → HandsOn (begins (behind_part s (Client client r) h) (cond b (part_of_client (client + 1)) (part_of_tree 1)))
-        on true e = (client_logs, recovering)
-        on false e =
-            let far : 64 ≤ client = enough e in
-            let most = is_client.most in (
-              λ k is less. let bound = is.most in client_logs k is (omega (arith, far, bound)),
-              takes begin 1 no_need (own_tree 1) IsPending (RestTree 1) more last.state (queue.TreePu 1) tt tt
-                  (λ messages pages. zero_sum (queue_calls (messages (queue.TreePu 1)) (pages 1))) pending
-                  (trees_begin begin last.state (client + 1) more (omega (arith, far, most)) recovering),
-            )
-
   -- ---- the queue of a tree
 
-  module _ (tree : ℕ) (r : Making) (left : LeftAt (Tree tree r) s.known s.visited first) (cost : CostAt begin (Tree tree r) s.visited s.calls first)
-      (ran : PartRan (Tree tree r) h first last) where
+  module _ (s : Settling) (calls : ℕ) (made : s.calls ≡ calls + length h) (tree : ℕ) (r : Making) (left : LeftAt (Tree tree r) s.known s.visited first)
+      (cost : CostAt begin (Tree tree r) s.visited calls first) (ran : PartRan (Tree tree r) h first last) where
     tree_run : TreeRun tree r h first last
     tree_run = trees tree r h first last ran
 
@@ -283,12 +272,13 @@ module _ (begin : CloudState) (trees : TreesRun) (pages : PagesRun) (clients : R
     tree_logs = logs_stay true tree (queue.TreePu tree) first last tree_keeps (λ k e. cc (e)) cost.0
 
     tree_moves : (less : (ℕ → ℕ) → ℕ)
-        → ((pages : ℕ → ℕ) → next_page last.state tree ≤ pages tree + 1 → more + less pages ≤ s.calls + needs (length (waiting first.state (queue.TreePu tree))) tree pages)
-        → Spent begin tree less (own_tree tree) (RestTree tree) more last.state
+        → ((pages : ℕ → ℕ) → next_page last.state tree ≤ pages tree + 1 → length h + less pages ≤ needs (length (waiting first.state (queue.TreePu tree))) tree pages)
+        → Spent begin tree less (own_tree tree) (RestTree tree) s.calls last.state
     tree_moves less step =
-        moves begin tree (needs (length (waiting first.state (queue.TreePu tree))) tree) less (own_tree tree) (RestTree tree) s.calls more first.state last.state
+        moves begin tree (needs (length (waiting first.state (queue.TreePu tree))) tree) less (own_tree tree) (RestTree tree) calls s.calls first.state last.state
         (λ q rest. waiting_stays true tree (queue.TreePu tree) first last tree_keeps q (λ e. itself (subst (RestTree tree) (sym e) rest)))
-        tree_keeps.counts nexts (rights_stay true tree (queue.TreePu tree) first last tree_keeps) step cost.1
+        tree_keeps.counts nexts (rights_stay true tree (queue.TreePu tree) first last tree_keeps)
+        (λ pages fits. in_all s.calls calls (length h) (less pages) (needs (length (waiting first.state (queue.TreePu tree))) tree pages) made (step pages fits)) cost.1
       where
         itself : tree < tree → ⊥
         itself less = omega (arith, less)
@@ -300,38 +290,36 @@ module _ (begin : CloudState) (trees : TreesRun) (pages : PagesRun) (clients : R
             by (inl e) = subst (λ (n : ℕ). next_page first.state n ≤ next_page last.state n) e tree_run.grows
             by (inr other) = next_stays true tree (queue.TreePu tree) first last tree_keeps k (λ own e. absurd (other e))
 
-    tree_cost : HandsOn (passed (behind_part s (Tree tree r) h))
-    tree_cost = on (new_ids s.known r.received) refl
+    tree_again : (id : ℕ) (ids : List ℕ) → new_ids s.known r.received ≡ id ∷ ids → HandsOn (Goes (record s { part = part_of_tree tree; known = s.known ++ id ∷ ids }))
+    tree_again id ids e =
+        let some : 1 ≤ length r.received = some_told (queue.TreePu tree) s.known r.received first.state last.state left.1.1 tree_drains id ids e in (
+          tree_logs,
+          tree_moves (needs (length (waiting last.state (queue.TreePu tree))) tree)
+              (λ pages fits.
+              some_received (length h) (length r.received) (length (waiting last.state (queue.TreePu tree))) (length (waiting first.state (queue.TreePu tree))) (pages tree)
+              (few_of (length h) (pages tree) r.received (tree_run.few calm memory (pages tree) fits)) some tree_drains.count),
+        )
+
+    to_pages : new_ids s.known r.received ≡ [] → HandsOn (to_page (record s { visited = [] }) tree 1)
+    to_pages e =
+        let none : length r.received ≡ 0 = ap length (none_told (queue.TreePu tree) s.known r.received first.state last.state left.1.1 tree_drains e) in (
+          tree_logs,
+          takes begin tree (own_tree tree) (own_pages tree (1 ∷ [])) (RestTree tree) (RestPages tree (1 ∷ [])) s.calls last.state (queue.PagePu tree 1) tt (omega arith)
+              (λ messages pages. sum_zero (queue_calls (messages (queue.TreePu tree)) (pages tree)) (queue_calls (messages (queue.PagePu tree 1)) (pages tree))) first_page
+              (tree_moves nothing
+              (λ pages fits. no_more (length h) (queue_calls (length (waiting first.state (queue.TreePu tree))) (pages tree))
+              (none_received (length h) (length r.received) (length (waiting first.state (queue.TreePu tree))) (pages tree) (few_of (length h) (pages tree) r.received (tree_run.few calm memory (pages tree) fits)) none))),
+        )
       where
         first_page : (x : QueueName) → RestPages tree (1 ∷ []) x → RestTree tree x
         first_page (queue.Atomic k) is = is
         first_page (queue.TreePu t) is = is
         first_page (queue.PagePu t p) is = is.0
 
-        on : (ids : List ℕ) → new_ids s.known r.received ≡ ids → HandsOn (passed_with (behind_part s (Tree tree r) h) ids)
-        on [] e =
-            let none : length r.received ≡ 0 = ap length (none_told (queue.TreePu tree) s.known r.received first.state last.state left.1.1 tree_drains e) in (
-              tree_logs,
-              takes begin tree (own_tree tree) (own_pages tree (1 ∷ [])) (RestTree tree) (RestPages tree (1 ∷ [])) more last.state (queue.PagePu tree 1) tt (omega arith)
-                  (λ messages pages. sum_zero (queue_calls (messages (queue.TreePu tree)) (pages tree)) (queue_calls (messages (queue.PagePu tree 1)) (pages tree))) first_page
-                  (tree_moves nothing
-                  (λ pages fits. no_more (length h) s.calls (queue_calls (length (waiting first.state (queue.TreePu tree))) (pages tree))
-                  (none_received (length h) (length r.received) (length (waiting first.state (queue.TreePu tree))) (pages tree) (few_of (length h) (pages tree) r.received (tree_run.few calm memory (pages tree) fits)) none))),
-            )
-        on (id ∷ ids) e =
-            let some : 1 ≤ length r.received = some_told (queue.TreePu tree) s.known r.received first.state last.state left.1.1 tree_drains id ids e in (
-              tree_logs,
-              tree_moves (needs (length (waiting last.state (queue.TreePu tree))) tree)
-                  (λ pages fits. some_more (length h) s.calls (queue_calls (length (waiting last.state (queue.TreePu tree))) (pages tree))
-                  (queue_calls (length (waiting first.state (queue.TreePu tree))) (pages tree))
-                  (some_received (length h) (length r.received) (length (waiting last.state (queue.TreePu tree))) (length (waiting first.state (queue.TreePu tree))) (pages tree)
-                  (few_of (length h) (pages tree) r.received (tree_run.few calm memory (pages tree) fits)) some tree_drains.count)),
-            )
-
   -- ---- the queue of a page
 
-  module _ (tree page : ℕ) (r : Paging) (is_tree : IsTree tree) (left : LeftAt (Page tree page r) s.known s.visited first)
-      (cost : CostAt begin (Page tree page r) s.visited s.calls first) (ran : PartRan (Page tree page r) h first last) where
+  module _ (s : Settling) (calls : ℕ) (made : s.calls ≡ calls + length h) (tree page : ℕ) (r : Paging) (is_tree : IsTree tree) (left : LeftAt (Page tree page r) s.known s.visited first)
+      (cost : CostAt begin (Page tree page r) s.visited calls first) (ran : PartRan (Page tree page r) h first last) where
     page_run : PageRun tree page r h first last
     page_run = pages tree page r h first last ran
 
@@ -344,28 +332,26 @@ module _ (begin : CloudState) (trees : TreesRun) (pages : PagesRun) (clients : R
     page_logs : LogsRest 65 last.state
     page_logs = logs_stay false tree (queue.PagePu tree page) first last page_keeps (λ k e. cc (e)) cost.0
 
-    abbrev after : Settling
-    after = behind_part s (Page tree page r) h
-
     page_moves : (less : (ℕ → ℕ) → ℕ)
-        → ((counts : ℕ → ℕ) → next_page last.state tree ≤ counts tree + 1 → more + less counts ≤ s.calls + needs (length (waiting first.state (queue.PagePu tree page))) tree counts)
-        → Spent begin tree less (own_pages tree s.visited) (RestPages tree s.visited) more last.state
+        → ((counts : ℕ → ℕ) → next_page last.state tree ≤ counts tree + 1 → length h + less counts ≤ needs (length (waiting first.state (queue.PagePu tree page))) tree counts)
+        → Spent begin tree less (own_pages tree s.visited) (RestPages tree s.visited) s.calls last.state
     page_moves less step =
-        moves begin tree (needs (length (waiting first.state (queue.PagePu tree page))) tree) less (own_pages tree s.visited) (RestPages tree s.visited) s.calls more
+        moves begin tree (needs (length (waiting first.state (queue.PagePu tree page))) tree) less (own_pages tree s.visited) (RestPages tree s.visited) calls s.calls
         first.state last.state
         (λ q rest. waiting_stays false tree (queue.PagePu tree page) first last page_keeps q (λ e. itself (subst (RestPages tree s.visited) (sym e) rest)))
         page_keeps.counts (λ k. next_stays false tree (queue.PagePu tree page) first last page_keeps k (λ own e. cc (own)))
-        (rights_stay false tree (queue.PagePu tree page) first last page_keeps) step cost.1
+        (rights_stay false tree (queue.PagePu tree page) first last page_keeps)
+        (λ counts fits. in_all s.calls calls (length h) (less counts) (needs (length (waiting first.state (queue.PagePu tree page))) tree counts) made (step counts fits)) cost.1
       where
         itself : (tree ≤ tree) × (tree ≡ tree → IsIn s.visited page → ⊥) → ⊥
         itself rest = rest.1 refl left.1.1.1.here
 
     -- behind a checkpoint that received nothing new
-    page_spent : new_ids s.known r.received ≡ [] → Spent begin tree nothing (own_pages tree s.visited) (RestPages tree s.visited) more last.state
+    page_spent : new_ids s.known r.received ≡ [] → Spent begin tree nothing (own_pages tree s.visited) (RestPages tree s.visited) s.calls last.state
     page_spent e =
         let none : length r.received ≡ 0 = ap length (none_told (queue.PagePu tree page) s.known r.received first.state last.state left.1.1.0 page_drains e) in
         page_moves nothing
-        (λ counts fits. no_more (length h) s.calls (queue_calls (length (waiting first.state (queue.PagePu tree page))) (counts tree))
+        (λ counts fits. no_more (length h) (queue_calls (length (waiting first.state (queue.PagePu tree page))) (counts tree))
         (none_received (length h) (length r.received) (length (waiting first.state (queue.PagePu tree page))) (counts tree) (few_of (length h) (counts tree) r.received (page_run.few calm memory (counts tree) fits)) none))
 
     -- the tree is over
@@ -374,80 +360,76 @@ module _ (begin : CloudState) (trees : TreesRun) (pages : PagesRun) (clients : R
         subst (LeadAlong (right_at last.state tree) 1 s.visited) (page_run.right ∙ page_zero r.home.right e)
         (subst (λ (right : ℕ → ℕ). LeadAlong right 1 s.visited (right page)) (λ i p. (sym (page_run.rights p)) i) left.1.1.1.leads)
 
-    next_tree : new_ids s.known r.received ≡ [] → page_at r.home.right ≡ None → Spent begin (tree + 1) nothing no_need (RestFrom (tree + 1)) more last.state
-    next_tree none e = tree_over begin tree s.visited (RestPages tree s.visited) (RestFrom (tree + 1)) more last.state is_tree later (leaf_pages e) (page_spent none)
+    next_tree : new_ids s.known r.received ≡ [] → page_at r.home.right ≡ None → Spent begin (tree + 1) nothing no_need (RestFrom (tree + 1)) s.calls last.state
+    next_tree none e = tree_over begin tree s.visited (RestPages tree s.visited) (RestFrom (tree + 1)) s.calls last.state is_tree later (leaf_pages e) (page_spent none)
       where
         later : (x : QueueName) → RestFrom (tree + 1) x → RestPages tree s.visited x
         later (queue.Atomic k) is = is
         later (queue.TreePu t) is = omega (arith, is)
         later (queue.PagePu t p) is = (omega (arith, is), λ e there. absurd (omega (arith, is, e)))
 
-    cost_ends : new_ids s.known r.received ≡ [] → page_at r.home.right ≡ None → HandsOn (behind_tree after tree)
-    cost_ends none e = by (nat_lt tree 16) refl
+    to_tree : new_ids s.known r.received ≡ [] → page_at r.home.right ≡ None → HandsOn (begins (record s { visited = [] }) (part_of_tree (tree + 1)))
+    to_tree none e = (
+      page_logs,
+      takes begin (tree + 1) no_need (own_tree (tree + 1)) (RestFrom (tree + 1)) (RestTree (tree + 1)) s.calls last.state (queue.TreePu (tree + 1)) tt (omega arith)
+          (λ messages counts. zero_sum (queue_calls (messages (queue.TreePu (tree + 1))) (counts (tree + 1)))) without_own (next_tree none e),
+    )
       where
-        enough : nat_lt tree 16 ≡ false → 16 ≤ tree
-        enough f = grind (arith, nat_tests, f)
-
         without_own : (x : QueueName) → RestTree (tree + 1) x → RestFrom (tree + 1) x
         without_own (queue.Atomic k) is = is
         without_own (queue.TreePu t) is = omega (arith, is)
         without_own (queue.PagePu t p) is = is
 
-        by : (b : Bool) → nat_lt tree 16 ≡ b → HandsOn (cond b (begins (record after { visited = [] }) (part_of_tree (tree + 1))) (Ends after (record { calls = after.calls })))
-        by true f = (
-          page_logs,
-          takes begin (tree + 1) no_need (own_tree (tree + 1)) (RestFrom (tree + 1)) (RestTree (tree + 1)) more last.state (queue.TreePu (tree + 1)) tt (omega arith)
-              (λ messages counts. zero_sum (queue_calls (messages (queue.TreePu (tree + 1))) (counts (tree + 1)))) without_own (next_tree none e),
-        )
-        by false f =
-            let far : 16 ≤ tree = enough f in
-            let most = is_tree.most in
-            (page_logs, all_within begin last.state (RestFrom (tree + 1)) (tree + 1) more (omega (arith, far)) (omega (arith, most)) (next_tree none e))
+    at_end : new_ids s.known r.received ≡ [] → page_at r.home.right ≡ None → 16 ≤ tree → LogsRest 65 last.state × SettlesWithin begin last.state s.calls
+    at_end none e far =
+        let most = is_tree.most in
+        (page_logs, all_within begin last.state (RestFrom (tree + 1)) (tree + 1) s.calls (omega (arith, far)) (omega (arith, most)) (next_tree none e))
 
-    cost_right : new_ids s.known r.received ≡ [] → (q : ℕ) → HandsOn (goes_right after tree (Some q))
-    cost_right none q = by (is_visited after q) refl
+    to_right : new_ids s.known r.received ≡ [] → (q : ℕ) → is_visited s q ≡ false → HandsOn (to_page s tree q)
+    to_right none q new = (
+      page_logs,
+      takes begin tree (own_pages tree s.visited) (own_pages tree (s.visited ++ q ∷ [])) (RestPages tree s.visited) (RestPages tree (s.visited ++ q ∷ [])) s.calls last.state
+          (queue.PagePu tree q) tt (omega arith, λ e there. not_any s.visited q new there)
+          (λ messages counts.
+          sum_both (queue_calls (messages (queue.TreePu tree)) (counts tree)) (sum_over (λ p. queue_calls (messages (queue.PagePu tree p)) (counts tree)) (s.visited ++ q ∷ []))
+          (sum_over (λ p. queue_calls (messages (queue.PagePu tree p)) (counts tree)) s.visited) (queue_calls (messages (queue.PagePu tree q)) (counts tree))
+          (sum_over_more (λ p. queue_calls (messages (queue.PagePu tree p)) (counts tree)) s.visited q)) fewer (page_spent none),
+    )
       where
         fewer : (x : QueueName) → RestPages tree (s.visited ++ q ∷ []) x → RestPages tree s.visited x
         fewer (queue.Atomic k) is = is
         fewer (queue.TreePu t) is = is
         fewer (queue.PagePu t p) is = (is.0, λ e there. is.1 e (in_front s.visited (q ∷ []) p there))
 
-        by : (b : Bool) → is_visited after q ≡ b → HandsOn (cond b (Stops after (trouble.Loop q)) (to_page after tree q))
-        by true f = tt
-        by false f = (
+    page_again : (id : ℕ) (ids : List ℕ) → new_ids s.known r.received ≡ id ∷ ids → HandsOn (Goes (record s { part = part_of_page tree page; known = s.known ++ id ∷ ids }))
+    page_again id ids e =
+        let some : 1 ≤ length r.received = some_told (queue.PagePu tree page) s.known r.received first.state last.state left.1.1.0 page_drains id ids e in (
           page_logs,
-          takes begin tree (own_pages tree s.visited) (own_pages tree (s.visited ++ q ∷ [])) (RestPages tree s.visited) (RestPages tree (s.visited ++ q ∷ [])) more last.state
-              (queue.PagePu tree q) tt (omega arith, λ e there. not_any s.visited q f there)
-              (λ messages counts.
-              sum_both (queue_calls (messages (queue.TreePu tree)) (counts tree)) (sum_over (λ p. queue_calls (messages (queue.PagePu tree p)) (counts tree)) (s.visited ++ q ∷ []))
-              (sum_over (λ p. queue_calls (messages (queue.PagePu tree p)) (counts tree)) s.visited) (queue_calls (messages (queue.PagePu tree q)) (counts tree))
-              (sum_over_more (λ p. queue_calls (messages (queue.PagePu tree p)) (counts tree)) s.visited q)) fewer (page_spent none),
+          page_moves (needs (length (waiting last.state (queue.PagePu tree page))) tree)
+              (λ counts fits.
+              some_received (length h) (length r.received) (length (waiting last.state (queue.PagePu tree page))) (length (waiting first.state (queue.PagePu tree page))) (counts tree)
+              (few_of (length h) (counts tree) r.received (page_run.few calm memory (counts tree) fits)) some page_drains.count),
         )
 
-    cost_next : new_ids s.known r.received ≡ [] → (o : Option ℕ) → page_at r.home.right ≡ o → HandsOn (goes_right after tree o)
-    cost_next none None e = cost_ends none e
-    cost_next none (Some q) e = cost_right none q
+  -- ---- behind a part
 
-    page_cost : HandsOn (passed after)
-    page_cost = on (new_ids s.known r.received) refl
-      where
-        on : (ids : List ℕ) → new_ids s.known r.received ≡ ids → HandsOn (passed_with after ids)
-        on [] e = cost_next e (page_at r.home.right) refl
-        on (id ∷ ids) e =
-            let some : 1 ≤ length r.received = some_told (queue.PagePu tree page) s.known r.received first.state last.state left.1.1.0 page_drains id ids e in (
-              page_logs,
-              page_moves (needs (length (waiting last.state (queue.PagePu tree page))) tree)
-                  (λ counts fits. some_more (length h) s.calls (queue_calls (length (waiting last.state (queue.PagePu tree page))) (counts tree))
-                  (queue_calls (length (waiting first.state (queue.PagePu tree page))) (counts tree))
-                  (some_received (length h) (length r.received) (length (waiting last.state (queue.PagePu tree page))) (length (waiting first.state (queue.PagePu tree page))) (counts tree)
-                  (few_of (length h) (counts tree) r.received (page_run.few calm memory (counts tree) fits)) some page_drains.count)),
-            )
+  cost_again : (s : Settling) (calls : ℕ) (w : Part) → s.calls ≡ calls + length h → IsOfTree w → LeftAt w s.known s.visited first → CostAt begin w s.visited calls first → PartRan w h first last
+      → (id : ℕ) (ids : List ℕ) → new_ids s.known (part_received w) ≡ id ∷ ids → HandsOn (Goes (record s { part = part_again w; known = s.known ++ id ∷ ids }))
+  cost_again s calls (Client client r) made is left cost ran id ids e = absurd (cc (e))
+  cost_again s calls (Tree tree r) made is left cost ran id ids e = tree_again s calls made tree r left cost ran id ids e
+  cost_again s calls (Page tree page r) made is left cost ran id ids e = page_again s calls made tree page r is left cost ran id ids e
 
-  part_cost : (w : Part) → IsOfTree w → IsOfClient w → LeftAt w s.known s.visited first → CostAt begin w s.visited s.calls first → PartRan w h first last
-      → HandsOn (passed (behind_part s w h))
-  part_cost (Client client r) is is_client left cost ran = client_cost client r is_client cost ran
-  part_cost (Tree tree r) is is_client left cost ran = tree_cost tree r left cost ran
-  part_cost (Page tree page r) is is_client left cost ran = page_cost tree page r is left cost ran
+  cost_on : {m : Settling} {next : Step} (calls : ℕ) → Passes m next → m.calls ≡ calls + length h → IsOfTree m.part → IsOfClient m.part → LeftAt m.part m.known m.visited first
+      → CostAt begin m.part m.visited calls first → PartRan m.part h first last → HandsOn next
+  cost_on calls (step.again s id ids news) made is own left cost ran = cost_again s calls s.part made is left cost ran id ids news
+  cost_on calls (step.next_client s client r less) made is own left cost ran =
+      (client_logs s calls made client r own cost ran, recovering s calls made client r own cost ran)
+  cost_on calls (step.first_tree s client r most) made is own left cost ran = to_trees s calls made client r own cost ran most
+  cost_on calls (step.first_page s tree r none) made is own left cost ran = to_pages s calls made tree r left cost ran none
+  cost_on calls (step.right_page s tree page r right none link new) made is own left cost ran = to_right s calls made tree page r is left cost ran none right new
+  cost_on calls (step.round s tree page r right none link seen) made is own left cost ran = tt
+  cost_on calls (step.next_tree s tree page r none end less) made is own left cost ran = to_tree s calls made tree page r is left cost ran none end
+  cost_on calls (step.all_done s tree page r none end most) made is own left cost ran = at_end s calls made tree page r is left cost ran none end most
 
 -- ---- both
 
@@ -472,7 +454,7 @@ pub cost_hands : (begin : CloudState) → TreesRun → PagesRun → RecoveriesRu
 cost_hands begin trees pages clients s w h first last holds place ran each works =
     hands_both begin (passed (behind_part s w h)) last
     (left_hands trees pages clients s w h first last holds.0 place ran (each_steady h each) works)
-    (part_cost begin trees pages clients s h first last (each_calm h each) (each_memory h each) w (works_tree first s.part w place works)
+    (cost_on begin trees pages clients h first last (each_calm h each) (each_memory h each) s.calls (passes (behind_part s w h)) refl (works_tree first s.part w place works)
     (client_again w (subst IsOfClient (sym place) (again_client first s.part works)))
     (left_again w s.known s.visited first (subst (λ (x : Part). LeftAt x s.known s.visited first) (sym place) (again_left s.part s.known s.visited first holds.0)))
-    (cost_again begin w s.visited s.calls first (subst (λ (x : Part). CostAt begin x s.visited s.calls first) (sym place) (again_cost begin s.part s.visited s.calls first holds.1))) ran)
+    (cost_begun begin w s.visited s.calls first (subst (λ (x : Part). CostAt begin x s.visited s.calls first) (sym place) (again_cost begin s.part s.visited s.calls first holds.1))) ran)

@@ -1,8 +1,7 @@
 -- How many calls of a tree checkpoint are left, where its tree has so many pages: each step that goes on leaves fewer.
 use Rattle.std.proofs.Common.{◌≡◌, ◌<◌, ◌≤◌, ◌+◌, ◌-◌, ◌*◌, ◌⊎◌, inl, inr, ℕ, Bool, true, false, cond, List, [], ◌∷◌, ◌++◌, length, length-append, Option, Some, None, Result, Ok, Err, refl, sym, ap, subst, ◌∙◌, arith, add-mul, mul-add, mul-le-mul_right}
-use Rattle.std.specs.Prelude.{◌==◌, ◌||◌, ◌&&◌, not, is_some}
+use Rattle.std.specs.Prelude.{◌==◌}
 use Rattle.std.proofs.lemmas.Option.{slice_get_within}
-use Rattle.byte_format.specs.Order.{bytes_below}
 use Rattle.ckpt_parts.specs.declared.intake.Intake.{Intake}
 use Rattle.ckpt_parts.specs.declared.leases.Leases.{Leases}
 use Rattle.ckpt_parts.specs.Deleting.{next_id, tried}
@@ -10,12 +9,9 @@ use Rattle.ckpt_parts.specs.Intakes.{has_items, TakesIn}
 use Rattle.ckpt_parts.specs.Leasing.{claims_of, newest_lease, without_newest}
 use Rattle.cloud_trait.specs.declared.answer.Answer.{Answer}
 use Rattle.cloud_trait.specs.declared.message.Message.{Message}
-use Rattle.cloud_trait.specs.declared.turn.CkptAnswer.{CkptAnswer}
 use Rattle.cloud_trait.specs.Claim.{Claim}
 use Rattle.cloud_trait.specs.Machine.{Next, Goes, Ends, Stops}
-use Rattle.cloud_trait.specs.Views.{given_of, got_of, done_of, received_of}
-use Rattle.db_base.specs.Change.{key_of}
-use Rattle.db_base.specs.declared.names.Lock.TheVariants as lock
+use Rattle.cloud_trait.specs.Views.{got_of, done_of, received_of}
 use Rattle.db_base.specs.declared.names.QueueName.TheVariants as queue
 use Rattle.db_base.specs.declared.trouble.Trouble.{Trouble}
 use Rattle.tree_phases.specs.declared.folding.Folding.{Folding}
@@ -24,22 +20,21 @@ use Rattle.tree_phases.specs.declared.folding.Left.TheVariants.{Right, Handled}
 use Rattle.tree_phases.specs.Folding as fold
 use Rattle.tree_phases.specs.Folding.{no_placing}
 use Rattle.log_codec.specs.declared.record.PuItem.{PuItem}
-use Rattle.node_codec.specs.Tree.{Tree, tree_of}
 use Rattle.run_cursor.specs.Run.{Taken}
 use Rattle.split_plan.specs.declared.put_list.PagePut.{PagePut}
 use Rattle.tree_ckpt.proofs.Charts.{GoesFurther, arrive_further, descent_further}
 use Rattle.tree_ckpt.proofs.Folds.{not_empty, GetLeaves, PutLeaves, got_leaves, put_leaves}
-use Rattle.tree_ckpt.proofs.Keys.{next_fewer}
+use Rattle.tree_ckpt.proofs.Keys.{next_fewer, from_most}
 use Rattle.tree_ckpt.proofs.Tours.{page_left as has_page}
 use Rattle.tree_ckpt.proofs.Outcomes.{Seeks, Descends, Ascends, Clears, Fails, Comes, comes}
 use Rattle.tree_ckpt.proofs.Outcomes as step
+use Rattle.tree_ckpt.proofs.RiseOutcomes.{Rises, Lands, rises, lands}
+use Rattle.tree_ckpt.proofs.RiseOutcomes as climb
 use Rattle.tree_ckpt.specs.End.{from_on, from_on_or_none, above, unhandled, behind_key, ids_in}
 use Rattle.tree_phases.specs.declared.descent.Descent.{Descent}
 use Rattle.tree_phases.specs.Descent.{descent_next}
 use Rattle.tree_phases.specs.Descent as way
-use Rattle.tree_ckpt.specs.declared.work.Coming.{Coming}
 use Rattle.tree_ckpt.specs.declared.work.Held.{Held}
-use Rattle.tree_ckpt.specs.declared.work.Onward.{Onward}
 use Rattle.tree_ckpt.specs.declared.work.Onward.TheVariants as onward
 use Rattle.tree_ckpt.specs.declared.work.Work.{Work}
 use Rattle.tree_ckpt.specs.declared.work.Work.TheVariants as work
@@ -51,11 +46,7 @@ use Rattle.tree_phases.specs.declared.placing.Placing.{Placing}
 use Rattle.tree_phases.specs.Kept.{links_at}
 use Rattle.tree_phases.specs.Placing.{has_nothing, has_one_page, landed_placing, landed_root}
 use Rattle.tree_phases.specs.Read.{tree_held}
-use Rattle.tree_phases.specs.declared.node.NodePlan.{NodePlan}
 use Rattle.tree_phases.specs.declared.rising.Rising.{Rising}
-use Rattle.tree_phases.specs.declared.root.RootPlan.{RootPlan}
-use Rattle.tree_phases.specs.Nodes.{node_plan}
-use Rattle.tree_phases.specs.Reserve.{version_spent}
 use Rattle.tree_phases.specs.Rising as rise
 use Rattle.session_facts.specs.Machines.TreeCheckpoints.Counting.{piece_calls, for_keys, next_of, around, at_leaves, up_left, calls_left}
 use Rattle.session_facts.proofs.Settling.Trees.Pieces.{node_few, last_few, GotLeaf, got_leaf}
@@ -120,13 +111,6 @@ all_within p d keys h some =
     let more : d * ((5 * p + 7) + 1) ≡ d * (5 * p + 8) = ap (λ (n : ℕ). d * n) (omega arith) in
     omega (arith, few, whole, rest, one, shown, more)
 
-from_most : (from : List ℕ) (xs : List PuItem) → from_on from xs ≤ length xs
-from_most from [] = omega arith
-from_most from (x ∷ xs) = on (bytes_below (key_of x.rec.change) from) (from_most from xs) where
-  on : (b : Bool) → from_on from xs ≤ length xs → cond b (from_on from xs) (from_on from xs + 1) ≤ length (x ∷ xs)
-  on true h = omega (arith, h)
-  on false h = omega (arith, h)
-
 fewer_keys : (from : Option (List ℕ)) (key : List ℕ) (xs : List PuItem) → key_from_or_none from xs ≡ Some key → above key xs + 1 ≤ from_on_or_none from xs
 fewer_keys (Some from) key xs e = next_fewer from key xs e
 fewer_keys None key xs e = absurd (cc (e))
@@ -170,35 +154,20 @@ up_more p n m (Goes r) more h = λ next reserves. omega (arith, h next reserves,
 up_more p n m (Ends r x) more h = tt
 up_more p n m (Stops r t) more h = tt
 
--- with the tree object as the last put
-finish_up : (p : ℕ) (r : Rising) (plan : Result RootPlan Trouble) → ((q : RootPlan) → plan ≡ Ok q → piece_calls 1 q.placing ≤ 1)
-    → BelowUp p ((p + 1 - next_of r.chart) + 3) (rise.put_root r plan)
+-- the next node, or the tree object as the last put
+rises_up : {r : Rising} {next : Next Rising (Unit {0})} (p : ℕ) → r.last ≡ None → Rises r next
+    → BelowUp p (2 * (length r.chart.nodes - r.at) + (p + 1 - next_of r.chart) + 4) next
 unfolding BelowUp
-finish_up p r (Ok q) few = λ next reserves. omega (arith, few q refl)
-finish_up p r (Err t) few = tt
-
-node_up : (p : ℕ) (r : Rising) (at level : ℕ) (plan : Result NodePlan Trouble) → ((q : NodePlan) → plan ≡ Ok q → piece_calls 2 q.placing ≤ 2)
-    → r.last ≡ None → r.at ≤ at → at < length r.chart.nodes
-    → BelowUp p (2 * (length r.chart.nodes - r.at) + (p + 1 - next_of r.chart) + 4) (rise.put_node r (at + 1) level plan)
-unfolding BelowUp
-node_up p r at level (Ok q) few none from within =
+rises_up {r = r} p none (climb.node_due k q there e) =
     subst (λ (last : Option (List ℕ)). next_of r.chart ≤ p + 1 → Reserving (own_of last) r.chart q.placing
-    → up_left p last (record r { chart = record r.chart { links = r.chart.links ++ links_at level q.entries }; at = at + 1; placing = q.placing })
+    → up_left p last (record r { chart = record r.chart { links = r.chart.links ++ links_at (k.level + 1) q.entries }; at = rise.next_touched r + 1; placing = q.placing })
     < 2 * (length r.chart.nodes - r.at) + (p + 1 - next_of r.chart) + 4)
-    (sym none) (λ next reserves. omega (arith, few q refl, from, within))
-node_up p r at level (Err t) few none from within = tt
-
-rise_up : (p : ℕ) (r : Rising) → r.last ≡ None → BelowUp p (2 * (length r.chart.nodes - r.at) + (p + 1 - next_of r.chart) + 4) (rise.rise r)
-rise_up p r none = on (rise.touched_node r) refl where
-  on : (k : Option KeptNode) → rise.touched_node r ≡ k
-      → BelowUp p (2 * (length r.chart.nodes - r.at) + (p + 1 - next_of r.chart) + 4) (rise.rise_at r (rise.next_touched r) k)
-  on (Some k) e =
-      node_up p r (rise.next_touched r) (k.level + 1) (node_plan (tree_held r.chart.root) r.chart.tree k r.chart.links)
-      (node_few (tree_held r.chart.root) r.chart.tree k r.chart.links) none (omega arith)
-      (slice_get_within r.chart.nodes (rise.next_touched r) k e)
-  on None e =
-      up_more p ((p + 1 - next_of r.chart) + 3) (2 * (length r.chart.nodes - r.at) + (p + 1 - next_of r.chart) + 4) (rise.finish r) (omega arith)
-      (finish_up p r (rise.last_plan r) (last_few (tree_held r.chart.root) r.chart.links r.chart.run.top))
+    (sym none) (λ next reserves.
+    let few = node_few (tree_held r.chart.root) r.chart.tree k r.chart.links q e in
+    let within = slice_get_within r.chart.nodes (rise.next_touched r) k there in
+    omega (arith, few, within))
+rises_up {r = r} p none (climb.root_due q gone e) = λ next reserves. let few = last_few (tree_held r.chart.root) r.chart.links r.chart.run.top q e in omega (arith, few)
+rises_up p none c = tt
 
 -- ---- a put
 
@@ -236,51 +205,24 @@ last_fewer p next root placing some none is reserves = on placing.reserved placi
     on None [] some none reserves = absurd (cc (some))
     on None (x ∷ xs) some none reserves = omega (arith, is)
 
-none_of : (last : Option (List ℕ)) → is_some last ≡ false → last ≡ None
-none_of None e = refl
-none_of (Some bytes) e = absurd (cc (e))
+one_landed : (p : ℕ) (r : Rising) → has_nothing r.placing ≡ false → (last : Option (List ℕ)) → Reserving (own_of last) r.chart r.placing → next_of (rise.landed r).chart ≤ p + 1
+    → up_left p last (rise.landed r) < up_left p last r
+one_landed p r some None reserves room = let fewer = landed_fewer p 1 (next_of r.chart) r.chart.root r.placing some refl reserves room in omega (arith, fewer)
+one_landed p r some (Some bytes) reserves room = let fewer = landed_fewer p 0 (next_of r.chart) r.chart.root r.placing some refl reserves room in omega (arith, fewer)
 
-no_more : (a b : Bool) → (not a || b) ≡ false → (a ≡ true) × (b ≡ false)
-no_more true b e = (refl, e)
-no_more false b e = absurd (cc (e))
+all_landed : (p : ℕ) (r : Rising) → has_nothing r.placing ≡ false → has_nothing (rise.landed r).placing ≡ true → (last : Option (List ℕ)) → last ≡ None → Reserving (own_of last) r.chart r.placing
+    → 2 * (length r.chart.nodes - r.at) + (p + 1 - next_of (rise.landed r).chart) + 4 ≤ up_left p last r
+all_landed p r some done None none reserves = let fewer = last_fewer p (next_of r.chart) r.chart.root r.placing some done refl reserves in omega (arith, fewer)
+all_landed p r some done (Some bytes) none reserves = absurd (cc (none))
 
-landed_up : (p : ℕ) (r : Rising) → Reserving (own_of r.last) r.chart r.placing → has_nothing r.placing ≡ false
-    → BelowUp p (up_left p r.last r) (rise.after_put (rise.landed r))
+lands_up : {r : Rising} {done : Result (Unit {0}) Trouble} {next : Next Rising (Unit {0})} (p : ℕ) → Reserving (own_of r.last) r.chart r.placing → Lands r done next
+    → BelowUp p (up_left p r.last r) next
 unfolding BelowUp
-landed_up p r reserves e = on (not (has_nothing (landed_placing r.placing)) || is_some r.last) refl where
-  goes : (last : Option (List ℕ)) → Reserving (own_of last) r.chart r.placing → next_of (rise.landed r).chart ≤ p + 1
-      → up_left p last (rise.landed r) < up_left p last r
-  goes None reserves room = let fewer = landed_fewer p 1 (next_of r.chart) r.chart.root r.placing e refl reserves room in omega (arith, fewer)
-  goes (Some bytes) reserves room = let fewer = landed_fewer p 0 (next_of r.chart) r.chart.root r.placing e refl reserves room in omega (arith, fewer)
-
-  rises : r.last ≡ None → has_nothing (landed_placing r.placing) ≡ true → BelowUp p (up_left p r.last r) (rise.rise (rise.landed r))
-  rises none done =
-      let reserves_one : Reserving 1 r.chart r.placing = subst (λ (last : Option (List ℕ)). Reserving (own_of last) r.chart r.placing) none reserves in
-      let fewer = last_fewer p (next_of r.chart) r.chart.root r.placing e done refl reserves_one in
-      let most : 2 * (length r.chart.nodes - r.at) + (p + 1 - next_of (rise.landed r).chart) + 4 ≤ up_left p None r = omega (arith, fewer) in
-      up_more p (2 * (length r.chart.nodes - r.at) + (p + 1 - next_of (rise.landed r).chart) + 4) (up_left p r.last r) (rise.rise (rise.landed r))
-      (subst (λ (last : Option (List ℕ)). 2 * (length r.chart.nodes - r.at) + (p + 1 - next_of (rise.landed r).chart) + 4 ≤ up_left p last r) (sym none) most)
-      (rise_up p (rise.landed r) none)
-
-  next : (b : Bool) → BelowUp p (up_left p r.last r) (cond b (Stops (rise.landed r) version_spent) (Goes (rise.landed r)))
-  next true = tt
-  next false = λ room more. goes r.last reserves room
-
-  on : (b : Bool) → (not (has_nothing (landed_placing r.placing)) || is_some r.last) ≡ b
-      → BelowUp p (up_left p r.last r) (cond b (rise.put_next (rise.landed r)) (rise.rise (rise.landed r)))
-  on true f = next (has_nothing (landed_placing r.placing) && r.is_spent)
-  on false f =
-      let both = no_more (has_nothing (landed_placing r.placing)) (is_some r.last) f in
-      rises (none_of r.last both.1) both.0
-
-risen_up : (p : ℕ) (r : Rising) (done : Result (Unit {0}) Trouble) → Reserving (own_of r.last) r.chart r.placing
-    → BelowUp p (up_left p r.last r) (rise.risen_by r done)
-unfolding BelowUp
-risen_up p r (Ok x) reserves = on (has_nothing r.placing) refl where
-  on : (b : Bool) → has_nothing r.placing ≡ b → BelowUp p (up_left p r.last r) (cond b (Ends r tt) (rise.after_put (rise.landed r)))
-  on true e = tt
-  on false e = landed_up p r reserves e
-risen_up p r (Err t) reserves = tt
+lands_up {r = r} p reserves (climb.more x some on) = λ room more. one_landed p r some r.last reserves room
+lands_up {r = r} {next = next} p reserves (climb.goes_on x some done between on) =
+    up_more p (2 * (length r.chart.nodes - r.at) + (p + 1 - next_of (rise.landed r).chart) + 4) (up_left p r.last r) next (all_landed p r some done r.last between reserves)
+    (rises_up p between on)
+lands_up p reserves c = tt
 
 up_some : (p : ℕ) (last : Option (List ℕ)) (r : Rising) → 1 ≤ up_left p last r
 up_some p None r = omega arith
@@ -423,8 +365,8 @@ module _ (p d tree : ℕ) where
   up_below : {w : Work} {a : Answer} {h : Held} {next : Next Rising (Unit {0})} → Ascends tree w a h next → FitsWork p w → BringsFew d tree w a → Below p (before_step p w d) (rising_then h next)
   up_below {w = w} {h = h} (step.begins_up {c = c} s e) fits few =
       let room = seeks_few s fits few in
-      below_rising p (before_step p w d) (2 * (length c.nodes - 0) + (p + 1 - next_of c) + 4) h (rise.rise (rise.begun c)) (rise_up p (rise.begun c) refl) (omega (arith, room.1, room.0))
-  up_below (step.goes_up h r a) fits few = below_rising p _ (up_left p r.last r) h (rise.rising_next r a) (risen_up p r (done_of a) fits.1) (omega arith)
+      below_rising p (before_step p w d) (2 * (length c.nodes - 0) + (p + 1 - next_of c) + 4) h (rise.rise (rise.begun c)) (rises_up p refl (rises (rise.begun c))) (omega (arith, room.1, room.0))
+  up_below (step.goes_up h r a) fits few = below_rising p _ (up_left p r.last r) h (rise.rising_next r a) (lands_up p fits.1 (lands r (done_of a))) (omega arith)
 
   -- an id fewer, where one is left
   tried_fewer : (ids : List ℕ) (deleted left id : ℕ) (b : Bool) → next_id (tried (record { ids = ids; deleted = deleted; left = left }) b).ids ≡ Some id

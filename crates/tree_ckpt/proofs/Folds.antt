@@ -12,16 +12,16 @@ use Rattle.split_plan.specs.Part.{LeafPart, record_key, part_of_leaf}
 use Rattle.split_plan.specs.Plan.{put_of, on_pages, leaf_bytes, leaf_pieces}
 use Rattle.split_plan.specs.Sizes.{count_of, cuts_of}
 use Rattle.tree_phases.specs.Kept.{links_at}
-use Rattle.tree_phases.specs.Placing.{has_nothing, has_one_page, puts_after}
+use Rattle.tree_phases.specs.Placing.{has_nothing, puts_after}
 use Rattle.tree_phases.specs.Read.{tree_held}
 use Rattle.tree_phases.specs.Reserve.{reservation, version_spent}
 use Rattle.tree_phases.specs.declared.folding.Left.TheVariants.{Right, Handled}
 use Rattle.tree_phases.specs.Plan as plan
-use Rattle.tree_phases.specs.Folding.{FoldingStep, leaf_got, landed, counted, leaf_put, folding_next}
+use Rattle.tree_phases.specs.Folding.{FoldingStep, leaf_got, leaf_put, folding_next}
 use Rattle.tree_ckpt.specs.End.{unhandled, behind_key, puts_left, from_on_or_none}
 use Rattle.tree_ckpt.specs.Leases.{IsPlanned}
-use Rattle.tree_ckpt.proofs.Words.{Trouble, PuItem, Answer, Goes, Ends, Stops, got_of, done_of, PagePut, Chart, Reserved, Folding, LeafPlan}
-use Rattle.tree_ckpt.proofs.LeafOutcomes.{Reads, reads}
+use Rattle.tree_ckpt.proofs.Words.{Trouble, PuItem, Answer, Goes, Ends, Stops, PagePut, Chart, Reserved, Folding, LeafPlan}
+use Rattle.tree_ckpt.proofs.LeafOutcomes.{Reads, Lands, Works, reads, put_lands, works}
 use Rattle.tree_ckpt.proofs.LeafOutcomes as step
 use Rattle.tree_ckpt.proofs.Keys.{from_above}
 
@@ -122,12 +122,13 @@ fewer None [] more some = absurd (omega (arith, some))
 fewer None (x ∷ []) more some = absurd (cc (more))
 fewer None (x ∷ y ∷ ys) more some = (omega arith, not_empty (y ∷ ys) (omega arith), omega arith)
 
+lands_leave : {f : Folding} {done : Result (Unit {0}) Trouble} {next : FoldingStep} → 0 < length f.placing.puts → Lands f done next → PutLeaves f next
+lands_leave some (step.not_put t) = tt
+lands_leave some (step.is_put x e) = (refl, refl, refl, refl)
+lands_leave {f = f} some (step.lands x e) = let less = fewer f.placing.reserved f.placing.puts e some in (refl, refl, refl, refl, less.0, less.1, less.2)
+
 pub put_leaves : (f : Folding) (done : Result (Unit {0}) Trouble) → 0 < length f.placing.puts → PutLeaves f (leaf_put f done)
-put_leaves f (Ok x) some = on (has_one_page f.placing) refl where
-  on : (last : Bool) → has_one_page f.placing ≡ last → PutLeaves f (cond last (Ends (counted (landed f)) Handled) (Goes (landed f)))
-  on true e = (refl, refl, refl, refl)
-  on false e = let less = fewer f.placing.reserved f.placing.puts e some in (refl, refl, refl, refl, less.0, less.1, less.2)
-put_leaves f (Err t) some = tt
+put_leaves f done some = lands_leave some (put_lands f done)
 
 -- ---- what is planned has a page
 
@@ -136,18 +137,17 @@ PlansAfter (Goes g) = IsPlanned g
 PlansAfter (Ends g out) = Unit {0}
 PlansAfter (Stops g t) = Unit {0}
 
-get_plans : (f : Folding) (next : FoldingStep) → GetLeaves f next → PlansAfter next
-get_plans f (Goes g) h = λ e. h.1
-get_plans f (Ends g out) h = tt
-get_plans f (Stops g t) h = tt
+reads_plan : {f : Folding} {g : Result (Option (List ℕ)) Trouble} {next : FoldingStep} → Reads f g next → PlansAfter next
+reads_plan {f = f} (step.plans got l x xs p here some e) = λ more. plan_some (tree_held f.chart.root) f.page l f.chart.run.items p e
+reads_plan c = tt
 
-put_plans : (f : Folding) (next : FoldingStep) → PutLeaves f next → PlansAfter next
-put_plans f (Goes g) h = λ e. h.6
-put_plans f (Ends g out) h = tt
-put_plans f (Stops g t) h = tt
+lands_plan : {f : Folding} {done : Result (Unit {0}) Trouble} {next : FoldingStep} → 0 < length f.placing.puts → Lands f done next → PlansAfter next
+lands_plan {f = f} some (step.lands x e) = λ more. (fewer f.placing.reserved f.placing.puts e some).2
+lands_plan some c = tt
+
+works_plan : {f : Folding} {a : Answer} {next : FoldingStep} → IsPlanned f → Works f a next → PlansAfter next
+works_plan planned (step.gets nothing r) = reads_plan r
+works_plan planned (step.puts some l) = lands_plan (planned some) l
 
 pub plans_after : (f : Folding) (a : Answer) → IsPlanned f → PlansAfter (folding_next f a)
-plans_after f a planned = on (has_nothing f.placing) refl where
-  on : (b : Bool) → has_nothing f.placing ≡ b → PlansAfter (cond b (leaf_got f (got_of a)) (leaf_put f (done_of a)))
-  on true e = get_plans f (leaf_got f (got_of a)) (got_leaves f (got_of a))
-  on false e = put_plans f (leaf_put f (done_of a)) (put_leaves f (done_of a) (planned e))
+plans_after f a planned = works_plan planned (works f a)

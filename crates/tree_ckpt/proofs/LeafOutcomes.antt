@@ -9,14 +9,14 @@ use Rattle.leaf_view.specs.Leaf.{Leaf, leaf}
 use Rattle.leaf_view.specs.Lookup.{empty_leaf, page_at}
 use Rattle.leaf_edit.specs.Lacked.{lacked}
 use Rattle.run_cursor.specs.Covered.{is_seen}
-use Rattle.tree_phases.specs.Placing.{has_one_page}
+use Rattle.tree_phases.specs.Placing.{has_nothing, has_one_page}
 use Rattle.tree_phases.specs.Read.{damaged, leaf_or, tree_held}
 use Rattle.tree_phases.specs.declared.folding.Left.TheVariants.{Right, Handled}
 use Rattle.tree_phases.specs.Plan.{leaf_plan}
-use Rattle.tree_phases.specs.Folding.{FoldingStep, turned, handled_to, put_planned, planned, handled_by, handle, to_right, leaf_side, leaf_at, leaf_found, leaf_got, bad_low, landed, counted, leaf_put}
+use Rattle.tree_phases.specs.Folding.{FoldingStep, turned, handled_to, put_planned, planned, handled_by, handle, to_right, leaf_side, leaf_at, leaf_found, leaf_got, bad_low, landed, counted, leaf_put, folding_next}
 use Rattle.tree_ckpt.specs.Causes.{GoesRight}
 use Rattle.tree_ckpt.specs.Working.{HoldsLeaf}
-use Rattle.tree_ckpt.proofs.Words.{Trouble, PuItem, Goes, Ends, Stops, Folding, LeafPlan}
+use Rattle.tree_ckpt.proofs.Words.{Trouble, PuItem, Answer, Goes, Ends, Stops, got_of, done_of, Folding, LeafPlan}
 use Rattle.tree_ckpt.proofs.Fences.{HasSides, read_sides}
 
 -- This leaf was got and is what the link to it promised, and the key in hand is below its high key ..
@@ -57,6 +57,11 @@ pub data Lands (f : Folding) : Result (Unit {0}) Trouble → FoldingStep → Typ
   not_put : (t : Trouble) → Lands f (Err t) (Stops f t)
   lands : (x : Unit {0}) → has_one_page f.placing ≡ false → Lands f (Ok x) (Goes (landed f))
   is_put : (x : Unit {0}) → has_one_page f.placing ≡ true → Lands f (Ok x) (Ends (counted (landed f)) Handled)
+
+-- behind its call: the leaf was got, or something was put
+pub data Works (f : Folding) (a : Answer) : FoldingStep → Type 0 where
+  gets : {next : FoldingStep} → has_nothing f.placing ≡ true → Reads f (got_of a) next → Works f a next
+  puts : {next : FoldingStep} → has_nothing f.placing ≡ false → Lands f (done_of a) next → Works f a next
 
 -- ---- the work at a leaf, taken apart
 
@@ -113,3 +118,9 @@ put_lands f (Ok x) = on (has_one_page f.placing) refl where
   on true e = is_put x e
   on false e = lands x e
 put_lands f (Err t) = not_put t
+
+pub works : (f : Folding) (a : Answer) → Works f a (folding_next f a)
+works f a = on (has_nothing f.placing) refl where
+  on : (b : Bool) → has_nothing f.placing ≡ b → Works f a (cond b (leaf_got f (got_of a)) (leaf_put f (done_of a)))
+  on true e = gets e (reads f (got_of a))
+  on false e = puts e (put_lands f (done_of a))

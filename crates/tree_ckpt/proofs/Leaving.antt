@@ -1,9 +1,8 @@
 -- The lease and the page of a leaf stay while the leaf is worked on.
-use Rattle.std.proofs.Common.{◌≡◌, ℕ, Bool, true, false, cond, List, Option, Result, refl}
-use Rattle.tree_phases.specs.Placing.{has_nothing}
-use Rattle.tree_phases.specs.Folding.{FoldingStep, leaf_got, leaf_put, folding_next}
-use Rattle.tree_ckpt.proofs.Words.{Trouble, Answer, Goes, Ends, Stops, got_of, done_of, Folding}
-use Rattle.tree_ckpt.proofs.LeafOutcomes.{Reads, Lands, reads, put_lands}
+use Rattle.std.proofs.Common.{◌≡◌, ℕ, List, Option, Result, refl}
+use Rattle.tree_phases.specs.Folding.{FoldingStep, folding_next}
+use Rattle.tree_ckpt.proofs.Words.{Trouble, Answer, Goes, Ends, Stops, Folding}
+use Rattle.tree_ckpt.proofs.LeafOutcomes.{Reads, Lands, Works, works}
 use Rattle.tree_ckpt.proofs.LeafOutcomes as step
 
 -- a leaf of the same lease, page, tree and run
@@ -26,8 +25,9 @@ lands_leave : {f : Folding} {done : Result (Unit {0}) Trouble} {next : FoldingSt
 lands_leave (step.not_put t) = record { lease = refl; page = refl; tree = refl; run = refl }
 lands_leave c = record { lease = refl; page = refl; tree = refl; run = refl }
 
+works_leave : {f : Folding} {a : Answer} {next : FoldingStep} → Works f a next → LeavesLeaf f next
+works_leave (step.gets nothing r) = reads_leave r
+works_leave (step.puts some l) = lands_leave l
+
 pub next_leaves : (f : Folding) (a : Answer) → LeavesLeaf f (folding_next f a)
-next_leaves f a = on (has_nothing f.placing) where
-  on : (b : Bool) → LeavesLeaf f (cond b (leaf_got f (got_of a)) (leaf_put f (done_of a)))
-  on true = reads_leave (reads f (got_of a))
-  on false = lands_leave (put_lands f (done_of a))
+next_leaves f a = works_leave (works f a)

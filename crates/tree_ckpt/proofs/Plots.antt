@@ -1,5 +1,5 @@
 -- Why the work at a leaf stops: what the calls brought, and what the leaf breaks or has spent.
-use Rattle.std.proofs.Common.{◌≡◌, ℕ, Bool, true, false, cond, List, Option, Some, None, Ok, refl, sym, ap, subst, ◌∙◌, inl, inr, ◌⊎◌}
+use Rattle.std.proofs.Common.{◌≡◌, ℕ, Bool, true, false, List, Option, Some, None, Ok, refl, sym, ap, subst, ◌∙◌, inl, inr, ◌⊎◌}
 use Rattle.std.specs.Prelude.{◌==◌, ◌||◌}
 use Rattle.std.proofs.lemmas.Bool.{eqb-true, eqb-false}
 use Rattle.byte_format.specs.Order.{below_bound, bytes_same}
@@ -12,17 +12,17 @@ use Rattle.leaf_edit.specs.Lacked.{lacked}
 use Rattle.cloud_trait.specs.declared.answer.Answer.TheVariants as call
 use Rattle.run_cursor.specs.Covered.{is_seen}
 use Rattle.ckpt_parts.specs.Intakes.{has_items}
-use Rattle.tree_phases.specs.Placing.{root_after, landed_root, has_one_page}
+use Rattle.tree_phases.specs.Placing.{root_after, landed_root}
 use Rattle.tree_phases.specs.Read.{tree_held}
 use Rattle.tree_phases.specs.declared.folding.Left.TheVariants.{Right, Handled}
-use Rattle.tree_phases.specs.Folding.{FoldingStep, leaf_got, landed, counted, placed}
+use Rattle.tree_phases.specs.Folding.{FoldingStep, leaf_got, landed, placed}
 use Rattle.tree_ckpt.specs.Causes.{Calls, Brings, WasGot, WasPut, WasRoot, WasLeaf, WasRead, IsLink, Shows}
 use Rattle.tree_ckpt.specs.Working.{HoldsLeaf}
 use Rattle.tree_ckpt.specs.Due.{Due, LeafDue, GetsLeaf}
 use Rattle.tree_ckpt.specs.Demands.{BreaksLeaf}
 use Rattle.tree_ckpt.proofs.Words.{Trouble, Answer, Goes, Ends, Stops, Ask, Chart, Placing, Folding}
 use Rattle.tree_ckpt.proofs.Brought.{Charted, AreRead, OnWay, read_behind, seen_read}
-use Rattle.tree_ckpt.proofs.LeafOutcomes.{IsBehind, Reads, reads}
+use Rattle.tree_ckpt.proofs.LeafOutcomes.{Lands, put_lands, IsBehind, Reads, reads}
 use Rattle.tree_ckpt.proofs.LeafOutcomes as step
 use Rattle.tree_ckpt.proofs.Spent.{IsSpentFor, PlanTells, leaf_plan_tells}
 
@@ -157,11 +157,10 @@ module _ (tree : ℕ) (cs : Calls) (ask : Ask) (a : Answer) where
   PlacedTells (Ends g Handled) = Charted tree g.chart cs
   PlacedTells (Stops g t) = ⊥
 
-  pub leaf_put_tells : (f : Folding) → KnowsLeaf tree f cs → HasPut f.placing.reserved → PlacedTells (placed f)
-  leaf_put_tells f k put = on (has_one_page f.placing) where
-    after : Charted tree (landed f).chart cs
-    after = chart_landed f.chart f.placing k.chart put
+  lands_tell : {f : Folding} {next : FoldingStep} → KnowsLeaf tree f cs → HasPut f.placing.reserved → Lands f (Ok tt) next → PlacedTells next
+  lands_tell {f = f} k put (step.lands x e) = record { chart = chart_landed f.chart f.placing k.chart put; way = k.way }
+  lands_tell {f = f} k put (step.is_put x e) =
+      let after : Charted tree (landed f).chart cs = chart_landed f.chart f.placing k.chart put in record { same = after.same; root = after.root; nodes = after.nodes }
 
-    on : (b : Bool) → PlacedTells (cond b (Ends (counted (landed f)) Handled) (Goes (landed f)))
-    on true = record { same = after.same; root = after.root; nodes = after.nodes }
-    on false = record { chart = after; way = k.way }
+  pub leaf_put_tells : (f : Folding) → KnowsLeaf tree f cs → HasPut f.placing.reserved → PlacedTells (placed f)
+  leaf_put_tells f k put = lands_tell k put (put_lands f (Ok tt))

@@ -5,12 +5,10 @@ use Rattle.std.proofs.lemmas.List.{length-map}
 use Rattle.log_codec.specs.declared.record.PuRec.{PuRec}
 use Rattle.log_codec.specs.Pu.{pu_of}
 use Rattle.run_cursor.specs.Covered.{covered_ids, new_ones, is_seen, is_covered}
-use Rattle.cloud_trait.specs.declared.answer.Answer.TheVariants as call
-use Rattle.cloud_trait.specs.Ask.{Receive}
 use Rattle.ckpt_parts.specs.Intakes.{item_with, with_first, items_of, intake_of, TakesIn, TakesItems}
-use Rattle.tree_ckpt.proofs.Words.{QueueName, PuItem, Taken, Answer, Message, received_of, Fits, Intake}
+use Rattle.tree_ckpt.proofs.Words.{QueueName, PuItem, Taken, Message, Intake}
 
--- a receive brings 256 messages at most, an item is read of each, and an id at most is deleted for each item
+-- an item is read of each message, and an id at most is deleted for each item
 
 with_first_length : (m : Message) (o : Option PuRec) (rest : Result (List PuItem) Message) (items : List PuItem) (n : ℕ)
     → ((more : List PuItem) → rest ≡ Ok more → length more ≤ n) → with_first m o rest ≡ Ok items → length items ≤ n + 1
@@ -58,11 +56,3 @@ takes_items_length q cursor (Ok items) n i most h =
 
 pub takes_length : (q : QueueName) (cursor : List (ℕ × ℕ)) (ms : List Message) (i : Intake) → TakesIn q cursor ms (Ok i) → length i.deletions.ids ≤ length ms
 takes_length q cursor ms i h = takes_items_length q cursor (items_of ms) (length ms) i (items_length ms) h
-
--- a receive brings what it asked for at most
-pub received_most : (queue : QueueName) (most : ℕ) (a : Answer) (ms : List Message) → Fits (Receive queue most) a → received_of a ≡ Ok ms → length ms ≤ most
-received_most queue most (call.Received got) ms fits e =
-    let same : ms ≡ got = cc (e) in subst (λ (xs : List Message). length xs ≤ most) (sym same) fits
-received_most queue most call.Failed ms fits e = absurd (cc (e))
-received_most queue most call.Memory ms fits e = absurd (cc (e))
-received_most queue most a ms fits e = absurd fits

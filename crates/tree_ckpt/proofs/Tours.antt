@@ -1,5 +1,5 @@
 -- How the work of a tree checkpoint goes from leaf to leaf.
-use Rattle.std.proofs.Common.{◌≡◌, ◌<◌, ◌+◌, ℕ, Bool, true, false, cond, List, [], ◌∷◌, ◌++◌, length, Option, Some, None, Result, Ok, Err, refl, sym, ap, subst, ◌∙◌, inl, inr, ◌⊎◌, arith, append_assoc}
+use Rattle.std.proofs.Common.{◌≡◌, ◌<◌, ◌+◌, ℕ, Bool, true, false, List, [], ◌∷◌, ◌++◌, length, Option, Some, None, Result, Ok, Err, refl, sym, ap, subst, ◌∙◌, inl, inr, ◌⊎◌, arith, append_assoc}
 use Rattle.std.specs.Prelude.{◌==◌, ◌&&◌, not, is_none, unwrap_or}
 use Rattle.std.proofs.lemmas.Bool.{eqb-true}
 use Rattle.std.proofs.lemmas.List.{append-nil}
@@ -35,7 +35,7 @@ use Rattle.tree_ckpt.proofs.Charts.{IsFurther, GoesFurther, descent_further}
 use Rattle.tree_ckpt.proofs.Covers.{IsLeast, AreHandledTo, none_handled, handled_more, handled_here, low_upto}
 use Rattle.tree_ckpt.proofs.Folds.{not_empty, plan_some}
 use Rattle.tree_ckpt.proofs.Pieces.{leaf_puts}
-use Rattle.tree_ckpt.proofs.LeafOutcomes.{Reads, reads}
+use Rattle.tree_ckpt.proofs.LeafOutcomes.{Reads, Lands, Works, works}
 use Rattle.tree_ckpt.proofs.LeafOutcomes as step
 use Rattle.tree_ckpt.proofs.Lows.{IsUpto, ComesUpto, WayUpto, descent_upto}
 use Rattle.tree_ckpt.proofs.WayOutcomes.{Gets, gets}
@@ -511,11 +511,11 @@ reads_tour {f = f} lease got o work k (step.plans same l x xs p here some e) =
     (in_range lease f got l o ((get_of f, call.Got got) ∷ work) now promised low here.below) (x ∷ xs) some refl p e
 reads_tour lease got o work k c = tt
 
-got_tours : (lease : Claim) (f : Folding) (a : Answer) (o : Opening) (work : Calls) → BeginsLeaf lease f o work → (g : Result (Option (List ℕ)) Trouble) → got_of a ≡ g
-    → LeafTours lease (fold.leaf_got f g) o ((get_of f, a) ∷ work)
-got_tours lease f a o work k (Ok got) e =
-    subst (λ (x : Answer). LeafTours lease (fold.leaf_got f (Ok got)) o ((get_of f, x) ∷ work)) (sym (got_of-ok a got e)) (reads_tour lease got o work k (reads f (Ok got)))
-got_tours lease f a o work k (Err t) e = tt
+got_tour : {f : Folding} {g : Result (Option (List ℕ)) Trouble} {next : Next Folding Left} (lease : Claim) (a : Answer) (o : Opening) (work : Calls) → BeginsLeaf lease f o work → got_of a ≡ g
+    → Reads f g next → LeafTours lease next o ((get_of f, a) ∷ work)
+got_tour {f = f} {g = Ok got} {next = next} lease a o work k e r =
+    subst (λ (x : Answer). LeafTours lease next o ((get_of f, x) ∷ work)) (sym (got_of-ok a got e)) (reads_tour lease got o work k r)
+got_tour {g = Err t} lease a o work k e (step.refused u) = tt
 
 -- ---- the puts
 
@@ -523,16 +523,33 @@ got_tours lease f a o work k (Err t) e = tt
 abbrev put_ask : Claim → Folding → Ask
 put_ask lease f = fold.folding_ask f lease
 
-placed_tours : (lease : Claim) (f : Folding) (o : Opening) (work : Calls) → Puts lease f o work → LeafTours lease (fold.placed f) o ((put_ask lease f, call.Done) ∷ work)
-placed_tours lease f o work k = on (has_one_page f.placing) refl where
-  turn : done_over (puts_of f.chart.tree lease (Some f.lease) (landed_placing f.placing)) ((put_ask lease f, call.Done) ∷ work)
-      ≡ held_over f.chart.tree lease k.visit (visits_over f.chart.tree lease k.visits [])
-  turn = sym (put_in_turn f.placing f.chart.tree lease (Some f.lease) (get_of f) work (page_left f.placing k.some)) ∙ k.calls
+one_put : (lease : Claim) (f : Folding) (o : Opening) (work : Calls) (k : Puts lease f o work)
+    → done_over (puts_of f.chart.tree lease (Some f.lease) (landed_placing f.placing)) ((put_ask lease f, call.Done) ∷ work)
+    ≡ held_over f.chart.tree lease k.visit (visits_over f.chart.tree lease k.visits [])
+one_put lease f o work k = sym (put_in_turn f.placing f.chart.tree lease (Some f.lease) (get_of f) work (page_left f.placing k.some)) ∙ k.calls
 
-  on : (b : Bool) → has_one_page f.placing ≡ b
-      → LeafTours lease (cond b (Ends (fold.counted (fold.landed f)) Handled) (Goes (fold.landed f))) o ((put_ask lease f, call.Done) ∷ work)
-  on true e = (
-    record {
+lands_tour : {f : Folding} {done : Result (Unit {0}) Trouble} {next : Next Folding Left} (lease : Claim) (a : Answer) (o : Opening) (work : Calls) → Puts lease f o work → done_of a ≡ done
+    → Lands f done next → LeafTours lease next o ((put_ask lease f, a) ∷ work)
+lands_tour lease a o work k e (step.not_put t) = tt
+lands_tour {f = f} lease a o work k e (step.is_put x one) =
+    subst (λ (b : Answer). LeafTours lease (Ends (fold.counted (fold.landed f)) Handled) o ((put_ask lease f, b) ∷ work)) (sym (done_is a x e)) (
+      record {
+        visits = k.visits;
+        are = k.are;
+        visit = k.visit;
+        is = k.is;
+        linked = k.linked;
+        noted = k.noted;
+        own = k.own;
+        root = k.root;
+        applied = k.applied;
+        handled = k.handled;
+        calls = sym (none_left (landed_placing f.placing) f.chart.tree lease (Some f.lease) ((put_ask lease f, call.Done) ∷ work) (one_lands f.placing one)) ∙ one_put lease f o work k;
+      },
+      tt,
+    )
+lands_tour {f = f} lease a o work k e (step.lands x more) =
+    subst (λ (b : Answer). LeafTours lease (Goes (fold.landed f)) o ((put_ask lease f, b) ∷ work)) (sym (done_is a x e)) (inr (record {
       visits = k.visits;
       are = k.are;
       visit = k.visit;
@@ -543,46 +560,28 @@ placed_tours lease f o work k = on (has_one_page f.placing) refl where
       root = k.root;
       applied = k.applied;
       handled = k.handled;
-      calls = sym (none_left (landed_placing f.placing) f.chart.tree lease (Some f.lease) ((put_ask lease f, call.Done) ∷ work) (one_lands f.placing e)) ∙ turn;
-    },
-    tt,
-  )
-  on false e = inr (record {
-    visits = k.visits;
-    are = k.are;
-    visit = k.visit;
-    is = k.is;
-    linked = k.linked;
-    noted = k.noted;
-    own = k.own;
-    root = k.root;
-    applied = k.applied;
-    handled = k.handled;
-    calls = turn;
-    some = more_left f.placing k.some e;
-  })
-
-put_tours : (lease : Claim) (f : Folding) (a : Answer) (o : Opening) (work : Calls) → Puts lease f o work → (done : Result (Unit {0}) Trouble) → done_of a ≡ done
-    → LeafTours lease (fold.leaf_put f done) o ((put_ask lease f, a) ∷ work)
-put_tours lease f a o work k (Ok x) e =
-    subst (λ (b : Answer). LeafTours lease (fold.placed f) o ((put_ask lease f, b) ∷ work)) (sym (done_is a x e)) (placed_tours lease f o work k)
-put_tours lease f a o work k (Err t) e = tt
+      calls = one_put lease f o work k;
+      some = more_left f.placing k.some more;
+    }))
 
 -- ---- all at a leaf
 
-nothing_yet : (p : Placing) → p ≡ fold.no_placing → has_nothing p ≡ true
-nothing_yet p e = ap has_nothing e
+not_both : {X : Type 0} (b : Bool) → b ≡ true → b ≡ false → X
+not_both true e f = absurd (cc (f))
+not_both false e f = absurd (cc (e))
+
+works_tour : {f : Folding} {a : Answer} {next : Next Folding Left} (lease : Claim) (o : Opening) (work : Calls) → AtLeaf lease f o work → Works f a next
+    → LeafTours lease next o ((fold.folding_ask f lease, a) ∷ work)
+works_tour {f = f} {a = a} {next = next} lease o work (inl k) (step.gets nothing r) =
+    subst (λ (p : Placing). LeafTours lease next o ((unwrap_or (put_in_hand p f.chart.tree lease (Some f.lease)) (get_of f), a) ∷ work)) (sym k.empty)
+    (got_tour lease a o work k refl r)
+works_tour {f = f} lease o work (inl k) (step.puts some l) = not_both (has_nothing f.placing) (ap has_nothing k.empty) some
+works_tour {f = f} lease o work (inr k) (step.gets nothing r) = not_both (has_nothing f.placing) nothing (page_left f.placing k.some)
+works_tour {a = a} lease o work (inr k) (step.puts some l) = lands_tour lease a o work k refl l
 
 pub leaf_tours : (lease : Claim) (f : Folding) (a : Answer) (o : Opening) (work : Calls) → AtLeaf lease f o work
     → LeafTours lease (fold.folding_next f a) o ((fold.folding_ask f lease, a) ∷ work)
-leaf_tours lease f a o work (inl k) =
-    subst (λ (b : Bool). LeafTours lease (cond b (fold.leaf_got f (got_of a)) (fold.leaf_put f (done_of a))) o ((fold.folding_ask f lease, a) ∷ work))
-    (sym (nothing_yet f.placing k.empty))
-    (subst (λ (p : Placing). LeafTours lease (fold.leaf_got f (got_of a)) o ((unwrap_or (put_in_hand p f.chart.tree lease (Some f.lease)) (get_of f), a) ∷ work))
-    (sym k.empty) (got_tours lease f a o work k (got_of a) refl))
-leaf_tours lease f a o work (inr k) =
-    subst (λ (b : Bool). LeafTours lease (cond b (fold.leaf_got f (got_of a)) (fold.leaf_put f (done_of a))) o ((fold.folding_ask f lease, a) ∷ work))
-    (sym (page_left f.placing k.some)) (put_tours lease f a o work k (done_of a) refl)
+leaf_tours lease f a o work k = works_tour lease o work k (works f a)
 
 -- ---- from one to the next
 

@@ -1,11 +1,10 @@
 //! An inner node cut into pieces.
 
-ghost use Rattle.std.specs.Prelude.{◌≡◌, [], ◌∷◌, ◌++◌, ◌+◌, ◌-◌, ◌≤◌, length, map, reverse, drop, IfOk, IfErr, OnOk};
+ghost use Rattle.std.specs.Prelude.{◌≡◌, [], ◌∷◌, ◌++◌, ◌+◌, ◌-◌, ◌≤◌, length, reverse, drop, IfOk, IfErr, OnOk};
 ghost use Rattle.std.specs.List.{AllByRecursion};
 ghost use Rattle.node_codec.specs.Inner.{Inner, IsInner};
-ghost use Rattle.split_plan.specs.Cut.{IsCut};
-ghost use Rattle.split_plan.specs.Part.{part_of_node, entry_key};
-ghost use Rattle.split_plan.specs.Plan.{entry_of, node_bytes, node_pieces, on_pages, put_of, IsNodePart};
+ghost use Rattle.split_plan.specs.Part.{part_of_node};
+ghost use Rattle.split_plan.specs.Plan.{node_put, node_entry, node_puts, node_entries, node_pieces, IsNodePart, IsNodeCut};
 ghost use Rattle.split_plan.specs.Sizes.{count_of};
 
 use crate::entry_list::NewEntry;
@@ -31,8 +30,8 @@ fn low_in(bytes: &[u8]) -> &[u8]
 
 /// Adds the put and the entry of a piece. Refused for memory alone.
 fn add(alloc: Global, plan: &mut Pieces, page: PageId, node: &InnerBuf) -> Result<(), EditFault>
-    ensures puts { OnOk result (plan.new.puts ≡ plan.old.puts ++ put_of node_bytes (page, part_of_node node.now) ∷ []) }
-    ensures entries { OnOk result (plan.new.entries ≡ plan.old.entries ++ entry_of (page, part_of_node node.now) ∷ []) }
+    ensures puts { OnOk result (plan.new.puts ≡ plan.old.puts ++ node_put page node.now ∷ []) }
+    ensures entries { OnOk result (plan.new.entries ≡ plan.old.entries ++ node_entry page node.now ∷ []) }
     ensures fits { OnOk result (IsNodePart (part_of_node node.now)) }
     ensures memory { IfErr result (λ e. e ≡ EditFault.Memory) }
 {
@@ -51,8 +50,8 @@ pub(crate) fn cut(
     first_free: PageId,
 ) -> Result<Pieces, EditFault>
     requires { first_free + (count_of (length buf.entries) - 1) ≤ u64.MAX }
-    ensures puts { IfOk result (λ x. x.puts ≡ map (put_of node_bytes) (on_pages page first_free (node_pieces first_free buf))) }
-    ensures entries { IfOk result (λ x. x.entries ≡ map entry_of (on_pages page first_free (node_pieces first_free buf))) }
+    ensures puts { IfOk result (λ x. x.puts ≡ node_puts page first_free buf) }
+    ensures entries { IfOk result (λ x. x.entries ≡ node_entries page first_free buf) }
     ensures fit { OnOk result (AllByRecursion IsNodePart (node_pieces first_free buf)) }
     ensures whole { OnOk result (IsNodePart (part_of_node buf)) }
     ensures memory { IfErr result (λ e. e ≡ EditFault.Memory) }
@@ -82,10 +81,10 @@ pub fn plan_inner(
 ) -> Result<Pieces, EditFault>
     // The new pages have numbers.
     requires { first_free + (count_of (length buf.entries) - 1) ≤ u64.MAX }
-    ensures cut { OnOk result (IsCut entry_key first_free (part_of_node buf) (node_pieces first_free buf)) }
+    ensures cut { OnOk result (IsNodeCut first_free buf) }
     ensures fit { OnOk result (AllByRecursion IsNodePart (node_pieces first_free buf)) }
-    ensures puts { IfOk result (λ x. x.puts ≡ reverse (map (put_of node_bytes) (on_pages page first_free (node_pieces first_free buf)))) }
-    ensures entries { IfOk result (λ x. x.entries ≡ drop 1 (map entry_of (on_pages page first_free (node_pieces first_free buf)))) }
+    ensures puts { IfOk result (λ x. x.puts ≡ reverse (node_puts page first_free buf)) }
+    ensures entries { IfOk result (λ x. x.entries ≡ drop 1 (node_entries page first_free buf)) }
     ensures memory { IfErr result (λ e. e ≡ EditFault.Memory) }
 {
     let mut plan = cut(alloc, page, buf, first_free)?;

@@ -1,10 +1,9 @@
 //! A leaf cut into pieces.
 
-ghost use Rattle.std.specs.Prelude.{◌≡◌, [], ◌∷◌, ◌++◌, ◌+◌, ◌-◌, ◌≤◌, length, map, reverse, drop, IfOk, IfErr, OnOk};
+ghost use Rattle.std.specs.Prelude.{◌≡◌, [], ◌∷◌, ◌++◌, ◌+◌, ◌-◌, ◌≤◌, length, reverse, drop, IfOk, IfErr, OnOk};
 ghost use Rattle.std.specs.List.{AllByRecursion};
-ghost use Rattle.split_plan.specs.Cut.{IsCut};
-ghost use Rattle.split_plan.specs.Part.{part_of_leaf, record_key};
-ghost use Rattle.split_plan.specs.Plan.{entry_of, leaf_bytes, leaf_pieces, on_pages, put_of, IsLeafPart};
+ghost use Rattle.split_plan.specs.Part.{part_of_leaf};
+ghost use Rattle.split_plan.specs.Plan.{leaf_put, leaf_entry, leaf_puts, leaf_entries, leaf_pieces, IsLeafPart, IsLeafCut};
 ghost use Rattle.split_plan.specs.Sizes.{count_of};
 
 use crate::entry_list::NewEntry;
@@ -20,8 +19,8 @@ use std::alloc::Global;
 
 /// Adds the put and the entry of a piece. Refused for memory alone.
 fn add(alloc: Global, plan: &mut Pieces, page: PageId, leaf: LeafBuf) -> Result<(), EditFault>
-    ensures puts { OnOk result (plan.new.puts ≡ plan.old.puts ++ put_of leaf_bytes (page, part_of_leaf leaf) ∷ []) }
-    ensures entries { OnOk result (plan.new.entries ≡ plan.old.entries ++ entry_of (page, part_of_leaf leaf) ∷ []) }
+    ensures puts { OnOk result (plan.new.puts ≡ plan.old.puts ++ leaf_put page leaf ∷ []) }
+    ensures entries { OnOk result (plan.new.entries ≡ plan.old.entries ++ leaf_entry page leaf ∷ []) }
     ensures fits { OnOk result (IsLeafPart (part_of_leaf leaf)) }
     ensures memory { IfErr result (λ e. e ≡ EditFault.Memory) }
 {
@@ -35,8 +34,8 @@ fn add(alloc: Global, plan: &mut Pieces, page: PageId, leaf: LeafBuf) -> Result<
 /// The puts and entries of all pieces, from left to right. Refused for memory alone.
 fn cut(alloc: Global, page: PageId, buf: LeafBuf, first_free: PageId) -> Result<Pieces, EditFault>
     requires { first_free + (count_of (length buf.records) - 1) ≤ u64.MAX }
-    ensures puts { IfOk result (λ x. x.puts ≡ map (put_of leaf_bytes) (on_pages page first_free (leaf_pieces first_free buf))) }
-    ensures entries { IfOk result (λ x. x.entries ≡ map entry_of (on_pages page first_free (leaf_pieces first_free buf))) }
+    ensures puts { IfOk result (λ x. x.puts ≡ leaf_puts page first_free buf) }
+    ensures entries { IfOk result (λ x. x.entries ≡ leaf_entries page first_free buf) }
     ensures fit { OnOk result (AllByRecursion IsLeafPart (leaf_pieces first_free buf)) }
     ensures memory { IfErr result (λ e. e ≡ EditFault.Memory) }
 {
@@ -65,10 +64,10 @@ pub fn plan_leaf(
 ) -> Result<Pieces, EditFault>
     // The new pages have numbers.
     requires { first_free + (count_of (length buf.records) - 1) ≤ u64.MAX }
-    ensures cut { OnOk result (IsCut record_key first_free (part_of_leaf buf) (leaf_pieces first_free buf)) }
+    ensures cut { OnOk result (IsLeafCut first_free buf) }
     ensures fit { OnOk result (AllByRecursion IsLeafPart (leaf_pieces first_free buf)) }
-    ensures puts { IfOk result (λ x. x.puts ≡ reverse (map (put_of leaf_bytes) (on_pages page first_free (leaf_pieces first_free buf)))) }
-    ensures entries { IfOk result (λ x. x.entries ≡ drop 1 (map entry_of (on_pages page first_free (leaf_pieces first_free buf)))) }
+    ensures puts { IfOk result (λ x. x.puts ≡ reverse (leaf_puts page first_free buf)) }
+    ensures entries { IfOk result (λ x. x.entries ≡ drop 1 (leaf_entries page first_free buf)) }
     ensures memory { IfErr result (λ e. e ≡ EditFault.Memory) }
 {
     let mut plan = cut(alloc, page, buf, first_free)?;

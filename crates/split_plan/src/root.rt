@@ -1,11 +1,8 @@
 //! A root cut into inner nodes below a new root.
 
-ghost use Rattle.std.specs.Prelude.{◌≡◌, ◌+◌, ◌<◌, ◌≤◌, length, map, reverse, IfOk, IfErr, OnOk};
+ghost use Rattle.std.specs.Prelude.{◌≡◌, ◌+◌, ◌<◌, ◌≤◌, length, reverse, IfOk, IfErr, OnOk};
 ghost use Rattle.std.specs.List.{AllByRecursion};
-ghost use Rattle.node_codec.specs.Inner.{node_of_root};
-ghost use Rattle.split_plan.specs.Cut.{IsCut};
-ghost use Rattle.split_plan.specs.Part.{part_of_node, entry_key};
-ghost use Rattle.split_plan.specs.Plan.{entry_of, node_bytes, on_pages, put_of, root_above, root_pieces, with_children, IsNodePart};
+ghost use Rattle.split_plan.specs.Plan.{root_above, root_entries, root_pieces, root_puts, with_children, IsNodePart, IsRootCut};
 ghost use Rattle.split_plan.specs.Sizes.{count_of};
 
 use crate::entry_list::NewEntry;
@@ -40,10 +37,10 @@ pub fn plan_root(
 ) -> Result<(Pieces, TreeBuf), EditFault>
     requires level { buf.level < 255 }
     requires reserved { first_free + count_of (length buf.entries) ≤ buf.next }
-    ensures cut { OnOk result (IsCut entry_key (first_free + 1) (part_of_node (node_of_root buf)) (root_pieces first_free buf)) }
+    ensures cut { OnOk result (IsRootCut first_free buf) }
     ensures fit { OnOk result (AllByRecursion IsNodePart (root_pieces first_free buf)) }
-    ensures puts { IfOk result (λ x. x.0.puts ≡ reverse (map (put_of node_bytes) (on_pages first_free (first_free + 1) (root_pieces first_free buf)))) }
-    ensures entries { IfOk result (λ x. x.0.entries ≡ map entry_of (on_pages first_free (first_free + 1) (root_pieces first_free buf))) }
+    ensures puts { IfOk result (λ x. x.0.puts ≡ reverse (root_puts first_free buf)) }
+    ensures entries { IfOk result (λ x. x.0.entries ≡ root_entries first_free buf) }
     ensures root { IfOk result (λ x. x.1 ≡ root_above x.0.entries buf) }
     ensures memory { IfErr result (λ e. e ≡ EditFault.Memory) }
 {

@@ -1,7 +1,7 @@
-ghost use Rattle.std.specs.Prelude.{◌≡◌, IfOk};
+ghost use Rattle.std.specs.Prelude.{◌≡◌, ◌++◌, ◌<◌, slice_index, IfOk, OnOk};
 ghost use Rattle.std.specs.String.{string_bytes};
 ghost use Rattle.std.specs.Result.{result_ok};
-ghost use Rattle.hex.specs.Hex.{decode_of};
+ghost use Rattle.hex.specs.Hex.{decode_of, encode_lower, lower_digits};
 ghost use Rattle.std.specs.List.{list_all};
 ghost use Rattle.words.specs.Word.{Reads, bytes_of, hexadecimal, is_lower_digit, is_lower_hex};
 
@@ -62,4 +62,55 @@ pub fn hexadecimal(alloc: Global, bytes: &[u8]) -> Result<String, AllocError>
         return String::from_str(alloc, "-");
     }
     hex::encode(alloc, bytes)
+}
+
+/// The digit of a number below 16.
+fn digit(number: u8) -> char
+    requires { number < 16 }
+    ensures digit { result ≡ slice_index lower_digits number }
+    ensures ascii { result < 128 }
+{
+    match number {
+        0 => '0',
+        1 => '1',
+        2 => '2',
+        3 => '3',
+        4 => '4',
+        5 => '5',
+        6 => '6',
+        7 => '7',
+        8 => '8',
+        9 => '9',
+        10 => 'a',
+        11 => 'b',
+        12 => 'c',
+        13 => 'd',
+        14 => 'e',
+        15 => 'f',
+        _ => unreachable!(),
+    }
+}
+
+/// Adds two digits a byte at the end. Fails for memory alone.
+#[tactic(auto, unfolding(hex::specs::Hex::encode_with))]
+fn add_digits(text: &mut String, bytes: &[u8]) -> Result<(), AllocError>
+    ensures { OnOk result (string_bytes text.new ≡ string_bytes text.old ++ encode_lower bytes.now) }
+{
+    let mut left = bytes;
+    while let Some((byte, rest)) = left.split_first() {
+        text.push(digit(*byte / 16))?;
+        text.push(digit(*byte % 16))?;
+        left = rest;
+    }
+    Ok(())
+}
+
+/// Adds bytes at the end as such a word. Fails for memory alone.
+pub fn add_hexadecimal(text: &mut String, bytes: &[u8]) -> Result<(), AllocError>
+    ensures { OnOk result (string_bytes text.new ≡ string_bytes text.old ++ hexadecimal bytes.now) }
+{
+    if bytes.is_empty() {
+        return text.push('-');
+    }
+    add_digits(text, bytes)
 }

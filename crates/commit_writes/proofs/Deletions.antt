@@ -105,7 +105,7 @@ gone_next home cs v x h a y k gone asked made none is (step.late w end now) = tt
 gone_next home cs v x h a y k gone asked made none is (step.doubts w b failed) = tt
 gone_next home cs v x h a y k gone asked made none is (step.stays_open leaves) = tt
 gone_next home cs v x h a y k gone asked made none is (step.ends n clears e) = tt
-gone_next home cs v x h a y k gone asked made none is (step.lacks w) = tt
+gone_next home cs v x h a y k gone asked made none is (step.lacks w under) = tt
 gone_next home cs v x h a y k gone asked made none is (step.waits w b) = tt
 gone_next home cs v x h a y k gone asked made none is (step.rests w b) = tt
 

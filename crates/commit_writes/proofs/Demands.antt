@@ -216,7 +216,7 @@ decides h cs v a x k some fits ample (step.deletes n id (step.settled w) e) = (t
 decides h cs v a x k some fits ample (step.deletes n id (step.one_tried w b found) e) = (tt, deletes_none h cs v a id k e)
 decides h cs v a x k some fits ample (step.ends n (step.settled w) e) = absurd (none_left w k.logged some e)
 decides h cs v a x k some fits ample (step.ends n (step.one_tried w b found) e) = deletes_last h cs v a (finished v) k e
-decides h cs w a x k some fits ample (step.lacks v) = absurd (ample refl)
+decides h cs w a x k some fits ample (step.lacks v under) = absurd (ample refl)
 decides h cs v a x k some fits ample (step.waits w b) = absurd k
 decides h cs v a x k some fits ample (step.rests w b) = absurd k
 

@@ -54,7 +54,7 @@ below v a x sound (step.late w end now) = tt
 below v a x sound (step.doubts w b failed) = tt
 below w a x sound (step.stays_open leaves) = tt
 below w a x sound (step.ends n clears e) = tt
-below w a x sound (step.lacks v) = tt
+below w a x sound (step.lacks v under) = tt
 below v a x sound (step.waits w b) = tt
 below v a x sound (step.rests w b) = tt
 

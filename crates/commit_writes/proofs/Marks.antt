@@ -144,7 +144,7 @@ marks_next home cs v x h a y k at asked made calm next is (step.late w end now) 
 marks_next home cs v x h a y k at asked made calm next is (step.doubts w b failed) = tt
 marks_next home cs v x h a y k at asked made calm next is (step.stays_open leaves) = tt
 marks_next home cs v x h a y k at asked made calm next is (step.ends n clears e) = tt
-marks_next home cs v x h a y k at asked made calm next is (step.lacks w) = tt
+marks_next home cs v x h a y k at asked made calm next is (step.lacks w under) = tt
 marks_next home cs v x h a y k at asked made calm next is (step.waits w b) = tt
 marks_next home cs v x h a y k at asked made calm next is (step.rests w b) = tt
 

@@ -298,7 +298,7 @@ comes_known h cs w a x k fits (step.ends n clears e) =
       },
       m.home,
     )
-comes_known h cs w a x k fits (step.lacks v) = refl
+comes_known h cs w a x k fits (step.lacks v under) = refl
 comes_known h cs w a x k fits (step.waits v b) = absurd k
 comes_known h cs w a x k fits (step.rests v b) = absurd k
 

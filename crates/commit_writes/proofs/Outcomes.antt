@@ -62,6 +62,12 @@ pub data Leaves : Writing → Answer → Type 0 where
 
 -- ---- where it ends
 
+-- a call is in hand
+abbrev pub IsUnderWay : Stage → Type 0
+IsUnderWay Waiting = ⊥
+IsUnderWay Finished = ⊥
+IsUnderWay stage = Unit {0}
+
 pub data Comes : Writing → Answer → Step → Type 0 where
   goes_on : (w : Writing) (id : ℕ) (next : Step) → Logs (logged (at w Logging) id) next → Comes (at w Logging) (call.Sent id) next
   not_logged : (w : Writing) (a : Answer) → Fails sent_of a → Comes (at w Logging) a (not_committed w (trouble_of a))
@@ -72,7 +78,7 @@ pub data Comes : Writing → Answer → Step → Type 0 where
   stays_open : {w : Writing} {a : Answer} → Leaves w a → Comes w a (left_open w (trouble_of a))
   deletes : {w : Writing} {a : Answer} (n id : ℕ) → Clears w a n → slice_get w.ids n ≡ Some id → Comes w a (delete_or_end (placed w n) (Some id))
   ends : {w : Writing} {a : Answer} (n : ℕ) → Clears w a n → slice_get w.ids n ≡ None → Comes w a (Ends (finished (placed w n)) (Committed w.home.attempt))
-  lacks : (w : Writing) → Comes w call.Memory (Stops w trouble.Memory)
+  lacks : (w : Writing) → IsUnderWay w.stage → Comes w call.Memory (Stops w trouble.Memory)
   waits : (w : Writing) (a : Answer) → Comes (at w Waiting) a (Stops (at w Waiting) trouble.Failed)
   rests : (w : Writing) (a : Answer) → Comes (at w Finished) a (Stops (at w Finished) trouble.Failed)
 
@@ -100,27 +106,27 @@ clears_next {w = w} {a = a} n c = on (slice_get w.ids n) refl where
 
 logged_comes : (w : Writing) (a : Answer) → Comes (at w Logging) a (logged_by (at w Logging) (sent_of a))
 logged_comes w (call.Sent id) = goes_on w id _ (logs_next (logged (at w Logging) id) (slice_get w.records (w.place + 1)) refl)
-logged_comes w call.Memory = lacks (at w Logging)
+logged_comes w call.Memory = lacks (at w Logging) tt
 logged_comes w a = not_logged w a (record { shows = refl; found = λ memory. cc })
 
 opened_comes : (w : Writing) (a : Answer) → Comes (at w Opening) a (opened_by (at w Opening) (done_of a))
 opened_comes w call.Done = posts_next 0 (opened w)
 opened_comes w (call.Late end now) = late w end now
-opened_comes w call.Memory = lacks (at w Opening)
+opened_comes w call.Memory = lacks (at w Opening) tt
 opened_comes w a = doubts w a refl
 
 sent_comes : (w : Writing) (a : Answer) → Comes (at w Sending) a (sent_by (at w Sending) (sent_of a))
 sent_comes w (call.Sent id) = posts_next (w.place + 1) (one_sent w id)
-sent_comes w call.Memory = lacks (at w Sending)
+sent_comes w call.Memory = lacks (at w Sending) tt
 sent_comes w a = stays_open (not_sent w a (record { shows = refl; found = λ memory. cc }))
 
 settled_comes : (w : Writing) (a : Answer) → Comes (at w Settling) a (settled_by (at w Settling) (done_of a))
 settled_comes w call.Done = clears_next 0 (settled w)
-settled_comes w call.Memory = lacks (at w Settling)
+settled_comes w call.Memory = lacks (at w Settling) tt
 settled_comes w a = stays_open (not_settled w a (record { shows = refl; found = λ memory. cc }))
 
 deleted_comes : (w : Writing) (a : Answer) → Comes (at w Deleting) a (deleted_by (at w Deleting) (done_of a))
-deleted_comes w call.Memory = lacks (at w Deleting)
+deleted_comes w call.Memory = lacks (at w Deleting) tt
 deleted_comes w a = clears_next (w.place + 1) (one_tried w a (λ memory. cc))
 
 comes_at : (stage : Stage) (w : Writing) (a : Answer) → Comes (at w stage) a (next_at stage (at w stage) a)

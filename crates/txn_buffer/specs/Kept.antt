@@ -1,8 +1,8 @@
 -- How a map from trees and keys to changes is seen as the list of noted changes.
-use Rattle.std.specs.Prelude.{◌≡◌, ◌≤◌, List, [], ◌∷◌, length, Option, Some, None, ⊤, map}
+use Rattle.std.specs.Prelude.{ℕ, ◌≡◌, ◌≤◌, ◌<◌, List, [], ◌∷◌, length, Option, Some, None, ⊤, map, slice_get}
 use Rattle.db_base.specs.Change.{key_of, net}
 use Rattle.db_base.specs.declared.change.Change.{Change}
-use Rattle.txn_buffer.specs.Noted.{Noted, AreNoted}
+use Rattle.txn_buffer.specs.Noted.{Noted, AreNoted, found_in, noted_in, most_changes}
 use Rattle.txn_buffer.specs.declared.noted_key.NotedKey.{NotedKey}
 
 -- an entry as a noted change
@@ -27,3 +27,19 @@ joined_to (Some first) change = net first change
 pub record IsKept (entries : List (NotedKey × Change)) : Type 0 where
   pub keys : KeysMatch entries
   pub noted : AreNoted (map noted_of entries)
+
+-- the change of a key, where there is one
+abbrev pub change_at : List (NotedKey × Change) → NotedKey → Option Change
+change_at entries key = found_in (map noted_of entries) key.tree key.key.items
+
+-- one more change finds room: its tree and key are there, or not too many others
+abbrev pub HasRoomFor : List (NotedKey × Change) → ℕ → Change → Type 0
+HasRoomFor entries tree change = found_in (map noted_of entries) tree (key_of change) ≡ None → length entries < most_changes
+
+-- one more change is noted
+abbrev pub AddsChange : List (NotedKey × Change) → ℕ → Change → List (NotedKey × Change) → Type 0
+AddsChange old tree change new = map noted_of new ≡ noted_in (map noted_of old) tree change
+
+-- this holds of the item at a place, where there is one
+abbrev pub IfAt : {A : Type 0} → List A → ℕ → (A → Type 0) → Type 0
+IfAt {A} items place holds = (item : A) → slice_get items place ≡ Some item → holds item

@@ -1,10 +1,9 @@
-ghost use Rattle.std.specs.Prelude.{◌≡◌, ◌≢◌, ℕ, ◌+◌, ◌≤◌, ◌<◌, ◌↔◌, List, [], length, slice_get, IfOk, OnOk, OnErr, IfErr, IsTrue, None, Some, is_some, IsOk, if◌then◌else◌, ◌⊎◌, map};
+ghost use Rattle.std.specs.Prelude.{◌≡◌, ◌≢◌, ◌+◌, ◌≤◌, ◌<◌, ◌↔◌, List, [], length, slice_get, IfOk, OnOk, OnErr, IfErr, IsTrue, is_some, IsOk, if◌then◌else◌, map};
 ghost use Rattle.std.specs.Option.{option_copied, option_map};
 ghost use Rattle.db_base.specs.Change.{key_of, net};
-ghost use Rattle.txn_buffer.specs.Noted.{Noted, found_in, noted_in, AreNoted};
-ghost use Rattle.db_base.specs.declared.change.Change.{Change as Noting};
+ghost use Rattle.txn_buffer.specs.Noted.{Noted, found_in, noted_in, both_noted_in, most_changes, AreNoted, FindsFull, AreTooMany, TooManyOrMemory};
 ghost use Rattle.indexmap.specs.IndexMap.{index_map_len, values, spare, with_value_at};
-ghost use Rattle.txn_buffer.specs.Kept.{noted_of, KeysMatch, IsKept};
+ghost use Rattle.txn_buffer.specs.Kept.{noted_of, KeysMatch, IsKept, change_at, HasRoomFor, AddsChange, IfAt};
 
 use crate::noted_key::NotedKey;
 use db_base::change::Change;
@@ -49,7 +48,7 @@ impl Model for TxnBuffer {
 /// The change at a key of the map.
 fn lookup<'a>(changes: &'a IndexMap<NotedKey, Change>, key: &NotedKey) -> Option<&'a Change>
     requires { KeysMatch changes.now.entries }
-    ensures { option_copied result ≡ found_in (map noted_of changes.now.entries) key.now.tree key.now.key.items }
+    ensures { option_copied result ≡ change_at changes.now.entries key.now }
 {
     changes.get(key)
 }
@@ -57,7 +56,7 @@ fn lookup<'a>(changes: &'a IndexMap<NotedKey, Change>, key: &NotedKey) -> Option
 /// How many changes a tree and key add: none where they are there.
 fn added(changes: &IndexMap<NotedKey, Change>, key: &NotedKey) -> usize
     requires { KeysMatch changes.now.entries }
-    ensures { result ≡ (if is_some (found_in (map noted_of changes.now.entries) key.now.tree key.now.key.items) then 0 else 1) }
+    ensures { result ≡ (if is_some (change_at changes.now.entries key.now) then 0 else 1) }
 {
     match lookup(changes, key) {
         Some(_) => 0,
@@ -68,8 +67,8 @@ fn added(changes: &IndexMap<NotedKey, Change>, key: &NotedKey) -> usize
 /// Joins a later change to the one at an index.
 fn join_at(changes: &mut IndexMap<NotedKey, Change>, index: usize, later: Change)
     requires within { index < index_map_len changes.old }
-    requires of { (first : Noting) → slice_get (values changes.old) index ≡ Some first → key_of first ≡ key_of later }
-    ensures { (first : Noting) → slice_get (values changes.old) index ≡ Some first → changes.new ≡ with_value_at changes.old index (net first later) }
+    requires of { IfAt (values changes.old) index (λ first. key_of first ≡ key_of later) }
+    ensures { IfAt (values changes.old) index (λ first. changes.new ≡ with_value_at changes.old index (net first later)) }
 {
     changes[index].join(later);
 }
@@ -83,8 +82,8 @@ fn store(
     requires kept { IsKept changes.old.entries }
     requires of { key.key.items ≡ key_of change }
     requires short { length key.key.items ≤ 64 }
-    requires room { found_in (map noted_of changes.old.entries) key.tree (key_of change) ≡ None → length changes.old.entries < 200 }
-    ensures ok { OnOk result (map noted_of changes.new.entries ≡ noted_in (map noted_of changes.old.entries) key.tree change) }
+    requires room { HasRoomFor changes.old.entries key.tree change }
+    ensures ok { OnOk result (AddsChange changes.old.entries key.tree change changes.new.entries) }
     ensures err { OnErr result (changes.new.entries ≡ changes.old.entries) }
     ensures memory { IfErr result (λ e. e ≡ Refused.Memory) }
     ensures kept { IsKept changes.new.entries }
@@ -120,8 +119,8 @@ impl TxnBuffer {
     pub fn note(&mut self, tree: TreeId, change: Change) -> Result<(), Refused>
         ensures ok { OnOk result (self.new ≡ noted_in self.old tree change) }
         ensures err { OnErr result (self.new ≡ self.old) }
-        ensures many { (result ≡ Err (Refused.Rule Refusal.TooManyChanges)) ↔ ((found_in self.old tree (key_of change) ≡ None) × (200 ≤ length self.old)) }
-        ensures only { IfErr result (λ e. (e ≡ Refused.Rule Refusal.TooManyChanges) ⊎ (e ≡ Refused.Memory)) }
+        ensures many { AreTooMany result ↔ FindsFull self.old tree change }
+        ensures only { IfErr result TooManyOrMemory }
     {
         let key = NotedKey::of_change(tree, &change);
         let is_new = lookup(&self.changes, &key).is_none();
@@ -141,10 +140,10 @@ impl TxnBuffer {
         other: Change,
     ) -> Result<(), Refused>
         requires { tree ≢ other_tree }
-        ensures ok { OnOk result (self.new ≡ noted_in (noted_in self.old tree change) other_tree other) }
+        ensures ok { OnOk result (self.new ≡ both_noted_in self.old tree change other_tree other) }
         ensures err { OnErr result (self.new ≡ self.old) }
-        ensures many { (result ≡ Err (Refused.Rule Refusal.TooManyChanges)) ↔ (200 < length (noted_in (noted_in self.old tree change) other_tree other)) }
-        ensures only { IfErr result (λ e. (e ≡ Refused.Rule Refusal.TooManyChanges) ⊎ (e ≡ Refused.Memory)) }
+        ensures many { AreTooMany result ↔ (most_changes < length (both_noted_in self.old tree change other_tree other)) }
+        ensures only { IfErr result TooManyOrMemory }
     {
         let key = NotedKey::of_change(tree, &change);
         let other_key = NotedKey::of_change(other_tree, &other);
@@ -165,7 +164,7 @@ impl TxnBuffer {
     /// How many changes, at most 200, each of a tree and key of its own.
     pub fn len(&self) -> usize
         ensures is { result ≡ length self.now }
-        ensures few { length self.now ≤ 200 }
+        ensures few { length self.now ≤ most_changes }
         ensures noted { AreNoted self.now }
     {
         self.changes.len()

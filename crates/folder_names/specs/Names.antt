@@ -1,5 +1,5 @@
 -- The names of files and folders: a kind, and behind it the numbers as bytes in lower-case hexadecimal.
-use Rattle.std.specs.Prelude.{ℕ, ◌<◌, ◌^◌, List, [], ◌∷◌, ◌++◌, Option, Some, None}
+use Rattle.std.specs.Prelude.{ℕ, ◌≡◌, ◌≢◌, ◌<◌, ◌^◌, Result, Err, List, [], ◌∷◌, ◌++◌, Option, Some, None}
 use Rattle.std.specs.Int.{w64, to_be_bytes}
 use Rattle.db_base.specs.Ids.{IsClient, IsTree, IsPage}
 use Rattle.db_base.specs.declared.names.Lock.{Lock}
@@ -9,6 +9,8 @@ use Rattle.db_base.specs.declared.names.ObjName.TheVariants as object
 use Rattle.db_base.specs.declared.names.QueueName.{QueueName}
 use Rattle.db_base.specs.declared.names.QueueName.TheVariants as queue
 use Rattle.words.specs.Word.{hexadecimal}
+use Rattle.folder_names.specs.declared.fault.NameFault.{NameFault}
+use Rattle.folder_names.specs.declared.fault.NameFault.TheVariants.{NotOurs}
 
 -- a page of a tree: a byte for the tree, eight for the page, the most significant one first
 unfoldable pub place_bytes : ℕ → ℕ → List ℕ
@@ -63,3 +65,15 @@ abbrev pub only : List ℕ → Option ℕ
 only [] = None
 only (x ∷ []) = Some x
 only (x ∷ y ∷ ys) = None
+
+-- where the text is no name, this holds
+abbrev pub IfNotOurs : {A : Type 0} → Result A NameFault → Type 0 → Type 0
+IfNotOurs result holds = result ≡ Err NotOurs → holds
+
+-- the text names no page
+abbrev pub IsNoPlace : List ℕ → Type 0
+IsNoPlace text = (tree page : ℕ) → IsTree tree → IsPage page → page < 2 ^ 64 → text ≢ place_text tree page
+
+-- and is the file of no page of this tree
+abbrev pub IsNoPageOf : ℕ → List ℕ → Type 0
+IsNoPageOf tree text = (page : ℕ) → IsObject (object.Page tree page) → text ≢ file_text (object.Page tree page)

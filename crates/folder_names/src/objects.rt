@@ -1,8 +1,8 @@
-ghost use Rattle.std.specs.Prelude.{◌≡◌, ◌≢◌, ◌∷◌, ◌<◌, ◌^◌, [], ℕ, List, length, IfOk, Err, Some, None};
+ghost use Rattle.std.specs.Prelude.{◌≡◌, ◌≢◌, ◌∷◌, ◌<◌, ◌^◌, [], ℕ, List, length, IfOk, Some, None};
 ghost use Rattle.db_base.specs.Ids.{IsClient, IsTree, IsPage};
 ghost use Rattle.db_base.specs.declared.names.ObjName.{ObjName};
 ghost use Rattle.words.specs.Word.{hexadecimal, AreBytes};
-ghost use Rattle.folder_names.specs.Names.{file_text, only, place_bytes, place_text, IsObject};
+ghost use Rattle.folder_names.specs.Names.{file_text, only, place_bytes, place_text, IsObject, IfNotOurs, IsNoPlace, IsNoPageOf};
 
 use crate::fault::NameFault;
 use db_base::blob::Blob;
@@ -16,7 +16,7 @@ use words::fault::TextFault;
 fn decoded(alloc: Global, word: &[u8]) -> Result<Blob, NameFault>
     ensures ok { IfOk result (λ bytes. word.now ≡ hexadecimal bytes) }
     ensures bytes { IfOk result AreBytes }
-    ensures none { result ≡ Err NameFault.NotOurs → (bytes : List ℕ) → AreBytes bytes → word.now ≢ hexadecimal bytes }
+    ensures none { IfNotOurs result ((bytes : List ℕ) → AreBytes bytes → word.now ≢ hexadecimal bytes) }
 {
     match bytes_of(alloc, word) {
         Ok(bytes) => Ok(bytes),
@@ -55,7 +55,7 @@ fn place(bytes: &[u8]) -> Option<(u8, u64)>
 fn number_in(alloc: Global, word: &[u8]) -> Result<u8, NameFault>
     ensures ok { IfOk result (λ n. word.now ≡ hexadecimal (n ∷ [])) }
     ensures byte { IfOk result (λ n. n < 256) }
-    ensures none { result ≡ Err NameFault.NotOurs → (n : ℕ) → n < 256 → word.now ≢ hexadecimal (n ∷ []) }
+    ensures none { IfNotOurs result ((n : ℕ) → n < 256 → word.now ≢ hexadecimal (n ∷ [])) }
 {
     match decoded(alloc, word) {
         Ok(bytes) => match only(bytes.as_slice()) {
@@ -69,7 +69,7 @@ fn number_in(alloc: Global, word: &[u8]) -> Result<u8, NameFault>
 /// The client that a word spells.
 fn client_in(alloc: Global, word: &[u8]) -> Result<ClientId, NameFault>
     ensures ok { IfOk result (λ client. word.now ≡ hexadecimal (client ∷ [])) }
-    ensures none { result ≡ Err NameFault.NotOurs → (n : ℕ) → IsClient n → word.now ≢ hexadecimal (n ∷ []) }
+    ensures none { IfNotOurs result ((n : ℕ) → IsClient n → word.now ≢ hexadecimal (n ∷ [])) }
 {
     match number_in(alloc, word) {
         Ok(number) => match ClientId::new(u64::from(number)) {
@@ -83,7 +83,7 @@ fn client_in(alloc: Global, word: &[u8]) -> Result<ClientId, NameFault>
 /// The tree that a word spells.
 fn tree_in(alloc: Global, word: &[u8]) -> Result<TreeId, NameFault>
     ensures ok { IfOk result (λ tree. word.now ≡ hexadecimal (tree ∷ [])) }
-    ensures none { result ≡ Err NameFault.NotOurs → (n : ℕ) → IsTree n → word.now ≢ hexadecimal (n ∷ []) }
+    ensures none { IfNotOurs result ((n : ℕ) → IsTree n → word.now ≢ hexadecimal (n ∷ [])) }
 {
     match number_in(alloc, word) {
         Ok(number) => match TreeId::new(u64::from(number)) {
@@ -97,7 +97,7 @@ fn tree_in(alloc: Global, word: &[u8]) -> Result<TreeId, NameFault>
 /// The tree and page that a word spells.
 fn place_in(alloc: Global, word: &[u8]) -> Result<(TreeId, PageId), NameFault>
     ensures ok { IfOk result (λ p. word.now ≡ place_text p.0 p.1) }
-    ensures none { result ≡ Err NameFault.NotOurs → (tree page : ℕ) → IsTree tree → IsPage page → page < 2 ^ 64 → word.now ≢ place_text tree page }
+    ensures none { IfNotOurs result (IsNoPlace word.now) }
 {
     match decoded(alloc, word) {
         Ok(bytes) => match place(bytes.as_slice()) {
@@ -111,7 +111,7 @@ fn place_in(alloc: Global, word: &[u8]) -> Result<(TreeId, PageId), NameFault>
 /// The tree and page of these numbers.
 fn numbered(tree: u8, page: u64) -> Result<(TreeId, PageId), NameFault>
     ensures ok { IfOk result (λ p. (p.0 ≡ tree) × (p.1 ≡ page)) }
-    ensures none { result ≡ Err NameFault.NotOurs → IsTree tree → IsPage page → ⊥ }
+    ensures none { IfNotOurs result (IsTree tree → IsPage page → ⊥) }
 {
     match (TreeId::new(u64::from(tree)), PageId::new(page)) {
         (Ok(tree), Ok(page)) => Ok((tree, page)),
@@ -122,7 +122,7 @@ fn numbered(tree: u8, page: u64) -> Result<(TreeId, PageId), NameFault>
 /// The object whose file has this name; NotOurs exactly where no object's file has it.
 pub fn object_of(alloc: Global, text: &str) -> Result<ObjName, NameFault>
     ensures ok { IfOk result (λ name. text.now ≡ file_text name) }
-    ensures none { result ≡ Err NameFault.NotOurs → (name : ObjName) → IsObject name → text.now ≢ file_text name }
+    ensures none { IfNotOurs result ((name : ObjName) → IsObject name → text.now ≢ file_text name) }
 {
     match text.as_bytes() {
         [b'h', b'e', b'a', b'd', b'-', word @ ..] => match client_in(alloc, word) {
@@ -144,7 +144,7 @@ pub fn object_of(alloc: Global, text: &str) -> Result<ObjName, NameFault>
 /// The page that an object is, where it is one of this tree.
 fn page_in(tree: TreeId, name: ObjName) -> Option<PageId>
     ensures some { (page : ℕ) → result ≡ Some page → name ≡ ObjName.Page tree page }
-    ensures none { result ≡ None → (page : ℕ) → IsObject (ObjName.Page tree page) → file_text name ≢ file_text (ObjName.Page tree page) }
+    ensures none { result ≡ None → IsNoPageOf tree (file_text name) }
 {
     match name {
         ObjName::Head(_) => None,
@@ -162,7 +162,7 @@ fn page_in(tree: TreeId, name: ObjName) -> Option<PageId>
 /// The page of a tree whose file has this name; NotOurs exactly where no page of the tree has it.
 pub fn page_of(alloc: Global, tree: TreeId, text: &str) -> Result<PageId, NameFault>
     ensures ok { IfOk result (λ page. text.now ≡ file_text (ObjName.Page tree page)) }
-    ensures none { result ≡ Err NameFault.NotOurs → (page : ℕ) → IsObject (ObjName.Page tree page) → text.now ≢ file_text (ObjName.Page tree page) }
+    ensures none { IfNotOurs result (IsNoPageOf tree text.now) }
 {
     match object_of(alloc, text) {
         Ok(name) => match page_in(tree, name) {

@@ -1,6 +1,7 @@
-pub mod Names
-pub mod Spelled
+pub mod Accepted
 pub mod Cache
-pub mod Held
 pub mod Fetched
+pub mod Held
+pub mod Names
 pub mod Refused
+pub mod Spelled

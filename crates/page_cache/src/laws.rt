@@ -8,6 +8,7 @@ ghost use Rattle.leaf_view.specs.Leaf.{Leaf};
 ghost use Rattle.node_codec.specs.Inner.{Inner};
 ghost use Rattle.node_codec.specs.Tree.{Tree as Root};
 ghost use Rattle.page_cache.specs.Held.{leaf_at, inner_at, root_at};
+ghost use Rattle.page_cache.specs.Accepted.{Accept, OthersStayOrGo, NoVersionFalls};
 ghost use Rattle.page_cache.specs.Refused.{IsStale, IsDamaged};
 ghost use Rattle.page_cache.specs.Spelled.{version_read};
 ghost use Rattle.page_cache.specs.Cache.{Cache, IsCache, kept_at, served_at, placed_in, accepts, dropped};
@@ -15,13 +16,13 @@ ghost use Rattle.page_cache.specs.Cache.{Cache, IsCache, kept_at, served_at, pla
 /// What an accept leaves.
 pub fn accept_laws()
     // The object goes first among those that are kept, and of 65 the last goes.
-    ensures first { (c : Cache) (name : ObjName) (as_leaf : Bool) (got : Option (List ℕ)) (version : ℕ) (d : Cache) → accepts c name as_leaf got ≡ Ok (version, d) → d.objects ≡ placed_in c.objects name got }
+    ensures first { (a : Accept) → a.after.objects ≡ placed_in a.before.objects a.name a.got }
     // It is kept with what the get answered.
-    ensures kept { (c : Cache) (name : ObjName) (as_leaf : Bool) (got : Option (List ℕ)) (version : ℕ) (d : Cache) → accepts c name as_leaf got ≡ Ok (version, d) → kept_at d name ≡ Some got }
+    ensures kept { (a : Accept) → kept_at a.after a.name ≡ Some a.got }
     // What is kept of another object is as it was, or gone.
-    ensures others { (c : Cache) (name : ObjName) (as_leaf : Bool) (got : Option (List ℕ)) (version : ℕ) (d : Cache) → accepts c name as_leaf got ≡ Ok (version, d) → (other : ObjName) → (other ≡ name → ⊥) → (kept_at d other ≡ kept_at c other) ⊎ (kept_at d other ≡ None) }
+    ensures others { (a : Accept) → OthersStayOrGo a }
     // The greatest version served of a leaf never falls.
-    ensures rises { (c : Cache) (name : ObjName) (as_leaf : Bool) (got : Option (List ℕ)) (version : ℕ) (d : Cache) → accepts c name as_leaf got ≡ Ok (version, d) → (other : ObjName) → served_at c other ≤ served_at d other }
+    ensures rises { (a : Accept) → NoVersionFalls a.before a.after }
     // The version of a leaf is not below the greatest one served before, and is that from then on.
     ensures serves { (c : Cache) (tree page : ℕ) (got : Option (List ℕ)) (version : ℕ) (d : Cache) → accepts c (object.Page tree page) true got ≡ Ok (version, d) → (served_at c (object.Page tree page) ≤ version) × (served_at d (object.Page tree page) ≡ version) }
     // The version is that of the bytes, and 0 of what is absent.

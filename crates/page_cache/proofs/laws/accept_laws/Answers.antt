@@ -2,4 +2,12 @@ use Rattle.page_cache.proofs.CacheLemmas.{accept_first, accept_kept, accept_othe
 use Rattle.page_cache.proofs.laws.accept_laws.Goals as goal
 
 pub returns : goal.returns
-returns c = record { first = accept_first; kept = accept_kept; others = accept_others; rises = accept_rises; serves = accept_serves; version = accept_version; absent = accept_absent }
+returns c = record {
+  first = λ a. accept_first a.before a.name a.as_leaf a.got a.version a.after a.is;
+  kept = λ a. accept_kept a.before a.name a.as_leaf a.got a.version a.after a.is;
+  others = λ a. accept_others a.before a.name a.as_leaf a.got a.version a.after a.is;
+  rises = λ a. accept_rises a.before a.name a.as_leaf a.got a.version a.after a.is;
+  serves = accept_serves;
+  version = accept_version;
+  absent = accept_absent;
+}

@@ -1,9 +1,10 @@
 -- How many keys of a run are left.
-use Rattle.std.proofs.Common.{◌≡◌, ℕ, ◌≤◌, ◌+◌, Bool, true, false, cond, List, [], ◌∷◌, length, Some, refl, sym, ap, subst, arith}
+use Rattle.std.proofs.Common.{◌≡◌, ℕ, ◌≤◌, ◌+◌, Bool, true, false, cond, List, [], ◌∷◌, ◌++◌, length, None, Some, refl, sym, ap, subst, ◌∙◌, arith}
 use Rattle.std.proofs.lemmas.Cmp.{nat_list_cmp_total, tied_itself}
 use Rattle.std.specs.Ordering.{is_lt}
 use Rattle.byte_format.specs.Order.{bytes_below}
 use Rattle.db_base.specs.Change.{key_of}
+use Rattle.leaf_edit.specs.Merging.{AllBelow, AllFrom}
 use Rattle.leaf_edit.proofs.Ascends.{below_trans}
 use Rattle.leaf_edit.proofs.InOrder.{below_upto}
 use Rattle.log_codec.specs.declared.record.PuItem.{PuItem}
@@ -83,3 +84,23 @@ from_most from (x ∷ xs) = on (bytes_below (key x) from) (from_most from xs) wh
   on : (b : Bool) → from_on from xs ≤ length xs → cond b (from_on from xs) (from_on from xs + 1) ≤ length (x ∷ xs)
   on true h = omega (arith, h)
   on false h = omega (arith, h)
+
+-- ---- the next key of items that were parted
+
+key-behind : (from : List ℕ) (front xs : List PuItem) → AllBelow from front → key_from from (front ++ xs) ≡ key_from from xs
+key-behind from [] xs h = refl
+key-behind from (x ∷ front) xs h = ap (λ (b : Bool). cond b (key_from from (front ++ xs)) (Some (key x))) h.0 ∙ key-behind from front xs h.1
+
+pub key-parted : (from : List ℕ) (xs front behind : List PuItem) (x : PuItem) (rest : List PuItem) → xs ≡ front ++ behind → AllBelow from front → AllFrom from behind
+    → behind ≡ x ∷ rest → key_from from xs ≡ Some (key x)
+key-parted from xs front behind x rest whole below upward first =
+    ap (key_from from) whole ∙ (key-behind from front behind below ∙ (ap (key_from from) first
+    ∙ ap (λ (b : Bool). cond b (key_from from rest) (Some (key x))) (subst (AllFrom from) first upward).0))
+
+key-empty : (from : List ℕ) (xs : List PuItem) → length xs ≡ 0 → key_from from xs ≡ None
+key-empty from [] h = refl
+key-empty from (x ∷ xs) h = absurd (omega arith)
+
+pub key-none : (from : List ℕ) (xs front behind : List PuItem) → xs ≡ front ++ behind → AllBelow from front → length behind ≡ 0 → key_from from xs ≡ None
+key-none from xs front behind whole below none =
+    ap (key_from from) whole ∙ (key-behind from front behind below ∙ key-empty from behind none)

@@ -4,6 +4,7 @@ ghost use Rattle.std.specs.Prelude.{◌≡◌, [], ◌∷◌, Some, IfOk};
 ghost use Rattle.std.specs.Option.{option_copied};
 ghost use Rattle.cloud_trait.specs.declared.answer.Answer.{Answer};
 ghost use Rattle.cloud_trait.specs.Machine.{Next};
+ghost use Rattle.log_codec.specs.Order.{IsOrdered};
 ghost use Rattle.tree_phases.specs.Going.{Went};
 ghost use Rattle.tree_phases.specs.declared.descent.Descent.{Descent};
 ghost use Rattle.tree_phases.specs.declared.rising.Rising.{Rising};
@@ -13,9 +14,9 @@ use crate::ending::delete_next;
 use crate::moved::Moved;
 use crate::release::{drop_chart, drop_descent, drop_rising, tree_lease};
 use crate::work::{Coming, Held, Work};
-use byte_format::is_below;
 use db_base::blob::Blob;
 use db_base::ids::PageId;
+use leaf_edit::parted_at;
 use log_codec::record::PuItem;
 use std::alloc::{AllocError, Global};
 use tree_phases::chart::Chart;
@@ -119,16 +120,14 @@ fn go_up(alloc: Global, held: Held, chart: Chart) -> Moved
 
 /// The least key from this one on, of items in the order of keys.
 fn key_from<'a>(from: &[u8], items: &'a [PuItem]) -> Option<&'a [u8]>
+    requires { IsOrdered items.now }
     ensures { option_copied result ≡ key_from from.now items.now }
 {
-    let mut left = items;
-    while let Some((item, rest)) = left.split_first() {
-        if !is_below(item.rec.change.key().as_slice(), from) {
-            return Some(item.rec.change.key().as_slice());
-        }
-        left = rest;
+    let (_, rest) = parted_at(items, from);
+    match rest.split_first() {
+        Some((item, _)) => Some(item.rec.change.key().as_slice()),
+        None => None,
     }
-    None
 }
 
 /// The least key of the run that is not handled.

@@ -1,18 +1,17 @@
 -- Why a step ends a commit with nothing committed.
-use Rattle.std.proofs.Common.{◌≡◌, ℕ, Bool, true, false, List, length, Result, Err, refl, ap, sym, subst, ◌∙◌, inl, inr, ◌⊎◌}
+use Rattle.std.proofs.Common.{◌≡◌, ℕ, Bool, true, false, List, length, refl, ap, sym, subst, ◌∙◌, inl, inr, ◌⊎◌}
 use Rattle.std.specs.Prelude.{slice_get}
 use Rattle.db_base.specs.declared.trouble.Trouble.TheVariants as trouble
 use Rattle.db_base.specs.declared.trouble.Counter.TheVariants as counter
-use Rattle.cloud_trait.specs.declared.answer.Answer.TheVariants as answer
 use Rattle.cloud_trait.specs.declared.turn.Turn.TheVariants.{Ended}
-use Rattle.cloud_trait.specs.Views.{trouble_of, sent_of, done_of}
+use Rattle.cloud_trait.specs.Views.{trouble_of}
 use Rattle.cloud_trait.specs.Weather.{Fits}
 use Rattle.tree_walk.proofs.Causes.{StopsBeside, next_stops}
 use Rattle.commit_run.proofs.Words.{Trouble, CommitAnswer, Noted, Answer, Turn, More, Stopped, Get, Next, Goes, Ends, Stops, LeadsBy, Took, Home, Cache, Walk, object_of, walk_next, Writing, writing_next, Writes, First, Change, Draft, planned, Run, held, new_run, wrote, walked, run_ready, run_next, Led, KeepsHome, left_by_turn}
 use Rattle.commit_run.proofs.Outcomes as step
 use Rattle.commit_run.proofs.Outcomes.{NextRun, Plans, Behind, Comes, Starts, used_kept, comes, starts}
-use Rattle.commit_run.proofs.WriteOutcomes as wrote_so
-use Rattle.commit_run.proofs.WriteOutcomes.{Wrote, wrote_by}
+use Rattle.commit_writes.proofs.Outcomes as wrote_so
+use Rattle.commit_writes.proofs.Outcomes.{Comes as Wrote, comes as wrote_by}
 use Rattle.commit_run.specs.Causes.{StopsNext, PassesNumber, ShowsWalk, ShowsIn, TellsOf, Tells, Causes, ShowsReady, CausesReady}
 
 -- where a turn ends with nothing committed, its trouble is so, by where it leads
@@ -78,35 +77,25 @@ ready_causes home changes c old n turn new led =
 
 -- ---- the writes
 
-the_trouble : {A : Type 0} (s t : Trouble) → ◌≡◌ {A = Result A Trouble} (Err s) (Err t) → s ≡ t
-the_trouble s t e = cc (e)
-
-sent_trouble : (a : Answer) (t : Trouble) → sent_of a ≡ Err t → t ≡ trouble_of a
-sent_trouble (answer.Sent id) t e = absurd (cc (e))
-sent_trouble a t e = sym (the_trouble _ t e)
-
-done_trouble : (a : Answer) (t : Trouble) → done_of a ≡ Err t → t ≡ trouble_of a
-done_trouble answer.Done t e = absurd (cc (e))
-done_trouble a t e = sym (the_trouble _ t e)
-
 abbrev WriteShown : Answer → Next Writing CommitAnswer → Type 0
 WriteShown a (Goes w) = Unit {0}
 WriteShown a (Ends w x) = TellsOf (λ t. t ≡ trouble_of a) x
 WriteShown a (Stops w t) = Unit {0}
 
-write_shown : (w : Writing) (a : Answer) (x : Next Writing CommitAnswer) → Wrote w a x → WriteShown a x
-write_shown w a x (wrote_so.logs id r at) = tt
-write_shown w a x (wrote_so.opens id at) = tt
-write_shown w a x (wrote_so.not_logged t at e other) = sent_trouble a t e
-write_shown w a x (wrote_so.late end now at e) = done_trouble a (trouble.Late end now) e
-write_shown w a x (wrote_so.doubts t at e other) = tt
-write_shown w a x (wrote_so.sends n r at) = tt
-write_shown w a x (wrote_so.settles n at) = tt
-write_shown w a x (wrote_so.stays_open t at other) = tt
-write_shown w a x (wrote_so.deletes n id at) = tt
-write_shown w a x (wrote_so.ends n at) = tt
-write_shown w a x wrote_so.lacks = tt
-write_shown w a x (wrote_so.idles at) = tt
+write_shown : {w : Writing} {a : Answer} {x : Next Writing CommitAnswer} → Wrote w a x → WriteShown a x
+write_shown (wrote_so.goes_on w id next (wrote_so.logs r e)) = tt
+write_shown (wrote_so.goes_on w id next (wrote_so.opens e)) = tt
+write_shown (wrote_so.not_logged w a failed) = refl
+write_shown (wrote_so.late w end now) = refl
+write_shown (wrote_so.doubts w a failed) = tt
+write_shown (wrote_so.sends n r posts e) = tt
+write_shown (wrote_so.settles n posts e) = tt
+write_shown (wrote_so.stays_open leaves) = tt
+write_shown (wrote_so.deletes n id clears e) = tt
+write_shown (wrote_so.ends n clears e) = tt
+write_shown (wrote_so.lacks w under) = tt
+write_shown (wrote_so.waits w a) = tt
+write_shown (wrote_so.rests w a) = tt
 
 wrote_shown : (d : Draft) (c : Cache) (a : Answer) (changes : List Noted) (x : Next Writing CommitAnswer) → WriteShown a x → Shown (ShowsIn Writes c a changes) (wrote d c x)
 wrote_shown d c a changes (Goes w) h = tt
@@ -125,7 +114,7 @@ pub write_causes : (d : Draft) (c : Cache) (a : Answer) (n : Run × Cache) (turn
     → Causes (record { draft = d; hand = Writes }, c) a n turn
 write_causes d c a n turn took =
     took_tells (ShowsIn Writes c a d.writes.changes) (record { draft = d; hand = Writes }, c) a n turn
-    (wrote_shown d c a d.writes.changes (writing_next d.writes a) (write_shown d.writes a (writing_next d.writes a) (wrote_by d.writes a))) took
+    (wrote_shown d c a d.writes.changes (writing_next d.writes a) (write_shown (wrote_by d.writes a))) took
 
 pub walk_causes : (first : Bool) (d : Draft) (w : Walk) (c : Cache) (a : Answer) (n : Run × Cache) (turn : Turn CommitAnswer) → Fits (Get (object_of w)) a
     → Took (LeadsBy run_next) KeepsHome (record { draft = d; hand = held first w }, c) a n turn → Causes (record { draft = d; hand = held first w }, c) a n turn

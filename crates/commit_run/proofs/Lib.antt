@@ -1,7 +1,6 @@
 pub mod Words
 pub mod Leading
 pub mod Outcomes
-pub mod WriteOutcomes
 pub mod Hands
 pub mod Knows
 pub mod Planning

@@ -1,5 +1,5 @@
 -- A commit that is answered as committed is among what was committed.
-use Rattle.std.proofs.Common.{inl, inr, ◌≡◌, ℕ, Bool, true, false, List, [], Option, Some, Ok, refl, sym, ap, subst, ◌∙◌}
+use Rattle.std.proofs.Common.{◌≡◌, ℕ, Bool, true, false, List, [], Option, Some, Ok, refl, sym, ap, subst, ◌∙◌}
 use Rattle.std.specs.Prelude.{All}
 use Rattle.std.proofs.lemmas.List.{append-nil}
 use Rattle.client_work.specs.Session.{Acting, StepsSession, StepsAt, StepsCommit, ShowsAt, acting_of}
@@ -29,10 +29,8 @@ use Rattle.commit_run.specs.Run.{Run, home_of, wrote, walked, next_at as run_nex
 use Rattle.commit_run.specs.declared.hand.Hand.{Hand}
 use Rattle.commit_run.specs.declared.hand.Hand.TheVariants.{Writes, First, Change}
 use Rattle.commit_writes.specs.Writing.{Writing, writing_next}
-use Rattle.commit_writes.specs.declared.stage.Stage.{Stage}
-use Rattle.commit_writes.specs.declared.stage.Stage.TheVariants.{Sending, Settling, Deleting}
-use Rattle.commit_run.proofs.WriteOutcomes as written
-use Rattle.commit_run.proofs.WriteOutcomes.{Wrote, wrote_by}
+use Rattle.commit_writes.proofs.Outcomes as written
+use Rattle.commit_writes.proofs.Outcomes.{Comes as Wrote, comes as wrote_by}
 use Rattle.db_base.specs.declared.trouble.CommitAnswer.{CommitAnswer}
 use Rattle.db_base.specs.declared.trouble.CommitAnswer.TheVariants.{Committed, NotCommitted, InDoubt, CommittedOpen}
 use Rattle.history.specs.Audited.{Audited, committed_entry}
@@ -90,33 +88,26 @@ module _ (entries : List Entry) (client : ℕ) (changes : List Noted) where
   Keeps (Ends w a) = IsKeptCommit entries client changes a
   Keeps (Stops w t) = Unit {0}
 
-module _ (st : Store) (now : ℕ) (w : Writing) (g : Home) where
-  abbrev KeepsOwn : Next Writing CommitAnswer → Type 0
-  KeepsOwn = Keeps (entries_of st.book.log) w.home.client w.changes
+has_entries : (st : Store) (w : Writing) → HasCommitted st.book.log (attempt_of w) w.changes → HasEntries (entries_of st.book.log) w.home.client w.home.attempt w.changes
+has_entries st w committed = record { epoch = w.home.head.epoch; each = λ n is. entry_in st.book.log (attempt_of w) is.0 n (committed is.0 n is.1) }
 
-  has_entries : HasCommitted st.book.log (attempt_of w) w.changes → HasEntries (entries_of st.book.log) w.home.client w.home.attempt w.changes
-  has_entries committed = record { epoch = w.home.head.epoch; each = λ n is. entry_in st.book.log (attempt_of w) is.0 n (committed is.0 n is.1) }
-
-  keeps_by : (a : Reply) (x : Next Writing CommitAnswer) → KnowsCommitAt w.stage st now w g → Wrote w a x → KeepsOwn x
-  keeps_by a x k o = on x o where
-    at : (stage : Stage) → w.stage ≡ stage → KnowsCommitAt stage st now w g
-    at stage is = subst (λ (s : Stage). KnowsCommitAt s st now w g) is k
-
-    on : (y : Next Writing CommitAnswer) → Wrote w a y → KeepsOwn y
-    on y (written.logs id r is) = tt
-    on y (written.opens id is) = tt
-    on y (written.not_logged t is e other) = tt
-    on y (written.late end now is e) = tt
-    on y (written.doubts t is e other) = tt
-    on y (written.sends n r is) = tt
-    on y (written.settles n is) = tt
-    on y (written.stays_open t (inl (is, e)) other) = (w.home.attempt, has_entries (at Sending is).committed)
-    on y (written.stays_open t (inr (is, e)) other) = (w.home.attempt, has_entries (at Settling is).committed)
-    on y (written.deletes n id is) = tt
-    on y (written.ends n (inl is)) = has_entries (at Settling is).committed
-    on y (written.ends n (inr is)) = has_entries (at Deleting is).committed
-    on y written.lacks = tt
-    on y (written.idles is) = tt
+keeps_by : (st : Store) (now : ℕ) (g : Home) (w : Writing) (a : Reply) (x : Next Writing CommitAnswer) → KnowsCommitAt w.stage st now w g → Wrote w a x
+    → Keeps (entries_of st.book.log) w.home.client w.changes x
+keeps_by st now g v a x k (written.goes_on w id next (written.logs r e)) = tt
+keeps_by st now g v a x k (written.goes_on w id next (written.opens e)) = tt
+keeps_by st now g v a x k (written.not_logged w y failed) = tt
+keeps_by st now g v a x k (written.late w end over) = tt
+keeps_by st now g v a x k (written.doubts w y failed) = tt
+keeps_by st now g w a x k (written.sends n r posts e) = tt
+keeps_by st now g w a x k (written.settles n posts e) = tt
+keeps_by st now g v a x k (written.stays_open (written.not_sent w y failed)) = (v.home.attempt, has_entries st v k.committed)
+keeps_by st now g v a x k (written.stays_open (written.not_settled w y failed)) = (v.home.attempt, has_entries st v k.committed)
+keeps_by st now g w a x k (written.deletes n id clears e) = tt
+keeps_by st now g v a x k (written.ends n (written.settled w) e) = has_entries st v k.committed
+keeps_by st now g v a x k (written.ends n (written.one_tried w y found) e) = has_entries st v k.committed
+keeps_by st now g w a x k (written.lacks v under) = tt
+keeps_by st now g v a x k (written.waits w y) = tt
+keeps_by st now g v a x k (written.rests w y) = tt
 
 -- ---- where a run leads
 
@@ -154,7 +145,7 @@ run_keeps st now m part reply k = on m.0.hand k.hand
         (turns w.changes w.home.client first m.0.draft (walk_next (walk, m.1) reply) (record { changes_are = refl; client_is = refl }))
 
     on : (hand : Hand) → KnowsHand hand st now m.0.draft part → RunKeeps entries w.home.client w.changes (run_next_at hand m.0.draft m.1 reply)
-    on Writes h = wrote_keeps entries w.home.client w.changes m.0.draft m.1 (writing_next w reply) (keeps_by st now w h.home reply (writing_next w reply) h.at (wrote_by w reply))
+    on Writes h = wrote_keeps entries w.home.client w.changes m.0.draft m.1 (writing_next w reply) (keeps_by st now h.home w reply (writing_next w reply) h.at (wrote_by w reply))
     on (First walk) h = walks true walk
     on (Change walk) h = walks false walk
 

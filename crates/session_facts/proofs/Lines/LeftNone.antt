@@ -1,5 +1,5 @@
 -- A commit that is answered `not-committed` left nothing among what was committed.
-use Rattle.std.proofs.Common.{◌≡◌, ℕ, zero, suc, Bool, true, false, List, [], ◌∷◌, ◌++◌, Option, Some, Ok, Err, refl, sym, ap, subst, ◌∙◌, arith}
+use Rattle.std.proofs.Common.{◌≡◌, ℕ, zero, suc, Bool, true, false, List, [], ◌∷◌, ◌++◌, Option, Some, Ok, refl, sym, ap, subst, ◌∙◌, arith}
 use Rattle.std.specs.Prelude.{All, map, slice_get}
 use Rattle.std.proofs.lemmas.List.{append-nil}
 use Rattle.client_work.specs.Session.{Acting, StepsSession, StepsCommit, ShowsAt, acting_of}
@@ -19,7 +19,6 @@ use Rattle.cloud_trait.specs.Caller.{Caller}
 use Rattle.cloud_trait.specs.Machine.{Next, Goes, Ends, Stops}
 use Rattle.cloud_trait.specs.Seen.{Seen}
 use Rattle.cloud_trait.specs.State.{CloudState, Counts, called}
-use Rattle.cloud_trait.specs.Views.{done_of}
 use Rattle.cloud_trait.specs.Weather.{Leaves}
 use Rattle.cloud_trait.specs.declared.answer.Answer.{Answer as Reply}
 use Rattle.cloud_trait.specs.declared.answer.Answer.TheVariants.{Late}
@@ -34,13 +33,12 @@ use Rattle.commit_writes.specs.declared.stage.Stage.{Stage}
 use Rattle.commit_writes.specs.declared.stage.Stage.TheVariants.{Logging, Opening}
 use Rattle.commit_run.proofs.Outcomes as step
 use Rattle.commit_run.proofs.Outcomes.{NextRun, Leads, turned_leads}
-use Rattle.commit_run.proofs.WriteOutcomes as written
-use Rattle.commit_run.proofs.WriteOutcomes.{Wrote, wrote_by}
+use Rattle.commit_writes.proofs.Outcomes as written
+use Rattle.commit_writes.proofs.Outcomes.{Comes as Wrote, comes as wrote_by}
 use Rattle.db_base.specs.declared.names.ObjName.{ObjName}
 use Rattle.db_base.specs.declared.trouble.CommitAnswer.{CommitAnswer}
 use Rattle.db_base.specs.declared.trouble.CommitAnswer.TheVariants.{Committed, NotCommitted, InDoubt, CommittedOpen}
 use Rattle.db_base.specs.declared.trouble.Trouble.{Trouble}
-use Rattle.db_base.specs.declared.trouble.Trouble.TheVariants as trouble
 use Rattle.history.specs.Audited.{Audited}
 use Rattle.log_codec.specs.declared.record.AtomicRec.{AtomicRec}
 use Rattle.page_cache.specs.Cache.{Cache}
@@ -102,27 +100,23 @@ Refused stage a h (Goes w) = Unit {0}
 Refused stage a h (Ends w x) = RefusedOf stage a h w.home x
 Refused stage a h (Stops w t) = Unit {0}
 
-only_late : (a : Reply) (end now : ℕ) → done_of a ≡ Err (trouble.Late end now) → a ≡ Late end now
-only_late (Late e n) end now is = cc (is)
-only_late a end now is = absurd (cc (is))
-
 own : (h : Held) → OwnOf h h
 own h = record { client_is = refl; epoch_is = refl; attempt_is = refl }
 
 refuses : (w : Writing) (a : Reply) (x : Next Writing CommitAnswer) → Wrote w a x → Refused w.stage a w.home x
-refuses w a x (written.logs id r at) = tt
-refuses w a x (written.opens id at) = tt
-refuses w a x (written.not_logged t at is other) = (own w.home, subst (λ (stage : Stage). RefusedAt stage a) (sym at) tt)
-refuses w a x (written.late end now at is) =
-    (record { client_is = refl; epoch_is = refl; attempt_is = refl }, subst (λ (stage : Stage). RefusedAt stage a) (sym at) (end, now, only_late a end now is))
-refuses w a x (written.doubts t at is other) = tt
-refuses w a x (written.sends n r at) = tt
-refuses w a x (written.settles n at) = tt
-refuses w a x (written.stays_open t at other) = tt
-refuses w a x (written.deletes n id at) = tt
-refuses w a x (written.ends n at) = tt
-refuses w a x written.lacks = tt
-refuses w a x (written.idles at) = tt
+refuses v a x (written.goes_on w id next (written.logs r e)) = tt
+refuses v a x (written.goes_on w id next (written.opens e)) = tt
+refuses v a x (written.not_logged w y failed) = (own w.home, tt)
+refuses v a x (written.late w end now) = (record { client_is = refl; epoch_is = refl; attempt_is = refl }, (end, now, refl))
+refuses v a x (written.doubts w y failed) = tt
+refuses w a x (written.sends n r posts e) = tt
+refuses w a x (written.settles n posts e) = tt
+refuses w a x (written.stays_open leaves) = tt
+refuses w a x (written.deletes n id clears e) = tt
+refuses w a x (written.ends n clears e) = tt
+refuses w a x (written.lacks v under) = tt
+refuses v a x (written.waits w y) = tt
+refuses v a x (written.rests w y) = tt
 
 -- ---- of a run
 

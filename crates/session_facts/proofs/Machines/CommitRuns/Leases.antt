@@ -1,6 +1,5 @@
 -- A commit run never changes its home's lease.
 use Rattle.std.proofs.Common.{◌≡◌, List, refl, sym, subst, ◌∙◌, inl, inr, true, false}
-use Rattle.std.specs.Prelude.{slice_get}
 use Rattle.cloud_trait.specs.declared.answer.Answer.{Answer}
 use Rattle.cloud_trait.specs.Claim.{Claim}
 use Rattle.cloud_trait.specs.Machine.{Next, Goes, Ends, Stops}
@@ -9,7 +8,8 @@ use Rattle.commit_run.specs.declared.hand.Hand.{Hand}
 use Rattle.commit_run.specs.declared.hand.Hand.TheVariants.{Writes, First, Change}
 use Rattle.commit_run.specs.Draft.{Draft}
 use Rattle.commit_run.specs.Run.{Run, new_run, home_of, next_at, wrote, walked, run_ready, run_next}
-use Rattle.commit_writes.specs.Writing.{Writing, writing_next}
+use Rattle.commit_writes.proofs.Outcomes.{begins}
+use Rattle.commit_writes.specs.Writing.{Writing, begun, writing_next}
 use Rattle.commit_run.proofs.Outcomes as step
 use Rattle.commit_run.proofs.Outcomes.{NextRun, Leads, BeginsWith, records_of, taken, turned_leads, ready_leads}
 use Rattle.db_base.specs.declared.trouble.CommitAnswer.{CommitAnswer}
@@ -31,7 +31,7 @@ wrote_lease l d c (Stops w t) h = h
 
 leads_lease : (l : Claim) (w : Writing) (x : NextRun) → w.home.lease ≡ l → Leads w x → RunLeaseStays l x
 leads_lease l w x e (step.walks first d v k kept) = kept.lease ∙ e
-leads_lease l w x e (step.writes d k v kept paged starts) = subst (LeaseStays d.writes.home.lease) starts (logs_lease (record d.writes { records = records_of d; place = 0 }) (slice_get (records_of d) 0)) ∙ (kept.lease ∙ e)
+leads_lease l w x e (step.writes d k v kept paged starts) = subst (LeaseStays d.writes.home.lease) starts (logs_lease (record d.writes { records = records_of d; place = 0 }) (begun d.writes (records_of d)) (begins d.writes (records_of d))) ∙ (kept.lease ∙ e)
 leads_lease l w x e (step.refuses d k t kept other) = kept.lease ∙ e
 leads_lease l w x e (step.lacks d k kept) = kept.lease ∙ e
 

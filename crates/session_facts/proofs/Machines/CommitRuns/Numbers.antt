@@ -1,20 +1,18 @@
 -- A commit is of its home's epoch and of the number that it took, from its begin to its end.
-use Rattle.std.proofs.Common.{◌≡◌, ◌+◌, ◌≤◌, ℕ, List, Option, Some, None, refl, sym, subst, ◌∙◌, inl, inr, true, false, arith}
-use Rattle.std.specs.Prelude.{slice_get}
+use Rattle.std.proofs.Common.{◌≡◌, ◌+◌, ◌≤◌, ℕ, List, refl, sym, subst, ◌∙◌, inl, inr, true, false, arith}
 use Rattle.cloud_trait.specs.declared.answer.Answer.{Answer}
 use Rattle.cloud_trait.specs.Machine.{Next, Goes, Ends, Stops}
-use Rattle.commit_writes.specs.Writing.{Writing, log_or_open, writing_next}
+use Rattle.commit_writes.specs.Writing.{Writing, begun, writing_next}
 use Rattle.commit_run.specs.declared.hand.Hand.{Hand}
 use Rattle.commit_run.specs.declared.hand.Hand.TheVariants.{Writes, First, Change}
 use Rattle.commit_run.specs.Draft.{Draft}
 use Rattle.commit_run.specs.Run.{Run, new_run, home_of, wrote, walked, run_ready, next_at, run_next}
 use Rattle.commit_run.proofs.Outcomes as step
 use Rattle.commit_run.proofs.Outcomes.{NextRun, Leads, BeginsWith, records_of, taken, turned_leads, ready_leads}
-use Rattle.commit_run.proofs.WriteOutcomes as written
-use Rattle.commit_run.proofs.WriteOutcomes.{Wrote, wrote_by}
+use Rattle.commit_writes.proofs.Outcomes as written
+use Rattle.commit_writes.proofs.Outcomes.{Logs, Comes as Wrote, begins, comes as wrote_by}
 use Rattle.db_base.specs.declared.trouble.CommitAnswer.{CommitAnswer}
 use Rattle.db_base.specs.declared.trouble.CommitAnswer.TheVariants.{Committed}
-use Rattle.log_codec.specs.declared.record.AtomicRec.{AtomicRec}
 use Rattle.page_cache.specs.Cache.{Cache}
 use Rattle.recover_run.specs.declared.home.Home.{Home}
 use Rattle.tree_walk.specs.Walk.{walk_next}
@@ -44,23 +42,23 @@ module _ (epoch number : ℕ) where
 
   -- ---- writes
 
-  logs_or_opens : (w : Writing) (o : Option AtomicRec) → IsAt w.home → WritesAt (log_or_open w o)
-  logs_or_opens w (Some r) f = (f.epoch_is, f.number_is)
-  logs_or_opens w None f = (f.epoch_is, f.number_is)
+  logs_at : (w : Writing) (x : Next Writing CommitAnswer) → IsAt w.home → Logs w x → WritesAt x
+  logs_at w x f (written.logs r e) = (f.epoch_is, f.number_is)
+  logs_at w x f (written.opens e) = (f.epoch_is, f.number_is)
 
   writes_on : (w : Writing) (a : Answer) (x : Next Writing CommitAnswer) → IsAt w.home → Wrote w a x → WritesAt x
-  writes_on w a x f (written.logs id r at) = (f.epoch_is, f.number_is)
-  writes_on w a x f (written.opens id at) = (f.epoch_is, f.number_is)
-  writes_on w a x f (written.not_logged t at is other) = (f.epoch_is, f.number_is, tt)
-  writes_on w a x f (written.late end now at is) = (f.epoch_is, f.number_is, tt)
-  writes_on w a x f (written.doubts t at is other) = (f.epoch_is, f.number_is, tt)
-  writes_on w a x f (written.sends n r at) = (f.epoch_is, f.number_is)
-  writes_on w a x f (written.settles n at) = (f.epoch_is, f.number_is)
-  writes_on w a x f (written.stays_open t at other) = (f.epoch_is, f.number_is, tt)
-  writes_on w a x f (written.deletes n id at) = (f.epoch_is, f.number_is)
-  writes_on w a x f (written.ends n at) = (f.epoch_is, f.number_is, f.number_is)
-  writes_on w a x f written.lacks = tt
-  writes_on w a x f (written.idles at) = tt
+  writes_on v a x f (written.goes_on w id next first) = logs_at (written.logged v id) x f first
+  writes_on v a x f (written.not_logged w y failed) = (f.epoch_is, f.number_is, tt)
+  writes_on v a x f (written.late w end now) = (f.epoch_is, f.number_is, tt)
+  writes_on v a x f (written.doubts w y failed) = (f.epoch_is, f.number_is, tt)
+  writes_on w a x f (written.sends n r posts at) = (f.epoch_is, f.number_is)
+  writes_on w a x f (written.settles n posts at) = (f.epoch_is, f.number_is)
+  writes_on w a x f (written.stays_open leaves) = (f.epoch_is, f.number_is, tt)
+  writes_on w a x f (written.deletes n id clears at) = (f.epoch_is, f.number_is)
+  writes_on w a x f (written.ends n clears at) = (f.epoch_is, f.number_is, f.number_is)
+  writes_on w a x f (written.lacks v under) = tt
+  writes_on v a x f (written.waits w y) = tt
+  writes_on v a x f (written.rests w y) = tt
 
   wrote_at : (d : Draft) (c : Cache) (n : Next Writing CommitAnswer) → WritesAt n → RunsAt (wrote d c n)
   wrote_at d c (Goes w) k = k
@@ -73,7 +71,7 @@ module _ (epoch number : ℕ) where
   leads w x f (step.walks first e v k kept) = (kept.epoch ∙ f.epoch_is, kept.attempt ∙ f.number_is)
   leads w x f (step.writes e k v kept paged starts) =
       let so : IsAt e.writes.home = record { epoch_is = kept.epoch ∙ f.epoch_is; number_is = kept.attempt ∙ f.number_is } in
-      subst WritesAt starts (logs_or_opens (record e.writes { records = records_of e; place = 0 }) (slice_get (records_of e) 0) so)
+      subst WritesAt starts (logs_at (record e.writes { records = records_of e; place = 0 }) (begun e.writes (records_of e)) so (begins e.writes (records_of e)))
   leads w x f (step.refuses e k t kept other) = (kept.epoch ∙ f.epoch_is, kept.attempt ∙ f.number_is, tt)
   leads w x f (step.lacks e k kept) = tt
 

@@ -1,21 +1,19 @@
 -- A commit goes on in its epoch and never comes back to a transaction that it may have opened.
-use Rattle.std.proofs.Common.{◌≡◌, ◌≤◌, ◌+◌, ℕ, List, Option, Some, None, refl, sym, subst, ◌∙◌, inl, inr, true, false, arith}
-use Rattle.std.specs.Prelude.{slice_get}
+use Rattle.std.proofs.Common.{◌≡◌, ◌≤◌, ◌+◌, ℕ, List, refl, sym, subst, ◌∙◌, inl, inr, true, false, arith}
 use Rattle.cloud_trait.specs.declared.answer.Answer.{Answer}
 use Rattle.cloud_trait.specs.Machine.{Next, Goes, Ends, Stops}
 use Rattle.commit_writes.specs.declared.stage.Stage.{Stage}
 use Rattle.commit_writes.specs.declared.stage.Stage.TheVariants.{Waiting, Logging, Opening, Sending, Settling, Deleting, Finished}
-use Rattle.commit_writes.specs.Writing.{Writing, log_or_open, writing_next}
+use Rattle.commit_writes.specs.Writing.{Writing, begun, writing_next}
 use Rattle.commit_run.specs.declared.hand.Hand.{Hand}
 use Rattle.commit_run.specs.declared.hand.Hand.TheVariants.{Writes, First, Change}
 use Rattle.commit_run.specs.Draft.{Draft}
 use Rattle.commit_run.specs.Run.{Run, new_run, home_of, wrote, walked, run_ready, next_at, run_next}
 use Rattle.commit_run.proofs.Outcomes as step
 use Rattle.commit_run.proofs.Outcomes.{NextRun, Leads, BeginsWith, records_of, taken, turned_leads, ready_leads}
-use Rattle.commit_run.proofs.WriteOutcomes as written
-use Rattle.commit_run.proofs.WriteOutcomes.{Wrote, wrote_by}
+use Rattle.commit_writes.proofs.Outcomes as written
+use Rattle.commit_writes.proofs.Outcomes.{Logs, Comes as Wrote, begins, comes as wrote_by}
 use Rattle.db_base.specs.declared.trouble.CommitAnswer.{CommitAnswer}
-use Rattle.log_codec.specs.declared.record.AtomicRec.{AtomicRec}
 use Rattle.page_cache.specs.Cache.{Cache}
 use Rattle.recover_run.specs.declared.home.Home.{Home}
 use Rattle.tree_walk.specs.Walk.{walk_next}
@@ -41,9 +39,9 @@ module _ (epoch bound : ℕ) where
 
   -- ---- writes
 
-  logs_or_opens : (w : Writing) (o : Option AtomicRec) → IsFrom w.home → WritesFrom (log_or_open w o)
-  logs_or_opens w (Some r) f = (f.epoch_is, f.from, tt)
-  logs_or_opens w None f = (f.epoch_is, f.from, refl)
+  logs_from : (w : Writing) (x : Next Writing CommitAnswer) → IsFrom w.home → Logs w x → WritesFrom x
+  logs_from w x f (written.logs r e) = (f.epoch_is, f.from, tt)
+  logs_from w x f (written.opens e) = (f.epoch_is, f.from, refl)
 
   later_most : (stage : Stage) (w : Writing) → later_at stage w ≤ w.home.attempt + 1
   later_most Waiting w = omega arith
@@ -54,27 +52,19 @@ module _ (epoch bound : ℕ) where
   later_most Deleting w = omega arith
   later_most Finished w = omega arith
 
-  writes_on : (w : Writing) (a : Answer) (x : Next Writing CommitAnswer) → w.home.head.epoch ≡ epoch → bound ≤ later_at w.stage w → Wrote w a x → WritesFrom x
-  writes_on w a x e b o = on x o where
-    from : w.stage ≡ Logging → bound ≤ w.home.attempt
-    from at = subst (λ (stage : Stage). bound ≤ later_at stage w) at b
-
-    upto : bound ≤ w.home.attempt + 1
-    upto = omega (arith, b, later_most w.stage w)
-
-    on : (y : Next Writing CommitAnswer) → Wrote w a y → WritesFrom y
-    on y (written.logs id r at) = (e, from at, tt)
-    on y (written.opens id at) = (e, from at, refl)
-    on y (written.not_logged t at is other) = (e, upto)
-    on y (written.late end now at is) = (e, upto)
-    on y (written.doubts t at is other) = (e, upto)
-    on y (written.sends n r at) = (e, upto, tt)
-    on y (written.settles n at) = (e, upto, tt)
-    on y (written.stays_open t at other) = (e, upto)
-    on y (written.deletes n id at) = (e, upto, tt)
-    on y (written.ends n at) = (e, upto)
-    on y written.lacks = tt
-    on y (written.idles at) = tt
+  writes_on : (w : Writing) (a : Answer) (x : Next Writing CommitAnswer) → w.home.head.epoch ≡ epoch → bound ≤ later_at w.stage w → bound ≤ w.home.attempt + 1 → Wrote w a x → WritesFrom x
+  writes_on v a x e b upto (written.goes_on w id next first) = logs_from (written.logged v id) x (record { epoch_is = e; from = b }) first
+  writes_on v a x e b upto (written.not_logged w y failed) = (e, upto)
+  writes_on v a x e b upto (written.late w end now) = (e, upto)
+  writes_on v a x e b upto (written.doubts w y failed) = (e, upto)
+  writes_on w a x e b upto (written.sends n r posts at) = (e, upto, tt)
+  writes_on w a x e b upto (written.settles n posts at) = (e, upto, tt)
+  writes_on w a x e b upto (written.stays_open leaves) = (e, upto)
+  writes_on w a x e b upto (written.deletes n id clears at) = (e, upto, tt)
+  writes_on w a x e b upto (written.ends n clears at) = (e, upto)
+  writes_on w a x e b upto (written.lacks v under) = tt
+  writes_on v a x e b upto (written.waits w y) = tt
+  writes_on v a x e b upto (written.rests w y) = tt
 
   wrote_from : (d : Draft) (c : Cache) (n : Next Writing CommitAnswer) → WritesFrom n → RunsFrom (wrote d c n)
   wrote_from d c (Goes w) k = k
@@ -88,14 +78,14 @@ module _ (epoch bound : ℕ) where
   leads w x f (step.walks false e v k kept) = (kept.epoch ∙ f.epoch_is, omega (arith, f.from, kept.attempt), tt)
   leads w x f (step.writes e k v kept paged starts) =
       let so : IsFrom e.writes.home = record { epoch_is = kept.epoch ∙ f.epoch_is; from = omega (arith, f.from, kept.attempt) } in
-      subst WritesFrom starts (logs_or_opens (record e.writes { records = records_of e; place = 0 }) (slice_get (records_of e) 0) so)
+      subst WritesFrom starts (logs_from (record e.writes { records = records_of e; place = 0 }) (begun e.writes (records_of e)) so (begins e.writes (records_of e)))
   leads w x f (step.refuses e k t kept other) = (kept.epoch ∙ f.epoch_is, omega (arith, f.from, kept.attempt))
   leads w x f (step.lacks e k kept) = tt
 
   -- ---- turns
 
   turns_on : (hand : Hand) (d : Draft) (c : Cache) (a : Answer) → d.writes.home.head.epoch ≡ epoch → bound ≤ later_of (record { draft = d; hand = hand }) → RunsFrom (next_at hand d c a)
-  turns_on Writes d c a e b = wrote_from d c (writing_next d.writes a) (writes_on d.writes a (writing_next d.writes a) e b (wrote_by d.writes a))
+  turns_on Writes d c a e b = wrote_from d c (writing_next d.writes a) (writes_on d.writes a (writing_next d.writes a) e b (omega (arith, b, later_most d.writes.stage d.writes)) (wrote_by d.writes a))
   turns_on (First w) d c a e b = leads d.writes (walked true d w c a) (record { epoch_is = e; from = b }) (turned_leads d true (walk_next (w, c) a))
   turns_on (Change w) d c a e b = leads d.writes (walked false d w c a) (record { epoch_is = e; from = b }) (turned_leads d false (walk_next (w, c) a))
 

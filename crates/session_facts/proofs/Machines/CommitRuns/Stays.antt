@@ -1,13 +1,13 @@
 -- A commit, walks and writes, goes on with the same changes of the same client, or ends for it.
 use Rattle.std.proofs.Common.{◌≡◌, ℕ, List, refl, sym, subst, ◌∙◌, inl, inr, Bool, true, false}
-use Rattle.std.specs.Prelude.{slice_get}
 use Rattle.cloud_trait.specs.declared.answer.Answer.{Answer}
 use Rattle.cloud_trait.specs.Machine.{Next, Goes, Ends, Stops}
 use Rattle.commit_run.specs.declared.hand.Hand.{Hand}
 use Rattle.commit_run.specs.declared.hand.Hand.TheVariants.{Writes, First, Change}
 use Rattle.commit_run.specs.Draft.{Draft}
 use Rattle.commit_run.specs.Run.{Run, new_run, home_of, wrote, by_turn, walk_turned, run_ready, next_at, run_next}
-use Rattle.commit_writes.specs.Writing.{Writing, writing_next}
+use Rattle.commit_writes.proofs.Outcomes.{begins}
+use Rattle.commit_writes.specs.Writing.{Writing, begun, writing_next}
 use Rattle.commit_run.proofs.Outcomes as step
 use Rattle.commit_run.proofs.Outcomes.{NextRun, Leads, BeginsWith, records_of, taken, turned_leads, ready_leads}
 use Rattle.db_base.specs.declared.trouble.Trouble.{Trouble}
@@ -21,7 +21,7 @@ use Rattle.session_facts.proofs.Machines.Commits.Routes.{count_is}
 use Rattle.tree_walk.specs.Walk.{Walk, walk_next}
 use Rattle.txn_buffer.specs.Noted.{Noted}
 use Rattle.session_facts.specs.Lines.Running.{IsRunning}
-use Rattle.session_facts.proofs.Machines.Commits.Stays.{WritesFor, logs_or_opens, writes_on}
+use Rattle.session_facts.proofs.Machines.Commits.Stays.{WritesFor, logs_for, writes_on}
 
 -- where a turn leads it goes on with these changes of this client, or ends for it with such an answer; it stops for want of memory alone
 abbrev pub RunsFor : (CommitAnswer → Type 0) → List Noted → ℕ → Next (Run × Cache) CommitAnswer → Type 0
@@ -56,7 +56,8 @@ module _ (changes : List Noted) (client : ℕ) where
   leads w x f (step.writes e k v kept paged starts) =
       let as_many = count_is e.writes.home.client e.writes.home.head.epoch e.writes.home.attempt e.writes.home.head e.writes.changes e.plan.pages paged in
       let so : WritesFor e.writes.changes e.writes.home.client (Goes v) =
-      subst (WritesFor e.writes.changes e.writes.home.client) starts (logs_or_opens (record e.writes { records = records_of e; place = 0 }) (slice_get (records_of e) 0) as_many) in
+      subst (WritesFor e.writes.changes e.writes.home.client) starts
+      (logs_for (record e.writes { records = records_of e; place = 0 }) (begun e.writes (records_of e)) as_many (begins e.writes (records_of e))) in
       (so.0 ∙ (kept.changes ∙ f.changes_are), so.1 ∙ (kept.client ∙ f.client_is), so.2)
   leads w x f (step.refuses e k t kept other) = (kept.client ∙ f.client_is, (t, refl))
   leads w x f (step.lacks e k kept) = refl

@@ -1,5 +1,5 @@
 -- Why a commit ends with nothing committed, or stays open: while its lease lasts its walks know their way, and no object is damaged.
-use Rattle.std.proofs.Common.{◌≡◌, ◌∙◌, ◌+◌, ℕ, Bool, true, false, cond, List, [], ◌∷◌, ◌++◌, length, Option, Some, None, Result, Ok, Err, refl, sym, subst}
+use Rattle.std.proofs.Common.{◌≡◌, ◌∙◌, ℕ, Bool, true, false, cond, List, length, Option, Some, None, Result, Ok, Err, refl, sym, subst}
 use Rattle.std.specs.Prelude.{nat_lt, slice_get}
 use Rattle.std.specs.Option.{option_map}
 use Rattle.std.proofs.lemmas.Option.{same_Some}
@@ -26,7 +26,9 @@ use Rattle.session_facts.specs.Machines.CommitRuns.Stops.{MayStopCommit, EndsBy}
 use Rattle.session_facts.proofs.Machines.CommitRuns.Nexts.{RunStep}
 use Rattle.commit_writes.specs.declared.stage.Stage.{Stage}
 use Rattle.commit_writes.specs.declared.stage.Stage.TheVariants.{Waiting, Logging, Opening, Sending, Settling, Deleting, Finished}
-use Rattle.commit_writes.specs.Writing.{Writing, log_or_open, send_or_settle, send_at, delete_or_end, delete_at, logged_by, not_opened, opened_by, sent_by, settled_by, deleted_by, next_at as writes_at, writing_next}
+use Rattle.commit_writes.specs.Writing.{Writing, writing_next}
+use Rattle.commit_writes.proofs.Outcomes as written
+use Rattle.commit_writes.proofs.Outcomes.{IsUnderWay, Leaves, Comes as Wrote, comes as wrote_by}
 use Rattle.db_base.specs.Ids.{IsTree}
 use Rattle.db_base.specs.declared.names.ObjName.{ObjName}
 use Rattle.db_base.specs.declared.names.ObjName.TheVariants as object
@@ -39,7 +41,6 @@ use Rattle.head_codec.specs.declared.lists.Pending.{Pending}
 use Rattle.cloud_facts.specs.Homes.Homes.{Part}
 use Rattle.cloud_facts.specs.Landings.Holding.{Holds}
 use Rattle.leaf_view.specs.Leaf.{Leaf}
-use Rattle.log_codec.specs.declared.record.AtomicRec.{AtomicRec}
 use Rattle.node_codec.specs.Tree.{Tree}
 use Rattle.page_cache.specs.Cache.{Cache}
 use Rattle.page_cache.specs.Held.{leaf_at, root_at}
@@ -106,63 +107,29 @@ module _ (May : Trouble → Type 0) (txn : May (trouble.Exhausted counter.Txn)) 
   abbrev MayPass : List QueueCount → Type 0
   MayPass counters = IsNear counters → May (trouble.Exhausted counter.Number)
 
-  logs : (w : Writing) (o : Option AtomicRec) → WritesWell May (log_or_open w o)
-  logs w (Some r) = tt
-  logs w None = tt
+  memory_well : (stage : Stage) → IsUnderWay stage → MayAnswerAt May stage Memory → May trouble.Memory
+  memory_well Waiting under may = absurd under
+  memory_well Finished under may = absurd under
+  memory_well stage under may = may
 
-  logged : (w : Writing) (g : Result ℕ Trouble) → IsFair May g → WritesWell May (logged_by w g)
-  logged w (Ok id) may = logs (record w { ids = w.ids ++ id ∷ []; place = w.place + 1 }) (slice_get w.records (w.place + 1))
-  logged w (Err trouble.Memory) may = may
-  logged w (Err t) may = may
+  leaves_well : (w : Writing) (a : Answer) → MayAnswerAt May w.stage a → Leaves w a → May (trouble_of a)
+  leaves_well v a may (written.not_sent w y failed) = subst (IsFair May) failed.shows may
+  leaves_well v a may (written.not_settled w y failed) = subst (IsFair May) failed.shows may
 
-  sends : (w : Writing) (n : ℕ) → WritesWell May (send_at w n)
-  sends w n = on (slice_get w.records n)
-    where
-      on : (o : Option AtomicRec) → WritesWell May (send_or_settle (record w { place = n }) o)
-      on (Some r) = tt
-      on None = tt
-
-  not_open : (w : Writing) (t : Trouble) → MayDoubt May t → WritesWell May (not_opened w t)
-  not_open w (trouble.Late end now) may = may
-  not_open w trouble.Memory may = may
-  not_open w t may = may
-
-  opened : (w : Writing) (g : Result (Unit {0}) Trouble) → IsOpeningFair May g → WritesWell May (opened_by w g)
-  opened w (Ok x) may = sends w 0
-  opened w (Err t) may = not_open w t may
-
-  sent : (w : Writing) (g : Result ℕ Trouble) → IsFair May g → WritesWell May (sent_by w g)
-  sent w (Ok id) may = sends w (w.place + 1)
-  sent w (Err trouble.Memory) may = may
-  sent w (Err t) may = may
-
-  deletes : (w : Writing) (n : ℕ) → WritesWell May (delete_at w n)
-  deletes w n = on (slice_get w.ids n)
-    where
-      on : (o : Option ℕ) → WritesWell May (delete_or_end (record w { place = n }) o)
-      on (Some id) = tt
-      on None = tt
-
-  settled : (w : Writing) (g : Result (Unit {0}) Trouble) → IsFair May g → WritesWell May (settled_by w g)
-  settled w (Ok x) may = deletes w 0
-  settled w (Err trouble.Memory) may = may
-  settled w (Err t) may = may
-
-  deleted : (w : Writing) (g : Result (Unit {0}) Trouble) → May trouble.Memory → WritesWell May (deleted_by w g)
-  deleted w (Err trouble.Memory) may = may
-  deleted w done may = deletes w (w.place + 1)
-
-  writes : (w : Writing) (a : Answer) → MayAnswerAt May w.stage a → WritesWell May (writing_next w a)
-  writes w a may = on w.stage may
-    where
-      on : (stage : Stage) → MayAnswerAt May stage a → WritesWell May (writes_at stage w a)
-      on Waiting may = may
-      on Logging may = logged w (sent_of a) may
-      on Opening may = opened w (done_of a) may
-      on Sending may = sent w (sent_of a) may
-      on Settling may = settled w (done_of a) may
-      on Deleting may = deleted w (done_of a) may
-      on Finished may = may
+  writes : (w : Writing) (a : Answer) (x : Next Writing CommitAnswer) → MayAnswerAt May w.stage a → Wrote w a x → WritesWell May x
+  writes v a x may (written.goes_on w id next (written.logs r e)) = tt
+  writes v a x may (written.goes_on w id next (written.opens e)) = tt
+  writes v a x may (written.not_logged w y failed) = subst (IsFair May) failed.shows may
+  writes v a x may (written.late w end now) = may
+  writes v a x may (written.doubts w y failed) = subst (IsOpeningFair May) failed may
+  writes w a x may (written.sends n r posts e) = tt
+  writes w a x may (written.settles n posts e) = tt
+  writes w a x may (written.stays_open leaves) = leaves_well w a may leaves
+  writes w a x may (written.deletes n id clears e) = tt
+  writes w a x may (written.ends n clears e) = tt
+  writes w a x may (written.lacks v under) = memory_well v.stage under may
+  writes v a x may (written.waits w y) = may
+  writes v a x may (written.rests w y) = may
 
   -- ---- where a step leads
 
@@ -238,7 +205,7 @@ module _ (May : Trouble → Type 0) (txn : May (trouble.Exhausted counter.Txn)) 
 
         on : (hand : Hand) → KnowsHand hand (store_of book order s) t.now m.0.draft part → IsCall who (ask_at hand m.0.draft.writes) reply s t
             → MayAnswerIn May MayWalk (store_of book order s) hand m.0.draft m.1 reply → EndsWell May (next_at hand m.0.draft m.1 reply)
-        on Writes a call may = wrote_well m.0.draft m.1 (writing_next m.0.draft.writes reply) (writes m.0.draft.writes reply may)
+        on Writes a call may = wrote_well m.0.draft m.1 (writing_next m.0.draft.writes reply) (writes m.0.draft.writes reply (writing_next m.0.draft.writes reply) may (wrote_by m.0.draft.writes reply))
         on (First w) a call leads = walks true w a call leads
         on (Change w) a call leads = walks false w a call leads
 

@@ -1,10 +1,10 @@
 -- Which troubles a commit tells where its call found memory: not want of it, and an open head is one of the call's.
-use Rattle.std.proofs.Common.{ℕ, sym, subst, inl, inr, ◌≢◌, true, false, List, Result, Ok, Err, refl}
+use Rattle.std.proofs.Common.{sym, subst, inl, inr, ◌≢◌, true, false, List, refl}
 use Rattle.recover_run.specs.declared.home.Home.{Home}
 use Rattle.cloud_trait.specs.declared.answer.Answer.{Answer}
 use Rattle.cloud_trait.specs.declared.answer.Answer.TheVariants.{Got, Sent, Received, Listed, Done, Given, Held, Renewed, Late, Failed, Memory}
 use Rattle.cloud_trait.specs.Machine.{Next, Goes, Ends, Stops}
-use Rattle.cloud_trait.specs.Views.{trouble_of, sent_of, done_of}
+use Rattle.cloud_trait.specs.Views.{trouble_of}
 use Rattle.commit_run.specs.declared.hand.Hand.{Hand}
 use Rattle.commit_run.specs.declared.hand.Hand.TheVariants.{Writes, First, Change}
 use Rattle.commit_run.specs.Draft.{Draft}
@@ -12,8 +12,8 @@ use Rattle.commit_run.specs.Run.{Run, new_run, wrote, walked, run_ready, next_at
 use Rattle.commit_writes.specs.Writing.{Writing, writing_next}
 use Rattle.commit_run.proofs.Outcomes as step
 use Rattle.commit_run.proofs.Outcomes.{NextRun, Leads, BeginsWith, taken, turned_leads, ready_leads}
-use Rattle.commit_run.proofs.WriteOutcomes as written
-use Rattle.commit_run.proofs.WriteOutcomes.{Wrote, wrote_by}
+use Rattle.commit_writes.proofs.Outcomes as written
+use Rattle.commit_writes.proofs.Outcomes.{Leaves, Comes as Wrote, comes as wrote_by}
 use Rattle.db_base.specs.declared.trouble.CommitAnswer.{CommitAnswer}
 use Rattle.db_base.specs.declared.trouble.CommitAnswer.TheVariants.{NotCommitted, CommittedOpen}
 use Rattle.db_base.specs.declared.trouble.Trouble.{Trouble}
@@ -57,18 +57,6 @@ refusal (Late e n) found = (λ none. none, λ e. cc)
 refusal Failed found = (λ none. none, λ e. cc)
 refusal Memory found = absurd (found refl)
 
-abbrev Refuses : {X : Type 0} → Result X Trouble → Type 0
-Refuses (Ok x) = Unit {0}
-Refuses (Err t) = IsOfCall t
-
-sent_refuses : (a : Answer) → a ≢ Memory → Refuses (sent_of a)
-sent_refuses (Sent id) found = tt
-sent_refuses a found = refusal a found
-
-done_refuses : (a : Answer) → a ≢ Memory → Refuses (done_of a)
-done_refuses Done found = tt
-done_refuses a found = refusal a found
-
 -- ---- what is written
 
 abbrev TellsWriting : Next Writing CommitAnswer → Type 0
@@ -76,20 +64,24 @@ TellsWriting (Goes w) = Unit {0}
 TellsWriting (Ends w a) = IsTold a
 TellsWriting (Stops w t) = Unit {0}
 
-writes_tell : (w : Writing) (a : Answer) (x : Next Writing CommitAnswer) → a ≢ Memory → Wrote w a x → TellsWriting x
-writes_tell w a x found (written.logs id r at) = tt
-writes_tell w a x found (written.opens id at) = tt
-writes_tell w a x found (written.not_logged t at e other) = other
-writes_tell w a x found (written.late end now at e) = λ memory. cc
-writes_tell w a x found (written.doubts t at e other) = tt
-writes_tell w a x found (written.sends n r at) = tt
-writes_tell w a x found (written.settles n at) = tt
-writes_tell w a x found (written.stays_open t (inl (at, e)) other) = (subst (λ (g : Result ℕ Trouble). Refuses g) e (sent_refuses a found)).0
-writes_tell w a x found (written.stays_open t (inr (at, e)) other) = (subst (λ (g : Result (Unit {0}) Trouble). Refuses g) e (done_refuses a found)).0
-writes_tell w a x found (written.deletes n id at) = tt
-writes_tell w a x found (written.ends n at) = tt
-writes_tell w a x found written.lacks = tt
-writes_tell w a x found (written.idles at) = tt
+leaves_tell : {w : Writing} {a : Answer} → Leaves w a → a ≢ Memory
+leaves_tell (written.not_sent w a failed) = failed.found
+leaves_tell (written.not_settled w a failed) = failed.found
+
+writes_tell : (w : Writing) (a : Answer) (x : Next Writing CommitAnswer) → Wrote w a x → TellsWriting x
+writes_tell v a x (written.goes_on w id next (written.logs r e)) = tt
+writes_tell v a x (written.goes_on w id next (written.opens e)) = tt
+writes_tell v a x (written.not_logged w y failed) = (refusal a failed.found).1
+writes_tell v a x (written.late w end now) = λ memory. cc
+writes_tell v a x (written.doubts w y failed) = tt
+writes_tell w a x (written.sends n r posts e) = tt
+writes_tell w a x (written.settles n posts e) = tt
+writes_tell w a x (written.stays_open leaves) = (refusal a (leaves_tell leaves)).0
+writes_tell w a x (written.deletes n id clears e) = tt
+writes_tell w a x (written.ends n clears e) = tt
+writes_tell w a x (written.lacks v under) = tt
+writes_tell v a x (written.waits w y) = tt
+writes_tell v a x (written.rests w y) = tt
 
 -- ---- where a step leads
 
@@ -114,7 +106,7 @@ pub run_tells : (m : Run × Cache) (reply : Answer) → reply ≢ Memory → End
 run_tells m reply found = on m.0.hand
   where
     on : (hand : Hand) → EndsTold (next_at hand m.0.draft m.1 reply)
-    on Writes = wrote_told m.0.draft m.1 (writing_next m.0.draft.writes reply) (writes_tell m.0.draft.writes reply (writing_next m.0.draft.writes reply) found (wrote_by m.0.draft.writes reply))
+    on Writes = wrote_told m.0.draft m.1 (writing_next m.0.draft.writes reply) (writes_tell m.0.draft.writes reply (writing_next m.0.draft.writes reply) (wrote_by m.0.draft.writes reply))
     on (First w) = leads_told m.0.draft.writes (walked true m.0.draft w m.1 reply) (turned_leads m.0.draft true (walk_next (w, m.1) reply))
     on (Change w) = leads_told m.0.draft.writes (walked false m.0.draft w m.1 reply) (turned_leads m.0.draft false (walk_next (w, m.1) reply))
 

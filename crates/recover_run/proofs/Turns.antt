@@ -70,22 +70,22 @@ reads_works : {r : Recovery} {a : Answer} {h : Head} → Reads r a h → Works r
 reads_works (step.absent r e) = record { at_work = tt; client = refl; aim = refl; former = refl; lease = refl; ending = refl; settled = λ s. refl }
 reads_works reads = record { at_work = tt; client = refl; aim = refl; former = refl; lease = refl; ending = refl; settled = λ s. refl }
 
-loses_works : {r q : Recovery} {a : Answer} {ids : List ℕ} → Loses r a q ids → Works r q
+pub loses_works : {r q : Recovery} {a : Answer} {ids : List ℕ} → Loses r a q ids → Works r q
 loses_works (step.one_gone r) = record { at_work = tt; client = refl; aim = refl; former = refl; lease = refl; ending = refl; settled = λ s. s }
 loses_works loses = record { at_work = tt; client = refl; aim = refl; former = refl; lease = refl; ending = refl; settled = λ s. s }
 
-readies_works : {r q : Recovery} {a : Answer} {place : ℕ} → Readies r a q place → Works r q
+pub readies_works : {r q : Recovery} {a : Answer} {place : ℕ} → Readies r a q place → Works r q
 readies_works (step.whole d loses e) = loses_works loses
 readies_works (step.one_sent r id) = passed (slice_get r.gathered.kept r.sent) where
   passed : (o : Option AtomicItem) → Works (at r Sending) (with_pending (at r Sending) o)
   passed (Some x) = record { at_work = tt; client = refl; aim = refl; former = refl; lease = refl; ending = refl; settled = λ s. s }
   passed None = record { at_work = tt; client = refl; aim = refl; former = refl; lease = refl; ending = refl; settled = λ s. s }
 
-clears_works : {r q : Recovery} {a : Answer} {ids : List ℕ} → Clears r a q ids → Works r q
+pub clears_works : {r q : Recovery} {a : Answer} {ids : List ℕ} → Clears r a q ids → Works r q
 clears_works (step.head_put r) = record { at_work = tt; client = refl; aim = refl; former = refl; lease = refl; ending = refl; settled = λ s. s }
 clears_works c = record { at_work = tt; client = refl; aim = refl; former = refl; lease = refl; ending = refl; settled = λ s. s }
 
-fails_works : {r q : Recovery} {a : Answer} {t : Trouble} → Fails r a q t → Works r q
+pub fails_works : {r q : Recovery} {a : Answer} {t : Trouble} → Fails r a q t → Works r q
 fails_works (step.waits d loses other stale) = loses_works loses
 fails_works f = record { at_work = tt; client = refl; aim = refl; former = refl; lease = refl; ending = refl; settled = λ s. s }
 

@@ -1,5 +1,5 @@
 -- How many calls a recovery makes at most, by the ids that they received.
-use Rattle.std.proofs.Common.{◌≡◌, ◌<◌, ◌≤◌, ◌+◌, ◌-◌, ◌*◌, ◌^◌, ℕ, List, [], ◌∷◌, ◌++◌, length, length-append, Bool, true, false, cond, Option, Some, None, Result, Ok, Err, refl, ap, sym, subst, ◌∙◌, arith}
+use Rattle.std.proofs.Common.{◌≡◌, ◌<◌, ◌≤◌, ◌+◌, ◌*◌, ℕ, List, [], ◌∷◌, ◌++◌, length, length-append, Bool, true, false, cond, Option, Some, None, Ok, refl, ap, sym, subst, ◌∙◌, arith}
 use Rattle.std.specs.Prelude.{◌==◌, ◌||◌, nat_eq, filter, slice_get}
 use Rattle.std.specs.List.{AllByRecursion, IsDistinct}
 use Rattle.std.specs.Set.{is_member}
@@ -8,39 +8,31 @@ use Rattle.std.proofs.lemmas.Cmp.{nat_eq_equiv}
 use Rattle.std.proofs.lemmas.List.{append-nil, append_assoc}
 use Rattle.std.proofs.lemmas.List.Folds.{list_any-append}
 use Rattle.std.proofs.lemmas.Map.Made.{length-le_from_is_member}
-use Rattle.db_base.specs.declared.names.Lock.TheVariants as lock
 use Rattle.db_base.specs.declared.names.ObjName.TheVariants as object
 use Rattle.db_base.specs.declared.trouble.Trouble.{Trouble}
-use Rattle.db_base.specs.declared.trouble.Trouble.TheVariants as trouble
-use Rattle.db_base.specs.declared.trouble.Counter.TheVariants as counter
 use Rattle.head_codec.specs.declared.head.Head.{Head}
-use Rattle.head_codec.specs.declared.head.Phase.{Phase}
-use Rattle.head_codec.specs.declared.head.Phase.TheVariants.{Settled, Open}
-use Rattle.head_codec.specs.Head.{empty_head}
-use Rattle.head_codec.specs.Spelling.{head_of}
 use Rattle.cloud_trait.specs.declared.answer.Answer.{Answer}
 use Rattle.cloud_trait.specs.declared.answer.Answer.TheVariants as call
 use Rattle.cloud_trait.specs.declared.message.Message.{Message}
 use Rattle.cloud_trait.specs.Ask.{Ask, GetHeld, PutHeld, Release}
 use Rattle.cloud_trait.specs.Claim.{Claim}
 use Rattle.cloud_trait.specs.Machine.{Goes, Ends, Stops, Deed, calls_of}
-use Rattle.cloud_trait.specs.Views.{given_of, got_of, sent_of, received_of, done_of}
 use Rattle.recover_run.specs.declared.items.AtomicItem.{AtomicItem}
 use Rattle.recover_run.specs.declared.stage.Aim.{Aim}
-use Rattle.recover_run.specs.declared.stage.Aim.TheVariants.{Opening, Settling}
 use Rattle.recover_run.specs.declared.stage.Stage.{Stage}
 use Rattle.recover_run.specs.declared.stage.Stage.TheVariants.{ReleasingOld, Taking, Getting, Receiving, Deleting, Sending, Putting, Clearing, Sweeping, Releasing, Finished}
-use Rattle.recover_run.specs.declared.stage.RecoverAnswer.{RecoverAnswer}
 use Rattle.recover_run.specs.declared.wanted.Wanted.{Wanted}
 use Rattle.recover_run.specs.End.{calls_left, left_at, KnowsAtMost}
 use Rattle.recover_run.specs.Calls.{Calls, IsStart}
 use Rattle.recover_run.specs.Causes.{ids_in, known_ids}
-use Rattle.recover_run.specs.Gathering.{Gathered, gathered_with, kept_with, is_counted, is_lost, is_past, lost_now, lost_ids, past_ids, wanted_of, count_of}
-use Rattle.recover_run.specs.Ids.{has_id, new_ids, rest_of}
+use Rattle.recover_run.specs.Gathering.{Gathered, kept_with, is_counted, is_lost, is_past, lost_ids, past_ids, count_of}
+use Rattle.recover_run.specs.Ids.{has_id, new_ids}
 use Rattle.recover_run.specs.Items.{items_of, ids_of}
 use Rattle.recover_run.specs.Kept.{with_item}
 use Rattle.log_codec.specs.declared.record.AtomicRec.{AtomicRec}
-use Rattle.recover_run.specs.Recovery.{Recovery, Step, new_recovery, recovery_ask, ask_at, next_at, under, delete_next, send_next, taken_by, got_by, none_read, bytes_read, head_read, phase_read, behind, stopping, received_by, gathered_by, deleting, decided, deleted_by, send_at, send_or_put, sent_by, with_pending, put_by, kept_ids, clearing, swept_by, swept_with, sweeping, opened, ended}
+use Rattle.recover_run.specs.Recovery.{Recovery, Step, new_recovery, recovery_ask, ask_at, under, delete_next, send_next, behind, with_pending}
+use Rattle.recover_run.proofs.Outcomes as step
+use Rattle.recover_run.proofs.Outcomes.{at, swept, Reads, Loses, Readies, Clears, Fails, Comes, comes}
 use Rattle.recover_run.specs.Leases.{Went}
 use Rattle.recover_run.specs.Within.{counted, counted_after, count_in, AreFew}
 use Rattle.recover_run.proofs.End.{ReadyAt, less_ready}
@@ -236,60 +228,7 @@ reached_more set more n g swept w k = record {
   count = k.count;
 }
 
--- ---- each step
-
-reach_taken : (r : Recovery) (cs : Calls) (g : Result Claim Trouble) → Reaches cs r → NextReaches cs (taken_by r g)
-reach_taken r cs (Ok l) k = k
-reach_taken r cs (Err t) k = tt
-
--- a head that counts so many records
-abbrev Wants : Calls → Recovery → Head → Type 0
-Wants cs r h = Reached (known_ids cs) (counted cs) r.gathered r.swept (wanted_of h)
-
-reach_phase : (r : Recovery) (cs : Calls) (h : Head) (p : Phase) → Wants cs r h → NextReaches cs (phase_read p (behind r h))
-reach_phase r cs h Settled k = k
-reach_phase r cs h (Open count) k = k
-
-reach_head : (r : Recovery) (cs : Calls) (h : Head) → Reaches cs r → Wants cs r h → NextReaches cs (head_read r h)
-reach_head r cs h k wants = on (h.epoch == 2 ^ 64 - 1) where
-  on : (b : Bool) → NextReaches cs (cond b (stopping r (trouble.Exhausted counter.Epoch)) (phase_read h.phase (behind r h)))
-  on true = k
-  on false = reach_phase r cs h h.phase wants
-
-wants_of : (r : Recovery) (cs : Calls) (h : Head) → Reaches cs r → count_of h.phase ≤ counted cs → Wants cs r h
-wants_of r cs h k few = record { seen = k.seen; lost = k.lost; kept = k.kept; swept_are = k.swept_are; count = few }
-
-reach_none : (r : Recovery) (cs : Calls) (aim : Aim) → Reaches cs r → NextReaches cs (none_read aim r)
-reach_none r cs Opening k = reach_head r cs empty_head k (wants_of r cs empty_head k (omega arith))
-reach_none r cs Settling k = k
-
-reach_bytes : (r : Recovery) (cs : Calls) (bytes : List ℕ) (o : Option Head) → count_in o ≤ counted cs → Reaches cs r → NextReaches cs (bytes_read r bytes o)
-reach_bytes r cs bytes (Some h) few k = reach_head r cs h k (wants_of r cs h k few)
-reach_bytes r cs bytes None few k = k
-
--- after the held get
-reach_got : (r : Recovery) (cs : Calls) (l : Claim) (a : Answer) → Reaches ((GetHeld (object.Head r.client) l, a) ∷ cs) r
-    → NextReaches ((GetHeld (object.Head r.client) l, a) ∷ cs) (got_by r (got_of a))
-reach_got r cs l (call.Got None) k = reach_none r ((GetHeld (object.Head r.client) l, call.Got None) ∷ cs) r.aim k
-reach_got r cs l (call.Got (Some bytes)) k =
-    reach_bytes r ((GetHeld (object.Head r.client) l, call.Got (Some bytes)) ∷ cs) bytes (head_of bytes) (omega arith) k
-reach_got r cs l a k = k
-
-reach_send : (r : Recovery) (cs : Calls) (o : Option AtomicItem) → Reaches cs r → NextReaches cs (send_or_put r o)
-reach_send r cs (Some x) k = k
-reach_send r cs None k = k
-
-reach_decided : (r : Recovery) (cs : Calls) → Reaches cs r → NextReaches cs (decided r)
-reach_decided r cs k = on (length r.gathered.kept == r.wanted.count) r.gathered.fresh where
-  on : (whole fresh : Bool)
-      → NextReaches cs (cond whole (send_at r 0) (cond fresh (Goes (record r { stage = Receiving })) (stopping r (trouble.Waiting (length r.gathered.kept) r.wanted.count))))
-  on true fresh = reach_send (record r { sent = 0 }) cs (slice_get r.gathered.kept 0) k
-  on false true = k
-  on false false = k
-
-reach_deleting : (r : Recovery) (cs : Calls) (ids : List ℕ) → Reaches cs r → NextReaches cs (deleting r ids)
-reach_deleting r cs [] k = reach_decided (record r { ids = [] }) cs k
-reach_deleting r cs (id ∷ ids) k = k
+-- ---- local work
 
 -- the items of a receive are of what its call received
 items_hold : (cs : Calls) (q : Ask) (ms : List Message) (items : List AtomicItem) → items_of ms ≡ Ok items → HasIds (known_ids ((q, call.Received ms) ∷ cs)) items
@@ -297,91 +236,62 @@ items_hold cs q ms items e =
     ids_hold (known_ids ((q, call.Received ms) ∷ cs)) items
     (subst (Within (known_ids ((q, call.Received ms) ∷ cs))) (sym (items_ids ms items e)) (within_new (known_ids cs) (ids_in (call.Received ms))))
 
-reach_gathered : (r : Recovery) (cs : Calls) (q : Ask) (ms : List Message) (o : Result (List AtomicItem) Message) → items_of ms ≡ o
-    → Reached (known_ids ((q, call.Received ms) ∷ cs)) (counted ((q, call.Received ms) ∷ cs)) r.gathered r.swept r.wanted → r.gathered.seen ≡ known_ids cs
-    → NextReaches ((q, call.Received ms) ∷ cs) (gathered_by r o)
-reach_gathered r cs q ms (Err m) e k seen = k
-reach_gathered r cs q ms (Ok items) e k seen =
-    let set : List ℕ = known_ids ((q, call.Received ms) ∷ cs) in
-    let held : HasIds set items = items_hold cs q ms items e in
-    reach_deleting (record r { gathered = gathered_with r.wanted r.gathered items }) ((q, call.Received ms) ∷ cs) (lost_now r.wanted r.gathered items)
-    (record {
-      seen = omega (arith, ap (λ (l : List ℕ). length l) (received_seen r.gathered.seen cs q ms items e seen));
-      lost = part_new set r.gathered.lost (lost_ids r.wanted items) k.lost (some_within set (is_lost r.wanted) items held);
-      kept = kept_holds set r.wanted r.gathered.kept items k.kept held;
-      swept_are = k.swept_are;
-      count = k.count;
-    })
-
-reach_received : (r : Recovery) (cs : Calls) (q : Ask) (a : Answer) → Reaches ((q, a) ∷ cs) r → r.gathered.seen ≡ known_ids cs
-    → NextReaches ((q, a) ∷ cs) (received_by r (received_of a))
-reach_received r cs q (call.Received ms) k seen = reach_gathered r cs q ms (items_of ms) refl k seen
-reach_received r cs q a k seen = k
-
-reach_deleted : (r : Recovery) (cs : Calls) (g : Result (Unit {0}) Trouble) → Reaches cs r → NextReaches cs (deleted_by r g)
-reach_deleted r cs (Ok done) k = reach_deleting r cs (rest_of r.ids) k
-reach_deleted r cs (Err t) k = k
-
-reach_sent_on : (r : Recovery) (cs : Calls) (o : Option AtomicItem) → Reaches cs r → NextReaches cs (send_at (with_pending r o) (r.sent + 1))
-reach_sent_on r cs (Some x) k = reach_send (record (with_pending r (Some x)) { sent = r.sent + 1 }) cs (slice_get r.gathered.kept (r.sent + 1)) k
-reach_sent_on r cs None k = reach_send (record r { sent = r.sent + 1 }) cs (slice_get r.gathered.kept (r.sent + 1)) k
-
-reach_sent : (r : Recovery) (cs : Calls) (g : Result ℕ Trouble) → Reaches cs r → NextReaches cs (sent_by r g)
-reach_sent r cs (Ok id) k = reach_sent_on r cs (slice_get r.gathered.kept r.sent) k
-reach_sent r cs (Err t) k = k
-
-reach_clearing : (r : Recovery) (cs : Calls) (ids : List ℕ) → Reaches cs r → NextReaches cs (clearing r ids)
-reach_clearing r cs [] k = k
-reach_clearing r cs (id ∷ ids) k = k
-
 none_part : (set : List ℕ) → IsPart set []
 unfolding IsDistinct
 none_part set = record { apart = tt; within = tt }
 
-reach_put : (r : Recovery) (cs : Calls) (g : Result (Unit {0}) Trouble) → Reaches cs r → NextReaches cs (put_by r g)
-reach_put r cs (Ok done) k =
-    reach_clearing (record r { swept = kept_ids r }) cs (kept_ids r)
-    (record {
+loses_reach : {r : Recovery} {a : Answer} (cs : Calls) (q : Recovery) (ids : List ℕ) → HeardAt r.stage cs r → Reaches ((recovery_ask r, a) ∷ cs) r → Loses r a q ids
+    → Reaches ((recovery_ask r, a) ∷ cs) q
+loses_reach cs q ids heard k (step.received r ms items e) =
+    let ask : Ask = recovery_ask (at r Receiving) in
+    let set : List ℕ = known_ids ((ask, call.Received ms) ∷ cs) in
+    let held : HasIds set items = items_hold cs ask ms items e in
+    record {
+      seen = omega (arith, ap (λ (l : List ℕ). length l) (received_seen r.gathered.seen cs ask ms items e heard.seen));
+      lost = part_new set r.gathered.lost (lost_ids r.wanted items) k.lost (some_within set (is_lost r.wanted) items held);
+      kept = kept_holds set r.wanted r.gathered.kept items k.kept held;
+      swept_are = k.swept_are;
+      count = k.count;
+    }
+loses_reach cs q ids heard k (step.one_gone r) = k
+
+readies_reach : {r : Recovery} {a : Answer} (cs : Calls) (q : Recovery) (place : ℕ) → HeardAt r.stage cs r → Reaches ((recovery_ask r, a) ∷ cs) r → Readies r a q place
+    → Reaches ((recovery_ask r, a) ∷ cs) q
+readies_reach cs q place heard k (step.whole d loses same) = loses_reach cs d [] heard k loses
+readies_reach cs q place heard k (step.one_sent r id) = passed (slice_get r.gathered.kept r.sent) where
+  passed : (o : Option AtomicItem) → Reaches ((recovery_ask (at r Sending), call.Sent id) ∷ cs) (with_pending (at r Sending) o)
+  passed (Some x) = k
+  passed None = k
+
+clears_reach : {r : Recovery} {a : Answer} (cs : Calls) (q : Recovery) (ids : List ℕ) → Reaches ((recovery_ask r, a) ∷ cs) r → Clears r a q ids → Reaches ((recovery_ask r, a) ∷ cs) q
+clears_reach cs q ids k (step.head_put r) =
+    let set : List ℕ = known_ids ((recovery_ask (at r Putting), call.Done) ∷ cs) in
+    record {
       seen = k.seen;
       lost = k.lost;
       kept = k.kept;
-      swept_are = part_new (known_ids cs) [] (ids_of r.gathered.kept) (none_part (known_ids cs)) (holds_ids (known_ids cs) r.gathered.kept k.kept);
+      swept_are = part_new set [] (ids_of r.gathered.kept) (none_part set) (holds_ids set r.gathered.kept k.kept);
       count = k.count;
-    })
-reach_put r cs (Err t) k = k
+    }
+clears_reach cs q ids k (step.one_tried r a) = k
 
-reach_opened : (r : Recovery) (cs : Calls) (aim : Aim) → Reaches cs r → NextReaches cs (opened aim r)
-reach_opened r cs Opening k = tt
-reach_opened r cs Settling k = k
+fails_reach : {r : Recovery} {a : Answer} (cs : Calls) (q : Recovery) (t : Trouble) → HeardAt r.stage cs r → Reaches ((recovery_ask r, a) ∷ cs) r → Fails r a q t
+    → Reaches ((recovery_ask r, a) ∷ cs) q
+fails_reach cs q t heard k (step.waits d loses other stale) = loses_reach cs d [] heard k loses
+fails_reach cs q t heard k f = k
 
-reach_sweeping : (r : Recovery) (cs : Calls) (ids : List ℕ)
-    → Reached (known_ids cs) (counted cs) r.gathered (r.swept ++ ids) r.wanted → NextReaches cs (sweeping r ids)
-reach_sweeping r cs [] k = reach_opened (record r { swept = r.swept ++ []; ids = [] }) cs r.aim k
-reach_sweeping r cs (id ∷ ids) k = k
-
-reach_swept_with : (r : Recovery) (cs : Calls) (q : Ask) (ms : List Message) (o : Result (List AtomicItem) Message) → items_of ms ≡ o
-    → Reached (known_ids ((q, call.Received ms) ∷ cs)) (counted ((q, call.Received ms) ∷ cs)) r.gathered r.swept r.wanted
-    → NextReaches ((q, call.Received ms) ∷ cs) (swept_with r o)
-reach_swept_with r cs q ms (Err m) e k = k
-reach_swept_with r cs q ms (Ok items) e k =
-    let set : List ℕ = known_ids ((q, call.Received ms) ∷ cs) in
-    reach_sweeping r ((q, call.Received ms) ∷ cs) (new_ids r.swept (past_ids r.wanted items))
-    (record {
+-- with the ids of past epochs that a receive behind the put brought
+sweeps_reach : (cs : Calls) (r : Recovery) (ms : List Message) (items : List AtomicItem) (ids : List ℕ) → items_of ms ≡ Ok items → swept r items ≡ ids
+    → (let all : Calls = (recovery_ask (at r Sweeping), call.Received ms) ∷ cs in Reaches all r → Reached (known_ids all) (counted all) r.gathered (r.swept ++ ids) r.wanted)
+sweeps_reach cs r ms items ids e are k =
+    let all : Calls = (recovery_ask (at r Sweeping), call.Received ms) ∷ cs in
+    subst (λ (l : List ℕ). Reached (known_ids all) (counted all) r.gathered (r.swept ++ l) r.wanted) are (record {
       seen = k.seen;
       lost = k.lost;
       kept = k.kept;
-      swept_are = part_new set r.swept (past_ids r.wanted items) k.swept_are (some_within set (is_past r.wanted) items (items_hold cs q ms items e));
+      swept_are = part_new (known_ids all) r.swept (past_ids r.wanted items) k.swept_are (some_within (known_ids all) (is_past r.wanted) items (items_hold cs (recovery_ask (at r Sweeping)) ms items e));
       count = k.count;
     })
-
-reach_swept : (r : Recovery) (cs : Calls) (q : Ask) (a : Answer) → Reaches ((q, a) ∷ cs) r → NextReaches ((q, a) ∷ cs) (swept_by r (received_of a))
-reach_swept r cs q (call.Received ms) k = reach_swept_with r cs q ms (items_of ms) refl k
-reach_swept r cs q a k = k
-
-reach_ended : (r : Recovery) (cs : Calls) (o : Option (Result RecoverAnswer Trouble)) → NextReaches cs (ended r o)
-reach_ended r cs (Some (Ok x)) = tt
-reach_ended r cs (Some (Err t)) = tt
-reach_ended r cs None = tt
 
 -- ---- calls that count nothing
 
@@ -434,23 +344,43 @@ reached_grows cs q a r few k =
     reached_more (known_ids cs) (new_ids (known_ids cs) (ids_in a)) (counted cs) r.gathered r.swept r.wanted k in
     record { seen = more.seen; lost = more.lost; kept = more.kept; swept_are = more.swept_are; count = omega (arith, more.count, few) }
 
-reach_at : (st : Stage) (client : ℕ) (aim : Aim) (old : Option Claim) (h : List Deed) (r : Recovery) (a : Answer) → StandsAt st client aim old h r → HeardAt st (calls_of h) r
-    → Reaches ((ask_at st r, a) ∷ calls_of h) r → NextReaches ((ask_at st r, a) ∷ calls_of h) (next_at st r a)
-reach_at ReleasingOld client aim old h r a st seen k = k
-reach_at Taking client aim old h r a st seen k = reach_taken r ((ask_at Taking r, a) ∷ calls_of h) (given_of (lock.Client r.client) a) k
-reach_at Getting client aim old h r a st seen k =
+-- ---- a step
+
+-- the head that was read counts as many records as its calls say
+reads_count : {r : Recovery} {a : Answer} (client : ℕ) (aim : Aim) (old : Option Claim) (h : List Deed) (head : Head) → StandsAt r.stage client aim old h r → Reads r a head
+    → count_of head.phase ≤ counted ((recovery_ask r, a) ∷ calls_of h)
+reads_count client aim old h head st (step.absent r opening) = omega arith
+reads_count client aim old h head st (step.spelled r bytes read e other) =
     let asks : ask_at Getting r ≡ GetHeld (object.Head r.client) st.0.lease = ap (λ (o : Option Claim). under r o (λ l. GetHeld (object.Head r.client) l)) st.0.lease_is in
-    subst (λ (q : Ask). NextReaches ((q, a) ∷ calls_of h) (got_by r (got_of a))) (sym asks)
-    (reach_got r (calls_of h) st.0.lease a (subst (λ (q : Ask). Reaches ((q, a) ∷ calls_of h) r) asks k))
-reach_at Receiving client aim old h r a st seen k = reach_received r (calls_of h) (ask_at Receiving r) a k seen.seen
-reach_at Deleting client aim old h r a st seen k = reach_deleted r ((ask_at Deleting r, a) ∷ calls_of h) (done_of a) k
-reach_at Sending client aim old h r a st seen k = reach_sent r ((ask_at Sending r, a) ∷ calls_of h) (sent_of a) k
-reach_at Putting client aim old h r a st seen k = reach_put r ((ask_at Putting r, a) ∷ calls_of h) (done_of a) k
-reach_at Clearing client aim old h r a st seen k = reach_clearing r ((ask_at Clearing r, a) ∷ calls_of h) (rest_of r.ids) k
-reach_at Sweeping client aim old h r a st seen k = reach_swept r (calls_of h) (ask_at Sweeping r) a k
-reach_at Releasing client aim old h r a st seen k =
-    reach_ended (record r { stage = Finished; lease = None; ending = None }) ((ask_at Releasing r, a) ∷ calls_of h) r.ending
-reach_at Finished client aim old h r a st seen k = absurd st
+    subst (λ (q : Ask). count_of head.phase ≤ counted ((q, call.Got (Some bytes)) ∷ calls_of h)) (sym asks) (omega (arith, ap count_in e))
+
+reads_reach : {r : Recovery} {a : Answer} (client : ℕ) (aim : Aim) (old : Option Claim) (h : List Deed) (head : Head) → StandsAt r.stage client aim old h r
+    → Reaches ((recovery_ask r, a) ∷ calls_of h) r → Reads r a head → Reaches ((recovery_ask r, a) ∷ calls_of h) (behind r head)
+reads_reach client aim old h head st k reads =
+    record { seen = k.seen; lost = k.lost; kept = k.kept; swept_are = k.swept_are; count = reads_count client aim old h head st reads }
+
+comes_reach : {r : Recovery} {a : Answer} {next : Step} (client : ℕ) (aim : Aim) (old : Option Claim) (h : List Deed) → StandsAt r.stage client aim old h r → HeardAt r.stage (calls_of h) r
+    → Reaches ((recovery_ask r, a) ∷ calls_of h) r → Comes r a next → NextReaches ((recovery_ask r, a) ∷ calls_of h) next
+comes_reach client aim old h st heard k (step.gives_old r a) = k
+comes_reach client aim old h st heard k (step.takes r l) = k
+comes_reach client aim old h st heard k (step.refused r a t e) = tt
+comes_reach client aim old h st heard k (step.stops q t f) = fails_reach (calls_of h) q t heard k f
+comes_reach client aim old h st heard k (step.finds_none r e) = k
+comes_reach client aim old h st heard k (step.reads_settled head reads e) = reads_reach client aim old h head st k reads
+comes_reach client aim old h st heard k (step.reads_open head count reads e) = reads_reach client aim old h head st k reads
+comes_reach client aim old h st heard k (step.deletes q id ids loses) = loses_reach (calls_of h) q (id ∷ ids) heard k loses
+comes_reach client aim old h st heard k (step.receives q loses other new) = loses_reach (calls_of h) q [] heard k loses
+comes_reach client aim old h st heard k (step.sends q place x ready e) = readies_reach (calls_of h) q place heard k ready
+comes_reach client aim old h st heard k (step.puts q place ready e) = readies_reach (calls_of h) q place heard k ready
+comes_reach client aim old h st heard k (step.clears q id ids c) = clears_reach (calls_of h) q (id ∷ ids) k c
+comes_reach client aim old h st heard k (step.sweeps q c) = clears_reach (calls_of h) q [] k c
+comes_reach client aim old h st heard k (step.clears_past r ms items id ids e are) = sweeps_reach (calls_of h) r ms items (id ∷ ids) e are k
+comes_reach client aim old h st heard k (step.opens r ms items e none is) = tt
+comes_reach client aim old h st heard k (step.closes r ms items e none is) = sweeps_reach (calls_of h) r ms items [] e none k
+comes_reach client aim old h st heard k (step.ends r a answer e) = tt
+comes_reach client aim old h st heard k (step.stopped r a t e) = tt
+comes_reach client aim old h st heard k (step.astray r a e) = tt
+comes_reach client aim old h st heard k (step.nothing r a) = tt
 
 start_reaches : (client : ℕ) (aim : Aim) (old : Option Claim) → Reaches [] (new_recovery client aim old)
 start_reaches client aim old = record { seen = omega arith; lost = none_part []; kept = tt; swept_are = none_part []; count = omega arith }
@@ -464,7 +394,7 @@ went_reaches client aim old (d ∷ h) r (from, came, asks, made, leads, follows)
     (counted_grows from.stage old (calls_of h) from d.answer (came_known client aim old h from came).at) before in
     subst (λ (q : Ask). Reaches ((q, d.answer) ∷ calls_of h) r) (sym asks)
     (subst (NextReaches ((recovery_ask from, d.answer) ∷ calls_of h)) leads
-    (reach_at from.stage client aim old h from d.answer (went_stands client aim old h from came) (went_heard client aim old h from came) grown))
+    (comes_reach client aim old h (went_stands client aim old h from came) (went_heard client aim old h from came) grown (comes from d.answer)))
 
 -- ---- the bound
 

@@ -1,5 +1,5 @@
 -- The troubles that the local work of a checkpoint meets: that of the answer in hand, or one of what was read or planned, which no call shows.
-use Rattle.std.proofs.Common.{◌≡◌, ℕ, Bool, true, false, cond, List, Option, Some, None, Result, Ok, Err, refl, sym, ap, subst, ◌∙◌}
+use Rattle.std.proofs.Common.{◌≡◌, ℕ, true, false, List, Option, Some, None, Result, Ok, Err, refl, sym, ap, subst, ◌∙◌}
 use Rattle.std.specs.Prelude.{is_some}
 use Rattle.byte_format.specs.Whole.{offset}
 use Rattle.cloud_trait.specs.declared.answer.Answer.{Answer}
@@ -10,14 +10,14 @@ use Rattle.db_base.specs.declared.trouble.Trouble.TheVariants as trouble
 use Rattle.tree_phases.specs.declared.folding.Folding.{Folding}
 use Rattle.tree_phases.specs.declared.folding.Left.{Left}
 use Rattle.tree_phases.specs.declared.plan.LeafPlan.{LeafPlan}
-use Rattle.tree_phases.specs.Folding.{bad_low, leaf_got, leaf_put, folding_next}
+use Rattle.tree_phases.specs.Folding.{bad_low, folding_next}
 use Rattle.leaf_view.specs.Leaf.{Leaf, leaf as leaf_format}
 use Rattle.node_codec.specs.Inner.{Inner, inner_of, inner_format}
 use Rattle.session_facts.proofs.Sessions.Shows.{IsFree}
 use Rattle.tree_ckpt.proofs.Spent.{IsSpentFor, PlanTells, leaf_plan_tells, node_plan_tells, last_plan_tells}
 use Rattle.tree_ckpt.specs.Due.{Due, LeafDue, NodeDue, RootDue}
 use Rattle.tree_ckpt.specs.Working.{HoldsLeaf}
-use Rattle.tree_ckpt.proofs.LeafOutcomes.{reads, put_lands}
+use Rattle.tree_ckpt.proofs.LeafOutcomes.{works}
 use Rattle.tree_ckpt.proofs.LeafOutcomes as leaf
 use Rattle.tree_ckpt.proofs.RiseOutcomes as rise
 use Rattle.tree_ckpt.proofs.WayOutcomes.{Arrives, arrives, Gets, gets}
@@ -113,11 +113,11 @@ module _ (Met : Trouble → Type 0) (free : (t : Trouble) → IsFree t → Met t
   pub folding_for : (f : Folding) (a : Answer) → (has_nothing f.placing ≡ true → (t : Trouble) → got_of a ≡ Err t → Met t)
       → (has_nothing f.placing ≡ false → (t : Trouble) → done_of a ≡ Err t → Met t)
       → (has_nothing f.placing ≡ true → (got : Option (List ℕ)) → got_of a ≡ Ok got → SpendsLeaf f got) → StopsFor Met (folding_next f a)
-  folding_for f a unread unput spent = on (has_nothing f.placing) refl
+  folding_for f a unread unput spent = on (works f a)
     where
-      on : (b : Bool) → has_nothing f.placing ≡ b → StopsFor Met (cond b (leaf_got f (got_of a)) (leaf_put f (done_of a)))
-      on true e = reads_for f (unread e) (spent e) (reads f (got_of a))
-      on false e = placed_for f (unput e) (put_lands f (done_of a))
+      on : {next : Next Folding Left} → leaf.Works f a next → StopsFor Met next
+      on (leaf.gets e r) = reads_for f (unread e) (spent e) r
+      on (leaf.puts e l) = placed_for f (unput e) l
 
   -- ---- up
 

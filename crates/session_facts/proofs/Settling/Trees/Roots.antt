@@ -1,5 +1,5 @@
 -- The tree object that a tree checkpoint has in hand, from step to step.
-use Rattle.std.proofs.Common.{◌≡◌, ℕ, Bool, true, false, cond, List, Option, Result, Ok, refl, sym, ap, subst, ◌∙◌}
+use Rattle.std.proofs.Common.{◌≡◌, ℕ, true, false, List, Option, Result, Ok, refl, sym, ap, subst, ◌∙◌}
 use Rattle.cloud_trait.specs.declared.answer.Answer.{Answer}
 use Rattle.cloud_trait.specs.Machine.{Next, Goes, Ends, Stops}
 use Rattle.cloud_trait.specs.Views.{got_of, done_of}
@@ -10,7 +10,7 @@ use Rattle.tree_phases.specs.declared.folding.Left.TheVariants.{Right, Handled}
 use Rattle.tree_phases.specs.Folding as fold
 use Rattle.session_facts.specs.Machines.TreeCheckpoints.Counting.{HasRoot}
 use Rattle.tree_ckpt.proofs.Charts.{GoesFurther, arrive_further, descent_further}
-use Rattle.tree_ckpt.proofs.LeafOutcomes.{reads, put_lands}
+use Rattle.tree_ckpt.proofs.LeafOutcomes.{works}
 use Rattle.tree_ckpt.proofs.LeafOutcomes as leaf
 use Rattle.tree_ckpt.proofs.Outcomes.{Seeks, Descends, Ascends, Comes, comes}
 use Rattle.tree_ckpt.proofs.Outcomes as step
@@ -107,10 +107,10 @@ placed_root got new {f = f} is by (leaf.lands x e) = ap (λ (root : Option (List
 placed_root got new {f = f} is by (leaf.is_put x e) = ap (λ (root : Option (List ℕ)). landed_root f.placing root) is ∙ sym (by refl)
 
 folding_root : (got new : Option (List ℕ)) (h : Held) (f : Folding) (a : Answer) → f.chart.root ≡ got → NewestBy (work.Folding h f) a got new → LeafRoot new (fold.folding_next f a)
-folding_root got new h f a is by = on (has_nothing f.placing) refl where
-  on : (b : Bool) → has_nothing f.placing ≡ b → LeafRoot new (cond b (fold.leaf_got f (got_of a)) (fold.leaf_put f (done_of a)))
-  on true e = reads_root (is ∙ sym (by.0 e)) (reads f (got_of a))
-  on false e = placed_root got new is (by.1 e) (put_lands f (done_of a))
+folding_root got new h f a is by = on (works f a) where
+  on : {next : Next Folding Left} → leaf.Works f a next → LeafRoot new next
+  on (leaf.gets e r) = reads_root (is ∙ sym (by.0 e)) r
+  on (leaf.puts e l) = placed_root got new is (by.1 e) l
 
 onward_root : (got : Option (List ℕ)) (h : Held) (f : Folding) (out : Left) → f.chart.root ≡ got → HasRoot got (work.ReleasingPage h f.lease (onward_from f out))
 onward_root got h f (Right low page) is = is

@@ -1,12 +1,12 @@
 -- A tree checkpoint comes to no page twice on its way to the leaf of a key.
-use Rattle.std.proofs.Common.{◌≡◌, ◌≢◌, ℕ, Bool, true, false, cond, List, [], ◌∷◌, ◌++◌, Option, Result, refl, sym, subst, ◌∙◌}
+use Rattle.std.proofs.Common.{◌≡◌, ◌≢◌, ℕ, true, false, List, [], ◌∷◌, ◌++◌, Option, Result, sym, subst, ◌∙◌}
 use Rattle.std.specs.Prelude.{◌==◌}
 use Rattle.std.proofs.lemmas.Bool.{eq-eqb}
 use Rattle.cloud_facts.proofs.Copies.Tops.{any_of}
 use Rattle.cloud_facts.specs.Book.Records.{IsIn, Apart}
 use Rattle.cloud_trait.specs.declared.answer.Answer.{Answer}
 use Rattle.cloud_trait.specs.Machine.{Next, Goes, Ends, Stops}
-use Rattle.cloud_trait.specs.Views.{got_of, done_of}
+use Rattle.cloud_trait.specs.Views.{got_of}
 use Rattle.db_base.specs.declared.trouble.Trouble.{Trouble}
 use Rattle.tree_phases.specs.declared.folding.Folding.{Folding}
 use Rattle.tree_phases.specs.declared.folding.Left.{Left}
@@ -17,7 +17,7 @@ use Rattle.session_facts.proofs.Settling.Trees.Lists.{apart_more}
 use Rattle.session_facts.specs.Machines.TreeCheckpoints.Counting.{Once}
 use Rattle.tree_ckpt.proofs.WayOutcomes.{Arrives, arrives, Gets, gets}
 use Rattle.tree_ckpt.proofs.WayOutcomes as way
-use Rattle.tree_ckpt.proofs.LeafOutcomes.{reads, put_lands}
+use Rattle.tree_ckpt.proofs.LeafOutcomes.{works}
 use Rattle.tree_ckpt.proofs.LeafOutcomes as leaf
 use Rattle.tree_ckpt.proofs.Outcomes.{Descends, Comes, comes}
 use Rattle.tree_ckpt.proofs.Outcomes as step
@@ -99,10 +99,10 @@ lands_once apart (leaf.lands x e) = apart
 lands_once apart c = tt
 
 folding_once : (h : Held) (f : Folding) (a : Answer) → IsUnvisited (work.Folding h f) → Apart f.visited → LeafOnce (fold.folding_next f a)
-folding_once h f a new apart = on (has_nothing f.placing) refl where
-  on : (b : Bool) → has_nothing f.placing ≡ b → LeafOnce (cond b (fold.leaf_got f (got_of a)) (fold.leaf_put f (done_of a)))
-  on true e = reads_once (new e) apart (reads f (got_of a))
-  on false e = lands_once apart (put_lands f (done_of a))
+folding_once h f a new apart = on (works f a) where
+  on : {next : Next Folding Left} → leaf.Works f a next → LeafOnce next
+  on (leaf.gets e r) = reads_once (new e) apart r
+  on (leaf.puts e l) = lands_once apart l
 
 onward_once : (h : Held) (f : Folding) (out : Left) → LeafOnce (Ends f out) → Once (work.ReleasingPage h f.lease (onward_from f out))
 onward_once h f (Right low page) apart = apart

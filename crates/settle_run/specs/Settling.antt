@@ -4,6 +4,7 @@ use Rattle.std.specs.List.{list_any}
 use Rattle.db_base.specs.declared.trouble.Trouble.TheVariants as trouble
 use Rattle.leaf_view.specs.Lookup.{page_at}
 use Rattle.cloud_trait.specs.declared.answer.Answer.{Answer}
+use Rattle.cloud_trait.specs.declared.answer.Answer.TheVariants.{Failed}
 use Rattle.cloud_trait.specs.declared.turn.Turn.{Turn}
 use Rattle.cloud_trait.specs.declared.turn.Turn.TheVariants.{More, Ended, Stopped}
 use Rattle.cloud_trait.specs.Ask.{Ask}
@@ -107,6 +108,10 @@ SettleLeads s a next = (n : Next Part ℕ) × PartLeads s.part a n × (next ≡ 
 
 abbrev pub SamePart : Settling → Answer → Settling → Type 0
 SamePart s a n = n.part ≡ s.part
+
+-- a part of the step leads so from this state, whatever was answered; at want of memory it keeps the part
+abbrev pub TurnsBy : (Settling → Next Settling Settled → Type 0) → Settling → Settling → Turn Settled → Type 0
+TurnsBy leads old new turn = Took (λ from _ next. leads from next) SamePart old Failed new turn
 
 -- at want of memory the part at work stands as a step of its own leaves it, with its leases
 abbrev pub KeepsSettling : Settling → Answer → Settling → Type 0

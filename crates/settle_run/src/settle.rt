@@ -2,7 +2,7 @@
 
 ghost use Rattle.std.specs.Prelude.{◌≡◌, ◌<◌, ◌≤◌, ◌^◌, List, [], length};
 ghost use Rattle.cloud_trait.specs.Call.{ask_of};
-ghost use Rattle.cloud_trait.specs.Machine.{Took, Deed};
+ghost use Rattle.cloud_trait.specs.Machine.{Deed};
 
 use crate::known::add_new;
 use crate::part::Part;
@@ -52,7 +52,7 @@ impl SettleRun {
     ghost use Rattle.settle_run.specs.End.{calls_left};
     ghost use Rattle.settle_run.specs.Meaning.{Went, Stepped};
     ghost use Rattle.settle_run.specs.Leases.{Holds, GivesBack};
-    ghost use Rattle.settle_run.specs.Settling.{Settling, new_settling, settle_ask, SamePart, begins, behind_client, after_turn, ended_by, passed, goes_on, to_page, goes_right, behind_tree, is_visited};
+    ghost use Rattle.settle_run.specs.Settling.{Settling, new_settling, settle_ask, begins, behind_client, after_turn, ended_by, passed, goes_on, to_page, goes_right, behind_tree, is_visited, TurnsBy};
 
     /// A settling before its first call. Takes no memory.
     pub fn new(alloc: Global) -> SettleRun
@@ -90,7 +90,7 @@ impl SettleRun {
 
     /// The checkpoints of a page begin.
     fn to_page(&mut self, alloc: Global, tree: TreeId, page: PageId) -> Turn<Settled>
-        ensures { Took (λ s _ n. to_page s tree page ≡ n) SamePart self.old Answer.Failed self.new result }
+        ensures { TurnsBy (λ s n. to_page s tree page ≡ n) self.old self.new result }
     {
         if self.visited.push(page).is_err() {
             return Turn::Stopped(Trouble::Memory);
@@ -102,7 +102,7 @@ impl SettleRun {
 
     /// The right page is next, unless it was at work before; without one the tree is done.
     fn go_right(&mut self, alloc: Global, tree: TreeId, right: Option<PageId>) -> Turn<Settled>
-        ensures { Took (λ s _ n. goes_right s tree right ≡ n) SamePart self.old Answer.Failed self.new result }
+        ensures { TurnsBy (λ s n. goes_right s tree right ≡ n) self.old self.new result }
     {
         let Some(page) = right else {
             return self.leave_tree(alloc, tree);
@@ -115,7 +115,7 @@ impl SettleRun {
 
     /// The next tree is at work, or all are done.
     fn leave_tree(&mut self, alloc: Global, tree: TreeId) -> Turn<Settled>
-        ensures { Took (λ s _ n. behind_tree s tree ≡ n) SamePart self.old Answer.Failed self.new result }
+        ensures { TurnsBy (λ s n. behind_tree s tree ≡ n) self.old self.new result }
     {
         match TreeId::new(tree.get() + 1) {
             Ok(next) => {
@@ -130,7 +130,7 @@ impl SettleRun {
 
     /// The next client's recovery is at work, or behind the last client the first tree's checkpoint.
     fn leave_client(&mut self, alloc: Global, client: ClientId) -> Turn<Settled>
-        ensures { Took (λ s _ n. begins s (behind_client client) ≡ n) SamePart self.old Answer.Failed self.new result }
+        ensures { TurnsBy (λ s n. begins s (behind_client client) ≡ n) self.old self.new result }
     {
         match ClientId::new(client.get() + 1) {
             Ok(next) => self.part.recover(alloc, next),
@@ -142,7 +142,7 @@ impl SettleRun {
 
     /// What comes next once nothing new was received.
     fn go_on(&mut self, alloc: Global) -> Turn<Settled>
-        ensures { Took (λ s _ n. goes_on s s.part ≡ n) SamePart self.old Answer.Failed self.new result }
+        ensures { TurnsBy (λ s n. goes_on s s.part ≡ n) self.old self.new result }
     {
         match &self.part {
             Part::Client(client, _) => {
@@ -164,7 +164,7 @@ impl SettleRun {
 
     /// The same again where something new was received, and else what comes next.
     fn pass(&mut self, alloc: Global) -> Turn<Settled>
-        ensures { Took (λ s _ n. passed s ≡ n) SamePart self.old Answer.Failed self.new result }
+        ensures { TurnsBy (λ s n. passed s ≡ n) self.old self.new result }
     {
         match add_new(&mut self.known, self.part.received()) {
             Ok(true) => {
@@ -178,7 +178,7 @@ impl SettleRun {
 
     /// Counts the call, and goes on by what it came to.
     fn follow(&mut self, alloc: Global, turn: Turn<u64>) -> Turn<Settled>
-        ensures { Took (λ s _ n. after_turn s turn ≡ n) SamePart self.old Answer.Failed self.new result }
+        ensures { TurnsBy (λ s n. after_turn s turn ≡ n) self.old self.new result }
     {
         let Some(calls) = self.calls.checked_add(1) else {
             return Turn::Stopped(Trouble::Memory);
@@ -193,7 +193,7 @@ impl SettleRun {
 
     /// A failed deletion of a checkpoint stops the settling.
     fn end(&mut self, alloc: Global, left: u64) -> Turn<Settled>
-        ensures { Took (λ s _ n. ended_by s left ≡ n) SamePart self.old Answer.Failed self.new result }
+        ensures { TurnsBy (λ s n. ended_by s left ≡ n) self.old self.new result }
     {
         if left == 0 {
             return self.pass(alloc);

@@ -14,6 +14,10 @@ Finds (Ok a) wanted = wanted ≡ Ok a
 Finds (Err (fault.Stops t)) wanted = wanted ≡ Err t
 Finds (Err fault.Memory) wanted = Unit {0}
 
+-- this holds of whatever was found so
+abbrev pub IfFinds : {A : Type 0} → Result A Fault → (Result A Trouble → Type 0) → Type 0
+IfFinds {A} found holds = (wanted : Result A Trouble) → Finds found wanted → holds wanted
+
 -- a phase went where its step leads, or memory ran out
 abbrev pub Went : {M A : Type 0} → Next M A → M → Pace A → Type 0
 Went next new pace.More = next ≡ Goes new

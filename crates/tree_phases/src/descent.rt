@@ -1,7 +1,7 @@
-ghost use Rattle.std.specs.Prelude.{◌≡◌, length, Result, OnOk};
+ghost use Rattle.std.specs.Prelude.{◌≡◌, length, OnOk};
 ghost use Rattle.db_base.specs.declared.trouble.Trouble.{Trouble};
 ghost use Rattle.cloud_trait.specs.Call.{ask_of};
-ghost use Rattle.tree_phases.specs.Going.{Finds, Went};
+ghost use Rattle.tree_phases.specs.Going.{Finds, IfFinds, Went};
 ghost use Rattle.tree_phases.specs.declared.fork.Fork.{Fork};
 ghost use Rattle.tree_phases.specs.Descent.{descent_ask, descent_next, begun, forked, fork_of, passed, FindsKept, kept_at, go_on, stride, walk, arrive, absent_node, with_node, got_node};
 
@@ -125,7 +125,7 @@ impl Descent {
 
     /// Goes where the node at hand leads, or stops at what was found in it.
     fn go_on(&mut self, alloc: Global, fork: Result<Fork, Fault>) -> Pace<Reach>
-        ensures { (wanted : Result Fork Trouble) → Finds fork wanted → Went (go_on self.old wanted) self.new result }
+        ensures { IfFinds fork (λ wanted. Went (go_on self.old wanted) self.new result) }
     {
         match fork {
             Ok(fork) => match self.pass(alloc, fork) {

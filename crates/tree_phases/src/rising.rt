@@ -1,7 +1,7 @@
-ghost use Rattle.std.specs.Prelude.{◌≡◌, ◌<◌, ◌+◌, length, Result};
+ghost use Rattle.std.specs.Prelude.{◌≡◌, ◌<◌, ◌+◌, length};
 ghost use Rattle.db_base.specs.declared.trouble.Trouble.{Trouble};
 ghost use Rattle.cloud_trait.specs.Call.{ask_of};
-ghost use Rattle.tree_phases.specs.Going.{Finds, Went};
+ghost use Rattle.tree_phases.specs.Going.{Finds, IfFinds, Went};
 ghost use Rattle.tree_phases.specs.declared.node.NodePlan.{NodePlan};
 ghost use Rattle.tree_phases.specs.declared.root.RootPlan.{RootPlan};
 ghost use Rattle.tree_phases.specs.Rising.{begun, rising_ask, rising_next, next_touched, touched_node, FindsPlan, rise, finish, put_node, last_plan, put_root, put_next, put_landed};
@@ -123,7 +123,7 @@ impl Rising {
         level: u64,
         plan: Result<NodePlan, Fault>,
     ) -> Pace<()>
-        ensures { (wanted : Result NodePlan Trouble) → Finds plan wanted → Went (put_node self.old next level wanted) self.new result }
+        ensures { IfFinds plan (λ wanted. Went (put_node self.old next level wanted) self.new result) }
     {
         match plan {
             Ok(plan) => {
@@ -167,7 +167,7 @@ impl Rising {
 
     /// Puts what was planned for the tree object next.
     fn put_root(&mut self, plan: Result<RootPlan, Fault>) -> Pace<()>
-        ensures { (wanted : Result RootPlan Trouble) → Finds plan wanted → Went (put_root self.old wanted) self.new result }
+        ensures { IfFinds plan (λ wanted. Went (put_root self.old wanted) self.new result) }
     {
         match plan {
             Ok(plan) => {

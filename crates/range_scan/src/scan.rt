@@ -1,4 +1,4 @@
-ghost use Rattle.std.specs.Prelude.{◌≡◌, ◌≢◌, ◌<◌, ℕ, true, false, is_some, IfOk};
+ghost use Rattle.std.specs.Prelude.{◌≡◌, ◌≢◌, ◌<◌, true, false, is_some, IfOk};
 ghost use Rattle.page_cache.specs.Held.{leaf_at};
 ghost use Rattle.std.specs.Option.{option_copied, option_map};
 ghost use Rattle.byte_format.specs.Order.{below_bound};
@@ -63,8 +63,8 @@ impl Model for RangeScan {
 }
 
 impl RangeScan {
-    ghost use Rattle.range_scan.specs.Scan.{new_scan, scan_object, scan_ask, scan_asks, right_in, scan_came_to, leaf_ended, goes_on, moved_on, first_read, walked_on, right_read_in, right_read, right_got, scan_ready, scan_next, scan_beside, next_at, KeepsServed};
-    ghost use Rattle.range_scan.specs.End.{calls_left};
+    ghost use Rattle.range_scan.specs.Scan.{new_scan, scan_object, scan_ask, scan_asks, right_in, scan_came_to, leaf_ended, goes_on, moved_on, first_read, walked_on, right_read_in, right_read, right_got, scan_ready, scan_next, KeepsServed};
+    ghost use Rattle.range_scan.specs.End.{calls_left, GoesFurther};
     ghost use Rattle.range_scan.specs.Pairs.{AreItemsIn};
     ghost use Rattle.range_scan.specs.Stepped.{Stepped};
 
@@ -260,7 +260,7 @@ impl RangeScan {
         ensures steps { Steps scan_asks (LeadsBy scan_next) KeepsServed who (C.seen cloud.old) (C.seen cloud.new) (self.old, cache.old) (self.new, cache.new) result }
         ensures served { ServesOn cache.old cache.new }
         ensures less { result ≡ Turn.More → calls_left self.new < calls_left self.old }
-        ensures further { (page : ℕ) → result ≡ Turn.Ended page → goes_on self.new ≡ true → calls_left (moved_on self.new) < calls_left self.old }
+        ensures further { GoesFurther self.old self.new result }
     {
         // Read for the clause `further`.
         let _ = &self.passed;
@@ -280,7 +280,7 @@ impl RangeScan {
         ensures steps { Steps scan_asks (LeadsBy scan_next) KeepsServed who (C.seen cloud.old) (C.seen cloud.new) (self.old, cache.old) (self.new, cache.new) result }
         ensures served { ServesOn cache.old cache.new }
         ensures less { result ≡ Turn.More → calls_left self.new < calls_left self.old }
-        ensures further { (page : ℕ) → result ≡ Turn.Ended page → goes_on self.new ≡ true → calls_left (moved_on self.new) < calls_left self.old }
+        ensures further { GoesFurther self.old self.new result }
     {
         let turn = self.walk.step(alloc, cloud, who, cache);
         self.walked(alloc, cache, turn)
@@ -298,7 +298,7 @@ impl RangeScan {
         ensures stepped { Stepped who (C.seen cloud.old) (C.seen cloud.new) (self.old, cache.old) (self.new, cache.new) result }
         // Each call that it goes on from, in its walk or behind the leaf at which it ended, comes to one more page.
         ensures less { result ≡ Turn.More → calls_left self.new < calls_left self.old }
-        ensures further { (page : ℕ) → result ≡ Turn.Ended page → goes_on self.new ≡ true → calls_left (moved_on self.new) < calls_left self.old }
+        ensures further { GoesFurther self.old self.new result }
     {
         if self.spot.is_some() {
             self.step_right(alloc, cloud, who, cache)

@@ -7,7 +7,6 @@ ghost use Rattle.cloud_trait.specs.Machine.{Deed};
 use crate::known::add_new;
 use crate::part::Part;
 use crate::settled::Settled;
-use cloud_trait::answer::Answer;
 use cloud_trait::call::Call;
 use cloud_trait::cloud::Cloud;
 use cloud_trait::turn::Turn;

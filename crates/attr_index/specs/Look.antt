@@ -133,10 +133,13 @@ abbrev pub leaf_read : Look → Own → Option Leaf → Cache → Next (Look × 
 leaf_read l own None c = Stops (l, c) trouble.Failed
 leaf_read l own (Some leaf) c = leaf_read_at l.stage l own leaf c
 
+abbrev pub read_here : Look → Own → Cache → Next (Look × Cache) (Unit {0})
+read_here l own c = leaf_read l own (leaf_at c (object_of l.walk)) c
+
 -- where a turn of its walk leads
 abbrev pub walked_on : Look → Own → Cache → Turn ℕ → Next (Look × Cache) (Unit {0})
 walked_on l own c More = Goes (l, c)
-walked_on l own c (Ended page) = leaf_read l own (leaf_at c (object_of l.walk)) c
+walked_on l own c (Ended page) = read_here l own c
 walked_on l own c (Stopped t) = Stops (l, c) t
 
 -- the look-up with the walk in hand as a turn left it

@@ -3,9 +3,8 @@ ghost use Rattle.std.specs.Option.{option_copied};
 ghost use Rattle.db_base.specs.Ids.{index_of};
 ghost use Rattle.cloud_trait.specs.Call.{ask_of};
 ghost use Rattle.cloud_trait.specs.Machine.{Goes, Stops, Deed};
-ghost use Rattle.page_cache.specs.Held.{leaf_at};
 ghost use Rattle.tree_walk.specs.Moves.{Moves};
-ghost use Rattle.tree_walk.specs.Walk.{ServesOn, object_of};
+ghost use Rattle.tree_walk.specs.Walk.{ServesOn};
 
 use crate::keys::{add_keys, are_bytes, high_key};
 use crate::own::Own;
@@ -72,7 +71,7 @@ impl Model for Lookup {
 impl Lookup {
     ghost use Rattle.attr_index.specs.End.{calls_left};
     ghost use Rattle.attr_index.specs.Meaning.{Visit, Looked};
-    ghost use Rattle.attr_index.specs.Look.{Query, Look, behind_leaf, bound_of, has_attr, leaf_read, look_ask, look_ready, new_look, to_record, walked_by, walks, with_found, with_keys};
+    ghost use Rattle.attr_index.specs.Look.{Query, Look, behind_leaf, bound_of, has_attr, read_here, look_ask, look_ready, new_look, to_record, walked_by, walks, with_found, with_keys};
     ghost use Rattle.attr_index.specs.Stepped.{Stepped};
     ghost use Rattle.attr_index.specs.Within.{LooksWithin};
 
@@ -228,7 +227,7 @@ impl Lookup {
     /// Reads the leaf of the index at which the walk ended.
     fn read_index(&mut self, alloc: Global, cache: &mut PageCache, own: &Own<'_>) -> Turn<()>
         requires { self.old.stage ≡ Stage.Index }
-        ensures moves { Moves (leaf_read self.old own.now (leaf_at cache.old (object_of self.old.walk)) cache.old) (self.new, cache.new) result }
+        ensures moves { Moves (read_here self.old own.now cache.old) (self.new, cache.new) result }
         ensures served { ServesOn cache.old cache.new }
     {
         let Some(leaf) = cache.leaf(self.walk.object()) else {
@@ -281,7 +280,7 @@ impl Lookup {
     /// Reads the leaf of the record at which the walk ended.
     fn read_record(&mut self, alloc: Global, cache: &mut PageCache, own: &Own<'_>) -> Turn<()>
         requires { self.old.stage ≡ Stage.Records }
-        ensures moves { Moves (leaf_read self.old own.now (leaf_at cache.old (object_of self.old.walk)) cache.old) (self.new, cache.new) result }
+        ensures moves { Moves (read_here self.old own.now cache.old) (self.new, cache.new) result }
         ensures served { ServesOn cache.old cache.new }
     {
         let Some(leaf) = cache.leaf(self.walk.object()) else {
@@ -295,7 +294,7 @@ impl Lookup {
 
     /// Reads the leaf at which the walk ended, by what the walk was for.
     fn read_leaf(&mut self, alloc: Global, cache: &mut PageCache, own: &Own<'_>) -> Turn<()>
-        ensures moves { Moves (leaf_read self.old own.now (leaf_at cache.old (object_of self.old.walk)) cache.old) (self.new, cache.new) result }
+        ensures moves { Moves (read_here self.old own.now cache.old) (self.new, cache.new) result }
         ensures served { ServesOn cache.old cache.new }
     {
         match self.stage {

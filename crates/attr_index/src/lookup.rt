@@ -19,7 +19,6 @@ use db_base::attr::Attr;
 use db_base::blob::Blob;
 use db_base::ids::{PageId, TreeId};
 use db_base::key::Key;
-use db_base::pair::Pair;
 use db_base::trouble::Trouble;
 use db_base::value::Value;
 use leaf_view::LeafView;
@@ -274,7 +273,7 @@ impl Lookup {
         }
         let key = Blob::copy_of(alloc, key)?;
         let payload = Blob::copy_of(alloc, value.payload())?;
-        self.pairs.push(Pair { key, payload })
+        self.pairs.add(key.as_slice(), payload.as_slice())
     }
 
     /// Reads the leaf of the record at which the walk ended.

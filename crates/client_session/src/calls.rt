@@ -13,11 +13,11 @@ use db_base::attr::Attr;
 use db_base::change::Change;
 use db_base::ids::{ClientId, TreeId};
 use db_base::key::{Key, Payload};
-use db_base::pair::Pair;
 use db_base::refusal::{Refusal, Refused};
 use db_base::value::Value;
 use head_codec::head::Head;
 use log_codec::record::PuItem;
+use report_types::pair_list::Pairs;
 use std::alloc::Global;
 use txn_buffer::buffer::TxnBuffer;
 
@@ -100,7 +100,7 @@ impl<H: Hand> SessionCalls for Session<H> {
         Session::value(self)
     }
 
-    fn items(&self) -> &[Pair] {
+    fn items(&self) -> Pairs<'_> {
         Session::items(self)
     }
 }

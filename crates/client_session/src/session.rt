@@ -17,12 +17,12 @@ use db_base::change::Change;
 use db_base::entry::index_insert;
 use db_base::ids::{ClientId, TreeId};
 use db_base::key::{Key, Payload};
-use db_base::pair::Pair;
 use db_base::refusal::{Refusal, Refused};
 use db_base::value::Value;
 use head_codec::head::Head;
 use log_codec::record::PuItem;
 use page_cache::PageCache;
+use report_types::pair_list::Pairs;
 use std::alloc::Global;
 use std::marker::Model;
 use std::mem;
@@ -276,13 +276,13 @@ impl<H: Hand> Session<H> {
     }
 
     /// The records that the newest operation listed, in the order of their keys; none where it was neither a scan nor a look-up.
-    pub fn items(&self) -> &[Pair]
-        ensures { result.now ≡ items_of self.now }
+    pub fn items(&self) -> Pairs<'_>
+        ensures { result ≡ items_of self.now }
     {
         match &self.shown {
-            Shown::Listed(pairs) => pairs.as_slice(),
-            Shown::Read(_) => &[],
-            Shown::Nothing => &[],
+            Shown::Listed(pairs) => pairs.pairs(),
+            Shown::Read(_) => Pairs::none(),
+            Shown::Nothing => Pairs::none(),
         }
     }
 }

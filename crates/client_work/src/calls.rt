@@ -16,11 +16,11 @@ use db_base::attr::Attr;
 use db_base::change::Change;
 use db_base::ids::{ClientId, TreeId};
 use db_base::key::{Key, Payload};
-use db_base::pair::Pair;
 use db_base::refusal::{Refusal, Refused};
 use db_base::value::Value;
 use head_codec::head::Head;
 use log_codec::record::PuItem;
+use report_types::pair_list::Pairs;
 use std::alloc::Global;
 use txn_buffer::buffer::TxnBuffer;
 
@@ -120,6 +120,6 @@ pub trait SessionCalls: Drop {
         ensures { result ≡ value_of (acting self.now) };
 
     /// The records that the newest operation listed, in the order of their keys; none where it was neither a scan nor a look-up.
-    fn items(&self) -> &[Pair]
-        ensures { result.now ≡ items_of (acting self.now) };
+    fn items(&self) -> Pairs<'_>
+        ensures { result ≡ items_of (acting self.now) };
 }

@@ -1,11 +1,9 @@
 ghost use Rattle.std.specs.Prelude.{◌≡◌, ◌++◌, map, OnOk};
 ghost use Rattle.client_work.specs.Shows.{pair_of};
 
-use db_base::blob::Blob;
-use db_base::pair::Pair;
 use range_scan::{Items, RangeScan};
 use report_types::pair_list::PairList;
-use std::alloc::{AllocError, Global};
+use std::alloc::AllocError;
 
 /// A scan, and the records of the leaves at which it ended.
 #[derive(Drop)]
@@ -17,18 +15,12 @@ pub struct Listing {
 }
 
 /// Adds copies of the records of a leaf at the end of the list. Fails for memory alone.
-pub(crate) fn list_items(
-    alloc: Global,
-    pairs: &mut PairList,
-    items: Items<'_>,
-) -> Result<(), AllocError>
+pub(crate) fn list_items(pairs: &mut PairList, items: Items<'_>) -> Result<(), AllocError>
     ensures { OnOk result (pairs.new ≡ pairs.old ++ map pair_of items.entry) }
 {
     let mut left = items;
     while let Some((key, value)) = left.take_first() {
-        let key = Blob::copy_of(alloc, key)?;
-        let payload = Blob::copy_of(alloc, value.payload())?;
-        pairs.push(Pair { key, payload })?;
+        pairs.add(key, value.payload())?;
     }
     Ok(())
 }

@@ -135,7 +135,7 @@ fn with_leaf(
         return None;
     };
     let mut all = pairs;
-    match list_items(alloc, &mut all, items) {
+    match list_items(&mut all, items) {
         Ok(()) => Some(all),
         Err(_) => None,
     }

@@ -46,7 +46,7 @@ fn pairs_at<'a>(
     while missing > 0 {
         let (text, rest) = left.word()?;
         let pair = pair_of(alloc, Parts::of(separator, text))?;
-        pairs.push(pair)?;
+        pairs.add(pair.key.as_slice(), pair.payload.as_slice())?;
         left = rest;
         missing -= 1;
     }

@@ -10,14 +10,14 @@ use db_base::attr::Attr;
 use db_base::blob::Blob;
 use db_base::change::Change;
 use db_base::key::{Key, Payload};
-use db_base::pair::Pair;
 use db_base::refusal::Refusal;
 use db_base::trouble::{CommitAnswer, Counter, Trouble};
 use report_types::entry::Entry;
+use report_types::pair_list::{PairList, Pairs};
 use report_types::report::Report;
 use report_types::stored::Stored;
 use std::alloc::{AllocError, Global};
-use words::bytes::hexadecimal;
+use words::bytes::{add_hexadecimal, hexadecimal};
 use words::fault::TextFault;
 
 /// A word alone.
@@ -243,15 +243,6 @@ fn commit_text(alloc: Global, answer: &CommitAnswer) -> Result<String, TextFault
     }
 }
 
-/// A record as one word.
-fn pair_word(alloc: Global, pair: &Pair) -> Result<String, AllocError>
-    ensures { IfOk result (λ text. string_bytes text ≡ pair_word pair.now) }
-{
-    let key = hexadecimal(alloc, pair.key.as_slice())?;
-    let payload = hexadecimal(alloc, pair.payload.as_slice())?;
-    format!(in alloc; "{key}={payload}")
-}
-
 /// A record of a leaf as a line.
 fn stored_text(alloc: Global, stored: &Stored) -> Result<String, AllocError>
     ensures { Spells result (stored_words stored.now) }
@@ -305,14 +296,23 @@ fn add_text(text: &mut String, separator: &str, more: &str) -> Result<(), AllocE
     Ok(())
 }
 
+/// Adds a record as a word behind a space, with no text of its own: a scan writes thousands.
+fn add_pair_word(text: &mut String, key: &[u8], payload: &[u8]) -> Result<(), AllocError>
+    ensures { OnOk result (AddsText text.old text.new (32 ∷ pair_word (record { key = key.now; payload = payload.now }))) }
+{
+    text.push(' ')?;
+    add_hexadecimal(text, key)?;
+    text.push('=')?;
+    add_hexadecimal(text, payload)
+}
+
 /// Adds each record as a word behind a space.
-fn add_pair_words(alloc: Global, text: &mut String, pairs: &[Pair]) -> Result<(), AllocError>
-    ensures { OnOk result (AddsText text.old text.new (behind_each 32 (map pair_word pairs.now))) }
+fn add_pair_words(text: &mut String, pairs: Pairs<'_>) -> Result<(), AllocError>
+    ensures { OnOk result (AddsText text.old text.new (behind_each 32 (map pair_word pairs.entry))) }
 {
     let mut left = pairs;
-    while let Some((pair, rest)) = left.split_first() {
-        let word = pair_word(alloc, pair)?;
-        add_text(text, " ", word.as_str())?;
+    while let Some((key, payload, rest)) = left.split() {
+        add_pair_word(text, key, payload)?;
         left = rest;
     }
     Ok(())
@@ -374,13 +374,13 @@ fn report_text(alloc: Global, report: &Report) -> Result<String, TextFault>
 
 /// The records of a scan.
 #[tactic(auto, using(crate::proofs::Texts::text_of_scan))]
-fn scan_text(alloc: Global, pairs: &[Pair]) -> Result<String, TextFault>
+fn scan_text(alloc: Global, pairs: &PairList) -> Result<String, TextFault>
     ensures ok { Spells result (codes "scan" ∷ decimal (length pairs.now) ∷ map pair_word pairs.now) }
     ensures memory { IfErr result (λ e. e ≡ TextFault.Memory) }
 {
     let count = pairs.len() as u64;
     let mut text = number_text(alloc, "scan", count)?;
-    add_pair_words(alloc, &mut text, pairs)?;
+    add_pair_words(&mut text, pairs.pairs())?;
     Ok(text)
 }
 
@@ -412,7 +412,7 @@ impl Reply {
             ),
             Reply::Value(payload) => Ok(bytes_text(alloc, "value", payload.as_slice())?),
             Reply::NoValue => plain_text(alloc, "none"),
-            Reply::Scan(pairs) => scan_text(alloc, pairs.as_slice()),
+            Reply::Scan(pairs) => scan_text(alloc, pairs),
             Reply::Settled { calls } => number_text(alloc, "settled", *calls),
             Reply::Swept { kept, removed } => two_numbers_text(alloc, "swept", *kept, *removed),
             Reply::Worked { done, passed } => two_numbers_text(alloc, "worked", *done, *passed),

@@ -3,7 +3,6 @@
 use cloud_trait::call::Call;
 use cloud_trait::turn::Turn;
 use db_base::ids::PageId;
-use db_base::pair::Pair;
 use db_base::trouble::Trouble;
 use db_base::value::Value;
 use range_scan::Items;
@@ -123,18 +122,23 @@ impl Story {
         Err(Fail::from("more pairs than any tree of these tests has"))
     }
 
-    fn record(&mut self, record: &Pair) -> Result<(), Fail> {
-        self.key(record.key.as_slice())?;
-        self.bytes(record.payload.as_slice())
+    fn record(&mut self, key: &[u8], payload: &[u8]) -> Result<(), Fail> {
+        self.key(key)?;
+        self.bytes(payload)
     }
 
     /// Adds how many records a look-up found, and each.
     pub(crate) fn found(&mut self, records: &PairList) -> Result<(), Fail> {
         self.number("found", records.len() as u64)?;
-        for record in records.as_slice() {
-            self.record(record)?;
+        let mut left = records.pairs();
+        for _ in 0..1000u64 {
+            let Some((key, payload, rest)) = left.split() else {
+                return Ok(());
+            };
+            self.record(key, payload)?;
+            left = rest;
         }
-        Ok(())
+        Err(Fail::from("more records than any tree of these tests has"))
     }
 
     /// Adds the key at which a new scan goes on, where there is one.

@@ -5,7 +5,6 @@ use db_base::change::Change;
 use db_base::ids::{ClientId, MsgId, PageId, TreeId};
 use db_base::key::{Key, Payload};
 use db_base::names::{Lock, ObjName, Place, QueueName};
-use db_base::pair::Pair;
 use db_base::refusal::Refusal;
 use db_base::trouble::{CommitAnswer, Counter, Trouble};
 use reply_text::reply::Reply;
@@ -104,31 +103,9 @@ fn answers_with_numbers_are_written(rt: HostRuntime) {
     assert!(rt; is_commit_written(rt.alloc(), CommitAnswer::InDoubt, "in-doubt"));
 }
 
-/// A record.
-fn pair(alloc: Global, key: &[u8], payload: &[u8]) -> Option<Pair> {
-    match Blob::copy_of(alloc, key) {
-        Ok(key) => pair_of(alloc, key, payload),
-        Err(_) => None,
-    }
-}
-
-fn pair_of(alloc: Global, key: Blob, payload: &[u8]) -> Option<Pair> {
-    match Blob::copy_of(alloc, payload) {
-        Ok(payload) => Some(Pair { key, payload }),
-        Err(_) => None,
-    }
-}
-
-fn add_pair(pairs: &mut PairList, pair: Option<Pair>) -> bool {
-    match pair {
-        Some(pair) => pairs.push(pair).is_ok(),
-        None => false,
-    }
-}
-
 /// Adds the records k with v and l with no byte.
-fn add_pairs(alloc: Global, pairs: &mut PairList) -> bool {
-    add_pair(pairs, pair(alloc, b"k", b"v")) && add_pair(pairs, pair(alloc, b"l", b""))
+fn add_pairs(pairs: &mut PairList) -> bool {
+    pairs.add(b"k", b"v").is_ok() && pairs.add(b"l", b"").is_ok()
 }
 
 fn is_value_written(alloc: Global) -> bool {
@@ -140,7 +117,7 @@ fn is_value_written(alloc: Global) -> bool {
 
 fn is_scan_written(alloc: Global) -> bool {
     let mut pairs = PairList::new(alloc);
-    if !add_pairs(alloc, &mut pairs) {
+    if !add_pairs(&mut pairs) {
         return false;
     }
     is_written(alloc, Reply::Scan(pairs), "scan 2 6b=76 6c=-")

@@ -1,6 +1,6 @@
 //! The reply of a line.
 
-ghost use Rattle.std.specs.Prelude.{◌≡◌, IfOk};
+ghost use Rattle.std.specs.Prelude.{◌≡◌};
 ghost use Rattle.client_work.specs.Session.{items_of, value_of};
 ghost use Rattle.world_core.specs.Handled.{is_done};
 ghost use Rattle.world_core.specs.Replying.{commit_reply, declined, done_reply, told, trouble_reply, unsettled_reply, IsOfSettling, IsOfSweeping, ShowsItems, ShowsValue, RepliesTo, RepliesBegun, RepliesSettled, RepliesSwept, RepliesTurn};
@@ -10,12 +10,10 @@ use client_work::answer::{Answer, Begun};
 use client_work::calls::SessionCalls;
 use cloud_trait::turn::Turn;
 use db_base::blob::Blob;
-use db_base::pair::Pair;
 use db_base::refusal::Refused;
 use db_base::trouble::{CommitAnswer, Trouble};
 use reply_text::reply::Reply;
-use report_types::pair_list::PairList;
-use std::alloc::{AllocError, Global};
+use std::alloc::Global;
 
 /// The answer to a line that is not done.
 pub(crate) fn declined(why: Refused) -> Result<Reply, WorldFault>
@@ -131,25 +129,10 @@ fn value_reply<S: SessionCalls>(alloc: Global, session: &S) -> Result<Reply, Wor
 fn scan_reply<S: SessionCalls>(alloc: Global, session: &S) -> Result<Reply, WorldFault>
     ensures { ShowsItems (items_of (S.acting session.now)) result }
 {
-    match copies(alloc, session.items()) {
+    match session.items().to_list(alloc) {
         Ok(pairs) => Ok(Reply::Scan(pairs)),
         Err(_) => Err(WorldFault::Memory),
     }
-}
-
-/// A copy of the records. Fails for memory alone.
-fn copies(alloc: Global, pairs: &[Pair]) -> Result<PairList, AllocError>
-    ensures { IfOk result (λ list. list ≡ pairs.now) }
-{
-    let mut list = PairList::new(alloc);
-    let mut left = pairs;
-    while let Some((pair, rest)) = left.split_first() {
-        let key = Blob::copy_of(alloc, pair.key.as_slice())?;
-        let payload = Blob::copy_of(alloc, pair.payload.as_slice())?;
-        list.push(Pair { key, payload })?;
-        left = rest;
-    }
-    Ok(list)
 }
 
 /// The reply to how a commit ended; want of memory has none.

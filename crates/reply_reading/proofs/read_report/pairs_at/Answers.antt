@@ -15,7 +15,8 @@ returns-in_err-pair c =
 
 pub loop-missing-preserved : goal.loop-missing-preserved
 loop-missing-preserved c =
-    loop_more (pair_by c.args.separator) c.loop-missing.pairs c.loop-missing.left c.loop-missing.missing _ c.loop-missing.invariant c.push.new.self c.in_ok-text.text.now c.in_ok-text.rest c.in_ok-pair.pair c.loop-missing-test.true c.in_ok-text.ensures.value (rw c.of.ensures at c.in_ok-pair.ensures) c.in_ok-push.ensures.ok
+    loop_more (pair_by c.args.separator) c.loop-missing.pairs c.loop-missing.left c.loop-missing.missing _ c.loop-missing.invariant c.add.new.self c.in_ok-text.text.now c.in_ok-text.rest c.in_ok-pair.pair c.loop-missing-test.true c.in_ok-text.ensures.value (rw c.of.ensures at c.in_ok-pair.ensures)
+    (rw (c.as_slice.ensures, c.as_slice-in-loop-missing.ensures) at c.in_ok-add.ensures.ok)
 
 pub returns : goal.returns
 returns c = loop_end (pair_by c.args.separator) c.loop-missing.pairs c.loop-missing.left c.loop-missing.missing _ c.loop-missing.invariant c.loop-missing-test.false

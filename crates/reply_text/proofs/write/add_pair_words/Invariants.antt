@@ -3,8 +3,8 @@ use Rattle.std.specs.String.{string_bytes}
 use Rattle.reply_text.specs.Reply.{behind_each, pair_word}
 use Rattle.reply_text.proofs.write.add_pair_words.Given as goal
 
-abbrev pub invariant-loop-pair : goal.invariant-loop-pair
-invariant-loop-pair l = string_bytes l.text ++ behind_each 32 (map pair_word l.left) ≡ string_bytes l.fn.text ++ behind_each 32 (map pair_word l.fn.pairs)
+abbrev pub invariant-loop-key : goal.invariant-loop-key
+invariant-loop-key l = string_bytes l.text ++ behind_each 32 (map pair_word l.left) ≡ string_bytes l.fn.text ++ behind_each 32 (map pair_word l.fn.pairs)
 
-abbrev pub decreases-loop-pair : goal.decreases-loop-pair
-decreases-loop-pair l = length l.left
+abbrev pub decreases-loop-key : goal.decreases-loop-key
+decreases-loop-key l = length l.left

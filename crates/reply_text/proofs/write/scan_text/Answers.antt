@@ -8,4 +8,6 @@ use Rattle.reply_text.proofs.write.scan_text.Goals as goal
 pub returns-clause-ok : goal.returns-clause-ok
 returns-clause-ok c =
     let pairs = c.args.pairs.now in
-    c.in_ok-add_pair_words.ensures ∙ ap (λ (t : List ℕ). t ++ behind_each 32 (map pair_word pairs)) c.in_ok-text.ensures.ok ∙ sym (text_of_scan (codes "scan") (decimal (length pairs)) (map pair_word pairs))
+    (rw c.pairs.ensures at c.in_ok-add_pair_words.ensures)
+    ∙ ap (λ (t : List ℕ). t ++ behind_each 32 (map pair_word pairs)) (rw c.len-count.ensures at c.in_ok-text.ensures.ok)
+    ∙ sym (text_of_scan (codes "scan") (decimal (length pairs)) (map pair_word pairs))

@@ -10,7 +10,6 @@ use head_codec::entry::Entry;
 use head_codec::head::Head;
 use head_codec::lists::Pending;
 use log_codec::record::AtomicRec;
-use route_plan::record::pu_of_record;
 use std::alloc::{AllocError, Global};
 
 /// The bytes of a record as it stands in its pending update queue.
@@ -19,8 +18,7 @@ pub(crate) fn sent_bytes(alloc: Global, rec: &AtomicRec) -> Result<Blob, AllocEr
     ensures bytes { IfOk result (λ b. b ≡ pu_bytes (pu_record_of rec.now)) }
     ensures decoded { IfOk result (λ b. pu_of b ≡ Some (pu_record_of rec.now)) }
 {
-    let sent = pu_of_record(alloc, rec)?;
-    match sent.write(alloc) {
+    match rec.write_pending(alloc) {
         Ok(bytes) => Ok(bytes),
         Err(_) => Err(AllocError),
     }

@@ -17,7 +17,6 @@ use head_codec::head::Head;
 use log_codec::record::AtomicRec;
 use recover_run::home::Home;
 use route_plan::heads::{open_head, settle_head};
-use route_plan::record::pu_of_record;
 use std::alloc::{AllocError, Global};
 
 /// The bytes of a record as it stands in the ATOMIC queue.
@@ -38,8 +37,7 @@ pub(crate) fn queue_bytes(alloc: Global, sent: &AtomicRec) -> Result<Blob, Alloc
     ensures bytes { IfOk result (λ b. b ≡ pu_bytes (pu_record_of sent.now)) }
     ensures decoded { IfOk result (λ b. pu_of b ≡ Some (pu_record_of sent.now)) }
 {
-    let record = pu_of_record(alloc, sent)?;
-    match record.write(alloc) {
+    match sent.write_pending(alloc) {
         Ok(out) => Ok(out),
         Err(_) => Err(AllocError),
     }

@@ -18,7 +18,7 @@ use Rattle.tree_ckpt.specs.Work.{take_tree}
 use Rattle.tree_ckpt.specs.Causes.{Calls, WasGot}
 use Rattle.tree_ckpt.specs.Meaning.{Opening, opening_calls}
 use Rattle.tree_ckpt.specs.Working.{done_over, puts_of, Visit, visits_over, root_behind, links_behind, looks_of, AreVisits, lacked_on, Climb, climbs_over, root_above, links_above, AreClimbs, HasLevel, PutsNode, raised_root, PutsRoot, IsAmong, IsUnder, link_to, leaf_place, node_place, IsInRange, IsNamed, HasClimbed, HasRisen, IsOfRoot, IsPut, Worked, worked_calls, IsWorked}
-use Rattle.tree_ckpt.proofs.Words.{Trouble, Taken, Answer, Claim, Next, Goes, Ends, Stops, done_of, Ask, PagePut, Chart, KeptNode, Placing, Link, Rising, NodePlan, RootPlan}
+use Rattle.tree_ckpt.proofs.Words.{Trouble, Taken, Answer, Claim, Next, Goes, Ends, Stops, done_of, Ask, PagePut, Chart, KeptNode, Placing, Link, Rising, PagePlan, RootPlan}
 use Rattle.tree_ckpt.proofs.Answers.{done_is}
 use Rattle.tree_ckpt.proofs.Brought.{IsKeptNode, AreKept}
 use Rattle.tree_ckpt.proofs.Covers.{AreHandled, all_handled}
@@ -132,7 +132,7 @@ module _ (lease : Claim) (r : Rising) (o : Opening) (work : Calls) (none : r.las
   under_now : AreUnder k.ups.climbs r.chart.nodes (rise.next_touched r)
   under_now = under_later k.ups.climbs r.chart.nodes r.at (touched_at r.chart.tree r.chart.links (drop r.at r.chart.nodes)) k.under
 
-  node_climbs : (n : KeptNode) → rise.touched_node r ≡ Some n → IsKeptNode r.chart.tree n (visits_over r.chart.tree lease k.ups.visits []) → (p : NodePlan)
+  node_climbs : (n : KeptNode) → rise.touched_node r ≡ Some n → IsKeptNode r.chart.tree n (visits_over r.chart.tree lease k.ups.visits []) → (p : PagePlan)
       → node_plan (tree_held r.chart.root) r.chart.tree n r.chart.links ≡ Ok p → UpClimbs lease (rise.put_node r (rise.next_touched r + 1) (n.level + 1) (Ok p)) o work
   node_climbs n there kept p e =
       let stood : Option (List ℕ) = root_above (root_behind o.got k.ups.visits) k.ups.climbs in

@@ -43,7 +43,7 @@ use Rattle.tree_ckpt.specs.Way.{behind, BreaksFrom, from_root, BreaksWay}
 use Rattle.tree_ckpt.specs.Due.{Due, LeafDue, NodeDue, RootDue, IsSpent, HasNoPages, GetsLeaf, IsUp, IsDue, IsCutShort, Spends}
 use Rattle.tree_ckpt.specs.Demands.{Refuses, BreaksRoot, BreaksRecord, BreaksNode, BreaksLeaf, Demands}
 use Rattle.tree_ckpt.specs.Stepped.{Owes}
-use Rattle.tree_ckpt.proofs.Words.{Trouble, Lock, ObjName, QueueName, PuItem, Answer, Message, CkptAnswer, Turn, More, Ended, Stopped, Claim, Next, Goes, Ends, Stops, Took, Deed, calls_of, given_of, got_of, received_of, done_of, Fits, Ask, PagePut, Intake, Leases, Chart, KeptNode, Link, Descent, Fork, Folding, Left, LeafPlan, Rising, Held, Work}
+use Rattle.tree_ckpt.proofs.Words.{Trouble, Lock, ObjName, QueueName, PuItem, Answer, Message, CkptAnswer, Turn, More, Ended, Stopped, Claim, Next, Goes, Ends, Stops, Took, Deed, calls_of, given_of, got_of, received_of, done_of, Fits, Ask, PagePut, Intake, Leases, Chart, KeptNode, Link, Descent, Fork, Folding, Left, PagePlan, Rising, Held, Work}
 use Rattle.tree_ckpt.proofs.Causes.{KnowsAt}
 use Rattle.tree_ckpt.proofs.Spent.{leaf_plan_spent, leaf_plan_full, node_plan_spent, node_plan_full, last_plan_spent, last_plan_full}
 use Rattle.tree_ckpt.proofs.Walking.{page_same, damage_same, fence_same, fork_none, fork_some, fork_level, fork_fence, fork_promised, behind_keeps, way_stops}
@@ -338,7 +338,7 @@ leaf_unplanned h f l t promised stays lacks e =
     (side l.high (page_at l.right) stays) where
       item : (items : List PuItem) → has_items items ≡ true → NextOwes (folding_on h (handled_by f l items)) t
       item [] some = absurd (cc (some))
-      item (x ∷ xs) some = subst (λ (p : Result LeafPlan Trouble). NextOwes (folding_on h (planned f l.high (x ∷ xs) p)) t) (sym e) refl
+      item (x ∷ xs) some = subst (λ (p : Result PagePlan Trouble). NextOwes (folding_on h (planned f l.high (x ∷ xs) p)) t) (sym e) refl
 
       side : (high : Option (List ℕ)) (right : Option ℕ) → below_bound f.chart.key high ≡ true → NextOwes (folding_on h (leaf_side f l high right)) t
       side None right below = item (lacked l 0 f.chart.run.items) lacks

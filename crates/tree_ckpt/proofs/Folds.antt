@@ -20,7 +20,7 @@ use Rattle.tree_phases.specs.Plan as plan
 use Rattle.tree_phases.specs.Folding.{FoldingStep, leaf_got, leaf_put, folding_next}
 use Rattle.tree_ckpt.specs.End.{unhandled, behind_key, puts_left, from_on_or_none}
 use Rattle.tree_ckpt.specs.Leases.{IsPlanned}
-use Rattle.tree_ckpt.proofs.Words.{Trouble, PuItem, Answer, Goes, Ends, Stops, PagePut, Chart, Reserved, Folding, LeafPlan}
+use Rattle.tree_ckpt.proofs.Words.{Trouble, PuItem, Answer, Goes, Ends, Stops, PagePut, Chart, Reserved, Folding, PagePlan}
 use Rattle.tree_ckpt.proofs.LeafOutcomes.{Reads, Lands, Works, reads, put_lands, works}
 use Rattle.tree_ckpt.proofs.LeafOutcomes as step
 use Rattle.tree_ckpt.proofs.Keys.{from_above}
@@ -66,11 +66,11 @@ pieces_some page l r =
       cut_some (cuts_of (length l.records)) r.first (part_of_leaf l),
     )
 
-planned_some : (page : ℕ) (l : Leaf) (r : Result Reserved Trouble) (p : LeafPlan) → plan.planned_by page l r ≡ Ok p → 0 < length p.placing.puts
-planned_some page l (Ok r) p e = let same : plan.in_pieces page l r ≡ p = cc (e) in subst (λ (q : LeafPlan). 0 < length q.placing.puts) same (pieces_some page l r)
+planned_some : (page : ℕ) (l : Leaf) (r : Result Reserved Trouble) (p : PagePlan) → plan.planned_by page l r ≡ Ok p → 0 < length p.placing.puts
+planned_some page l (Ok r) p e = let same : plan.in_pieces page l r ≡ p = cc (e) in subst (λ (q : PagePlan). 0 < length q.placing.puts) same (pieces_some page l r)
 planned_some page l (Err t) p e = absurd (cc (e))
 
-pub plan_some : (root : Tree) (page : ℕ) (l : Leaf) (run : List PuItem) (p : LeafPlan) → plan.leaf_plan root page l run ≡ Ok p → 0 < length p.placing.puts
+pub plan_some : (root : Tree) (page : ℕ) (l : Leaf) (run : List PuItem) (p : PagePlan) → plan.leaf_plan root page l run ≡ Ok p → 0 < length p.placing.puts
 plan_some root page l run p e = on (l.version == 18446744073709551615) e where
   made : Leaf
   made = applied l 0 run

@@ -15,7 +15,7 @@ use Rattle.leaf_view.specs.Lookup.{holds}
 use Rattle.leaf_view.proofs.Split.{records_fit}
 use Rattle.leaf_edit.specs.Applied.{applied}
 use Rattle.leaf_edit.specs.Lacked.{is_lacked, lacked}
-use Rattle.tree_ckpt.proofs.Words.{PuItem, NewEntry, Placing, Link, LeafPlan}
+use Rattle.tree_ckpt.proofs.Words.{PuItem, NewEntry, Placing, Link, PagePlan}
 use Rattle.tree_ckpt.proofs.Keyed.{edited_by-keys}
 use Rattle.node_codec.specs.Inner.{Inner, inner_of}
 use Rattle.node_codec.specs.Node.{Entry, entry, may_stand, follows, with_entry}
@@ -218,7 +218,7 @@ lacked_within l (x ∷ xs) = on (is_lacked l 0 x) refl (lacked_within l xs) wher
   on false e again = again
 
 -- the low key of a new piece of a leaf lies in the leaf's range
-pub leaf_piece_holds : (root : Tree) (page : ℕ) (l : Leaf) (got : Option (List ℕ)) (run : List PuItem) (p : LeafPlan) (level : ℕ) (m : Link) → HoldsLeaf page l got
+pub leaf_piece_holds : (root : Tree) (page : ℕ) (l : Leaf) (got : Option (List ℕ)) (run : List PuItem) (p : PagePlan) (level : ℕ) (m : Link) → HoldsLeaf page l got
     → PutsLeaf root page l run p → IsAmong m (links_at level p.entries) → holds l m.low ≡ true
 leaf_piece_holds root page l got run p level m holding put h =
     let e = low_of level m p.entries h in

@@ -16,7 +16,7 @@ use Rattle.tree_phases.specs.Plan.{leaf_plan}
 use Rattle.tree_phases.specs.Folding.{FoldingStep, turned, handled_to, put_planned, planned, handled_by, handle, to_right, leaf_side, leaf_at, leaf_found, leaf_got, bad_low, landed, counted, leaf_put, folding_next}
 use Rattle.tree_ckpt.specs.Causes.{GoesRight}
 use Rattle.tree_ckpt.specs.Working.{HoldsLeaf}
-use Rattle.tree_ckpt.proofs.Words.{Trouble, PuItem, Answer, Goes, Ends, Stops, got_of, done_of, Folding, LeafPlan}
+use Rattle.tree_ckpt.proofs.Words.{Trouble, PuItem, Answer, Goes, Ends, Stops, got_of, done_of, Folding, PagePlan}
 use Rattle.tree_ckpt.proofs.Fences.{HasSides, read_sides}
 
 -- This leaf was got and is what the link to it promised, and the key in hand is below its high key ..
@@ -47,7 +47,7 @@ pub data Reads (f : Folding) : Result (Option (List ℕ)) Trouble → FoldingSte
   passes : (got : Option (List ℕ)) (l : Leaf) (high : List ℕ) (right : ℕ) → IsBehind f got l high right → came_to f right ≡ false
       → Reads f (Ok got) (Ends (turned f high right) (Right high right))
   spares : (got : Option (List ℕ)) (l : Leaf) → IsHere f got l → lacked l 0 f.chart.run.items ≡ [] → Reads f (Ok got) (Ends (handled_to f l.high) Handled)
-  plans : (got : Option (List ℕ)) (l : Leaf) (x : PuItem) (xs : List PuItem) (p : LeafPlan) → IsHere f got l → lacked l 0 f.chart.run.items ≡ x ∷ xs
+  plans : (got : Option (List ℕ)) (l : Leaf) (x : PuItem) (xs : List PuItem) (p : PagePlan) → IsHere f got l → lacked l 0 f.chart.run.items ≡ x ∷ xs
       → leaf_plan (tree_held f.chart.root) f.page l f.chart.run.items ≡ Ok p → Reads f (Ok got) (Goes (put_planned (handled_to f l.high) (x ∷ xs) p))
   unplanned : (got : Option (List ℕ)) (l : Leaf) (x : PuItem) (xs : List PuItem) (t : Trouble) → IsHere f got l → lacked l 0 f.chart.run.items ≡ x ∷ xs
       → leaf_plan (tree_held f.chart.root) f.page l f.chart.run.items ≡ Err t → Reads f (Ok got) (Stops f t)
@@ -69,7 +69,7 @@ sides_of : (page : ℕ) (l : Leaf) (got : Option (List ℕ)) → HoldsLeaf page 
 sides_of page l (Some bytes) e = read_sides bytes l e
 sides_of page l None e = λ none. ap (λ (m : Leaf). m.high) e.1
 
-plans_by : (f : Folding) (got : Option (List ℕ)) (l : Leaf) (x : PuItem) (xs : List PuItem) → IsHere f got l → lacked l 0 f.chart.run.items ≡ x ∷ xs → (p : Result LeafPlan Trouble)
+plans_by : (f : Folding) (got : Option (List ℕ)) (l : Leaf) (x : PuItem) (xs : List PuItem) → IsHere f got l → lacked l 0 f.chart.run.items ≡ x ∷ xs → (p : Result PagePlan Trouble)
     → leaf_plan (tree_held f.chart.root) f.page l f.chart.run.items ≡ p → Reads f (Ok got) (planned f l.high (x ∷ xs) p)
 plans_by f got l x xs here some (Ok p) e = plans got l x xs p here some e
 plans_by f got l x xs here some (Err t) e = unplanned got l x xs t here some e

@@ -24,7 +24,7 @@ use Rattle.tree_phases.specs.Folding.{no_placing}
 use Rattle.tree_phases.specs.Rising.{plan_of}
 use Rattle.tree_phases.specs.Root.{raised_root as planned_root, risen_by, lowered, cut_at, cut_behind, cut_by as cut_by_count, root_cut, root_plan, uncut}
 use Rattle.tree_ckpt.specs.Working.{Reserves, PutsPieces, PutsLeaf, PutsNode, linked_node, raised_root, PutsWhole, PutsBelow, PutsRoot}
-use Rattle.tree_ckpt.proofs.Words.{Trouble, PuItem, KeptNode, Link, Reserved, LeafPlan, NodePlan, RootPlan}
+use Rattle.tree_ckpt.proofs.Words.{Trouble, PuItem, KeptNode, Link, Reserved, PagePlan, RootPlan}
 use Rattle.tree_ckpt.proofs.Spent.{named_numbered}
 
 -- ---- no piece is long
@@ -130,7 +130,7 @@ module _ {A X : Type 0} (key : A → List ℕ) (bytes : Part A X → List ℕ) (
     entries = refl;
   }
 
-pub leaf_puts : (root : Tree) (page : ℕ) (l : Leaf) (run : List PuItem) (p : LeafPlan) → fold.leaf_plan root page l run ≡ Ok p → PutsLeaf root page l run p
+pub leaf_puts : (root : Tree) (page : ℕ) (l : Leaf) (run : List PuItem) (p : PagePlan) → fold.leaf_plan root page l run ≡ Ok p → PutsLeaf root page l run p
 leaf_puts root page l run p e = on (l.version == 18446744073709551615) e where
   whole : Leaf
   whole = applied l 0 run
@@ -149,7 +149,7 @@ leaf_puts root page l run p e = on (l.version == 18446744073709551615) e where
 
 -- ---- an inner node
 
-pub node_puts : (root : Tree) (tree : ℕ) (k : KeptNode) (ls : List Link) (p : NodePlan) → nodes.node_plan root tree k ls ≡ Ok p → PutsNode root k ls p
+pub node_puts : (root : Tree) (tree : ℕ) (k : KeptNode) (ls : List Link) (p : PagePlan) → nodes.node_plan root tree k ls ≡ Ok p → PutsNode root k ls p
 node_puts root tree k ls p e = on (inner_of k.bytes) refl e where
   planned : (n : Inner) → inner_of k.bytes ≡ Some n → (r : Result Reserved Trouble) → reservation root k.page (count_of (length (nodes.with_links n ls n.entries)) - 1) ≡ r
       → nodes.planned_by k.page (linked_node n ls) r ≡ Ok p → PutsNode root k ls p
@@ -157,7 +157,7 @@ node_puts root tree k ls p e = on (inner_of k.bytes) refl e where
       let same : nodes.in_pieces k.page (linked_node n ls) r ≡ p = cc (f) in (
         n,
         spelt,
-        subst (λ (q : NodePlan). PutsPieces entry_key node_bytes root k.page (part_of_node (linked_node n ls)) q.placing q.entries) same
+        subst (λ (q : PagePlan). PutsPieces entry_key node_bytes root k.page (part_of_node (linked_node n ls)) q.placing q.entries) same
             (pieces_put entry_key node_bytes root k.page (part_of_node (linked_node n ls)) r
             (reserves_of root k.page (count_of (length (nodes.with_links n ls n.entries)) - 1) r is)),
       )

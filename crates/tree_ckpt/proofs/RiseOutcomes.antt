@@ -6,7 +6,7 @@ use Rattle.tree_phases.specs.Read.{tree_held}
 use Rattle.tree_phases.specs.Reserve.{version_spent}
 use Rattle.tree_phases.specs.Nodes.{node_plan}
 use Rattle.tree_phases.specs.Rising.{RisingStep, next_touched, touched_node, put_node, put_root, last_plan, rise_at, rise, landed, after_put, risen_by}
-use Rattle.tree_ckpt.proofs.Words.{Trouble, Goes, Ends, Stops, KeptNode, Rising, NodePlan, RootPlan}
+use Rattle.tree_ckpt.proofs.Words.{Trouble, Goes, Ends, Stops, KeptNode, Rising, PagePlan, RootPlan}
 
 -- something is to be put on the way up
 abbrev pub IsRising : Rising → Type 0
@@ -14,7 +14,7 @@ IsRising r = (not (has_nothing r.placing) || (is_some r.last && not r.is_spent))
 
 -- the next node that a link goes to is put, or the tree object where there is none
 pub data Rises (r : Rising) : RisingStep → Type 0 where
-  node_due : (k : KeptNode) (p : NodePlan) → touched_node r ≡ Some k → node_plan (tree_held r.chart.root) r.chart.tree k r.chart.links ≡ Ok p
+  node_due : (k : KeptNode) (p : PagePlan) → touched_node r ≡ Some k → node_plan (tree_held r.chart.root) r.chart.tree k r.chart.links ≡ Ok p
       → Rises r (put_node r (next_touched r + 1) (k.level + 1) (Ok p))
   no_node : (k : KeptNode) (t : Trouble) → touched_node r ≡ Some k → node_plan (tree_held r.chart.root) r.chart.tree k r.chart.links ≡ Err t → Rises r (Stops r t)
   root_due : (p : RootPlan) → touched_node r ≡ None → last_plan r ≡ Ok p → Rises r (put_root r (Ok p))
@@ -32,7 +32,7 @@ pub data Lands (r : Rising) : Result (Unit {0}) Trouble → RisingStep → Type 
 
 -- ---- the way up, taken apart
 
-puts_node : (r : Rising) (k : KeptNode) (plan : Result NodePlan Trouble) → touched_node r ≡ Some k → node_plan (tree_held r.chart.root) r.chart.tree k r.chart.links ≡ plan
+puts_node : (r : Rising) (k : KeptNode) (plan : Result PagePlan Trouble) → touched_node r ≡ Some k → node_plan (tree_held r.chart.root) r.chart.tree k r.chart.links ≡ plan
     → Rises r (put_node r (next_touched r + 1) (k.level + 1) plan)
 puts_node r k (Ok p) at e = node_due k p at e
 puts_node r k (Err t) at e = no_node k t at e

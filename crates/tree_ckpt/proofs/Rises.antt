@@ -15,7 +15,7 @@ use Rattle.tree_phases.specs.Nodes as nodes
 use Rattle.tree_phases.specs.Rising.{RisingStep, next_touched, touched_node, rise, landed, put_landed}
 use Rattle.tree_ckpt.specs.Causes.{Calls, Shows}
 use Rattle.tree_ckpt.specs.Due.{NodeDue, RootDue, WasLastButOne}
-use Rattle.tree_ckpt.proofs.Words.{Trouble, Answer, Goes, Ends, Stops, Ask, KeptNode, Placing, Reserved, Rising, NodePlan, RootPlan}
+use Rattle.tree_ckpt.proofs.Words.{Trouble, Answer, Goes, Ends, Stops, Ask, KeptNode, Placing, Reserved, Rising, PagePlan, RootPlan}
 use Rattle.tree_ckpt.proofs.Brought.{IsKeptNode, AreKept, Charted}
 use Rattle.tree_ckpt.proofs.Folds.{not_empty}
 use Rattle.tree_ckpt.proofs.Plots.{HasPut, spent_shows, chart_landed}
@@ -63,7 +63,7 @@ pieces_some page n r =
       cut_some (cuts_of (length n.entries)) r.first (part_of_node n),
     )
 
-abbrev NodeHasPage : Result NodePlan Trouble → Type 0
+abbrev NodeHasPage : Result PagePlan Trouble → Type 0
 NodeHasPage (Ok p) = HasPage p.placing
 NodeHasPage (Err t) = Unit {0}
 

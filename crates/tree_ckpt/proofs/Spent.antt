@@ -24,9 +24,8 @@ use Rattle.tree_phases.specs.declared.link.Link.{Link}
 use Rattle.tree_phases.specs.declared.reserve.Reserved.{Reserved}
 use Rattle.tree_phases.specs.Read.{inner_or}
 use Rattle.tree_phases.specs.Reserve.{version_spent, pages_spent, next_tree, reserved, reserved_by, reservation}
-use Rattle.tree_phases.specs.declared.plan.LeafPlan.{LeafPlan}
+use Rattle.tree_phases.specs.declared.page_plan.PagePlan.{PagePlan}
 use Rattle.tree_phases.specs.Plan as plan
-use Rattle.tree_phases.specs.declared.node.NodePlan.{NodePlan}
 use Rattle.tree_phases.specs.declared.root.RootPlan.{RootPlan}
 use Rattle.tree_phases.specs.Nodes as nodes
 use Rattle.tree_phases.specs.Rising.{plan_of}
@@ -214,7 +213,7 @@ module _ (root : Tree) (page : ℕ) (l : Leaf) (run : List PuItem) where
   abbrev leaf_due : Due
   leaf_due = LeafDue root l run
 
-  abbrev leaf_by : Bool → Result LeafPlan Trouble
+  abbrev leaf_by : Bool → Result PagePlan Trouble
   leaf_by b = cond b (Err version_spent) (plan.planned_by page (applied l 0 run) (reservation root page (pages_of leaf_due)))
 
   leaf_goes : l.version ≢ greatest → plan.leaf_plan root page l run ≡ plan.planned_by page (applied l 0 run) (reservation root page (pages_of leaf_due))
@@ -236,7 +235,7 @@ module _ (root : Tree) (tree : ℕ) (k : KeptNode) (n : Inner) (ls : List Link) 
   abbrev linked_node : Inner
   linked_node = record n { version = n.version + 1; entries = nodes.with_links n ls n.entries }
 
-  abbrev node_by : Bool → Result NodePlan Trouble
+  abbrev node_by : Bool → Result PagePlan Trouble
   node_by b = nodes.planned_of root k.page (cond b (Err version_spent) (Ok linked_node))
 
   node_read : (b : Bool) → (n.version == greatest) ≡ b → nodes.node_plan root tree k ls ≡ node_by b

@@ -25,7 +25,7 @@ use Rattle.tree_phases.specs.Folding as fold
 use Rattle.tree_ckpt.specs.Causes.{Calls, WasGot, GoesRight}
 use Rattle.tree_ckpt.specs.Meaning.{Opening}
 use Rattle.tree_ckpt.specs.Working.{done_over, puts_of, Visit, held_over, visits_over, AreLooks, HoldsLeaf, IsLeft, IsFor, IsVisit, Place, leaf_place, IsLeftFor, IsStart, IsCome, IsWay, IsOver, IsAmong, root_behind, links_behind, looks_of, AreVisits, lacked_on, IsSettled, PutsLeaf, AreTurns, Outcome, Planned, Spared, Passed}
-use Rattle.tree_ckpt.proofs.Words.{Trouble, PuItem, Taken, Answer, Claim, Next, Goes, Ends, Stops, got_of, done_of, Ask, PagePut, Chart, KeptNode, Placing, Link, Descent, Folding, Left, LeafPlan}
+use Rattle.tree_ckpt.proofs.Words.{Trouble, PuItem, Taken, Answer, Claim, Next, Goes, Ends, Stops, got_of, done_of, Ask, PagePut, Chart, KeptNode, Placing, Link, Descent, Folding, Left, PagePlan}
 use Rattle.tree_ckpt.proofs.Answers.{done_is}
 use Rattle.tree_ckpt.proofs.Brought.{AreKept, kept_more}
 use Rattle.tree_ckpt.proofs.Turns.{Turned, WayTurned, place_of, turns_more, turns_both, way_more, way_both, node_got, got_turned}
@@ -454,7 +454,7 @@ module _ (lease : Claim) (f : Folding) (got : Option (List ℕ)) (l : Leaf) (o :
   )
 
   -- it is to be put as planned
-  planned : IsUpto l.low f.chart.key → holds l f.chart.key ≡ true → (items : List PuItem) → lacked l 0 f.chart.run.items ≡ items → has_items items ≡ true → (p : LeafPlan)
+  planned : IsUpto l.low f.chart.key → holds l f.chart.key ≡ true → (items : List PuItem) → lacked l 0 f.chart.run.items ≡ items → has_items items ≡ true → (p : PagePlan)
       → leaf_plan (tree_held f.chart.root) f.page l f.chart.run.items ≡ Ok p → AtLeaf lease (fold.put_planned (fold.handled_to f l.high) items p) o work
   unfolding visit_with visit_calls
   planned low here items same some p e = inr (record {

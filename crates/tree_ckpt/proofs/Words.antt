@@ -28,9 +28,8 @@ pub use Rattle.tree_phases.specs.declared.descent.Descent.{Descent}
 pub use Rattle.tree_phases.specs.declared.fork.Fork.{Fork}
 pub use Rattle.tree_phases.specs.declared.folding.Folding.{Folding}
 pub use Rattle.tree_phases.specs.declared.folding.Left.{Left}
-pub use Rattle.tree_phases.specs.declared.plan.LeafPlan.{LeafPlan}
+pub use Rattle.tree_phases.specs.declared.page_plan.PagePlan.{PagePlan}
 pub use Rattle.tree_phases.specs.declared.rising.Rising.{Rising}
-pub use Rattle.tree_phases.specs.declared.node.NodePlan.{NodePlan}
 pub use Rattle.tree_phases.specs.declared.root.RootPlan.{RootPlan}
 pub use Rattle.tree_ckpt.specs.declared.work.Coming.{Coming}
 pub use Rattle.tree_ckpt.specs.declared.work.Held.{Held}

@@ -34,9 +34,8 @@ use Rattle.tree_phases.specs.declared.placing.Placing.{Placing}
 use Rattle.tree_phases.specs.Kept.{links_at}
 use Rattle.tree_phases.specs.Placing.{landed_root}
 use Rattle.tree_phases.specs.Read.{tree_held}
-use Rattle.tree_phases.specs.declared.plan.LeafPlan.{LeafPlan}
+use Rattle.tree_phases.specs.declared.page_plan.PagePlan.{PagePlan}
 use Rattle.tree_phases.specs.Folding.{no_placing}
-use Rattle.tree_phases.specs.declared.node.NodePlan.{NodePlan}
 use Rattle.tree_phases.specs.declared.root.RootPlan.{RootPlan}
 use Rattle.tree_phases.specs.Nodes.{with_links, is_touched}
 use Rattle.tree_phases.specs.Root.{risen}
@@ -92,7 +91,7 @@ pub record PutsPieces {A X : Type 0} (key : A → List ℕ) (bytes : Part A X �
   pub entries : named ≡ drop 1 (map entry_of (on_pages page first pieces))
 
 -- the leaf with the run applied is put
-abbrev pub PutsLeaf : Tree → ℕ → Leaf → List PuItem → LeafPlan → Type 0
+abbrev pub PutsLeaf : Tree → ℕ → Leaf → List PuItem → PagePlan → Type 0
 PutsLeaf root page l run p = PutsPieces record_key leaf_bytes root page (part_of_leaf (applied l 0 run)) p.placing p.entries
 
 -- the next version of an inner node, with the links that go to it
@@ -100,7 +99,7 @@ abbrev pub linked_node : Inner → List Link → Inner
 linked_node n ls = record n { version = n.version + 1; entries = with_links n ls n.entries }
 
 -- it is put
-abbrev pub PutsNode : Tree → KeptNode → List Link → NodePlan → Type 0
+abbrev pub PutsNode : Tree → KeptNode → List Link → PagePlan → Type 0
 PutsNode root k ls p =
     (n : Inner) × (inner_of k.bytes ≡ Some n) × PutsPieces entry_key node_bytes root k.page (part_of_node (linked_node n ls)) p.placing p.entries
 
@@ -150,7 +149,7 @@ IsWay tree key cs start (n ∷ ns) q turns =
 
 -- how a leaf was left: put as planned, as it was since it lacks nothing, or for the page on its right
 pub data Outcome : Type 0 where
-  Planned : (plan : LeafPlan) → Outcome
+  Planned : (plan : PagePlan) → Outcome
   Spared : Outcome
   Passed : (link : Link) → Outcome
 
@@ -300,7 +299,7 @@ IsHandled key (v ∷ vs) = ((holds v.leaf key ≡ true) × IsSettled v.outcome) 
 -- an inner node that was got, and what was planned for it
 pub record Climb : Type 0 where
   pub node : KeptNode
-  pub plan : NodePlan
+  pub plan : PagePlan
 
 -- all that is put is put under the tree's lease
 abbrev pub climbs_over : ℕ → Claim → List Climb → Calls → Calls

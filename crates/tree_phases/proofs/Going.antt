@@ -10,13 +10,13 @@ use Rattle.tree_phases.specs.declared.link.Link.{Link}
 use Rattle.tree_phases.specs.declared.pace.Pace.{Pace}
 use Rattle.tree_phases.specs.Going.{Finds, Went}
 use Rattle.tree_phases.specs.Read.{tree_held}
-use Rattle.tree_phases.specs.declared.node.NodePlan.{NodePlan}
+use Rattle.tree_phases.specs.declared.page_plan.PagePlan.{PagePlan}
 use Rattle.tree_phases.specs.declared.rising.Rising.{Rising}
 use Rattle.tree_phases.specs.Nodes.{node_plan}
 use Rattle.tree_phases.specs.Rising.{RisingStep, next_touched, touched_node, FindsPlan, put_node, finish, rise_at, rise}
 
 -- what was planned from the parts of the chart
-pub found_some : (r : Rising) (at next level : ℕ) (root : Tree) (ls : List Link) (k : KeptNode) (plan : Result NodePlan Fault)
+pub found_some : (r : Rising) (at next level : ℕ) (root : Tree) (ls : List Link) (k : KeptNode) (plan : Result PagePlan Fault)
     → at ≡ next_touched r → Some k ≡ slice_get r.chart.nodes at → next ≡ at + 1 → level ≡ k.level + 1 → root ≡ tree_held r.chart.root → ls ≡ r.chart.links
     → Finds plan (node_plan root r.chart.tree k ls) → FindsPlan r (Some (next, level, plan)) (touched_node r)
 found_some r at next level root ls k plan e get n l t same h =
@@ -30,17 +30,17 @@ pub found_none : (r : Rising) (at : ℕ) → at ≡ next_touched r → None ≡ 
 found_none r at e get = subst (FindsPlan r None) (get ∙ ap (slice_get r.chart.nodes) e) tt
 
 -- at a node that a link goes to
-rise_some_at : (r new : Rising) (p : Pace (Unit {0})) (next level : ℕ) (plan : Result NodePlan Fault) (o : Option KeptNode)
-    → FindsPlan r (Some (next, level, plan)) o → ((wanted : Result NodePlan Trouble) → Finds plan wanted → Went (put_node r next level wanted) new p)
+rise_some_at : (r new : Rising) (p : Pace (Unit {0})) (next level : ℕ) (plan : Result PagePlan Fault) (o : Option KeptNode)
+    → FindsPlan r (Some (next, level, plan)) o → ((wanted : Result PagePlan Trouble) → Finds plan wanted → Went (put_node r next level wanted) new p)
     → Went (rise_at r (next_touched r) o) new p
 rise_some_at r new p next level plan None f h = absurd f
 rise_some_at r new p next level plan (Some k) f h =
-    let wanted : Result NodePlan Trouble = node_plan (tree_held r.chart.root) r.chart.tree k r.chart.links in
+    let wanted : Result PagePlan Trouble = node_plan (tree_held r.chart.root) r.chart.tree k r.chart.links in
     let behind : Went (put_node r (next_touched r + 1) level wanted) new p = subst (λ (i : ℕ). Went (put_node r i level wanted) new p) f.0 (h wanted f.2) in
     subst (λ (i : ℕ). Went (put_node r (next_touched r + 1) i wanted) new p) f.1 behind
 
-pub rise_some : (r new : Rising) (p : Pace (Unit {0})) (next level : ℕ) (plan : Result NodePlan Fault)
-    → FindsPlan r (Some (next, level, plan)) (touched_node r) → ((wanted : Result NodePlan Trouble) → Finds plan wanted → Went (put_node r next level wanted) new p)
+pub rise_some : (r new : Rising) (p : Pace (Unit {0})) (next level : ℕ) (plan : Result PagePlan Fault)
+    → FindsPlan r (Some (next, level, plan)) (touched_node r) → ((wanted : Result PagePlan Trouble) → Finds plan wanted → Went (put_node r next level wanted) new p)
     → Went (rise r) new p
 rise_some r new p next level plan f h = rise_some_at r new p next level plan (touched_node r) f h
 

@@ -23,7 +23,7 @@ use Rattle.tree_phases.specs.Read.{leaf_read, tree_held}
 use Rattle.tree_phases.specs.declared.folding.Folding.{Folding}
 use Rattle.tree_phases.specs.declared.folding.Left.{Left}
 use Rattle.tree_phases.specs.declared.folding.Left.TheVariants.{Right, Handled}
-use Rattle.tree_phases.specs.declared.plan.LeafPlan.{LeafPlan}
+use Rattle.tree_phases.specs.declared.page_plan.PagePlan.{PagePlan}
 use Rattle.tree_phases.specs.Plan.{leaf_plan}
 
 abbrev pub FoldingStep : Type 0
@@ -66,14 +66,14 @@ abbrev pub handled_to : Folding → Option (List ℕ) → Folding
 handled_to f high = record f { chart = record f.chart { from = high } }
 
 -- what was planned is put next, and the new pieces are noted for the level above
-abbrev pub put_planned : Folding → List PuItem → LeafPlan → Folding
+abbrev pub put_planned : Folding → List PuItem → PagePlan → Folding
 put_planned f items p = record f {
   chart = record f.chart { links = f.chart.links ++ links_at 1 p.entries };
   placing = p.placing;
   lacked = items;
 }
 
-abbrev pub planned : Folding → Option (List ℕ) → List PuItem → Result LeafPlan Trouble → FoldingStep
+abbrev pub planned : Folding → Option (List ℕ) → List PuItem → Result PagePlan Trouble → FoldingStep
 planned f high items (Ok p) = Goes (put_planned (handled_to f high) items p)
 planned f high items (Err t) = Stops f t
 

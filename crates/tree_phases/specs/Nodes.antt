@@ -13,7 +13,7 @@ use Rattle.tree_phases.specs.declared.link.Link.{Link}
 use Rattle.tree_phases.specs.declared.reserve.Reserved.{Reserved}
 use Rattle.tree_phases.specs.Read.{inner_read}
 use Rattle.tree_phases.specs.Reserve.{reservation, version_spent}
-use Rattle.tree_phases.specs.declared.node.NodePlan.{NodePlan}
+use Rattle.tree_phases.specs.declared.page_plan.PagePlan.{PagePlan}
 
 -- a link of the node's level whose low key lies in its range
 abbrev pub goes_to : Inner → Link → Bool
@@ -48,21 +48,21 @@ linked n ls =
     else Ok (record n { version = n.version + 1; entries = with_links n ls n.entries })
 
 -- the pieces of a node on their pages: the reservation is put first, then the right pieces, the rightmost first, and the node's own page last
-abbrev pub in_pieces : ℕ → Inner → Reserved → NodePlan
+abbrev pub in_pieces : ℕ → Inner → Reserved → PagePlan
 in_pieces page n r = record {
   placing = record { reserved = r.put; puts = reverse (map (put_of node_bytes) (on_pages page r.first (node_pieces r.first n))) };
   entries = drop 1 (map entry_of (on_pages page r.first (node_pieces r.first n)));
 }
 
-abbrev pub planned_by : ℕ → Inner → Result Reserved Trouble → Result NodePlan Trouble
+abbrev pub planned_by : ℕ → Inner → Result Reserved Trouble → Result PagePlan Trouble
 planned_by page n (Ok r) = Ok (in_pieces page n r)
 planned_by page n (Err t) = Err t
 
 -- a node of more than 64 entries is cut, and its new pieces take numbers that are reserved for them
-abbrev pub planned : Tree → ℕ → Inner → Result NodePlan Trouble
+abbrev pub planned : Tree → ℕ → Inner → Result PagePlan Trouble
 planned root page n = planned_by page n (reservation root page (count_of (length n.entries) - 1))
 
-abbrev pub planned_of : Tree → ℕ → Result Inner Trouble → Result NodePlan Trouble
+abbrev pub planned_of : Tree → ℕ → Result Inner Trouble → Result PagePlan Trouble
 planned_of root page (Ok n) = planned root page n
 planned_of root page (Err t) = Err t
 
@@ -71,5 +71,5 @@ linked_by ls (Ok n) = linked n ls
 linked_by ls (Err t) = Err t
 
 -- a node that was got, with the links that go to it
-abbrev pub node_plan : Tree → ℕ → KeptNode → List Link → Result NodePlan Trouble
+abbrev pub node_plan : Tree → ℕ → KeptNode → List Link → Result PagePlan Trouble
 node_plan root tree k ls = planned_of root k.page (linked_by ls (inner_read tree k.page k.bytes))

@@ -16,7 +16,7 @@ use Rattle.tree_phases.specs.Kept.{links_at}
 use Rattle.tree_phases.specs.Placing.{put_in_hand, landed_root, landed_placing, has_nothing}
 use Rattle.tree_phases.specs.Read.{tree_held}
 use Rattle.tree_phases.specs.Reserve.{version_spent}
-use Rattle.tree_phases.specs.declared.node.NodePlan.{NodePlan}
+use Rattle.tree_phases.specs.declared.page_plan.PagePlan.{PagePlan}
 use Rattle.tree_phases.specs.declared.rising.Rising.{Rising}
 use Rattle.tree_phases.specs.declared.root.RootPlan.{RootPlan}
 use Rattle.tree_phases.specs.Nodes.{node_plan, touched_at}
@@ -44,7 +44,7 @@ abbrev pub next_touched : Rising → ℕ
 next_touched r = r.at + touched_at r.chart.tree r.chart.links (drop r.at r.chart.nodes)
 
 -- what was planned for a node is put next, and its new pieces are noted for the level above
-abbrev pub put_node : Rising → ℕ → ℕ → Result NodePlan Trouble → RisingStep
+abbrev pub put_node : Rising → ℕ → ℕ → Result PagePlan Trouble → RisingStep
 put_node r next level (Ok p) = Goes (record r {
   chart = record r.chart { links = r.chart.links ++ links_at level p.entries };
   at = next;
@@ -73,7 +73,7 @@ abbrev pub touched_node : Rising → Option KeptNode
 touched_node r = slice_get r.chart.nodes (next_touched r)
 
 -- the code found what is put for a node, with the place behind it and the level above it, or that there is no node
-abbrev pub FindsPlan : Rising → Option (ℕ × ℕ × Result NodePlan Fault) → Option KeptNode → Type 0
+abbrev pub FindsPlan : Rising → Option (ℕ × ℕ × Result PagePlan Fault) → Option KeptNode → Type 0
 FindsPlan r (Some x) (Some k) =
     (x.0 ≡ next_touched r + 1) × (x.1 ≡ k.level + 1) × Finds x.2 (node_plan (tree_held r.chart.root) r.chart.tree k r.chart.links)
 FindsPlan r None None = Unit {0}

@@ -11,9 +11,10 @@ use crate::chart::Chart;
 use crate::items::ItemList;
 use crate::link::{Link, add_links};
 use crate::pace::Pace;
+use crate::page_plan::PagePlan;
 use crate::pages::PageList;
 use crate::placing::Placing;
-use crate::plan::{LeafPlan, leaf_plan};
+use crate::plan::leaf_plan;
 use crate::read::{leaf_view, tree_view};
 use byte_format::{is_below, is_same};
 use ckpt_parts::{Fault, lacked_of};
@@ -259,7 +260,7 @@ impl Folding {
         alloc: Global,
         view: &LeafView<'_>,
         lacked: ItemList,
-        plan: LeafPlan,
+        plan: PagePlan,
     ) -> Pace<Left>
         ensures went { Went (Goes (put_planned (handled_to self.old view.now.high) lacked plan)) self.new result }
         ensures lease { self.new.lease ≡ self.old.lease }
@@ -267,7 +268,7 @@ impl Folding {
         if self.go_to(alloc, view.high()).is_err() {
             return Pace::Memory;
         }
-        let LeafPlan { placing, entries } = plan;
+        let PagePlan { placing, entries } = plan;
         if add_links(alloc, &mut self.chart.links, 1, entries.as_slice()).is_err() {
             return Pace::Memory;
         }

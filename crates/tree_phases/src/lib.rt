@@ -10,6 +10,7 @@ pub mod kept;
 pub mod link;
 pub mod node;
 pub mod pace;
+pub mod page_plan;
 pub mod pages;
 pub mod placing;
 pub mod plan;

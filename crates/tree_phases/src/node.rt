@@ -7,6 +7,7 @@ ghost use Rattle.tree_phases.specs.Nodes.{goes_to, is_touched, touches, with_lin
 
 use crate::kept::KeptNode;
 use crate::link::Link;
+use crate::page_plan::PagePlan;
 use crate::placing::{Placing, PutQueue};
 use crate::read::inner_view;
 use crate::reserve::{Reserved, reserve, version_spent};
@@ -16,18 +17,8 @@ use db_base::ids::{PageId, TreeId};
 use db_base::pair::EditFault;
 use node_codec::{InnerBuf, InnerView, TreeView};
 use split_plan::count::pieces;
-use split_plan::entry_list::EntryList;
 use split_plan::inner::plan_inner;
 use std::alloc::Global;
-
-/// What is put, and what the level above is to name.
-#[derive(Drop)]
-pub struct NodePlan {
-    /// The puts: the reservation, where the node is cut, the right pieces, and the node itself last.
-    pub placing: Placing,
-    /// The new pages, from left to right.
-    pub entries: EntryList,
-}
 
 /// Whether a link is of the node's level and lies in its range.
 fn goes_to(node: &InnerView<'_>, link: &Link) -> bool
@@ -117,12 +108,12 @@ fn in_pieces(
     page: PageId,
     buf: InnerBuf,
     reserved: Reserved,
-) -> Result<NodePlan, Fault>
+) -> Result<PagePlan, Fault>
     requires { reserved.first + (count_of (length buf.entries) - 1) ≤ u64.MAX }
     ensures { Finds result (Ok (in_pieces page buf reserved)) }
 {
     match plan_inner(alloc, page, buf, reserved.first) {
-        Ok(plan) => Ok(NodePlan {
+        Ok(plan) => Ok(PagePlan {
             placing: Placing {
                 reserved: reserved.put,
                 puts: PutQueue::of(plan.puts),
@@ -139,7 +130,7 @@ fn planned(
     root: &TreeView<'_>,
     page: PageId,
     buf: InnerBuf,
-) -> Result<NodePlan, Fault>
+) -> Result<PagePlan, Fault>
     ensures { Finds result (planned root.now page buf) }
 {
     let count = pieces(buf.len() as u64) - 1;
@@ -157,7 +148,7 @@ pub(crate) fn node_plan(
     tree: TreeId,
     kept: &KeptNode,
     links: &[Link],
-) -> Result<NodePlan, Fault>
+) -> Result<PagePlan, Fault>
     ensures { Finds result (node_plan root.now tree kept.now links.now) }
 {
     match inner_view(tree, kept.page, kept.bytes.as_slice()) {

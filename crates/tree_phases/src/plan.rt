@@ -5,6 +5,7 @@ ghost use Rattle.split_plan.specs.Sizes.{count_of};
 ghost use Rattle.tree_phases.specs.Going.{Finds};
 ghost use Rattle.tree_phases.specs.Plan.{planned, leaf_plan, in_pieces};
 
+use crate::page_plan::PagePlan;
 use crate::placing::{Placing, PutQueue};
 use crate::reserve::{Reserved, reserve, version_spent};
 use ckpt_parts::Fault;
@@ -15,18 +16,8 @@ use leaf_view::LeafView;
 use node_codec::TreeView;
 use run_cursor::run::Run;
 use split_plan::count::pieces;
-use split_plan::entry_list::EntryList;
 use split_plan::leaf::plan_leaf;
 use std::alloc::Global;
-
-/// What is put, and what the level above is to name.
-#[derive(Drop)]
-pub struct LeafPlan {
-    /// The puts: the reservation, where the leaf is cut, the right pieces, and the leaf itself last.
-    pub placing: Placing,
-    /// The new pages, from left to right.
-    pub entries: EntryList,
-}
 
 /// The puts of a leaf in its pieces, the new ones on reserved pages. Refused for memory alone.
 fn in_pieces(
@@ -34,12 +25,12 @@ fn in_pieces(
     page: PageId,
     buf: LeafBuf,
     reserved: Reserved,
-) -> Result<LeafPlan, Fault>
+) -> Result<PagePlan, Fault>
     requires { reserved.first + (count_of (length buf.records) - 1) ≤ u64.MAX }
     ensures { Finds result (Ok (in_pieces page buf reserved)) }
 {
     match plan_leaf(alloc, page, buf, reserved.first) {
-        Ok(plan) => Ok(LeafPlan {
+        Ok(plan) => Ok(PagePlan {
             placing: Placing {
                 reserved: reserved.put,
                 puts: PutQueue::of(plan.puts),
@@ -56,7 +47,7 @@ fn planned(
     root: &TreeView<'_>,
     page: PageId,
     buf: LeafBuf,
-) -> Result<LeafPlan, Fault>
+) -> Result<PagePlan, Fault>
     ensures { Finds result (planned root.now page buf) }
 {
     let count = pieces(buf.len() as u64) - 1;
@@ -74,7 +65,7 @@ pub(crate) fn leaf_plan(
     page: PageId,
     view: &LeafView<'_>,
     run: &Run,
-) -> Result<LeafPlan, Fault>
+) -> Result<PagePlan, Fault>
     ensures { Finds result (leaf_plan root.now page view.now run.now.items) }
 {
     match apply(alloc, view, 0, run.items()) {

@@ -2,13 +2,14 @@ ghost use Rattle.std.specs.Prelude.{◌≡◌, ◌<◌, ◌+◌, length};
 ghost use Rattle.db_base.specs.declared.trouble.Trouble.{Trouble};
 ghost use Rattle.cloud_trait.specs.Call.{ask_of};
 ghost use Rattle.tree_phases.specs.Going.{Finds, IfFinds, Went};
-ghost use Rattle.tree_phases.specs.declared.node.NodePlan.{NodePlan};
+ghost use Rattle.tree_phases.specs.declared.page_plan.PagePlan.{PagePlan};
 ghost use Rattle.tree_phases.specs.declared.root.RootPlan.{RootPlan};
 ghost use Rattle.tree_phases.specs.Rising.{begun, rising_ask, rising_next, next_touched, touched_node, FindsPlan, rise, finish, put_node, last_plan, put_root, put_next, put_landed};
 
 use crate::chart::Chart;
 use crate::link::add_links;
-use crate::node::{NodePlan, node_plan, touched_at};
+use crate::node::{node_plan, touched_at};
+use crate::page_plan::PagePlan;
 use crate::pace::Pace;
 use crate::placing::Placing;
 use crate::read::tree_view;
@@ -86,7 +87,7 @@ impl Rising {
     }
 
     /// What is put for the next node that a link goes to, with the place behind it and the level above it; none behind the last one.
-    fn next_plan(&self, alloc: Global) -> Option<(usize, u64, Result<NodePlan, Fault>)>
+    fn next_plan(&self, alloc: Global) -> Option<(usize, u64, Result<PagePlan, Fault>)>
         ensures { FindsPlan self.now result (touched_node self.now) }
     {
         let at = self.next_touched();
@@ -121,13 +122,13 @@ impl Rising {
         alloc: Global,
         next: usize,
         level: u64,
-        plan: Result<NodePlan, Fault>,
+        plan: Result<PagePlan, Fault>,
     ) -> Pace<()>
         ensures { IfFinds plan (λ wanted. Went (put_node self.old next level wanted) self.new result) }
     {
         match plan {
             Ok(plan) => {
-                let NodePlan { placing, entries } = plan;
+                let PagePlan { placing, entries } = plan;
                 if add_links(alloc, &mut self.chart.links, level, entries.as_slice()).is_err() {
                     return Pace::Memory;
                 }

@@ -12,7 +12,7 @@ use Rattle.db_base.specs.declared.trouble.Trouble.TheVariants as trouble
 use Rattle.leaf_edit.specs.Lacked.{lacked}
 use Rattle.tree_phases.specs.declared.folding.Folding.{Folding}
 use Rattle.tree_phases.specs.declared.folding.Left.TheVariants.{Right}
-use Rattle.tree_phases.specs.declared.plan.LeafPlan.{LeafPlan}
+use Rattle.tree_phases.specs.declared.page_plan.PagePlan.{PagePlan}
 use Rattle.tree_phases.specs.Folding.{FoldingStep, bad_low, turned, to_right, planned, handled_by, handle, leaf_side, leaf_at, leaf_found, leaf_got}
 use Rattle.tree_phases.specs.Plan.{leaf_plan}
 use Rattle.leaf_view.specs.Leaf.{Leaf}
@@ -53,7 +53,7 @@ module _ (book : Book) (order : List Entry) (s : CloudState) (stands : StandsUnd
 
   -- ---- its part of the run
 
-  planned_leads : (missing : List PuItem) → lacked leaf 0 items ≡ missing → (plan : Result LeafPlan Trouble) → leaf_plan (tree_held f.chart.root) f.page leaf items ≡ plan
+  planned_leads : (missing : List PuItem) → lacked leaf 0 items ≡ missing → (plan : Result PagePlan Trouble) → leaf_plan (tree_held f.chart.root) f.page leaf items ≡ plan
       → Known (planned f leaf.high missing plan)
   planned_leads missing e (Err t) g = tt
   planned_leads missing e (Ok plan) g =

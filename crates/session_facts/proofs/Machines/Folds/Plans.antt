@@ -23,7 +23,7 @@ use Rattle.leaf_edit.proofs.Whole.{applied-formed}
 use Rattle.leaf_edit.specs.Applied.{applied}
 use Rattle.leaf_edit.specs.Lacked.{lacked}
 use Rattle.tree_phases.specs.declared.folding.Folding.{Folding}
-use Rattle.tree_phases.specs.declared.plan.LeafPlan.{LeafPlan}
+use Rattle.tree_phases.specs.declared.page_plan.PagePlan.{PagePlan}
 use Rattle.tree_phases.specs.Folding.{handled_to, put_planned}
 use Rattle.tree_phases.specs.Plan.{in_pieces, planned_by, planned, leaf_plan}
 use Rattle.leaf_view.specs.Fits.{IsWellFormed, IsVersion}
@@ -78,7 +78,7 @@ not_below key least low from at = on (bytes_below key low) refl
     on true e = absurd (never e (bytes_same key least) refl)
     on false e = refl
 
-abbrev made : LeafPlan → Result LeafPlan Trouble
+abbrev made : PagePlan → Result PagePlan Trouble
 made p = Ok p
 
 -- ---- the leaf that was read
@@ -236,7 +236,7 @@ module _ (book : Book) (order : List Entry) (s : CloudState) (stands : StandsUnd
     notes = record { found = f.chart.links; are_found = at.chart.links; links_are = refl };
   }
 
-  pub plan_known : (p : LeafPlan) → leaf_plan (tree_held f.chart.root) f.page leaf items ≡ Ok p
+  pub plan_known : (p : PagePlan) → leaf_plan (tree_held f.chart.root) f.page leaf items ≡ Ok p
       → IsPutting st now lease (put_planned (handled_to f leaf.high) (lacked leaf 0 items) p) ids
   plan_known p e = on (leaf.version == 18446744073709551615) refl e
     where
@@ -244,10 +244,10 @@ module _ (book : Book) (order : List Entry) (s : CloudState) (stands : StandsUnd
           → planned_by f.page whole o ≡ Ok p → IsPutting st now lease (put_planned (handled_to f leaf.high) (lacked leaf 0 items) p) ids
       by_pieces spare (Err t) g h = absurd (cc)
       by_pieces spare (Ok r) g h =
-          subst (λ (q : LeafPlan). IsPutting st now lease (put_planned (handled_to f leaf.high) (lacked leaf 0 items) q) ids) (one (in_pieces f.page whole r) p h)
+          subst (λ (q : PagePlan). IsPutting st now lease (put_planned (handled_to f leaf.high) (lacked leaf 0 items) q) ids) (one (in_pieces f.page whole r) p h)
           (pieces_put r (reservation_is (tree_held f.chart.root) f.page (count_of (length whole.records) - 1) at.chart.root.spelled r g) spare)
         where
-          one : (a b : LeafPlan) → made a ≡ made b → a ≡ b
+          one : (a b : PagePlan) → made a ≡ made b → a ≡ b
           one a b q = cc
 
       on : (b : Bool) → (leaf.version == 18446744073709551615) ≡ b → cond b (Err version_spent) (planned (tree_held f.chart.root) f.page whole) ≡ Ok p

@@ -15,7 +15,7 @@ use Rattle.db_base.specs.declared.names.ObjName.TheVariants as object
 use Rattle.db_base.specs.declared.trouble.Trouble.{Trouble}
 use Rattle.leaf_edit.specs.Applied.{applied}
 use Rattle.tree_phases.specs.declared.folding.Folding.{Folding}
-use Rattle.tree_phases.specs.declared.plan.LeafPlan.{LeafPlan}
+use Rattle.tree_phases.specs.declared.page_plan.PagePlan.{PagePlan}
 use Rattle.tree_phases.specs.Folding.{FoldingStep, leaf_got, leaf_put, folding_next}
 use Rattle.tree_phases.specs.Plan.{planned_by, leaf_plan}
 use Rattle.tree_phases.specs.Plan as plan
@@ -101,7 +101,7 @@ module _ (book : Book) (order : List Entry) (s : CloudState) (stands : StandsUnd
   reads_may seen refused (step.loops got l high right behind e) =
       let new = fresh l high right (read_is got l (seen got refl) behind.holds) behind.goes behind.beyond in absurd (cc (e, new))
   reads_may seen refused (step.unplanned got l x xs t here some e) =
-      spent_may t (subst (λ (p : Result LeafPlan Trouble). IsFair p) e (plan_fair (tree_held f.chart.root) f.page l f.chart.run.items))
+      spent_may t (subst (λ (p : Result PagePlan Trouble). IsFair p) e (plan_fair (tree_held f.chart.root) f.page l f.chart.run.items))
   reads_may seen refused c = tt
 
   pub leaf_may : (g : Result (Option (List ℕ)) Trouble) → ((v : Option (List ℕ)) → g ≡ Ok v → v ≡ newest s (object.Page tree f.page)) → ((t : Trouble) → g ≡ Err t → MayStopTree t)

@@ -27,7 +27,7 @@ use Rattle.tree_phases.specs.declared.reserve.Reserved.{Reserved}
 use Rattle.tree_phases.specs.Kept.{links_at}
 use Rattle.tree_phases.specs.Read.{tree_held}
 use Rattle.tree_phases.specs.Reserve.{version_spent, reservation}
-use Rattle.tree_phases.specs.declared.node.NodePlan.{NodePlan}
+use Rattle.tree_phases.specs.declared.page_plan.PagePlan.{PagePlan}
 use Rattle.tree_phases.specs.declared.rising.Rising.{Rising}
 use Rattle.tree_phases.specs.Nodes.{touched_at, in_pieces, planned_by, planned_of, linked_by, node_plan}
 use Rattle.tree_phases.specs.Rising.{next_touched, touched_node, put_node}
@@ -126,10 +126,10 @@ module _ (book : Book) (order : List Entry) (s : CloudState) (stands : StandsUnd
 
     -- ---- the plan
 
-    abbrev Leads : Result NodePlan Trouble → Type 0
+    abbrev Leads : Result PagePlan Trouble → Type 0
     Leads p = RisesOn st now lease ids (put_node r (next_touched r + 1) (kept.level + 1) p)
 
-    abbrev with_plan : NodePlan → Rising
+    abbrev with_plan : PagePlan → Rising
     with_plan p = record r { chart = record r.chart { links = links ++ links_at (kept.level + 1) p.entries }; at = next_touched r + 1; placing = p.placing }
 
     pieces_known : (q : Reserved) → Reserving root kept.page count q → HasInnerSpelling risen → Leads (Ok (in_pieces kept.page risen q))

@@ -21,7 +21,7 @@ use Rattle.tree_phases.specs.declared.link.Link.{Link as Found}
 use Rattle.tree_phases.specs.declared.reserve.Reserved.{Reserved}
 use Rattle.tree_phases.specs.Read.{tree_held}
 use Rattle.tree_phases.specs.Reserve.{version_spent, pages_spent, next_tree, reservation}
-use Rattle.tree_phases.specs.declared.node.NodePlan.{NodePlan}
+use Rattle.tree_phases.specs.declared.page_plan.PagePlan.{PagePlan}
 use Rattle.tree_phases.specs.declared.rising.Rising.{Rising}
 use Rattle.tree_phases.specs.declared.root.RootPlan.{RootPlan}
 use Rattle.tree_phases.specs.Nodes.{touched_at, with_links, planned_by, planned_of, linked_by, node_plan}
@@ -92,7 +92,7 @@ rises_may st now lease r nodes (step.node_due kept p at e) = tt
 rises_may st now lease r nodes (step.no_node kept t at e) =
     let place : ℕ = touched_at r.chart.tree r.chart.links (drop r.at r.chart.nodes) in
     spent_may t
-    (subst (λ (p : Result NodePlan Trouble). IsFair p) e
+    (subst (λ (p : Result PagePlan Trouble). IsFair p) e
     (node_fair st now lease r.chart.tree (tree_held r.chart.root) kept r.chart.links (nodes kept (place, get_dropped r.at place r.chart.nodes kept at))))
 rises_may st now lease r nodes (step.root_due p none e) = tt
 rises_may st now lease r nodes (step.no_root t none e) = spent_may t (subst (λ (p : Result RootPlan Trouble). IsFair p) e (last_fair r))

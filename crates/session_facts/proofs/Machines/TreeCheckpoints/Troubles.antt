@@ -9,7 +9,7 @@ use Rattle.db_base.specs.declared.trouble.Trouble.{Trouble}
 use Rattle.db_base.specs.declared.trouble.Trouble.TheVariants as trouble
 use Rattle.tree_phases.specs.declared.folding.Folding.{Folding}
 use Rattle.tree_phases.specs.declared.folding.Left.{Left}
-use Rattle.tree_phases.specs.declared.plan.LeafPlan.{LeafPlan}
+use Rattle.tree_phases.specs.declared.page_plan.PagePlan.{PagePlan}
 use Rattle.tree_phases.specs.Folding.{bad_low, folding_next}
 use Rattle.leaf_view.specs.Leaf.{Leaf, leaf as leaf_format}
 use Rattle.node_codec.specs.Inner.{Inner, inner_of, inner_format}
@@ -30,7 +30,6 @@ use Rattle.tree_phases.specs.declared.chart.Chart.{Chart}
 use Rattle.tree_phases.specs.declared.kept.KeptNode.{KeptNode}
 use Rattle.tree_phases.specs.Placing.{has_nothing}
 use Rattle.tree_phases.specs.Read.{damaged, inner_or, tree_held}
-use Rattle.tree_phases.specs.declared.node.NodePlan.{NodePlan}
 use Rattle.tree_phases.specs.declared.rising.Rising.{Rising}
 use Rattle.tree_phases.specs.declared.root.RootPlan.{RootPlan}
 use Rattle.tree_phases.specs.Nodes.{planned_of, linked_by, node_plan}
@@ -102,7 +101,7 @@ module _ (Met : Trouble → Type 0) (free : (t : Trouble) → IsFree t → Met t
   reads_for f refused spent (leaf.plans got l x xs p here some e) = tt
   reads_for f refused spent (leaf.unplanned got l x xs t here some e) =
       spent got refl l here.holds t
-      (subst (λ (p : Result LeafPlan Trouble). PlanTells (leaf_due f l) p) e (leaf_plan_tells (tree_held f.chart.root) f.page l f.chart.run.items))
+      (subst (λ (p : Result PagePlan Trouble). PlanTells (leaf_due f l) p) e (leaf_plan_tells (tree_held f.chart.root) f.page l f.chart.run.items))
 
   placed_for : (f : Folding) {g : Result (Unit {0}) Trouble} {next : Next Folding Left} → ((t : Trouble) → g ≡ Err t → Met t) → leaf.Lands f g next → StopsFor Met next
   placed_for f refused (leaf.not_put t) = refused t refl
@@ -137,17 +136,17 @@ module _ (Met : Trouble → Type 0) (free : (t : Trouble) → IsFree t → Met t
   plan_for : (r : Rising) (k : KeptNode) (o : Option Inner) → inner_of k.bytes ≡ o → ((n : Inner) → inner_of k.bytes ≡ Some n → MeetsSpent Met (node_due r n)) → (t : Trouble)
       → node_plan (tree_held r.chart.root) r.chart.tree k r.chart.links ≡ Err t → Met t
   plan_for r k (Some n) reads spent t e =
-      spent n reads t (subst (λ (p : Result NodePlan Trouble). PlanTells (node_due r n) p) e (node_plan_tells (tree_held r.chart.root) r.chart.tree k n r.chart.links reads))
+      spent n reads t (subst (λ (p : Result PagePlan Trouble). PlanTells (node_due r n) p) e (node_plan_tells (tree_held r.chart.root) r.chart.tree k n r.chart.links reads))
   plan_for r k None reads spent t e =
       subst Met (same (damaged r.chart.tree k.page (offset inner_format k.bytes)) none) (free (damaged r.chart.tree k.page (offset inner_format k.bytes)) tt)
     where
-      planned : Option Inner → Result NodePlan Trouble
+      planned : Option Inner → Result PagePlan Trouble
       planned o = planned_of (tree_held r.chart.root) k.page (linked_by r.chart.links (inner_or r.chart.tree k.page (offset inner_format k.bytes) o))
 
       none : planned None ≡ Err t
       none = ap planned (sym reads) ∙ e
 
-      same : (u : Trouble) → ◌≡◌ {A = Result NodePlan Trouble} (Err u) (Err t) → u ≡ t
+      same : (u : Trouble) → ◌≡◌ {A = Result PagePlan Trouble} (Err u) (Err t) → u ≡ t
       same u f = cc
 
   pub rises_for : {r : Rising} {next : Next Rising (Unit {0})} → SpendsUp r → rise.Rises r next → StopsFor Met next

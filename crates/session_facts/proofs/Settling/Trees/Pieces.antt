@@ -5,7 +5,7 @@ use Rattle.cloud_trait.specs.Machine.{Goes, Ends, Stops}
 use Rattle.db_base.specs.declared.trouble.Trouble.{Trouble}
 use Rattle.tree_phases.specs.declared.folding.Folding.{Folding}
 use Rattle.tree_phases.specs.declared.folding.Left.TheVariants.{Right, Handled}
-use Rattle.tree_phases.specs.declared.plan.LeafPlan.{LeafPlan}
+use Rattle.tree_phases.specs.declared.page_plan.PagePlan.{PagePlan}
 use Rattle.tree_phases.specs.Plan.{leaf_plan}
 use Rattle.tree_phases.specs.Folding.{FoldingStep, no_placing, leaf_got}
 use Rattle.leaf_view.specs.Leaf.{Leaf}
@@ -23,7 +23,6 @@ use Rattle.tree_phases.specs.declared.kept.KeptNode.{KeptNode}
 use Rattle.tree_phases.specs.declared.link.Link.{Link}
 use Rattle.tree_phases.specs.declared.placing.Placing.{Placing}
 use Rattle.tree_phases.specs.Read.{tree_held}
-use Rattle.tree_phases.specs.declared.node.NodePlan.{NodePlan}
 use Rattle.tree_phases.specs.declared.root.RootPlan.{RootPlan}
 use Rattle.tree_phases.specs.Nodes.{node_plan}
 use Rattle.tree_phases.specs.Rising.{plan_of}
@@ -59,10 +58,10 @@ root_few root t p (inr b) =
 
 -- ---- plans
 
-pub leaf_few : (root : Tree) (page : ℕ) (l : Leaf) (run : List PuItem) (p : LeafPlan) → leaf_plan root page l run ≡ Ok p → piece_calls 2 p.placing ≤ 2
+pub leaf_few : (root : Tree) (page : ℕ) (l : Leaf) (run : List PuItem) (p : PagePlan) → leaf_plan root page l run ≡ Ok p → piece_calls 2 p.placing ≤ 2
 leaf_few root page l run p e = pieces_few _ _ root page _ p.placing p.entries (leaf_puts root page l run p e)
 
-pub node_few : (root : Tree) (tree : ℕ) (k : KeptNode) (ls : List Link) (p : NodePlan) → node_plan root tree k ls ≡ Ok p → piece_calls 2 p.placing ≤ 2
+pub node_few : (root : Tree) (tree : ℕ) (k : KeptNode) (ls : List Link) (p : PagePlan) → node_plan root tree k ls ≡ Ok p → piece_calls 2 p.placing ≤ 2
 node_few root tree k ls p e = let puts = node_puts root tree k ls p e in pieces_few _ _ root k.page _ p.placing p.entries puts.2
 
 pub last_few : (root : Tree) (ls : List Link) (top : List (ℕ × ℕ)) (p : RootPlan) → plan_of root (planned_root root ls top) ≡ Ok p → piece_calls 1 p.placing ≤ 1

@@ -44,7 +44,7 @@ impl Attr {
         if bytes.is_empty() || bytes.len() > MAX_ATTR {
             return Err(Refused::Rule(Refusal::BadAttr));
         }
-        match bytes.to_vec(alloc) {
+        match Vec::from_slice(alloc, bytes) {
             Ok(bytes) => Ok(Attr { bytes }),
             Err(_) => Err(Refused::Memory),
         }
@@ -63,7 +63,7 @@ impl Attr {
         ensures same { IfOk result (λ a. a ≡ self.now) }
         ensures is_attr { IfOk result (λ _. IsAttr self.now) }
     {
-        let bytes = self.bytes.as_slice().to_vec(alloc)?;
+        let bytes = Vec::from_slice(alloc, self.bytes.as_slice())?;
         Ok(Attr { bytes })
     }
 }

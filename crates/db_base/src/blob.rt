@@ -46,7 +46,7 @@ impl Blob {
         ensures { IfOk result (λ b. b ≡ bytes.now) }
     {
         Ok(Blob {
-            bytes: bytes.to_vec(alloc)?,
+            bytes: Vec::from_slice(alloc, bytes)?,
         })
     }
 

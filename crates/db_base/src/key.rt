@@ -49,7 +49,7 @@ impl Key {
         if bytes.len() > MAX_KEY {
             return Err(Refused::Rule(Refusal::LongKey));
         }
-        match bytes.to_vec(alloc) {
+        match Vec::from_slice(alloc, bytes) {
             Ok(bytes) => Ok(Key { bytes }),
             Err(_) => Err(Refused::Memory),
         }
@@ -76,7 +76,7 @@ impl Key {
         ensures same { IfOk result (λ k. k ≡ self.now) }
         ensures is_key { IfOk result (λ _. IsKey self.now) }
     {
-        let bytes = self.bytes.as_slice().to_vec(alloc)?;
+        let bytes = Vec::from_slice(alloc, self.bytes.as_slice())?;
         Ok(Key { bytes })
     }
 }
@@ -116,7 +116,7 @@ impl Payload {
         if bytes.len() > MAX_PAYLOAD {
             return Err(Refused::Rule(Refusal::LongPayload));
         }
-        match bytes.to_vec(alloc) {
+        match Vec::from_slice(alloc, bytes) {
             Ok(bytes) => Ok(Payload { bytes }),
             Err(_) => Err(Refused::Memory),
         }
@@ -144,7 +144,7 @@ impl Payload {
         ensures same { IfOk result (λ p. p ≡ self.now) }
         ensures is_payload { IfOk result (λ _. IsPayload self.now) }
     {
-        let bytes = self.bytes.as_slice().to_vec(alloc)?;
+        let bytes = Vec::from_slice(alloc, self.bytes.as_slice())?;
         Ok(Payload { bytes })
     }
 }

@@ -8,15 +8,13 @@ use Rattle.byte_format.specs.Order.{bytes_below, bytes_same, below_bound}
 use Rattle.byte_format.proofs.OrderLemmas.{same_is}
 use Rattle.db_base.specs.Ids.{index_of}
 use Rattle.db_base.specs.Value.{Value}
-use Rattle.leaf_view.specs.Leaf.{Entry}
-use Rattle.leaf_view.specs.Lookup.{holds, value_of}
+use Rattle.attr_index.proofs.Words.{Stage, Index, Entry, holds}
+use Rattle.leaf_view.specs.Lookup.{value_of}
 use Rattle.txn_buffer.specs.Noted.{AreDistinct}
 use Rattle.route_plan.specs.Seen.{seen}
 use Rattle.range_scan.specs.Meaning.{IsPast}
 use Rattle.range_scan.specs.Pairs.{Sight, AreItems, is_listed, items_of}
 use Rattle.range_scan.proofs.Pairs.{items_are}
-use Rattle.attr_index.specs.declared.stage.Stage.{Stage}
-use Rattle.attr_index.specs.declared.stage.Stage.TheVariants.{Index}
 use Rattle.attr_index.specs.Prefix.{prefix_of, behind, record_key, joined, entry_keys}
 use Rattle.attr_index.specs.Look.{Query, Own, bound_of, index_sight, keys_in}
 use Rattle.attr_index.specs.Meaning.{Visit, IsVisit, IsOfStage, AreMeeting, EndsPast, listed_of}

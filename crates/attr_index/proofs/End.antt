@@ -5,13 +5,7 @@ use Rattle.std.proofs.lemmas.Bool.{and_parts}
 use Rattle.byte_format.specs.Order.{bytes_below, below_bound}
 use Rattle.byte_format.specs.Whole.{IsBytes}
 use Rattle.db_base.specs.Ids.{index_of}
-use Rattle.leaf_view.specs.Leaf.{Leaf}
-use Rattle.leaf_view.specs.Lookup.{holds}
-use Rattle.cloud_trait.specs.declared.turn.Turn.{Turn}
-use Rattle.cloud_trait.specs.declared.turn.Turn.TheVariants.{More, Ended, Stopped}
-use Rattle.cloud_trait.specs.Caller.{Caller}
-use Rattle.cloud_trait.specs.Machine.{Next, Goes, Ends, Stops}
-use Rattle.cloud_trait.specs.Seen.{Seen}
+use Rattle.attr_index.proofs.Words.{Stage, Index, Records, Caller, Ends, Goes, Next, Stops, Seen, Turn, Ended, More, Stopped, Leaf, holds}
 use Rattle.page_cache.specs.Cache.{Cache}
 use Rattle.page_cache.specs.Held.{leaf_at}
 use Rattle.tree_walk.specs.Moves.{Moves}
@@ -19,8 +13,6 @@ use Rattle.tree_walk.specs.Stepped.{Stepped as StepsWalk}
 use Rattle.tree_walk.specs.Walk.{Walk, new_walk, object_of, sought, walk_ready, IsAtLeaf}
 use Rattle.tree_walk.specs.Walk.{calls_left as walk_calls_left}
 use Rattle.tree_walk.proofs.Stays.{WalksBeside, ready_walks}
-use Rattle.attr_index.specs.declared.stage.Stage.{Stage}
-use Rattle.attr_index.specs.declared.stage.Stage.TheVariants.{Index, Records}
 use Rattle.attr_index.specs.Look.{Own, Look, bound_of, set_out, to_first, to_record, behind_leaf, with_keys, with_found, leaf_read, leaf_read_at, walked_by}
 use Rattle.attr_index.specs.End.{keys_above, walks_left, calls_left}
 use Rattle.attr_index.proofs.Highs.{kept_short}

@@ -6,10 +6,8 @@ use Rattle.std.specs.declared.cmp.Ordering.TheVariants.{Less}
 use Rattle.std.proofs.lemmas.Grind.{reverse_onto}
 use Rattle.byte_format.specs.Order.{bytes_cmp, bytes_below, below_bound}
 use Rattle.db_base.specs.Value.{Value}
-use Rattle.db_base.specs.declared.pair.Pair.{Pair}
+use Rattle.attr_index.proofs.Words.{Pair, Entry, holds}
 use Rattle.head_codec.proofs.Keeping.{AllByRecursion-append}
-use Rattle.leaf_view.specs.Leaf.{Entry}
-use Rattle.leaf_view.specs.Lookup.{holds}
 use Rattle.route_plan.specs.Seen.{seen}
 use Rattle.range_scan.specs.Pairs.{Sight, is_listed, items_of}
 use Rattle.attr_index.specs.Prefix.{prefix_of}

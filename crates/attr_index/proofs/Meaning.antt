@@ -5,16 +5,10 @@ use Rattle.std.specs.List.{AllByRecursion}
 use Rattle.byte_format.specs.Order.{below_bound}
 use Rattle.db_base.specs.Ids.{index_of}
 use Rattle.db_base.specs.declared.names.ObjName.TheVariants as object
-use Rattle.db_base.specs.declared.pair.Pair.{Pair}
-use Rattle.leaf_view.specs.Leaf.{Leaf}
-use Rattle.leaf_view.specs.Lookup.{holds}
+use Rattle.attr_index.proofs.Words.{Stage, Index, Records, Caller, Deed, Ends, Goes, Next, Stops, Seen, Turn, Ended, More, Stopped, Pair, Leaf, holds}
 use Rattle.cloud_trait.specs.declared.answer.Answer.{Answer}
-use Rattle.cloud_trait.specs.declared.turn.Turn.{Turn}
-use Rattle.cloud_trait.specs.declared.turn.Turn.TheVariants.{More, Ended, Stopped}
 use Rattle.cloud_trait.specs.Ask.{Get}
-use Rattle.cloud_trait.specs.Caller.{Caller}
-use Rattle.cloud_trait.specs.Machine.{Next, Goes, Ends, Stops, LeadsBy, Took, Deed, IsMade}
-use Rattle.cloud_trait.specs.Seen.{Seen}
+use Rattle.cloud_trait.specs.Machine.{LeadsBy, Took, IsMade}
 use Rattle.page_cache.specs.Cache.{Cache}
 use Rattle.page_cache.specs.Held.{leaf_at}
 use Rattle.tree_walk.specs.Moves.{Moves}
@@ -26,8 +20,6 @@ use Rattle.tree_walk.proofs.Served.{IsServedBy, end_served}
 use Rattle.tree_walk.proofs.Stays.{WalksBeside, next_walks, ready_walks}
 use Rattle.range_scan.specs.Meaning.{IsGot, IsPast}
 use Rattle.range_scan.proofs.Meaning.{served_by}
-use Rattle.attr_index.specs.declared.stage.Stage.{Stage}
-use Rattle.attr_index.specs.declared.stage.Stage.TheVariants.{Index, Records}
 use Rattle.attr_index.specs.Look.{Query, Own, Look, look_asks, bound_of, set_out, walks, new_look, look_ready, to_first, keys_in, behind_leaf, with_keys, found_in_leaf, with_found, leaf_read_at, leaf_read, walked_by, walked, look_next}
 use Rattle.attr_index.specs.Meaning.{Visit, leaf_of, leaf_by, visited, Looked, tree_at, IsVisit, Continues, AreMeeting, EndsPast, IsOfStage, listed_of, found_of, AreAscending, IsFound}
 use Rattle.attr_index.specs.Stepped.{deed_of, Means}

@@ -5,13 +5,11 @@ use Rattle.std.specs.List.{AllByRecursion}
 use Rattle.std.specs.declared.cmp.Ordering.TheVariants.{Less}
 use Rattle.byte_format.specs.Order.{bytes_cmp, bytes_below}
 use Rattle.db_base.specs.Value.{Value}
-use Rattle.db_base.specs.declared.pair.Pair.{Pair}
+use Rattle.attr_index.proofs.Words.{Stage, Records, Pair}
 use Rattle.leaf_view.specs.Fits.{Ascend}
 use Rattle.report_types.specs.declared.stored.Stored.{Stored}
 use Rattle.txn_buffer.specs.Noted.{AreDistinct}
 use Rattle.route_plan.specs.Seen.{seen}
-use Rattle.attr_index.specs.declared.stage.Stage.{Stage}
-use Rattle.attr_index.specs.declared.stage.Stage.TheVariants.{Records}
 use Rattle.attr_index.specs.Look.{Query, Own, has_attr, found_with, found_in_leaf}
 use Rattle.attr_index.specs.Meaning.{Visit, IsVisit, IsOfStage, listed_of, found_of, BelowFirst, AreAscending, IsFound}
 use Rattle.attr_index.specs.Tagged.{tagged, stored_value, AreRecords, HasEntry, ShowsAt, ShowsVisit, FindsTagged}

@@ -5,11 +5,8 @@ use Rattle.std.proofs.lemmas.Bool.{lt-ltb, le-ltb}
 use Rattle.byte_format.specs.Whole.{IsBytes}
 use Rattle.db_base.specs.declared.trouble.Trouble.{Trouble}
 use Rattle.cloud_trait.specs.declared.answer.Answer.{Answer}
-use Rattle.cloud_trait.specs.declared.turn.Turn.{Turn}
-use Rattle.cloud_trait.specs.declared.turn.Turn.TheVariants.{More, Ended, Stopped}
-use Rattle.cloud_trait.specs.Caller.{Caller}
-use Rattle.cloud_trait.specs.Seen.{Seen}
-use Rattle.cloud_trait.specs.Machine.{Next, Goes, Ends, Stops, LeadsBy, Took, Deed}
+use Rattle.attr_index.proofs.Words.{Records, Caller, Deed, Ends, Goes, Next, Stops, Seen, Turn, Ended, More, Stopped}
+use Rattle.cloud_trait.specs.Machine.{LeadsBy, Took}
 use Rattle.txn_buffer.specs.Noted.{AreDistinct}
 use Rattle.page_cache.specs.Cache.{Cache}
 use Rattle.tree_walk.specs.Moves.{Moves}
@@ -17,7 +14,6 @@ use Rattle.tree_walk.specs.Stepped.{Stepped as StepsWalk}
 use Rattle.tree_walk.specs.Walk.{Walk, walk_next, ServesOn, IsAtLeaf, sought}
 use Rattle.tree_walk.specs.Walk.{calls_left as walk_calls_left}
 use Rattle.tree_walk.specs.Walk.{KeepsServed as KeepsWalked}
-use Rattle.attr_index.specs.declared.stage.Stage.TheVariants.{Records}
 use Rattle.attr_index.specs.Prefix.{next_behind, next_of}
 use Rattle.attr_index.specs.Look.{Own, Look, record_walk, walks, to_record, walked, walked_by, look_next}
 use Rattle.attr_index.specs.Meaning.{leaf_by, visited}

@@ -3,8 +3,8 @@ use Rattle.std.proofs.Common.{◌≡◌, ℕ, ◌+◌, ◌≤◌, ◌<◌, Bool,
 use Rattle.std.specs.Prelude.{if◌then◌else◌}
 use Rattle.byte_format.specs.Order.{below_bound}
 use Rattle.db_base.specs.Ids.{index_of}
-use Rattle.leaf_view.specs.Leaf.{Leaf}
-use Rattle.cloud_trait.specs.Machine.{Next, Goes, Ends, Stops, Deed, IsMade}
+use Rattle.attr_index.proofs.Words.{Stage, Index, Records, Deed, Ends, Goes, Next, Stops, Leaf}
+use Rattle.cloud_trait.specs.Machine.{IsMade}
 use Rattle.page_cache.specs.Cache.{Cache}
 use Rattle.page_cache.specs.Held.{leaf_at}
 use Rattle.tree_walk.specs.Walk.{Walk, object_of, sought, new_walk, walk_ready, walk_next, pages}
@@ -12,8 +12,6 @@ use Rattle.tree_walk.specs.Within.{IsBegun, IsOnce}
 use Rattle.tree_walk.proofs.End.{more_pages}
 use Rattle.tree_walk.proofs.Within.{once_goes, once_begun}
 use Rattle.tree_walk.proofs.Served.{IsServedBy, end_served}
-use Rattle.attr_index.specs.declared.stage.Stage.{Stage}
-use Rattle.attr_index.specs.declared.stage.Stage.TheVariants.{Index, Records}
 use Rattle.attr_index.specs.Look.{Query, Own, Look, look_asks, bound_of, index_walk, set_out, walks, new_look, to_first, to_record, behind_leaf, with_keys, with_found, leaf_read_at, leaf_read, walked, look_next}
 use Rattle.attr_index.specs.Meaning.{Visit, leaf_of, leaf_by, visited, Looked, tree_at}
 use Rattle.attr_index.specs.Within.{IsOfWalk, AreOfWalks, LooksWithin}

@@ -4,18 +4,11 @@ use Rattle.std.specs.Prelude.{slice_get, take}
 use Rattle.std.specs.List.{AllByRecursion}
 use Rattle.std.proofs.lemmas.List.{take_all}
 use Rattle.db_base.specs.declared.names.QueueName.TheVariants as queue
-use Rattle.db_base.specs.declared.trouble.CommitAnswer.TheVariants.{Committed}
-use Rattle.log_codec.specs.declared.record.AtomicRec.{AtomicRec}
+use Rattle.commit_writes.proofs.Words.{Ask, Delete, Came, Deed, Ends, Goes, LeadsBy, Stops, Fits, Answer, Done, Failed, Memory, Stage, Deleting, Finished, Logging, Opening, Sending, Settling, Waiting, Committed, AtomicRec, Home}
 use Rattle.txn_buffer.specs.Noted.{Noted}
-use Rattle.cloud_trait.specs.declared.answer.Answer.{Answer}
-use Rattle.cloud_trait.specs.declared.answer.Answer.TheVariants.{Done, Failed, Memory}
 use Rattle.cloud_trait.specs.declared.state.Posted.{Posted}
-use Rattle.cloud_trait.specs.Ask.{Ask, Delete}
-use Rattle.cloud_trait.specs.Machine.{Goes, Ends, Stops, LeadsBy, Came, Deed, IsMade}
-use Rattle.cloud_trait.specs.Weather.{Fits, Rose}
-use Rattle.recover_run.specs.declared.home.Home.{Home}
-use Rattle.commit_writes.specs.declared.stage.Stage.{Stage}
-use Rattle.commit_writes.specs.declared.stage.Stage.TheVariants.{Waiting, Logging, Opening, Sending, Settling, Deleting, Finished}
+use Rattle.cloud_trait.specs.Machine.{IsMade}
+use Rattle.cloud_trait.specs.Weather.{Rose}
 use Rattle.commit_writes.specs.Writing.{Writing, waiting, begun, writing_ask, writing_next, ask_at, delete_ask}
 use Rattle.commit_writes.specs.Calls.{Calls, told, deleted_calls, all_logged}
 use Rattle.commit_writes.specs.Demands.{IsDeletion, deletions, Demands}

@@ -3,29 +3,19 @@ use Rattle.std.proofs.Common.{◌≡◌, ◌≢◌, ◌≤◌, ◌<◌, ◌+◌,
 use Rattle.std.specs.Prelude.{slice_get}
 use Rattle.std.proofs.lemmas.Option.{slice_get_within}
 use Rattle.route_plan.proofs.Places.{past_none}
-use Rattle.db_base.specs.declared.trouble.Trouble.{Trouble}
+use Rattle.commit_writes.proofs.Words.{Ask, Delete, Deed, Ends, Goes, LeadsBy, Stops, Took, trouble_of, Fits, Answer, Done, Failed, Memory, Turn, More, Stage, Deleting, Finished, Logging, Opening, Sending, Settling, Waiting, CommitAnswer, Committed, Trouble, AtomicRec, Home}
 use Rattle.db_base.specs.declared.trouble.Trouble.TheVariants as trouble
-use Rattle.db_base.specs.declared.trouble.CommitAnswer.{CommitAnswer}
-use Rattle.db_base.specs.declared.trouble.CommitAnswer.TheVariants.{Committed, NotCommitted, InDoubt, CommittedOpen}
+use Rattle.db_base.specs.declared.trouble.CommitAnswer.TheVariants.{NotCommitted, InDoubt, CommittedOpen}
 use Rattle.db_base.specs.declared.names.ObjName.TheVariants as object
 use Rattle.db_base.specs.declared.names.QueueName.TheVariants as queue
-use Rattle.log_codec.specs.declared.record.AtomicRec.{AtomicRec}
-use Rattle.cloud_trait.specs.declared.answer.Answer.{Answer}
-use Rattle.cloud_trait.specs.declared.answer.Answer.TheVariants.{Sent, Done, Late, Failed, Memory}
-use Rattle.cloud_trait.specs.declared.turn.Turn.{Turn}
-use Rattle.cloud_trait.specs.declared.turn.Turn.TheVariants.{More, Ended, Stopped}
-use Rattle.cloud_trait.specs.Ask.{Ask, Delete}
+use Rattle.cloud_trait.specs.declared.answer.Answer.TheVariants.{Sent, Late}
+use Rattle.cloud_trait.specs.declared.turn.Turn.TheVariants.{Ended, Stopped}
 use Rattle.cloud_trait.specs.Caller.{Caller}
 use Rattle.cloud_trait.specs.Seen.{Seen}
-use Rattle.cloud_trait.specs.Machine.{Goes, Ends, Stops, LeadsBy, Took, Deed}
-use Rattle.cloud_trait.specs.Views.{trouble_of}
-use Rattle.cloud_trait.specs.Weather.{Fits, Makes}
+use Rattle.cloud_trait.specs.Weather.{Makes}
 use Rattle.cloud_trait.specs.Calm.{GoesWell}
 use Rattle.cloud_trait.proofs.CalmLemmas.{goes_well}
-use Rattle.recover_run.specs.declared.home.Home.{Home}
 use Rattle.route_plan.specs.Queue.{queue_name}
-use Rattle.commit_writes.specs.declared.stage.Stage.{Stage}
-use Rattle.commit_writes.specs.declared.stage.Stage.TheVariants.{Waiting, Logging, Opening, Sending, Settling, Deleting, Finished}
 use Rattle.commit_writes.specs.Writing.{Writing, writing_ask, writing_next, ask_at, head_ask, log_ask, send_ask, delete_ask, finished, not_committed, left_open, closed_again, KeepsHome}
 use Rattle.commit_writes.specs.Calls.{Calls, told, logged_calls}
 use Rattle.commit_writes.specs.Meaning.{Refuses, MeansTurn}

@@ -2,12 +2,7 @@
 use Rattle.std.proofs.Common.{◌≡◌, ◌<◌, ◌+◌, ◌-◌, ℕ, length, Option, Some, None, refl, subst, arith, length-append, ◌∷◌, []}
 use Rattle.std.specs.Prelude.{slice_get}
 use Rattle.std.proofs.lemmas.Option.{slice_get_within}
-use Rattle.db_base.specs.declared.trouble.CommitAnswer.{CommitAnswer}
-use Rattle.log_codec.specs.declared.record.AtomicRec.{AtomicRec}
-use Rattle.cloud_trait.specs.declared.answer.Answer.{Answer}
-use Rattle.cloud_trait.specs.declared.turn.Turn.{Turn}
-use Rattle.cloud_trait.specs.declared.turn.Turn.TheVariants.{More}
-use Rattle.cloud_trait.specs.Machine.{Goes, Ends, Stops, LeadsBy, Took}
+use Rattle.commit_writes.proofs.Words.{Ends, Goes, LeadsBy, Stops, Took, Answer, Turn, More, CommitAnswer, AtomicRec}
 use Rattle.commit_writes.specs.Writing.{Writing, writing_next, KeepsHome}
 use Rattle.commit_writes.specs.Sound.{IsSound, LogsRecord, SendsRecord}
 use Rattle.commit_writes.specs.End.{calls_left}

@@ -3,17 +3,12 @@ use Rattle.std.proofs.Common.{◌≡◌, ℕ, ◌++◌, List, length, Some}
 use Rattle.std.specs.Prelude.{slice_get, take}
 use Rattle.std.specs.List.{AllByRecursion}
 use Rattle.db_base.specs.declared.trouble.Trouble.TheVariants as trouble
-use Rattle.db_base.specs.declared.trouble.CommitAnswer.{CommitAnswer}
+use Rattle.commit_writes.proofs.Words.{Ends, Goes, Stops, Answer, Stage, Deleting, Finished, Logging, Opening, Sending, Settling, Waiting, CommitAnswer, AtomicRec, Home}
 use Rattle.head_codec.specs.Spelling.{head_bytes}
-use Rattle.log_codec.specs.declared.record.AtomicRec.{AtomicRec}
 use Rattle.log_codec.specs.Atomic.{atomic_bytes}
 use Rattle.log_codec.specs.Pu.{pu_bytes}
 use Rattle.route_plan.specs.Record.{pu_record_of}
-use Rattle.cloud_trait.specs.declared.answer.Answer.{Answer}
-use Rattle.cloud_trait.specs.Machine.{Next, Goes, Ends, Stops}
-use Rattle.recover_run.specs.declared.home.Home.{Home}
-use Rattle.commit_writes.specs.declared.stage.Stage.{Stage}
-use Rattle.commit_writes.specs.declared.stage.Stage.TheVariants.{Waiting, Logging, Opening, Sending, Settling, Deleting, Finished}
+use Rattle.cloud_trait.specs.Machine.{Next}
 use Rattle.commit_writes.specs.Writing.{Writing, with_head, before_of}
 use Rattle.commit_writes.specs.Calls.{Calls, logged_calls, deleted_calls, opened_of, settled_of, all_logged, all_posted, all_settled}
 use Rattle.commit_writes.specs.Meaning.{Means, WasTried}

@@ -1,3 +1,4 @@
+pub mod Words
 pub mod Within
 pub mod End
 pub mod Demands

@@ -6,24 +6,17 @@ use Rattle.std.proofs.lemmas.Bool.{eqb-true}
 use Rattle.std.proofs.lemmas.List.{append_assoc, take_all}
 use Rattle.db_base.specs.declared.names.QueueName.{QueueName}
 use Rattle.db_base.specs.declared.names.QueueName.TheVariants as queue
-use Rattle.db_base.specs.declared.trouble.CommitAnswer.TheVariants.{Committed}
-use Rattle.log_codec.specs.declared.record.AtomicRec.{AtomicRec}
+use Rattle.commit_writes.proofs.Words.{Ask, Delete, Came, Deed, Ends, Goes, LeadsBy, Stops, Fits, Answer, Done, Failed, Memory, Stage, Deleting, Finished, Logging, Opening, Sending, Settling, Waiting, Committed, AtomicRec, Home}
 use Rattle.txn_buffer.specs.Noted.{Noted}
-use Rattle.cloud_trait.specs.declared.answer.Answer.{Answer}
-use Rattle.cloud_trait.specs.declared.answer.Answer.TheVariants.{Done, Failed, Memory}
 use Rattle.cloud_trait.specs.declared.state.Posted.{Posted}
-use Rattle.cloud_trait.specs.Ask.{Ask, Delete}
 use Rattle.cloud_trait.specs.State.{CloudState, called, mark_at, marked}
 use Rattle.cloud_trait.specs.Names.{queue_cmp}
-use Rattle.cloud_trait.specs.Machine.{Goes, Ends, Stops, LeadsBy, Came, Deed, IsMade}
-use Rattle.cloud_trait.specs.Weather.{Fits, Leaves, Weather}
+use Rattle.cloud_trait.specs.Machine.{IsMade}
+use Rattle.cloud_trait.specs.Weather.{Leaves, Weather}
 use Rattle.cloud_trait.proofs.StateLemmas.{put_at_same}
 use Rattle.cloud_trait.proofs.NameLemmas.{queue_cmp-total}
 use Rattle.cloud_trait.specs.Calm.{GoesWell, IsCalm, AreCalm, ComesNext, AreAlone}
 use Rattle.cloud_trait.proofs.CalmLemmas.{goes_well}
-use Rattle.recover_run.specs.declared.home.Home.{Home}
-use Rattle.commit_writes.specs.declared.stage.Stage.{Stage}
-use Rattle.commit_writes.specs.declared.stage.Stage.TheVariants.{Waiting, Logging, Opening, Sending, Settling, Deleting, Finished}
 use Rattle.commit_writes.specs.Writing.{Writing, waiting, begun, writing_ask, writing_next, ask_at, delete_ask}
 use Rattle.commit_writes.specs.Calls.{Calls, told, posted_calls, deleted_calls, put_of, opened_of, settled_of, all_logged, all_opened, all_posted, all_settled}
 use Rattle.commit_writes.specs.Demands.{IsDeletion, deletions, Demands}

@@ -5,29 +5,21 @@ use Rattle.std.specs.List.{AllByRecursion}
 use Rattle.std.proofs.lemmas.List.{append_assoc, append-nil, take_all, length-take-le}
 use Rattle.std.proofs.lemmas.Option.{slice_get_within}
 use Rattle.route_plan.proofs.Places.{past_none}
-use Rattle.db_base.specs.declared.trouble.Trouble.{Trouble}
+use Rattle.commit_writes.proofs.Words.{Ask, Delete, PutHeld, Came, Deed, Goes, LeadsBy, Took, trouble_of, Fits, Answer, Done, Failed, Turn, More, CommitAnswer, Trouble, AtomicRec, Home}
 use Rattle.db_base.specs.declared.trouble.Trouble.TheVariants as trouble
-use Rattle.db_base.specs.declared.trouble.CommitAnswer.{CommitAnswer}
 use Rattle.db_base.specs.declared.names.ObjName.TheVariants as object
 use Rattle.db_base.specs.declared.names.QueueName.TheVariants as queue
 use Rattle.head_codec.specs.declared.head.Head.{Head}
 use Rattle.head_codec.specs.Spelling.{head_bytes}
-use Rattle.log_codec.specs.declared.record.AtomicRec.{AtomicRec}
 use Rattle.log_codec.specs.Atomic.{atomic_bytes}
 use Rattle.log_codec.specs.Pu.{pu_bytes}
 use Rattle.route_plan.specs.Record.{pu_record_of}
 use Rattle.route_plan.specs.Heads.{settled_head}
 use Rattle.route_plan.specs.Queue.{queue_name}
-use Rattle.cloud_trait.specs.declared.answer.Answer.{Answer}
-use Rattle.cloud_trait.specs.declared.answer.Answer.TheVariants.{Sent, Done, Late, Failed}
-use Rattle.cloud_trait.specs.declared.turn.Turn.{Turn}
-use Rattle.cloud_trait.specs.declared.turn.Turn.TheVariants.{More, Ended, Stopped}
-use Rattle.cloud_trait.specs.Ask.{Ask, PutHeld, Send, Delete}
-use Rattle.cloud_trait.specs.Machine.{Goes, LeadsBy, Took, Came, Deed}
-use Rattle.cloud_trait.specs.Views.{trouble_of}
-use Rattle.cloud_trait.specs.Weather.{Fits}
+use Rattle.cloud_trait.specs.declared.answer.Answer.TheVariants.{Sent, Late}
+use Rattle.cloud_trait.specs.declared.turn.Turn.TheVariants.{Ended, Stopped}
+use Rattle.cloud_trait.specs.Ask.{Send}
 use Rattle.txn_buffer.specs.Noted.{Noted}
-use Rattle.recover_run.specs.declared.home.Home.{Home}
 use Rattle.recover_run.proofs.KeptRecords.{take_more}
 use Rattle.commit_writes.specs.Writing.{Writing, waiting, with_head, before_of, restored, begun, writing_ask, writing_next, head_ask, log_ask, send_ask, delete_ask, not_committed, KeepsHome}
 use Rattle.commit_writes.specs.Calls.{Calls, told, log_of, logged_calls, post_of, posted_calls, deleted_calls, put_of, opened_of, settled_of, all_logged, all_opened, all_posted, all_settled}

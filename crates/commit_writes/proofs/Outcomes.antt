@@ -3,20 +3,14 @@ use Rattle.std.proofs.Common.{◌≡◌, ◌≢◌, ◌+◌, ℕ, List, [], ◌�
 use Rattle.std.specs.Prelude.{slice_get}
 use Rattle.db_base.specs.declared.names.ObjName.{ObjName}
 use Rattle.db_base.specs.declared.names.QueueName.{QueueName}
-use Rattle.db_base.specs.declared.trouble.Trouble.{Trouble}
+use Rattle.commit_writes.proofs.Words.{Delete, PutHeld, Ends, Stops, trouble_of, Fits, Answer, Stage, Deleting, Finished, Logging, Opening, Sending, Settling, Waiting, CommitAnswer, Committed, Trouble, AtomicRec}
 use Rattle.db_base.specs.declared.trouble.Trouble.TheVariants as trouble
-use Rattle.db_base.specs.declared.trouble.CommitAnswer.{CommitAnswer}
-use Rattle.db_base.specs.declared.trouble.CommitAnswer.TheVariants.{Committed, InDoubt}
-use Rattle.log_codec.specs.declared.record.AtomicRec.{AtomicRec}
-use Rattle.cloud_trait.specs.declared.answer.Answer.{Answer}
+use Rattle.db_base.specs.declared.trouble.CommitAnswer.TheVariants.{InDoubt}
 use Rattle.cloud_trait.specs.declared.answer.Answer.TheVariants as call
-use Rattle.cloud_trait.specs.Ask.{PutHeld, Send, Delete}
+use Rattle.cloud_trait.specs.Ask.{Send}
 use Rattle.cloud_trait.specs.Claim.{Claim}
-use Rattle.cloud_trait.specs.Machine.{Next, Ends, Stops}
-use Rattle.cloud_trait.specs.Views.{trouble_of, sent_of, done_of}
-use Rattle.cloud_trait.specs.Weather.{Fits}
-use Rattle.commit_writes.specs.declared.stage.Stage.{Stage}
-use Rattle.commit_writes.specs.declared.stage.Stage.TheVariants.{Waiting, Logging, Opening, Sending, Settling, Deleting, Finished}
+use Rattle.cloud_trait.specs.Machine.{Next}
+use Rattle.cloud_trait.specs.Views.{sent_of, done_of}
 use Rattle.commit_writes.specs.Meaning.{WasTried, Refuses}
 use Rattle.commit_writes.specs.Writing.{Writing, finished, not_committed, left_open, closed_again, log_or_open, begun, send_or_settle, send_at, delete_or_end, delete_at, logged_by, opened_by, sent_by, settled_by, deleted_by, next_at, writing_next}
 

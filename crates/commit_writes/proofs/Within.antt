@@ -3,14 +3,8 @@ use Rattle.std.proofs.Common.{◌≡◌, ◌≤◌, ◌<◌, ◌+◌, ◌*◌, �
 use Rattle.std.specs.Prelude.{take}
 use Rattle.std.proofs.lemmas.List.{length-take-le}
 use Rattle.std.proofs.lemmas.Option.{slice_get_within}
-use Rattle.log_codec.specs.declared.record.AtomicRec.{AtomicRec}
-use Rattle.cloud_trait.specs.declared.answer.Answer.{Answer}
-use Rattle.cloud_trait.specs.declared.answer.Answer.TheVariants.{Done}
-use Rattle.cloud_trait.specs.Ask.{Ask, PutHeld, PutsNothing}
-use Rattle.cloud_trait.specs.Machine.{Deed}
-use Rattle.recover_run.specs.declared.home.Home.{Home}
-use Rattle.commit_writes.specs.declared.stage.Stage.{Stage}
-use Rattle.commit_writes.specs.declared.stage.Stage.TheVariants.{Waiting, Logging, Opening, Sending, Settling, Deleting, Finished}
+use Rattle.commit_writes.proofs.Words.{Ask, PutHeld, Deed, Answer, Done, Stage, Deleting, Finished, Logging, Opening, Sending, Settling, Waiting, AtomicRec, Home}
+use Rattle.cloud_trait.specs.Ask.{PutsNothing}
 use Rattle.commit_writes.specs.Writing.{Writing}
 use Rattle.commit_writes.specs.Calls.{Calls, told, logged_calls, posted_calls, deleted_calls, put_of, opened_of, settled_of, all_logged, all_opened, all_posted, all_settled}
 use Rattle.commit_writes.specs.Demands.{IsPut, NonePut, WasOpened, deletions}

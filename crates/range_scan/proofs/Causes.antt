@@ -1,17 +1,9 @@
 -- Why a scan stops: by the answer of its call, or by the leaves that it read.
 use Rattle.std.proofs.Common.{◌≡◌, ◌≢◌, ◌<◌, ◌⊎◌, ℕ, true, List, Option, Some, None, inl, inr, refl, ap, sym, subst, arith, ◌∙◌}
-use Rattle.db_base.specs.declared.trouble.Trouble.{Trouble}
+use Rattle.range_scan.proofs.Words.{Get, Caller, Ends, Goes, LeadsBy, Next, Stops, Took, Seen, Makes, Answer, Turn, Stopped, Trouble, Leaf}
 use Rattle.db_base.specs.declared.trouble.Trouble.TheVariants as trouble
-use Rattle.leaf_view.specs.Leaf.{Leaf}
-use Rattle.cloud_trait.specs.declared.answer.Answer.{Answer}
 use Rattle.cloud_trait.specs.declared.answer.Answer.TheVariants as answer
-use Rattle.cloud_trait.specs.declared.turn.Turn.{Turn}
-use Rattle.cloud_trait.specs.declared.turn.Turn.TheVariants.{Stopped}
-use Rattle.cloud_trait.specs.Ask.{Get}
-use Rattle.cloud_trait.specs.Caller.{Caller}
-use Rattle.cloud_trait.specs.Machine.{Next, Goes, Ends, Stops, LeadsBy, Took}
-use Rattle.cloud_trait.specs.Seen.{Seen}
-use Rattle.cloud_trait.specs.Weather.{Makes, Fits}
+use Rattle.cloud_trait.specs.Weather.{Fits}
 use Rattle.cloud_trait.specs.Calm.{IsCalm}
 use Rattle.page_cache.specs.Cache.{Cache}
 use Rattle.page_cache.specs.Held.{leaf_at}

@@ -5,15 +5,9 @@ use Rattle.std.specs.Option.{option_map}
 use Rattle.byte_format.specs.Order.{bytes_same, below_bound}
 use Rattle.db_base.specs.declared.names.ObjName.{ObjName}
 use Rattle.db_base.specs.declared.names.ObjName.TheVariants as object
-use Rattle.db_base.specs.declared.trouble.Trouble.{Trouble}
+use Rattle.range_scan.proofs.Words.{Ends, Goes, LeadsBy, Next, Stops, Took, Answer, Turn, Ended, More, Stopped, Trouble, Leaf, page_at}
 use Rattle.db_base.specs.declared.trouble.Trouble.TheVariants as trouble
-use Rattle.leaf_view.specs.Leaf.{Leaf}
-use Rattle.leaf_view.specs.Lookup.{page_at}
-use Rattle.cloud_trait.specs.declared.answer.Answer.{Answer}
 use Rattle.cloud_trait.specs.declared.answer.Answer.TheVariants as answer
-use Rattle.cloud_trait.specs.declared.turn.Turn.{Turn}
-use Rattle.cloud_trait.specs.declared.turn.Turn.TheVariants.{More, Ended, Stopped}
-use Rattle.cloud_trait.specs.Machine.{Next, Goes, Ends, Stops, LeadsBy, Took}
 use Rattle.cloud_trait.specs.Views.{got_of}
 use Rattle.page_cache.specs.Cache.{Cache, IsCache, accepts, kept_at}
 use Rattle.page_cache.specs.Held.{leaf_at, inner_at, as_leaf}

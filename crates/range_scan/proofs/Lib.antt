@@ -1,3 +1,4 @@
+pub mod Words
 pub mod Outcomes
 pub mod Fences
 pub mod Order

@@ -5,18 +5,12 @@ use Rattle.byte_format.specs.Order.{below_bound}
 use Rattle.byte_format.proofs.OrderLemmas.{same_is}
 use Rattle.db_base.specs.declared.names.ObjName.TheVariants as object
 use Rattle.db_base.specs.declared.trouble.Trouble.TheVariants as trouble
-use Rattle.leaf_view.specs.Leaf.{Leaf}
-use Rattle.leaf_view.specs.Lookup.{holds, page_at}
-use Rattle.cloud_trait.specs.declared.answer.Answer.{Answer}
+use Rattle.range_scan.proofs.Words.{Get, Caller, Ends, Goes, LeadsBy, Next, Stops, Took, Seen, Makes, Answer, Turn, Ended, More, Stopped, Leaf, holds, page_at}
 use Rattle.cloud_trait.specs.declared.answer.Answer.TheVariants.{Got}
-use Rattle.cloud_trait.specs.declared.turn.Turn.{Turn}
-use Rattle.cloud_trait.specs.declared.turn.Turn.TheVariants.{More, Ended, Stopped}
-use Rattle.cloud_trait.specs.Ask.{Ask, Get}
-use Rattle.cloud_trait.specs.Caller.{Caller}
-use Rattle.cloud_trait.specs.Machine.{Next, Goes, Ends, Stops, LeadsBy, Took, Deed, IsMade}
-use Rattle.cloud_trait.specs.Seen.{Seen}
+use Rattle.cloud_trait.specs.Ask.{Ask}
+use Rattle.cloud_trait.specs.Machine.{Deed, IsMade}
 use Rattle.cloud_trait.specs.State.{CloudState, newest, version_at}
-use Rattle.cloud_trait.specs.Weather.{Makes, Rose}
+use Rattle.cloud_trait.specs.Weather.{Rose}
 use Rattle.page_cache.specs.Cache.{Cache, kept_at}
 use Rattle.page_cache.specs.Held.{leaf_at, as_leaf}
 use Rattle.page_cache.proofs.CacheLemmas.{accept_kept}

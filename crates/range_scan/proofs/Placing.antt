@@ -15,9 +15,7 @@ use Rattle.db_base.specs.Change.{act, key_of}
 use Rattle.db_base.specs.declared.change.Change.{Change}
 use Rattle.db_base.specs.Value.{Value}
 use Rattle.leaf_view.specs.Fits.{IsEntryIn}
-use Rattle.leaf_view.specs.Leaf.{Entry, Leaf}
-use Rattle.leaf_view.specs.Lookup.{holds, value_of}
-use Rattle.leaf_view.specs.Shown.{valued}
+use Rattle.range_scan.proofs.Words.{Entry, Leaf, holds, value_of, valued}
 use Rattle.range_scan.specs.Bounds.{cut_at, from_on, up_to, place_of, first_value, without_first}
 use Rattle.range_scan.specs.Pairs.{Sight, BelowFirst, IsAscending, is_listed, put_pair, without_pair, with_value, acted, with_record, with_records}
 use Rattle.range_scan.proofs.Order.{below_trans, bound_trans, cut_same}

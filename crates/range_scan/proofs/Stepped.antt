@@ -1,10 +1,6 @@
 -- One step of a scan, read off where its answer leads.
 use Rattle.std.proofs.Common.{ℕ, Option, ap}
-use Rattle.cloud_trait.specs.Ask.{Get}
-use Rattle.cloud_trait.specs.declared.turn.Turn.{Turn}
-use Rattle.cloud_trait.specs.Caller.{Caller}
-use Rattle.cloud_trait.specs.Machine.{LeadsBy, Steps}
-use Rattle.cloud_trait.specs.Seen.{Seen}
+use Rattle.range_scan.proofs.Words.{Get, Caller, LeadsBy, Steps, Seen, Turn}
 use Rattle.page_cache.specs.Cache.{Cache}
 use Rattle.tree_walk.specs.Walk.{ServesOn}
 use Rattle.tree_walk.specs.Walk.{Spot}

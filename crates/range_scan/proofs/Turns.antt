@@ -1,15 +1,7 @@
 -- Where the turns of a scan lead, by those of its walk.
 use Rattle.std.proofs.Common.{◌≡◌, ℕ, false, Option, Some, None, refl, ap, sym, subst, ◌∙◌}
 use Rattle.std.specs.Prelude.{is_some}
-use Rattle.db_base.specs.declared.trouble.Trouble.{Trouble}
-use Rattle.cloud_trait.specs.declared.answer.Answer.{Answer}
-use Rattle.cloud_trait.specs.declared.turn.Turn.{Turn}
-use Rattle.cloud_trait.specs.declared.turn.Turn.TheVariants.{More, Ended, Stopped}
-use Rattle.cloud_trait.specs.Ask.{Get}
-use Rattle.cloud_trait.specs.Caller.{Caller}
-use Rattle.cloud_trait.specs.Seen.{Seen}
-use Rattle.cloud_trait.specs.Machine.{Next, Goes, Ends, Stops, LeadsBy, Took, Steps}
-use Rattle.cloud_trait.specs.Weather.{Makes}
+use Rattle.range_scan.proofs.Words.{Get, Caller, Ends, Goes, LeadsBy, Next, Steps, Stops, Took, Seen, Makes, Answer, Turn, Ended, More, Stopped, Trouble}
 use Rattle.page_cache.specs.Cache.{Cache}
 use Rattle.tree_walk.specs.Moves.{Moves}
 use Rattle.tree_walk.specs.Walk.{Spot, Walk, asks, walk_next, ServesOn}

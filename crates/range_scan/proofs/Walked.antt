@@ -1,9 +1,7 @@
 -- While its walk is in hand, all calls of a scan are those of the walk.
 use Rattle.std.proofs.Common.{◌≡◌, ℕ, Bool, true, false, List, [], ◌∷◌, Option, Some, None, refl, ap, sym, subst, ◌∙◌}
 use Rattle.std.specs.Prelude.{if◌then◌else◌}
-use Rattle.leaf_view.specs.Leaf.{Leaf}
-use Rattle.cloud_trait.specs.Ask.{Get}
-use Rattle.cloud_trait.specs.Machine.{Goes}
+use Rattle.range_scan.proofs.Words.{Get, Goes, Leaf}
 use Rattle.page_cache.specs.Cache.{Cache}
 use Rattle.tree_walk.specs.Walk.{Spot, asks}
 use Rattle.range_scan.specs.Scan.{Scan, scan_object_at, is_wanted, goes_on, moved_on}

@@ -4,9 +4,7 @@ use Rattle.std.specs.Prelude.{◌||◌, ◌==◌, if◌then◌else◌}
 use Rattle.std.specs.List.{IsDistinct}
 use Rattle.std.proofs.lemmas.Bool.{eqb-true}
 use Rattle.byte_format.specs.Order.{below_bound}
-use Rattle.leaf_view.specs.Leaf.{Leaf}
-use Rattle.cloud_trait.specs.declared.answer.Answer.{Answer}
-use Rattle.cloud_trait.specs.Machine.{Next, Goes, Ends, Stops}
+use Rattle.range_scan.proofs.Words.{Ends, Goes, Next, Stops, Answer, Leaf}
 use Rattle.page_cache.specs.Cache.{Cache}
 use Rattle.tree_walk.specs.Walk.{Spot, Walk, is_page, is_among, came_to, use_of, rested, walk_next, pages, spots}
 use Rattle.tree_walk.specs.Within.{AreOnce, IsOnce}

@@ -1,15 +1,7 @@
 -- Why a settling stops, and that nothing else stops it.
 use Rattle.std.proofs.Common.{◌≡◌, ℕ, [], Some, refl, sym, subst, ◌∙◌, inl, inr, true}
-use Rattle.db_base.specs.declared.trouble.Trouble.{Trouble}
-use Rattle.cloud_trait.specs.declared.answer.Answer.{Answer}
-use Rattle.cloud_trait.specs.declared.answer.Answer.TheVariants.{Failed}
-use Rattle.cloud_trait.specs.declared.turn.Turn.{Turn}
-use Rattle.cloud_trait.specs.declared.turn.Turn.TheVariants.{More, Ended, Stopped}
-use Rattle.cloud_trait.specs.Machine.{Next, Goes, Ends, Stops, Took}
+use Rattle.settle_run.proofs.Words.{Ends, Goes, Next, Stops, Took, Answer, Failed, Turn, Ended, More, Stopped, Trouble, Part, Client, Page, Tree, Settled}
 use Rattle.recover_run.specs.Ids.{new_ids}
-use Rattle.settle_run.specs.declared.part.Part.{Part}
-use Rattle.settle_run.specs.declared.part.Part.TheVariants.{Client, Tree, Page}
-use Rattle.settle_run.specs.declared.settled.Settled.{Settled}
 use Rattle.settle_run.specs.Parts.{part_received, PartLeads}
 use Rattle.settle_run.specs.Settling.{Settling, Step, is_visited, counted, with_part, after_turn, SettleLeads, KeepsSettling, SamePart}
 use Rattle.settle_run.specs.Meaning.{Stopping, Tells, RoundTo, MustStop, HasToStop, StopsExactly, next_of, Follows}

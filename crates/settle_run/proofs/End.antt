@@ -1,22 +1,13 @@
 -- A settling ends: each step leaves fewer calls than were left before it.
 use Rattle.std.proofs.Common.{◌≡◌, ◌<◌, ◌≤◌, ◌+◌, ◌-◌, ◌*◌, ◌^◌, ℕ, List, [], ◌∷◌, ◌++◌, length, refl, sym, subst, ap, ◌∙◌, arith, length-append}
 use Rattle.std.proofs.lemmas.Nat.{mul-add-lt}
-use Rattle.cloud_trait.specs.declared.answer.Answer.{Answer}
-use Rattle.cloud_trait.specs.declared.answer.Answer.TheVariants.{Failed}
-use Rattle.cloud_trait.specs.declared.turn.Turn.{Turn}
-use Rattle.cloud_trait.specs.declared.turn.Turn.TheVariants.{More, Ended, Stopped}
-use Rattle.cloud_trait.specs.declared.turn.CkptAnswer.{CkptAnswer}
-use Rattle.cloud_trait.specs.Machine.{Next, Goes, Ends, Stops, Took}
-use Rattle.recover_run.specs.declared.stage.RecoverAnswer.{RecoverAnswer}
+use Rattle.settle_run.proofs.Words.{Ends, Goes, Next, Stops, Took, Answer, Failed, CkptAnswer, Turn, Ended, More, Stopped, RecoverAnswer, Part, Client, Page, Tree, Settled}
 use Rattle.recover_run.specs.Recovery.{Recovery}
 use Rattle.page_ckpt.specs.Paging.{Paging}
 use Rattle.tree_ckpt.specs.Making.{Making}
 use Rattle.recover_run.specs.End.{calls_left as recovery_left}
 use Rattle.page_ckpt.specs.End.{calls_left as paging_left}
 use Rattle.tree_ckpt.specs.End.{calls_in}
-use Rattle.settle_run.specs.declared.part.Part.{Part}
-use Rattle.settle_run.specs.declared.part.Part.TheVariants.{Client, Tree, Page}
-use Rattle.settle_run.specs.declared.settled.Settled.{Settled}
 use Rattle.settle_run.specs.Parts.{recovered_turn, left_turn, KeepsPart, part_of_client, part_of_tree, part_of_page, part_again, recovers, makes, pages, PartLeads}
 use Rattle.settle_run.specs.Settling.{Settling, Step, counted, with_part, after_turn, SamePart}
 use Rattle.settle_run.specs.End.{part_left, places_left, parts_left, calls_left}

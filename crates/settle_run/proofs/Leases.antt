@@ -1,17 +1,13 @@
 -- What the part at work holds, and that it gives it back.
 use Rattle.std.proofs.Common.{◌≡◌, ◌≢◌, ℕ, List, [], ◌∷◌, ◌++◌, None, refl, sym, subst, ap, ◌∙◌}
 use Rattle.db_base.specs.declared.trouble.Trouble.TheVariants as trouble
-use Rattle.cloud_trait.specs.declared.answer.Answer.{Answer}
-use Rattle.cloud_trait.specs.declared.answer.Answer.TheVariants.{Failed, Given}
-use Rattle.cloud_trait.specs.declared.turn.CkptAnswer.{CkptAnswer}
-use Rattle.cloud_trait.specs.declared.turn.Turn.{Turn}
-use Rattle.cloud_trait.specs.declared.turn.Turn.TheVariants.{More, Ended, Stopped}
+use Rattle.settle_run.proofs.Words.{Deed, Ends, Goes, LeadsBy, Next, Stops, Took, Answer, Failed, CkptAnswer, Turn, Ended, More, Stopped, RecoverAnswer, Part, Client, Page, Tree, Settled}
+use Rattle.cloud_trait.specs.declared.answer.Answer.TheVariants.{Given}
 use Rattle.cloud_trait.specs.Ask.{Ask, Get, GetHeld, PutHeld, ListHeld, RemoveHeld, Send, Receive, Delete, Take, Renew, Release}
 use Rattle.cloud_trait.specs.Claim.{Claim}
-use Rattle.cloud_trait.specs.Machine.{Next, Goes, Ends, Stops, LeadsBy, Took, Deed, IsMade}
+use Rattle.cloud_trait.specs.Machine.{IsMade}
 use Rattle.cloud_trait.specs.Weather.{Fits}
 use Rattle.recover_run.specs.declared.stage.Aim.TheVariants as aim
-use Rattle.recover_run.specs.declared.stage.RecoverAnswer.{RecoverAnswer}
 use Rattle.recover_run.specs.declared.stage.RecoverAnswer.TheVariants.{Opened, Nothing}
 use Rattle.recover_run.specs.Recovery.{Recovery, recovery_next}
 use Rattle.recover_run.specs.Leases.{outstanding as recovery_outstanding, outstanding_after as recovery_after}
@@ -23,9 +19,6 @@ use Rattle.page_ckpt.proofs.Leases.{came_stands as page_stands, stands_names as 
 use Rattle.tree_ckpt.specs.Making.{Making, making_ask, MakingLeads}
 use Rattle.tree_ckpt.specs.Leases.{Stands as TreeStands}
 use Rattle.tree_ckpt.proofs.Leases.{came_stands as tree_stands, stands_names as tree_names, stands_gives as tree_gives, stands_returns as tree_returns}
-use Rattle.settle_run.specs.declared.part.Part.{Part}
-use Rattle.settle_run.specs.declared.part.Part.TheVariants.{Client, Tree, Page}
-use Rattle.settle_run.specs.declared.settled.Settled.{Settled}
 use Rattle.settle_run.specs.Parts.{part_ask, recovers, makes, pages, PartLeads, KeepsPart, PartWent}
 use Rattle.settle_run.specs.Settling.{Settling, Step, ended_by, counted, with_part, after_turn, settle_ask, moved, SettleLeads, KeepsSettling, SamePart}
 use Rattle.settle_run.specs.Leases.{PartHolds, Holds, IsFree, GivesBack, AreReturned}

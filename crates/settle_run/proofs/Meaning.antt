@@ -1,16 +1,10 @@
 -- The parts that ran, and the calls of the part at work, along the calls of a settling.
 use Rattle.std.proofs.Common.{◌≡◌, ◌+◌, ℕ, List, [], ◌∷◌, ◌++◌, length, refl, sym, subst, ap, ◌∙◌, arith, length-append}
-use Rattle.cloud_trait.specs.declared.turn.CkptAnswer.{CkptAnswer}
-use Rattle.cloud_trait.specs.declared.turn.Turn.{Turn}
-use Rattle.cloud_trait.specs.declared.turn.Turn.TheVariants.{More, Ended, Stopped}
-use Rattle.cloud_trait.specs.Machine.{Next, Goes, Ends, Stops, LeadsBy, Took, Deed, IsMade, Follows}
-use Rattle.recover_run.specs.declared.stage.RecoverAnswer.{RecoverAnswer}
+use Rattle.settle_run.proofs.Words.{Deed, Ends, Goes, LeadsBy, Next, Stops, Took, CkptAnswer, Turn, Ended, More, Stopped, RecoverAnswer, Part, Client, Page, Tree, Settled}
+use Rattle.cloud_trait.specs.Machine.{IsMade, Follows}
 use Rattle.recover_run.specs.Recovery.{Recovery, recovery_next}
 use Rattle.page_ckpt.specs.Paging.{Paging, PagingLeads}
 use Rattle.tree_ckpt.specs.Making.{Making, MakingLeads}
-use Rattle.settle_run.specs.declared.part.Part.{Part}
-use Rattle.settle_run.specs.declared.part.Part.TheVariants.{Client, Tree, Page}
-use Rattle.settle_run.specs.declared.settled.Settled.{Settled}
 use Rattle.settle_run.specs.Parts.{part_ask, part_again, recovers, makes, pages, PartLeads, PartWent}
 use Rattle.settle_run.specs.Settling.{Settling, Step, new_settling, settle_ask, passed, counted, with_part, SettleLeads, KeepsSettling}
 use Rattle.settle_run.specs.Meaning.{Went, Run, IsRun, behind, Ran, deeds_of, IsSettled, MeansTurn}

@@ -4,17 +4,12 @@ use Rattle.std.specs.Prelude.{◌==◌, nat_lt}
 use Rattle.std.proofs.lemmas.Bool.{eqb-true}
 use Rattle.std.proofs.lemmas.Bool.Decides.{nat_tests}
 use Rattle.leaf_view.specs.Lookup.{page_at}
-use Rattle.db_base.specs.declared.trouble.Trouble.{Trouble}
+use Rattle.settle_run.proofs.Words.{Ends, Goes, Next, Stops, Turn, Ended, More, Stopped, Trouble, Part, Client, Page, Tree}
 use Rattle.db_base.specs.declared.trouble.Trouble.TheVariants as trouble
-use Rattle.cloud_trait.specs.declared.turn.Turn.{Turn}
-use Rattle.cloud_trait.specs.declared.turn.Turn.TheVariants.{More, Ended, Stopped}
-use Rattle.cloud_trait.specs.Machine.{Next, Goes, Ends, Stops}
 use Rattle.page_ckpt.specs.Paging.{Paging}
 use Rattle.recover_run.specs.Ids.{new_ids}
 use Rattle.recover_run.specs.Recovery.{Recovery}
 use Rattle.tree_ckpt.specs.Making.{Making}
-use Rattle.settle_run.specs.declared.part.Part.{Part}
-use Rattle.settle_run.specs.declared.part.Part.TheVariants.{Client, Tree, Page}
 use Rattle.settle_run.specs.Parts.{part_of_client, part_of_tree, part_again, part_received}
 use Rattle.settle_run.specs.Settling.{Settling, Step, begins, to_page, is_visited, goes_right, goes_on, passed_with, passed, counted, with_part, after_turn, moved}
 use Rattle.settle_run.specs.Meaning.{next_of}

@@ -1,21 +1,11 @@
 -- A settling takes a step by that of the part at work.
 use Rattle.std.proofs.Common.{◌≡◌, ℕ, refl, sym, subst, ◌∙◌}
-use Rattle.db_base.specs.declared.trouble.Trouble.{Trouble}
-use Rattle.cloud_trait.specs.declared.answer.Answer.{Answer}
-use Rattle.cloud_trait.specs.declared.answer.Answer.TheVariants.{Failed}
-use Rattle.cloud_trait.specs.declared.turn.CkptAnswer.{CkptAnswer}
-use Rattle.cloud_trait.specs.declared.turn.Turn.{Turn}
-use Rattle.cloud_trait.specs.declared.turn.Turn.TheVariants.{More, Ended, Stopped}
+use Rattle.settle_run.proofs.Words.{Ends, Goes, LeadsBy, Stops, Took, Answer, Failed, CkptAnswer, Turn, Ended, More, Stopped, Trouble, RecoverAnswer, Part, Client, Page, Tree, Settled}
 use Rattle.cloud_trait.specs.Caller.{Caller}
 use Rattle.cloud_trait.specs.Seen.{Seen}
-use Rattle.cloud_trait.specs.Machine.{Goes, Ends, Stops, LeadsBy, Took}
-use Rattle.recover_run.specs.declared.stage.RecoverAnswer.{RecoverAnswer}
 use Rattle.recover_run.specs.Recovery.{Recovery, recovery_next, KeepsLeases as KeepsRecovery}
 use Rattle.page_ckpt.specs.Paging.{Paging, PagingLeads, KeepsLeases as KeepsPaging}
 use Rattle.tree_ckpt.specs.Making.{Making, MakingLeads, KeepsLeases as KeepsMaking}
-use Rattle.settle_run.specs.declared.part.Part.{Part}
-use Rattle.settle_run.specs.declared.part.Part.TheVariants.{Client, Tree, Page}
-use Rattle.settle_run.specs.declared.settled.Settled.{Settled}
 use Rattle.recover_run.specs.Stepped.{Stepped as RecoveryStepped}
 use Rattle.page_ckpt.specs.Stepped.{Stepped as PagingStepped}
 use Rattle.tree_ckpt.specs.Stepped.{Stepped as MakingStepped}

@@ -4,7 +4,7 @@ use Rattle.std.specs.List.{AllByRecursion}
 use Rattle.std.proofs.lemmas.Bool.{cases_eq}
 use Rattle.leaf_view.specs.Lookup.{page_at}
 use Rattle.db_base.specs.Ids.{IsClient, IsTree}
-use Rattle.cloud_trait.specs.Machine.{Goes, Ends, Stops}
+use Rattle.settle_run.proofs.Words.{Ends, Goes, Stops, Part, Client, Page, Tree, Settled}
 use Rattle.page_ckpt.specs.Paging.{Paging}
 use Rattle.recover_run.proofs.KeptRecords.{all_new}
 use Rattle.recover_run.proofs.Sweeping.{all_has, none_new, each_has}
@@ -13,9 +13,6 @@ use Rattle.recover_run.specs.Recovery.{Recovery}
 use Rattle.settle_run.specs.Meaning.{Run, behind, Ran, RanTo, Received, Empties, EmptiesPages, EmptiesTree, IsWhole}
 use Rattle.settle_run.specs.Parts.{part_of_tree, part_of_page, part_again, part_received}
 use Rattle.settle_run.specs.Settling.{Settling, Step, passed}
-use Rattle.settle_run.specs.declared.part.Part.{Part}
-use Rattle.settle_run.specs.declared.part.Part.TheVariants.{Client, Tree, Page}
-use Rattle.settle_run.specs.declared.settled.Settled.{Settled}
 use Rattle.tree_ckpt.specs.Making.{Making}
 use Rattle.recover_run.proofs.Sifting.{all_ids}
 use Rattle.settle_run.proofs.Outcomes.{Passes, again, next_client, first_tree, first_page, right_page, round, next_tree, all_done, passes_by}

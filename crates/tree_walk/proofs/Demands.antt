@@ -4,20 +4,11 @@ use Rattle.std.specs.Prelude.{if◌then◌else◌, ◌==◌, ◌||◌}
 use Rattle.std.specs.Option.{option_map}
 use Rattle.std.proofs.lemmas.Bool.{eqb-true}
 use Rattle.byte_format.specs.Order.{bytes_same}
-use Rattle.db_base.specs.declared.names.ObjName.{ObjName}
+use Rattle.tree_walk.proofs.Words.{Ends, Goes, Next, Stops, Answer, Turn, Ended, More, Stopped, ObjName, Trouble, Leaf, Inner, page_at as node_at, Tree}
 use Rattle.db_base.specs.declared.names.ObjName.TheVariants as object
 use Rattle.db_base.specs.declared.names.Place.TheVariants as place
-use Rattle.db_base.specs.declared.trouble.Trouble.{Trouble}
 use Rattle.db_base.specs.declared.trouble.Trouble.TheVariants as trouble
-use Rattle.leaf_view.specs.Leaf.{Leaf}
 use Rattle.leaf_view.specs.Lookup.{page_at}
-use Rattle.node_codec.specs.Node.{page_at as node_at}
-use Rattle.node_codec.specs.Inner.{Inner}
-use Rattle.node_codec.specs.Tree.{Tree}
-use Rattle.cloud_trait.specs.declared.answer.Answer.{Answer}
-use Rattle.cloud_trait.specs.declared.turn.Turn.{Turn}
-use Rattle.cloud_trait.specs.declared.turn.Turn.TheVariants.{More, Ended, Stopped}
-use Rattle.cloud_trait.specs.Machine.{Next, Goes, Ends, Stops}
 use Rattle.page_cache.specs.Cache.{Cache, IsCache, accepts}
 use Rattle.page_cache.specs.Held.{leaf_at, inner_at, root_at}
 use Rattle.page_cache.specs.Refused.{IsDamaged}

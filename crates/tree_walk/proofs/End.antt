@@ -1,9 +1,6 @@
 -- A walk ends: it comes to one more page with each call that it goes on from.
 use Rattle.std.proofs.Common.{◌≡◌, ℕ, ◌+◌, ◌^◌, ◌<◌, ◌≤◌, List, [], ◌∷◌, ◌++◌, length, Option, Some, None, ap, subst, arith, length-append}
-use Rattle.cloud_trait.specs.declared.answer.Answer.{Answer}
-use Rattle.cloud_trait.specs.declared.turn.Turn.{Turn}
-use Rattle.cloud_trait.specs.declared.turn.Turn.TheVariants.{More}
-use Rattle.cloud_trait.specs.Machine.{Goes}
+use Rattle.tree_walk.proofs.Words.{Goes, Answer, Turn, More}
 use Rattle.page_cache.specs.Cache.{Cache}
 use Rattle.tree_walk.specs.Moves.{Moves}
 use Rattle.tree_walk.specs.Walk.{Spot, Walk, walk_next, spots, pages, calls_left}

@@ -1,3 +1,4 @@
+pub mod Words
 pub mod Outcomes
 pub mod Turns
 pub mod Refusals

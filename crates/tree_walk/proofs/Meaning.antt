@@ -1,10 +1,8 @@
 -- What led a walk to the page in hand, read off its calls.
 use Rattle.std.proofs.Common.{◌≡◌, ℕ, Bool, true, false, true≢false, List, [], ◌∷◌, Option, Some, None, Result, Ok, Err, unwrap_or, refl, ap, sym, subst, ◌∙◌, inl, inr, ◌⊎◌}
-use Rattle.db_base.specs.declared.names.ObjName.{ObjName}
-use Rattle.cloud_trait.specs.declared.answer.Answer.{Answer}
+use Rattle.tree_walk.proofs.Words.{Get, Goes, Answer, ObjName}
 use Rattle.cloud_trait.specs.declared.answer.Answer.TheVariants as answer
-use Rattle.cloud_trait.specs.Ask.{Get}
-use Rattle.cloud_trait.specs.Machine.{Goes, Deed}
+use Rattle.cloud_trait.specs.Machine.{Deed}
 use Rattle.page_cache.specs.Cache.{Cache, accepts, kept_at}
 use Rattle.page_cache.specs.Names.{same_name}
 use Rattle.page_cache.proofs.CacheLemmas.{accept_kept, accept_others}

@@ -3,12 +3,8 @@
 use Rattle.std.proofs.Common.{◌≡◌, ℕ, Bool, true, false, List, [], ◌∷◌, Option, Some, None, unwrap_or, refl, subst}
 use Rattle.std.specs.Prelude.{if◌then◌else◌, ◌||◌}
 use Rattle.byte_format.specs.Order.{bytes_below}
-use Rattle.db_base.specs.declared.trouble.Trouble.{Trouble}
+use Rattle.tree_walk.proofs.Words.{Ends, Goes, Next, Stops, Answer, Trouble, Inner, page_at as node_at}
 use Rattle.node_codec.specs.Node.{Entry, child_of}
-use Rattle.node_codec.specs.Node.{page_at as node_at}
-use Rattle.node_codec.specs.Inner.{Inner}
-use Rattle.cloud_trait.specs.declared.answer.Answer.{Answer}
-use Rattle.cloud_trait.specs.Machine.{Next, Goes, Ends, Stops}
 use Rattle.page_cache.specs.Cache.{Cache}
 use Rattle.tree_walk.specs.Walk.{Spot, Walk, IsWalk, sought, is_page, is_among, entry_for, right_of, rested, new_walk, walk_ready, walk_next}
 use Rattle.tree_walk.specs.Causes.{node_link, node_link_by}

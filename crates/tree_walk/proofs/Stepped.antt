@@ -1,18 +1,11 @@
 -- One step of a walk, read off where its answer leads.
 use Rattle.std.proofs.Common.{◌≡◌, ◌≢◌, ◌≤◌, ℕ, Bool, true, false, List, [], ◌∷◌, Option, Result, Ok, Err, refl, ap, sym, subst, ◌∙◌, arith}
 use Rattle.std.specs.Prelude.{fold, if◌then◌else◌}
-use Rattle.db_base.specs.declared.names.ObjName.{ObjName}
-use Rattle.db_base.specs.declared.trouble.Trouble.{Trouble}
+use Rattle.tree_walk.proofs.Words.{Caller, Seen, Makes, Answer, Turn, Ended, More, Stopped, ObjName, Trouble}
 use Rattle.db_base.specs.declared.trouble.Trouble.TheVariants as trouble
-use Rattle.cloud_trait.specs.declared.answer.Answer.{Answer}
 use Rattle.cloud_trait.specs.declared.answer.Answer.TheVariants as answer
-use Rattle.cloud_trait.specs.declared.turn.Turn.{Turn}
-use Rattle.cloud_trait.specs.declared.turn.Turn.TheVariants.{More, Ended, Stopped}
 use Rattle.cloud_trait.specs.Ask.{Ask}
-use Rattle.cloud_trait.specs.Caller.{Caller}
 use Rattle.cloud_trait.specs.Machine.{LeadsBy, Took}
-use Rattle.cloud_trait.specs.Seen.{Seen}
-use Rattle.cloud_trait.specs.Weather.{Makes}
 use Rattle.page_cache.specs.Cache.{Cache, Did, accepts, dropped, served_at}
 use Rattle.page_cache.proofs.CacheLemmas.{accept_rises}
 use Rattle.tree_walk.specs.Moves.{Moves}

@@ -3,14 +3,9 @@ use Rattle.std.proofs.Common.{◌≡◌, ◌≢◌, ℕ, suc, Bool, true, false,
 use Rattle.std.specs.Prelude.{if◌then◌else◌, IsSomeAnd}
 use Rattle.byte_format.specs.Order.{bytes_below, bytes_same}
 use Rattle.byte_format.proofs.OrderLemmas.{same_is}
-use Rattle.db_base.specs.declared.names.ObjName.{ObjName}
-use Rattle.db_base.specs.declared.trouble.Trouble.{Trouble}
+use Rattle.tree_walk.proofs.Words.{Ends, Goes, Next, Stops, Turn, Ended, More, Stopped, ObjName, Trouble, Tree}
 use Rattle.db_base.specs.declared.trouble.Trouble.TheVariants as trouble
 use Rattle.node_codec.specs.Node.{Entry, child_of, later_of}
-use Rattle.node_codec.specs.Tree.{Tree}
-use Rattle.cloud_trait.specs.declared.turn.Turn.{Turn}
-use Rattle.cloud_trait.specs.declared.turn.Turn.TheVariants.{More, Ended, Stopped}
-use Rattle.cloud_trait.specs.Machine.{Next, Goes, Ends, Stops}
 use Rattle.page_cache.specs.Cache.{Cache}
 use Rattle.tree_walk.specs.Moves.{is_more, Moves, MovesBeside}
 use Rattle.tree_walk.specs.Walk.{Spot, Walk, IsPromised, IsWalk, sought, spot_of, object_of, use_of, entry_for, down_to, root_read, read_kept, follow, onward, goes_through, left_by, beside}

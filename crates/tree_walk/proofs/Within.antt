@@ -4,12 +4,9 @@ use Rattle.std.specs.Prelude.{◌==◌, ◌||◌}
 use Rattle.std.specs.List.{AllByRecursion, IsDistinct}
 use Rattle.std.proofs.lemmas.Bool.{eqb-true}
 use Rattle.std.proofs.lemmas.List.Folds.{list_any-append}
-use Rattle.db_base.specs.declared.trouble.Trouble.{Trouble}
+use Rattle.tree_walk.proofs.Words.{Ends, Goes, Next, Stops, Answer, Turn, Ended, More, Stopped, Trouble}
 use Rattle.db_base.specs.declared.trouble.Trouble.TheVariants as trouble
-use Rattle.cloud_trait.specs.declared.answer.Answer.{Answer}
-use Rattle.cloud_trait.specs.declared.turn.Turn.{Turn}
-use Rattle.cloud_trait.specs.declared.turn.Turn.TheVariants.{More, Ended, Stopped}
-use Rattle.cloud_trait.specs.Machine.{Next, Goes, Ends, Stops, Deed, Came, LeadsBy}
+use Rattle.cloud_trait.specs.Machine.{Deed, Came, LeadsBy}
 use Rattle.page_cache.specs.Cache.{Cache}
 use Rattle.tree_walk.specs.Moves.{Moves}
 use Rattle.tree_walk.specs.Walk.{Spot, Walk, new_walk, is_among, is_page, came_to, rested, walk_ready, walk_next, asks, pages}

@@ -36,6 +36,7 @@ use Rattle.world_core.specs.World.{World}
 use Rattle.world_core.specs.declared.asked.Asked.{Asked}
 use Rattle.world_core.specs.declared.asked.Asked.TheVariants.{Session, Wait, Report, Settle, Sweep}
 use Rattle.world_core.specs.declared.world.WorldFault.{WorldFault}
+use Rattle.world_core.specs.Span.{span_of}
 use Rattle.schedule_run.proofs.SoundLemmas.{leaves_so, ends_so}
 use Rattle.schedule_run.specs.Answered.{IsNew, WentOn, start, further, SettlesSo, AreSettled, IsOfRuns, LeavesOne}
 
@@ -58,8 +59,8 @@ new_on_book world t fresh runs = subst (λ (f : Sessions). SomeBookStands f t) (
 -- ---- a settling
 
 -- no run is a settling
-no_run : (lines : List Line) (n : ℕ) (asked : Asked) (before after : Seen) (old new : World) (result : Result Reply WorldFault) → asked ≡ Settle → (answers : Answers n asked before after old new result)
-    → AnswersSoon lines n asked before after old new result answers
+no_run : (lines : List Line) (n : ℕ) (asked : Asked) (before after : Seen) (old new : World) (result : Result Reply WorldFault) → asked ≡ Settle → (answers : Answers n asked (span_of before after old new) result)
+    → AnswersSoon lines n asked (span_of before after old new) result answers
 no_run lines n Settle before after old new result is answers = tt
 no_run lines n (Session k request) before after old new result is answers = absurd (cc (is))
 no_run lines n (Wait ticks) before after old new result is answers = tt
@@ -67,8 +68,8 @@ no_run lines n (Report tree) before after old new result is answers = tt
 no_run lines n (Sweep tree) before after old new result is answers = absurd (cc (is))
 
 -- and none of a checkpoint
-no_checkpoint : (n : ℕ) (asked : Asked) (before after : Seen) (old new : World) (result : Result Reply WorldFault) → asked ≡ Settle → (answers : Answers n asked before after old new result)
-    → NamesAt n asked before after old new result answers
+no_checkpoint : (n : ℕ) (asked : Asked) (before after : Seen) (old new : World) (result : Result Reply WorldFault) → asked ≡ Settle → (answers : Answers n asked (span_of before after old new) result)
+    → NamesAt n asked (span_of before after old new) result answers
 no_checkpoint n Settle before after old new result is answers = tt
 no_checkpoint n (Session k request) before after old new result is answers = absurd (cc (is))
 no_checkpoint n (Wait ticks) before after old new result is answers = tt
@@ -76,8 +77,8 @@ no_checkpoint n (Report tree) before after old new result is answers = tt
 no_checkpoint n (Sweep tree) before after old new result is answers = absurd (cc (is))
 
 -- and passes none over
-no_passed : (n : ℕ) (asked : Asked) (before after : Seen) (old new : World) (result : Result Reply WorldFault) → asked ≡ Settle → (answers : Answers n asked before after old new result)
-    → AskedPassed n asked before after old new result answers
+no_passed : (n : ℕ) (asked : Asked) (before after : Seen) (old new : World) (result : Result Reply WorldFault) → asked ≡ Settle → (answers : Answers n asked (span_of before after old new) result)
+    → AskedPassed n asked (span_of before after old new) result answers
 no_passed n Settle before after old new result is answers = tt
 no_passed n (Session k request) before after old new result is answers = absurd (cc (is))
 no_passed n (Wait ticks) before after old new result is answers = tt
@@ -90,7 +91,7 @@ unsettled_is P r trouble.Memory each e = absurd (cc (e))
 unsettled_is P r q each e = let is : r ≡ reply.NotSettled q = cc (e) in subst P (sym is) (each q)
 
 settled_is : (P : Reply → Type 0) → ((calls : ℕ) → P (reply.Settled calls)) → ((k : Trouble) → P (reply.NotSettled k)) → (n : ℕ) (before after : Seen) (old new : World) (r : Reply)
-    → SettlesLine settles n before after old new (Ok r) → P r
+    → SettlesLine settles n (span_of before after old new) (Ok r) → P r
 settled_is P settled unsettled n before after old new r (inr memory) = absurd (no_memory r memory.0)
 settled_is P settled unsettled n before after old new r (inl h) = by_end h.settles
   where
@@ -99,24 +100,24 @@ settled_is P settled unsettled n before after old new r (inl h) = by_end h.settl
     replied (answer.Trouble q) e = unsettled_is P r q unsettled e
     replied a e = absurd e
 
-    by_end : SettlesOn settles (record { session = 0; event = n }) before after h.begun new (Ok r) → P r
+    by_end : SettlesOn settles (record { session = 0; event = n }) (span_of before after h.begun new) (Ok r) → P r
     by_end (inr memory) = absurd (no_memory r memory.0)
     by_end (inl s) = replied s.answer s.replies
 
 -- it acknowledges nothing, ends no commit, and is no report
-settled_keeps : (entries : List Entry) (client : ℕ) (posture : Posture) (n : ℕ) (before after : Seen) (old new : World) (r : Reply) → SettlesLine settles n before after old new (Ok r)
+settled_keeps : (entries : List Entry) (client : ℕ) (posture : Posture) (n : ℕ) (before after : Seen) (old new : World) (r : Reply) → SettlesLine settles n (span_of before after old new) (Ok r)
     → IsKeptReply entries client posture r
 settled_keeps entries client posture = settled_is (IsKeptReply entries client posture) (λ calls. tt) (λ k. tt)
 
-settled_counts : (u : CloudState) (n : ℕ) (before after : Seen) (old new : World) (r : Reply) → SettlesLine settles n before after old new (Ok r) → LeftIsRight u r
+settled_counts : (u : CloudState) (n : ℕ) (before after : Seen) (old new : World) (r : Reply) → SettlesLine settles n (span_of before after old new) (Ok r) → LeftIsRight u r
 settled_counts u = settled_is (LeftIsRight u) (λ calls. tt) (λ k. tt)
 
-settled_commits : (entries : List Entry) (posture : Posture) (work : Work) (n : ℕ) (before after : Seen) (old new : World) (r : Reply) → SettlesLine settles n before after old new (Ok r)
+settled_commits : (entries : List Entry) (posture : Posture) (work : Work) (n : ℕ) (before after : Seen) (old new : World) (r : Reply) → SettlesLine settles n (span_of before after old new) (Ok r)
     → IsLeftReply entries posture work r
 settled_commits entries posture work = settled_is (IsLeftReply entries posture work) (λ calls. tt) (λ k. tt)
 
 pub settles_so : (lines : List Line) (e : Event) (r : Reply) (before after : Seen) (old new : World) (t : CloudState) → before.state ≡ Some t → SomeBookStands (session_at old.sessions) t
-    → (handled : Handled (length lines + 1) e before after old new (Ok r)) → SettlesSo lines e r before after old new handled
+    → (handled : Handled (length lines + 1) e (span_of before after old new) (Ok r)) → SettlesSo lines e r before after old new handled
 settles_so lines event.Settle r before after old new t told stands handled =
     let right = settling_right (length lines + 1) event.Settle before after old new (Ok r) t told stands handled in (
       right.sound (standing lines 0).posture,
@@ -130,14 +131,14 @@ settles_so lines event.Settle r before after old new t told stands handled =
         ends = ends_so (length lines + 1) event.Settle before after old new r (settling_ends (length lines + 1) event.Settle before after old new (Ok r)) t told stands handled;
         kept = λ u seen.
             settled_keeps _ (standing lines 0).client (standing lines 0).posture (length lines + 1) before after old new r
-            (subst (λ z. Answers (length lines + 1) z before after old new (Ok r)) handled.asks handled.answers);
+            (subst (λ z. Answers (length lines + 1) z (span_of before after old new) (Ok r)) handled.asks handled.answers);
         left_none = λ u seen.
             settled_commits _ (standing lines 0).posture (session_at new.sessions 0).work (length lines + 1) before after old new r
-            (subst (λ z. Answers (length lines + 1) z before after old new (Ok r)) handled.asks handled.answers);
+            (subst (λ z. Answers (length lines + 1) z (span_of before after old new) (Ok r)) handled.asks handled.answers);
         shows = shown (length lines + 1) event.Settle before after old new (Ok r) handled;
         shows_by = settled_by lines (length lines + 1) handled.asked before after old new (Ok r) handled.asks handled.answers;
         left = λ u seen.
-            settled_counts u (length lines + 1) before after old new r (subst (λ z. Answers (length lines + 1) z before after old new (Ok r)) handled.asks handled.answers);
+            settled_counts u (length lines + 1) before after old new r (subst (λ z. Answers (length lines + 1) z (span_of before after old new) (Ok r)) handled.asks handled.answers);
       },
     )
 settles_so lines e r before after old new t told stands handled = tt

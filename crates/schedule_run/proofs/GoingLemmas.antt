@@ -28,6 +28,7 @@ use Rattle.world_core.specs.declared.world.WorldFault.TheVariants as world
 use Rattle.world_core.specs.Alone.{IsAloneIn}
 use Rattle.world_core.specs.Handled.{Handled}
 use Rattle.world_core.specs.Stands.{WorldStands, StandsOn, Grows}
+use Rattle.world_core.specs.Span.{span_of}
 use Rattle.world_core.proofs.StartLemmas.{new_stands}
 use Rattle.world_core.proofs.Caused.{caused}
 use Rattle.schedule_run.specs.declared.replay.LineFault.{LineFault}
@@ -109,7 +110,7 @@ acts_now lines world u stands = acts_upto lines world u u stands (agree_itself (
 
 -- what stood and was right stands and is right with one line more
 pub stands_more : (lines : List Line) (line : Line) (n : ℕ) (t z : Seen) (old new : World) → n ≡ 1 + length lines
-    → StandsOn n line.event t z old new (Ok line.reply) → Grows n t z → (u : CloudState) → t.state ≡ Some u → WorldStands lines old u → ReportsAreRight lines u
+    → StandsOn n line.event (span_of t z old new) (Ok line.reply) → Grows n t z → (u : CloudState) → t.state ≡ Some u → WorldStands lines old u → ReportsAreRight lines u
     → IsTraced u → (v : CloudState) × (z.state ≡ Some v) × WorldStands (lines ++ line ∷ []) new v × ReportsAreRight (lines ++ line ∷ []) v × IsTraced v
 stands_more lines line n t z old new k on grows u told stands so traced =
     let f = on lines u (omega arith) told stands in
@@ -133,7 +134,7 @@ lines_more texts text n w v u s t z first old new line count h spells a grows ad
       lines = h.lines ++ line ∷ [];
       spelled = spelled_more texts h.lines text line h.spelled spells;
       wrote = subst (λ xs. AddsEach w u xs) (sym (replies_more 1 n h.lines line k)) (each_more w v u (replies h.lines) (reply_line n line.reply ∷ []) h.wrote adds);
-      went = further h.lines line t z old new h.went (subst (λ j. Handled j line.event t z old new (Ok line.reply)) l a.handled);
+      went = further h.lines line t z old new h.went (subst (λ j. Handled j line.event (span_of t z old new) (Ok line.reply)) l a.handled);
       stands = λ x told empty. let o = h.stands x told empty in stands_more h.lines line n t z old new k a.stands grows o.0 o.1 o.2 o.3 o.4;
     }
 
@@ -320,7 +321,7 @@ went_answer : {text rest behind line : List ℕ} {n m : ℕ} {w v : Written} {s 
     → (met : IsMet text rest behind line n m w v s t z first old) (new : World) (one : Line) → IsAnswered m one.event t z old new one.reply
     → WentOn s first (met.is.handles.lines ++ one ∷ []) z new
 went_answer {text} {rest} {behind} {line} {n} {m} {w} {v} {s} {t} {z} {first} {old} met new one a =
-    further met.is.handles.lines one t z old new met.is.handles.went (subst (λ j. Handled j one.event t z old new (Ok one.reply)) (met_count met) a.handled)
+    further met.is.handles.lines one t z old new met.is.handles.went (subst (λ j. Handled j one.event (span_of t z old new) (Ok one.reply)) (met_count met) a.handled)
 
 with_answer : {text rest behind line : List ℕ} {n m : ℕ} {w v : Written} {s t z : Seen} {first old : World}
     → (met : IsMet text rest behind line n m w v s t z first old) (new : World) (one : Line) → IsAnswered m one.event t z old new one.reply
@@ -372,10 +373,10 @@ before_unmoved {text} {rest} {behind} {line} {n} {m} {w} {v} {s} {t} {z} {first}
 -- the event of the text has no reply
 no_answer : {text rest behind line : List ℕ} {n m : ℕ} {w v : Written} {s t z : Seen} {first old : World}
     → (met : IsMet text rest behind line n m w v s t z first old) (u : Written) (new : World) (event : Event) (fault : WorldFault) → IsEvent line event
-    → Handled m event t z old new (Err fault) → u ≡ v → EndedBy fault met.is.handles.lines (line ∷ lines_of behind) w u s z
+    → Handled m event (span_of t z old new) (Err fault) → u ≡ v → EndedBy fault met.is.handles.lines (line ∷ lines_of behind) w u s z
 no_answer {text} {rest} {behind} {line} {n} {m} {w} {v} {s} {t} {z} {first} {old} met u new event fault spells handled same =
     let h = met.is.handles in
-    let own : Handled (length h.lines + 1) event t z old new (Err fault) = subst (λ j. Handled j event t z old new (Err fault)) (met_count met) handled in
+    let own : Handled (length h.lines + 1) event (span_of t z old new) (Err fault) = subst (λ j. Handled j event (span_of t z old new) (Err fault)) (met_count met) handled in
     record {
       event = event;
       spelled = spells;

@@ -25,6 +25,7 @@ use Rattle.world_core.specs.declared.asked.Request.{Request}
 use Rattle.world_core.specs.declared.asked.Request.TheVariants as request
 use Rattle.world_core.specs.declared.world.WorldFault.{WorldFault}
 use Rattle.world_core.specs.declared.world.WorldFault.TheVariants as world
+use Rattle.world_core.specs.Span.{span_of}
 use Rattle.world_core.proofs.Marks.{newest_call}
 use Rattle.schedule_run.specs.InPlay.{Play}
 use Rattle.schedule_run.specs.Load.{RanEach, ran_none, ran_more, StopsAt, stops_behind, stops_at, stops_before, Loads}
@@ -76,31 +77,31 @@ went_plain who a old b new own start = plain_none a a refl
 went_plain who a old b new own (further mid _ world _ went step) =
     plain_both a mid b (went_plain who a old mid world own went) (plain_newest who mid b own step.newest_call)
 
-comes_plain : (who : Caller) (a b : Seen) (old new : World) (answer : Answer) → IsLoader who.session → ComesTo who a b old new answer → CallsPlainly a b
+comes_plain : (who : Caller) (a b : Seen) (old new : World) (answer : Answer) → IsLoader who.session → ComesTo who (span_of a b old new) answer → CallsPlainly a b
 comes_plain who a b old new answer own comes =
     plain_both a comes.mid b (went_plain who a old comes.mid comes.world own comes.went) (plain_newest who comes.mid b own comes.steps.newest_call)
 
-falls_plain : (who : Caller) (a b : Seen) (old new : World) → IsLoader who.session → FallsShort who Plain a b old new → CallsPlainly a b
+falls_plain : (who : Caller) (a b : Seen) (old new : World) → IsLoader who.session → FallsShort who Plain (span_of a b old new) → CallsPlainly a b
 falls_plain who a b old new own (inl uncalled) = plain_stays a b uncalled.looked.stays
 falls_plain who a b old new own (inr unlooked) =
     plain_newest who a b own
     (newest_call who Plain a unlooked.from unlooked.under unlooked.to b who.session old.sessions new.sessions unlooked.turn unlooked.look_before unlooked.wishes unlooked.session unlooked.look_after)
 
-short_plain : (who : Caller) (a b : Seen) (old new : World) → IsLoader who.session → StopsShort who a b old new → CallsPlainly a b
+short_plain : (who : Caller) (a b : Seen) (old new : World) → IsLoader who.session → StopsShort who (span_of a b old new) → CallsPlainly a b
 short_plain who a b old new own stops =
     plain_both a stops.mid b (went_plain who a old stops.mid stops.world own stops.went)
     (falls_plain who stops.mid b stops.world stops.short.left own stops.short.falls)
 
-runs_plain : (n number : ℕ) (a b : Seen) (old new : World) (result : Result Reply WorldFault) → IsLoader number → Runs n number a b old new result → CallsPlainly a b
+runs_plain : (n number : ℕ) (a b : Seen) (old new : World) (result : Result Reply WorldFault) → IsLoader number → Runs (record { session = number; event = n }) (span_of a b old new) result → CallsPlainly a b
 runs_plain n number a b old new result own (inl refused) = plain_none a b refused.declines.seen
 runs_plain n number a b old new (Ok r) own (inr (inl run)) = comes_plain (record { session = number; event = n }) a b old new run.answer own run.comes
 runs_plain n number a b old new (Err why) own (inr (inl run)) = comes_plain (record { session = number; event = n }) a b old run.left run.answer own run.comes
 runs_plain n number a b old new result own (inr (inr memory)) = short_plain (record { session = number; event = n }) a b old new own memory.1
 
-settles_plain : (n : ℕ) (a b : Seen) (old new : World) (result : Result Reply WorldFault) → Settles settles n a b old new result → CallsPlainly a b
+settles_plain : (n : ℕ) (a b : Seen) (old new : World) (result : Result Reply WorldFault) → Settles settles n (span_of a b old new) result → CallsPlainly a b
 settles_plain n a b old new result (inl goes) = on goes.begun goes.settles
   where
-    on : (begun : World) → SettlesOn settles (record { session = 0; event = n }) a b begun new result → CallsPlainly a b
+    on : (begun : World) → SettlesOn settles (record { session = 0; event = n }) (span_of a b begun new) result → CallsPlainly a b
     on begun (inl to) = comes_plain (record { session = 0; event = n }) a b begun to.left to.answer (inl refl) to.comes
     on begun (inr memory) = short_plain (record { session = 0; event = n }) a b begun memory.1.left (inl refl) memory.1.stops
 settles_plain n a b old new result (inr memory) = plain_none a b memory.1.seen
@@ -128,18 +129,18 @@ IsPlainAsked (asked.Sweep tree) = ⊥
 abbrev pub IsPlainLine : Event → Type 0
 IsPlainLine e = (q : Asked) → Asks e q → IsPlainAsked q
 
-does_plain : (n number : ℕ) (r : Request) (a b : Seen) (old new : World) (result : Result Reply WorldFault) → IsLoader number → IsPlainRequest r → Does n number r a b old new result → CallsPlainly a b
+does_plain : (n number : ℕ) (r : Request) (a b : Seen) (old new : World) (result : Result Reply WorldFault) → IsLoader number → IsPlainRequest r → Does (record { session = number; event = n }) r (span_of a b old new) result → CallsPlainly a b
 does_plain n number (request.Begin op) a b old new result own plain does = plain_none a b does.0.seen
 does_plain n number (request.Note noting) a b old new result own plain does = plain_none a b does.0.seen
 does_plain n number request.Run a b old new result own plain does = runs_plain n number a b old new result own does
 does_plain n number r a b old new result own plain does = absurd plain
 
 serves_plain : (n number : ℕ) (r : Result Request Refused) (a b : Seen) (old new : World) (result : Result Reply WorldFault) → IsLoader number → IsPlainServed r
-    → Serves n number r a b old new result → CallsPlainly a b
+    → Serves (record { session = number; event = n }) r (span_of a b old new) result → CallsPlainly a b
 serves_plain n number (Ok r) a b old new result own plain serves = does_plain n number r a b old new result own plain serves
 serves_plain n number (Err why) a b old new result own plain serves = plain_none a b serves.seen
 
-answers_plain : (n : ℕ) (q : Asked) (a b : Seen) (old new : World) (result : Result Reply WorldFault) → IsPlainAsked q → Answers n q a b old new result → CallsPlainly a b
+answers_plain : (n : ℕ) (q : Asked) (a b : Seen) (old new : World) (result : Result Reply WorldFault) → IsPlainAsked q → Answers n q (span_of a b old new) result → CallsPlainly a b
 answers_plain n (asked.Session number r) a b old new result plain (inl serves) = serves_plain n number r a b old new result (inr plain.0) plain.1 serves.1
 answers_plain n (asked.Session number r) a b old new result plain (inr none) = plain_none a b none.declines.seen
 answers_plain n asked.Settle a b old new result plain answers = settles_plain n a b old new result answers
@@ -147,7 +148,7 @@ answers_plain n (asked.Wait ticks) a b old new result plain answers = absurd pla
 answers_plain n (asked.Report tree) a b old new result plain answers = absurd plain
 answers_plain n (asked.Sweep tree) a b old new result plain answers = absurd plain
 
-handled_plain : (n : ℕ) (e : Event) (a b : Seen) (old new : World) (result : Result Reply WorldFault) → IsPlainLine e → Handled n e a b old new result → CallsPlainly a b
+handled_plain : (n : ℕ) (e : Event) (a b : Seen) (old new : World) (result : Result Reply WorldFault) → IsPlainLine e → Handled n e (span_of a b old new) result → CallsPlainly a b
 handled_plain n e a b old new result plain handled = answers_plain n handled.asked a b old new result (plain handled.asked handled.asks) handled.answers
 
 -- ---- the lines of a load

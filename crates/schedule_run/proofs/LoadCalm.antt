@@ -33,6 +33,7 @@ use Rattle.world_core.specs.Calm.{StepIsCalm, RepliesWell, RunsWell, work_at}
 use Rattle.world_core.specs.EachStep.{EachStep}
 use Rattle.world_core.specs.Handled.{Handled}
 use Rattle.world_core.specs.World.{World}
+use Rattle.world_core.specs.Span.{span_of}
 use Rattle.schedule_run.specs.Answered.{IsNew, WentOn, start, further, AreExplained, IsExplained}
 use Rattle.schedule_run.specs.InPlay.{Play}
 use Rattle.schedule_run.specs.Load.{goes_on, stop_of}
@@ -182,8 +183,8 @@ module _ (s : Seen) (first : World) (x : CloudState) (fresh : IsNew true first) 
 
   -- a line of session 1 behind them is answered well, and so is the settling
   answered_well : (lines : List Line) (line : Line) (t : Seen) (behind : Behind s first lines t) → LinesOne lines → IsOfLoad line.event → (z : Seen) (new : World)
-      → (handled : Handled (length lines + 1) line.event t z behind.world new (Ok line.reply)) → IsExplained lines line t z behind.world new handled
-      → EachStep StepIsCalm (length lines + 1) line.event t z behind.world new (Ok line.reply) handled → (u : CloudState) → z.state ≡ Some u
+      → (handled : Handled (length lines + 1) line.event (span_of t z behind.world new) (Ok line.reply)) → IsExplained lines line t z behind.world new handled
+      → EachStep StepIsCalm (length lines + 1) line.event (span_of t z behind.world new) (Ok line.reply) handled → (u : CloudState) → z.state ≡ Some u
       → RepliesWell u line.event (standing lines (session_of line.event)).posture line.reply
   answered_well lines line t behind ones own z new handled explained calm u seen = on own
     where
@@ -346,7 +347,7 @@ stops_for_memory trees earlier later e replies r mid now play at run within ends
         let l = last_of mid run.played.first run.lines now play.world run.played.went front (record { event = e; reply = r }) is in
         let one : session ≡ 1 = session_one own.1 session commits in
         let few = at_most mid run.played.first front l.mid l.world l.went kinds (0, omega arith, fresh_numbered run.played.first run.played.fresh) in
-        let handled = subst (λ (f : Event). Handled (length front + 1) f l.mid now l.world play.world (Ok r)) commits l.handled in
+        let handled = subst (λ (f : Event). Handled (length front + 1) f (span_of l.mid now l.world play.world) (Ok r)) commits l.handled in
         let many = commit_spent (NotCommitted no_attempt) refl (length front + 1) l.mid now l.world play.world r tells (length front) session one few handled in
         let count = run.played.count in
         let lines = ap length is in

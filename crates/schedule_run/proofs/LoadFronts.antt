@@ -12,6 +12,7 @@ use Rattle.world_core.proofs.Counting.{stands_after}
 use Rattle.world_core.specs.Handled.{Handled}
 use Rattle.world_core.specs.Stands.{WorldStands, StandsFor}
 use Rattle.world_core.specs.World.{World}
+use Rattle.world_core.specs.Span.{span_of}
 use Rattle.schedule_run.specs.Answered.{WentOn, start, further}
 use Rattle.schedule_run.proofs.SoundLemmas.{AreSoundly, went_soundly, same_some}
 use Rattle.schedule_run.proofs.StayLemmas.{HasLanded, landed_none, landed_on, begins_on, committed_begins, lands_asked}
@@ -34,7 +35,7 @@ pub record LastOf (lines : List Line) (line : Line) (before : Seen) (old : World
   pub mid : Seen
   pub world : World
   pub went : WentOn before old lines mid world
-  pub handled : Handled (length lines + 1) line.event mid after world new (Ok line.reply)
+  pub handled : Handled (length lines + 1) line.event (span_of mid after world new) (Ok line.reply)
 
 pub last_of : (before : Seen) (old : World) (all : List Line) (after : Seen) (new : World) → WentOn before old all after new → (lines : List Line) (line : Line) → all ≡ lines ++ line ∷ []
     → LastOf lines line before old after new

@@ -33,6 +33,7 @@ use Rattle.world_core.specs.Handled.{Handled}
 use Rattle.world_core.specs.Settled.{LeavesNothing, LeftNothing, SettledLeaves}
 use Rattle.world_core.specs.Stands.{WorldStands}
 use Rattle.world_core.specs.World.{World}
+use Rattle.world_core.specs.Span.{span_of}
 use Rattle.schedule_run.specs.Answered.{WentOn, start, further, IsExplained, AreExplained, LeavesSo, AreKept, AcknowledgedStay, ReportsAreRight}
 use Rattle.schedule_run.specs.Load.{goes_on, GoOn, LoadDone, LoadEnded}
 use Rattle.schedule_run.specs.LoadLeft.{LeavesLoaded}
@@ -117,7 +118,7 @@ record LastLine (lines : List Line) (line : Line) (before : Seen) (old : World) 
   mid : Seen
   world : World
   went : WentOn before old lines mid world
-  handled : Handled (length lines + 1) line.event mid after world new (Ok line.reply)
+  handled : Handled (length lines + 1) line.event (span_of mid after world new) (Ok line.reply)
   explained : IsExplained lines line mid after world new handled
 
 last_line : (before : Seen) (old : World) (all : List Line) (after : Seen) (new : World) → (went : WentOn before old all after new) → AreExplained before old all after new went

@@ -37,6 +37,7 @@ use Rattle.world_core.specs.Handled.{Handled}
 use Rattle.world_core.specs.Opened.{AsksToOpen, IsOpenedIn, OpenEachOnce}
 use Rattle.world_core.specs.Stands.{WorldStands}
 use Rattle.world_core.specs.World.{World}
+use Rattle.world_core.specs.Span.{span_of}
 use Rattle.schedule_run.specs.Answered.{IsNew, WentOn, start, further, events_of}
 use Rattle.schedule_run.specs.Shell.{AreWhole}
 use Rattle.schedule_run.proofs.LoadFronts.{Front, front, LastOf, last_of, take_next}
@@ -134,8 +135,8 @@ module _ {blind : Bool} (before : Seen) (first : World) (t : CloudState) (lines 
       o : AreSoundly earlier l.mid l.world
       o = went_soundly before first t earlier l.mid l.world l.went told stands
 
-      handled : Handled (length earlier + 1) e l.mid f.mid l.world f.world (Ok r)
-      handled = subst (λ q. Handled (length earlier + 1) e l.mid f.mid l.world f.world (Ok q)) w.answer l.handled
+      handled : Handled (length earlier + 1) e (span_of l.mid f.mid l.world f.world) (Ok r)
+      handled = subst (λ q. Handled (length earlier + 1) e (span_of l.mid f.mid l.world f.world) (Ok q)) w.answer l.handled
 
       by_session : SentAt f.state entries (standing earlier 1).client (standing earlier 1).posture (own_work f.world) (Committed w.txn)
       by_session =

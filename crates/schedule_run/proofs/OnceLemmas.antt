@@ -18,6 +18,7 @@ use Rattle.world_core.specs.Added.{WorldAdds}
 use Rattle.world_core.specs.Handled.{Handled}
 use Rattle.world_core.specs.LeftShort.{LeavesShort}
 use Rattle.world_core.specs.Opened.{AsksToOpen, IsOpenedIn, OpenEachOnce, WorldApart}
+use Rattle.world_core.specs.Span.{span_of}
 use Rattle.world_core.proofs.AddedLines.{handled_adds}
 use Rattle.world_core.proofs.AddedShort.{handled_rows}
 use Rattle.world_core.proofs.LeftShort.{left_short}
@@ -103,7 +104,7 @@ lines_once lines s t first world went fresh once x told = none_twice (events_of 
 
 -- and behind them an event that has no reply
 module _ {blind : Bool} (lines : List Line) (event : Event) (fault : WorldFault) (s t z : Seen) (first old new : World) (went : WentOn s first lines t old) (fresh : IsNew blind first)
-    (handled : Handled (length lines + 1) event t z old new (Err fault)) where
+    (handled : Handled (length lines + 1) event (span_of t z old new) (Err fault)) where
   pub unanswered_short : LeavesShort event old new (Err fault)
   unanswered_short = left_short (length lines + 1) event t z old new (Err fault) handled
 

@@ -17,6 +17,7 @@ use Rattle.world_core.specs.declared.world.WorldFault.TheVariants as world
 use Rattle.world_core.specs.Handled.{Handled}
 use Rattle.world_core.specs.Quota.{SpendsQuota}
 use Rattle.world_core.specs.Stands.{WorldStands, StandsOn, Grows}
+use Rattle.world_core.specs.Span.{span_of}
 use Rattle.world_core.proofs.Caused.{caused}
 use Rattle.schedule_run.specs.InPlay.{Play}
 use Rattle.schedule_run.specs.Answered.{IsNew, WentOn, start, further, IsNoReport, AskNoReport, ReportsCome, ReportsAreRight, KeepsTheTheorem}
@@ -69,7 +70,7 @@ played_more {blind} lines event reply s t z old new p none n =
     let c : old.handled ≡ length lines = p.count in
     let d : new.handled ≡ old.handled + 1 = n.count in
     let at : new.handled ≡ length lines + 1 = omega arith in
-    let went : WentOn s p.first (lines ++ line ∷ []) z new.world = further lines line t z old.world new.world p.went (subst (λ j. Handled j event t z old.world new.world (Ok reply)) at n.handled) in
+    let went : WentOn s p.first (lines ++ line ∷ []) z new.world = further lines line t z old.world new.world p.went (subst (λ j. Handled j event (span_of t z old.world new.world) (Ok reply)) at n.handled) in
     record {
       count = omega (arith, length-append lines (line ∷ []));
       first = p.first;
@@ -147,18 +148,18 @@ stopped_at lines event s t z old new p (no_answer handled grows) =
     })
     (keeps_behind lines (old.handled + 1) s t z old p at grows)
   where
-    own : old.handled + 1 ≡ length lines + 1 → Handled (length lines + 1) event t z old.world new.world (Err world.Memory)
-    own at = subst (λ j. Handled j event t z old.world new.world (Err world.Memory)) at handled
+    own : old.handled + 1 ≡ length lines + 1 → Handled (length lines + 1) event (span_of t z old.world new.world) (Err world.Memory)
+    own at = subst (λ j. Handled j event (span_of t z old.world new.world) (Err world.Memory)) at handled
 
 -- an event under the next number has no reply
 pub found_no_memory : (event : Event) (m : ℕ) (t z : Seen) (old new : Play) (fault : WorldFault) → m ≡ old.handled + 1
-    → Handled m event t z old.world new.world (Err fault) → Grows m t z → RanOut event t z old new
+    → Handled m event (span_of t z old.world new.world) (Err fault) → Grows m t z → RanOut event t z old new
 found_no_memory event m t z old new world.Memory next handled grows =
-    no_answer (subst (λ j. Handled j event t z old.world new.world (Err world.Memory)) next handled) (subst (λ j. Grows j t z) next grows)
+    no_answer (subst (λ j. Handled j event (span_of t z old.world new.world) (Err world.Memory)) next handled) (subst (λ j. Grows j t z) next grows)
 
 -- whatever its result, the next event was taken
 pub takes_next : (event : Event) (result : Result Reply WorldFault) (t z : Seen) (old new : Play) → new.handled ≡ old.handled + 1 → new.handled < 2 ^ 64
-    → Handled new.handled event t z old.world new.world result → StandsOn new.handled event t z old.world new.world result → Grows new.handled t z
+    → Handled new.handled event (span_of t z old.world new.world) result → StandsOn new.handled event (span_of t z old.world new.world) result → Grows new.handled t z
     → SpendsQuota t z old.left new.left → Takes event result t z old new
 takes_next event (Ok reply) t z old new next within handled stands grows spends =
     record { count = next; within = within; handled = handled; stands = stands; grows = grows; spends = spends }

@@ -16,6 +16,7 @@ use Rattle.world_core.specs.World.{World}
 use Rattle.world_core.specs.Handled.{Handled}
 use Rattle.world_core.specs.Sound.{IsSoundFor}
 use Rattle.world_core.specs.Stands.{WorldStands}
+use Rattle.world_core.specs.Span.{span_of}
 use Rattle.world_core.proofs.Seeing.{SeesOn, handled_sees, report_comes}
 use Rattle.world_core.proofs.Sound.{sound_after}
 use Rattle.schedule_run.specs.Answered.{WentOn, start, further, IsNoReport, AskNoReport, ReportsCome}
@@ -52,7 +53,7 @@ lines_see before old lines after new (further earlier line mid _ world _ went ha
 
 -- the report of the newest line, behind lines whose reports come
 module _ (before mid after : Seen) (world new : World) (lines : List Line) (line : Line) (so : HaveSeen before mid world) (come : ReportsCome lines before mid)
-    (handled : Handled (length lines + 1) line.event mid after world new (Ok line.reply))
+    (handled : Handled (length lines + 1) line.event (span_of mid after world new) (Ok line.reply))
     (sound : IsSoundFor line.event (standing lines (session_of line.event)).posture line.reply) where
   first : before.counts.dark ≤ mid.counts.dark
   first = so.dark
@@ -66,7 +67,7 @@ module _ (before mid after : Seen) (world new : World) (lines : List Line) (line
   newest : (tree : ℕ) → after.counts.dark ≡ before.counts.dark → line.event ≡ event.Report tree → IsTree tree → (r : Report) × (line.reply ≡ reply.Report r)
   newest tree still asked is =
       report_comes (length lines + 1) tree mid after world new line.reply
-      (subst (λ (e : Event). Handled (length lines + 1) e mid after world new (Ok line.reply)) asked handled) is
+      (subst (λ (e : Event). Handled (length lines + 1) e (span_of mid after world new) (Ok line.reply)) asked handled) is
       (subst (λ (e : Event). IsSoundFor e (standing lines (session_of e)).posture line.reply) asked sound) (saw still) (omega (arith, first, second, still))
 
   comes_more : ReportsCome (lines ++ line ∷ []) before after

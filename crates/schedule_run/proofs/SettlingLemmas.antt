@@ -25,6 +25,7 @@ use Rattle.schedule_run.specs.Play.{IsFresh, IsNext, RanOut, Played, StoppedAt}
 use Rattle.schedule_run.specs.Settling.{is_settled, settled_by, settle_end_of, OpensNothing, WasSettled, ShowsSettling, out_writing, SettleEnded}
 use Rattle.schedule_run.specs.Written.{reply_line}
 use Rattle.world_core.specs.Handled.{Handled}
+use Rattle.world_core.specs.Span.{span_of}
 use Rattle.txn_buffer.specs.Noted.{Noted}
 use Rattle.schedule_run.proofs.PlayLemmas.{played_nothing, played_more, stopped_at}
 
@@ -79,7 +80,7 @@ was_settled reply s t old new fresh next =
     let none : old.handled ≡ 0 = fresh.none in
     let count : new.handled ≡ old.handled + 1 = next.count in
     let first : new.handled ≡ 1 = omega arith in
-    let handled : Handled 1 Settle s t old.world new.world (Ok reply) = subst (λ (n : ℕ). Handled n Settle s t old.world new.world (Ok reply)) first next.handled in
+    let handled : Handled 1 Settle (span_of s t old.world new.world) (Ok reply) = subst (λ (n : ℕ). Handled n Settle (span_of s t old.world new.world) (Ok reply)) first next.handled in
     record {
       play = new;
       played = played;

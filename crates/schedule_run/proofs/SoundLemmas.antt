@@ -19,7 +19,7 @@ use Rattle.reply_text.specs.declared.reply.Reply.TheVariants as reply
 use Rattle.session_facts.proofs.Lines.Books.{book_of}
 use Rattle.session_facts.specs.Lines.Facts.{session_at, SomeBookStands}
 use Rattle.session_facts.specs.Sessions.Untroubled.{IsUntroubled}
-use Rattle.world_core.specs.Calm.{RepliesWell, work_at}
+use Rattle.world_core.specs.Calm.{RepliesWell, hand_at, work_at}
 use Rattle.world_core.specs.World.{World}
 use Rattle.world_core.specs.Alone.{IsAloneIn, StepIsUndisturbed}
 use Rattle.world_core.specs.Handled.{Handled, StepsLooked}
@@ -40,6 +40,7 @@ use Rattle.world_core.proofs.Unsent.{stage_line}
 use Rattle.world_core.specs.Metered.{LeavesFewAt, MetersAt, StepGoesThrough}
 use Rattle.world_core.specs.Spared.{HasSentAt, PassesNoneAt, none_passed, unpassed}
 use Rattle.world_core.specs.Writers.{Stage, Unbound, Even, Owing, Astray, by_line, stage_of}
+use Rattle.world_core.specs.Span.{span_of}
 use Rattle.world_core.proofs.LeftNone.{nothing_after}
 use Rattle.world_core.proofs.Named.{names_pieces}
 use Rattle.world_core.proofs.Shown.{shown}
@@ -106,14 +107,14 @@ on_book : (lines : List Line) (world : World) (t : CloudState) → WorldStands l
 on_book lines world t stands = book_of lines (session_at world.sessions) world.audit world.blind t stands.by_lines
 
 -- what a settling among them left, and how it ended
-pub leaves_so : (n : ℕ) (e : Event) (before after : Seen) (old new : World) (r : Reply) → SettlingLeaves n e before after old new (Ok r)
-    → (t : CloudState) → before.state ≡ Some t → SomeBookStands (session_at old.sessions) t → (handled : Handled n e before after old new (Ok r))
+pub leaves_so : (n : ℕ) (e : Event) (before after : Seen) (old new : World) (r : Reply) → SettlingLeaves n e (span_of before after old new) (Ok r)
+    → (t : CloudState) → before.state ≡ Some t → SomeBookStands (session_at old.sessions) t → (handled : Handled n e (span_of before after old new) (Ok r))
     → LeavesSo n e before after old new r handled
 leaves_so n event.Settle before after old new (reply.Settled calls) law t told stands handled = law t told stands handled
 leaves_so n e before after old new r law t told stands handled = tt
 
-ends_here : (n : ℕ) (e : Event) (before after : Seen) (old new : World) (r : Reply) → SettlingEnds n e before after old new (Ok r)
-    → (t : CloudState) → before.state ≡ Some t → SomeBookStands (session_at old.sessions) t → (handled : Handled n e before after old new (Ok r))
+ends_here : (n : ℕ) (e : Event) (before after : Seen) (old new : World) (r : Reply) → SettlingEnds n e (span_of before after old new) (Ok r)
+    → (t : CloudState) → before.state ≡ Some t → SomeBookStands (session_at old.sessions) t → (handled : Handled n e (span_of before after old new) (Ok r))
     → EndsSo t n e before after old new r handled
 ends_here n event.Settle before after old new r law t told stands handled = λ free each. law t told stands free handled each
 ends_here n e before after old new r law t told stands handled = tt
@@ -121,8 +122,8 @@ ends_here n e before after old new r law t told stands handled = tt
 pub same_some : {X : Type 0} (x y : X) → Some x ≡ Some y → x ≡ y
 same_some x y e = cc
 
-pub ends_so : (n : ℕ) (e : Event) (before after : Seen) (old new : World) (r : Reply) → SettlingEnds n e before after old new (Ok r)
-    → (t : CloudState) → before.state ≡ Some t → SomeBookStands (session_at old.sessions) t → (handled : Handled n e before after old new (Ok r))
+pub ends_so : (n : ℕ) (e : Event) (before after : Seen) (old new : World) (r : Reply) → SettlingEnds n e (span_of before after old new) (Ok r)
+    → (t : CloudState) → before.state ≡ Some t → SomeBookStands (session_at old.sessions) t → (handled : Handled n e (span_of before after old new) (Ok r))
     → (s : CloudState) → before.state ≡ Some s → EndsSo s n e before after old new r handled
 ends_so n e before after old new r law t told stands handled s seen =
     subst (λ x. EndsSo x n e before after old new r handled) (same_some t s (sym told ∙ seen)) (ends_here n e before after old new r law t told stands handled)
@@ -132,7 +133,7 @@ abbrev IsWellFrom : List Line → Line → World → World → CloudState → Cl
 IsWellFrom lines line old new u t =
     IsUntroubled t (work_at old (session_of line.event))
     → IsUntroubled u (work_at new (session_of line.event)) × RepliesWell u line.event (standing lines (session_of line.event)).posture line.reply
-    × LeavesUnsent t u line.event (standing lines (session_of line.event)).posture (work_at old (session_of line.event)) (work_at new (session_of line.event)) line.reply
+    × LeavesUnsent line.event (standing lines (session_of line.event)).posture (hand_at t old (session_of line.event)) (hand_at u new (session_of line.event)) line.reply
 
 -- and each of them explains itself
 pub went_explained : (before : Seen) (old : World) (t : CloudState) (lines : List Line) (after : Seen) (new : World) → (went : WentOn before old lines after new) → before.state ≡ Some t
@@ -182,8 +183,8 @@ meters_behind before old t lines after new (further earlier line mid _ world _ w
 -- ---- a writer that is alone
 
 -- a step that was undisturbed went through
-goes_through : (who : Caller) (wish : Wish) (before after : Seen) (old new : World) (turn : Turn Answer) (p : StepsLooked who wish before after old new turn)
-    → StepIsUndisturbed who wish before after old new turn p → StepGoesThrough who wish before after old new turn p
+goes_through : (who : Caller) (wish : Wish) (before after : Seen) (old new : World) (turn : Turn Answer) (p : StepsLooked who wish (span_of before after old new) turn)
+    → StepIsUndisturbed who wish (span_of before after old new) turn p → StepGoesThrough who wish (span_of before after old new) turn p
 goes_through who wish before after old new turn p x = (ap (λ (c : Counts). c.withheld) x.counts, ap (λ (c : Counts). c.faults) x.counts)
 
 -- where its works passed none over, they may be told so

@@ -47,6 +47,7 @@ use Rattle.world_core.specs.declared.asked.Request.{Request}
 use Rattle.world_core.specs.declared.asked.Request.TheVariants.{Begin, Note, Abort, Policy, Work as WorksDue, Step, Run, Crash}
 use Rattle.world_core.specs.Handled.{SetsWish, StepsLooked, Went, start as went_start, further as went_further, ComesTo, MakesStep, Runs, Crashes, SettlesOn, Settles, Does, Answers, Policies, Works, WorksThrough, checkpoint_more, no_checkpoint}
 use Rattle.world_core.specs.Stands.{WorldStands}
+use Rattle.world_core.specs.Span.{span_of}
 use Rattle.world_core.proofs.Acknowledged.{durable_after}
 use Rattle.world_core.proofs.Counting.{stands_after}
 use Rattle.world_core.proofs.StandsLemmas.{no_memory}
@@ -119,7 +120,7 @@ lands_work who before after w new turn p x told =
     )
 
 -- a step between two looks
-lands_stepped : (who : Caller) (wish : Wish) (before after : Seen) (old new : World) (turn : Turn Answer) → StepsLooked who wish before after old new turn → Lands who.event before after
+lands_stepped : (who : Caller) (wish : Wish) (before after : Seen) (old new : World) (turn : Turn Answer) → StepsLooked who wish (span_of before after old new) turn → Lands who.event before after
 lands_stepped who wish before after old new turn p =
     lands_on who.event before p.from after (lands_not who.event before p.from p.look_before.stays)
     (lands_on who.event p.from p.under after (lands_wish who.event wish p.from p.under p.wishes)
@@ -131,7 +132,7 @@ lands_went who before old after new went_start = lands_same who.event before bef
 lands_went who before old after new (went_further mid _ world _ went step) =
     lands_on who.event before mid after (lands_went who before old mid world went) (lands_stepped who _ mid after world new _ step)
 
-lands_come : (who : Caller) (before after : Seen) (old new : World) (a : Answer) → ComesTo who before after old new a → Lands who.event before after
+lands_come : (who : Caller) (before after : Seen) (old new : World) (a : Answer) → ComesTo who (span_of before after old new) a → Lands who.event before after
 lands_come who before after old new a c =
     lands_on who.event before c.mid after (lands_went who before old c.mid c.world c.went) (lands_stepped who _ c.mid after c.world new _ c.steps)
 
@@ -146,33 +147,33 @@ module _ (n : ℕ) (before after : Seen) (old new : World) (r : Reply) where
   abbrev who : ℕ → Caller
   who k = record { session = k; event = n }
 
-  lands_made : (k : ℕ) (wish : Wish) → MakesStep n k wish before after old new (Ok r) → Lands n before after
+  lands_made : (k : ℕ) (wish : Wish) → MakesStep (record { session = k; event = n }) wish (span_of before after old new) (Ok r) → Lands n before after
   lands_made k wish (inl refuses) = lands_same n before after refuses.declines.seen
   lands_made k wish (inr (inl made)) = lands_stepped (who k) wish before after old new made.turn made.steps
   lands_made k wish (inr (inr memory)) = absurd (no_memory r memory.0)
 
-  lands_run : (k : ℕ) → Runs n k before after old new (Ok r) → Lands n before after
+  lands_run : (k : ℕ) → Runs (record { session = k; event = n }) (span_of before after old new) (Ok r) → Lands n before after
   lands_run k (inl refuses) = lands_same n before after refuses.declines.seen
   lands_run k (inr (inl run)) = lands_come (who k) before after old new run.answer run.comes
   lands_run k (inr (inr memory)) = absurd (no_memory r memory.0)
 
-  lands_crash : (k : ℕ) (done : Bool) → Crashes n k done before after old new (Ok r) → Lands n before after
+  lands_crash : (k : ℕ) (done : Bool) → Crashes (record { session = k; event = n }) done (span_of before after old new) (Ok r) → Lands n before after
   lands_crash k false dies = lands_same n before after dies.quiet.seen
   lands_crash k true (inl idle) = lands_same n before after idle.dies.quiet.seen
   lands_crash k true (inr (inl dies)) = lands_stepped (who k) _ before after old dies.world dies.turn dies.steps
   lands_crash k true (inr (inr memory)) = absurd (no_memory r memory.0)
 
-  lands_policy : (k : ℕ) (role : Role) (number : ℕ) → Policies k role number before after old new (Ok r) → Lands n before after
+  lands_policy : (k : ℕ) (role : Role) (number : ℕ) → Policies k role number (span_of before after old new) (Ok r) → Lands n before after
   lands_policy k role number (inl refuses) = lands_same n before after refuses.declines.seen
   lands_policy k role number (inr (inl refuses)) = lands_same n before after refuses.1.declines.seen
   lands_policy k role number (inr (inr gives)) = lands_same n before after gives.quiet.seen
 
-  lands_through : (k : ℕ) → WorksThrough n k before after old new (Ok r) → Lands n before after
+  lands_through : (k : ℕ) → WorksThrough (record { session = k; event = n }) (span_of before after old new) (Ok r) → Lands n before after
   lands_through k (inl refuses) = lands_same n before after refuses.declines.seen
   lands_through k (inr (inl down)) = lands_works (who k) before old down.queues down.done down.passed after new down.works
   lands_through k (inr (inr memory)) = absurd (no_memory r memory.0)
 
-  lands_does : (k : ℕ) (request : Request) → Does n k request before after old new (Ok r) → Lands n before after
+  lands_does : (k : ℕ) (request : Request) → Does (record { session = k; event = n }) request (span_of before after old new) (Ok r) → Lands n before after
   lands_does k (Begin o) h = lands_same n before after h.0.seen
   lands_does k (Note noting) h = lands_same n before after h.0.seen
   lands_does k Abort h = lands_same n before after h.0.seen
@@ -182,15 +183,15 @@ module _ (n : ℕ) (before after : Seen) (old new : World) (r : Reply) where
   lands_does k Run h = lands_run k h
   lands_does k (Crash done) h = lands_crash k done h
 
-  lands_settled : (errand : Errand) (begun : World) → SettlesOn errand (who 0) before after begun new (Ok r) → Lands n before after
+  lands_settled : (errand : Errand) (begun : World) → SettlesOn errand (who 0) (span_of before after begun new) (Ok r) → Lands n before after
   lands_settled errand begun (inl s) = lands_come (who 0) before after begun s.left s.answer s.comes
   lands_settled errand begun (inr memory) = absurd (no_memory r memory.0)
 
-  lands_settles : (errand : Errand) → Settles errand n before after old new (Ok r) → Lands n before after
+  lands_settles : (errand : Errand) → Settles errand n (span_of before after old new) (Ok r) → Lands n before after
   lands_settles errand (inl h) = lands_settled errand h.begun h.settles
   lands_settles errand (inr memory) = absurd (no_memory r memory.0)
 
-  pub lands_asked : (asked : Asked) → Answers n asked before after old new (Ok r) → Lands n before after
+  pub lands_asked : (asked : Asked) → Answers n asked (span_of before after old new) (Ok r) → Lands n before after
   lands_asked (Session k (Ok request)) (inl served) = lands_does k request served.1
   lands_asked (Session k (Err why)) (inl served) = lands_same n before after served.1.seen
   lands_asked (Session k request) (inr none) = lands_same n before after none.declines.seen

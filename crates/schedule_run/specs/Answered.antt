@@ -29,7 +29,7 @@ use Rattle.world_core.specs.Added.{WorldAdds}
 use Rattle.world_core.specs.Alone.{LeavesAlone, StepIsUndisturbed}
 use Rattle.world_core.specs.Bounded.{AnswersSoon}
 use Rattle.world_core.specs.Caused.{LineHasCauses}
-use Rattle.world_core.specs.Calm.{StepIsCalm, RepliesWell, work_at}
+use Rattle.world_core.specs.Calm.{StepIsCalm, RepliesWell, hand_at, work_at}
 use Rattle.world_core.specs.EachStep.{EachStep}
 use Rattle.world_core.specs.Explained.{StepExplains}
 use Rattle.world_core.specs.Handled.{Handled}
@@ -46,6 +46,7 @@ use Rattle.world_core.specs.Spared.{StepSpendsNone, unpassed}
 use Rattle.world_core.specs.Stands.{LeftIsRight}
 use Rattle.world_core.specs.UnsentPages.{LeavesUnsent}
 use Rattle.world_core.specs.Writers.{stage_of}
+use Rattle.world_core.specs.Span.{span_of}
 
 -- a world whose sessions are closed, and that saw nothing; blind where it looks at no put
 pub record IsNew (blind : Bool) (world : World) : Type 0 where
@@ -58,18 +59,18 @@ pub record IsNew (blind : Bool) (world : World) : Type 0 where
 pub data WentOn (before : Seen) (old : World) : List Line → Seen → World → Type 0 where
   start : WentOn before old [] before old
   further : (lines : List Line) (line : Line) (mid after : Seen) (world new : World)
-      → WentOn before old lines mid world → Handled (length lines + 1) line.event mid after world new (Ok line.reply)
+      → WentOn before old lines mid world → Handled (length lines + 1) line.event (span_of mid after world new) (Ok line.reply)
       → WentOn before old (lines ++ line ∷ []) after new
 
 -- a settling that came to its end leaves nothing, where in no step of it a message was withheld
-abbrev pub LeavesSo : (n : ℕ) (event : Event) (before after : Seen) (old new : World) (r : Reply) → Handled n event before after old new (Ok r) → Type 0
-LeavesSo n event.Settle before after old new (reply.Settled calls) handled = SettledLeaves n calls before after old new handled
+abbrev pub LeavesSo : (n : ℕ) (event : Event) (before after : Seen) (old new : World) (r : Reply) → Handled n event (span_of before after old new) (Ok r) → Type 0
+LeavesSo n event.Settle before after old new (reply.Settled calls) handled = SettledLeaves n calls (span_of before after old new) handled
 LeavesSo n event before after old new r handled = Unit {0}
 
 -- where no lock was held before it and every step of it went well, a settling came to its end so, within the bound
-abbrev pub EndsSo : CloudState → (n : ℕ) (event : Event) (before after : Seen) (old new : World) (r : Reply) → Handled n event before after old new (Ok r) → Type 0
+abbrev pub EndsSo : CloudState → (n : ℕ) (event : Event) (before after : Seen) (old new : World) (r : Reply) → Handled n event (span_of before after old new) (Ok r) → Type 0
 EndsSo t n event.Settle before after old new r handled =
-    NoLockHeld t → EachStep StepGoesWell n event.Settle before after old new (Ok r) handled → AnswersSettled t after r
+    NoLockHeld t → EachStep StepGoesWell n event.Settle (span_of before after old new) (Ok r) handled → AnswersSettled t after r
 EndsSo t n event before after old new r handled = Unit {0}
 
 -- where the reply to a line says that a commit committed, each change on which its session stood by the lines before it is among the entries
@@ -82,25 +83,25 @@ IsKeptLine entries before line = IsKeptReply entries (standing before (session_o
 -- leaves nothing and comes to its end so;
 -- a commit that it answers as committed is among what was committed, and of one that it answers as not committed nothing is; the two numbers of a
 -- report count what is left then; and a read, a scan and a look-up show what their own calls served, by what the lines say of the client
-pub record IsExplained (lines : List Line) (line : Line) (before after : Seen) (old new : World) (handled : Handled (length lines + 1) line.event before after old new (Ok line.reply))
+pub record IsExplained (lines : List Line) (line : Line) (before after : Seen) (old new : World) (handled : Handled (length lines + 1) line.event (span_of before after old new) (Ok line.reply))
     : Type 0 where
-  pub explains : EachStep StepExplains (length lines + 1) line.event before after old new (Ok line.reply) handled
-  pub calm : EachStep StepIsCalm (length lines + 1) line.event before after old new (Ok line.reply) handled → (t u : CloudState)
+  pub explains : EachStep StepExplains (length lines + 1) line.event (span_of before after old new) (Ok line.reply) handled
+  pub calm : EachStep StepIsCalm (length lines + 1) line.event (span_of before after old new) (Ok line.reply) handled → (t u : CloudState)
       → before.state ≡ Some t → after.state ≡ Some u → IsUntroubled t (work_at old (session_of line.event))
       → IsUntroubled u (work_at new (session_of line.event)) × RepliesWell u line.event (standing lines (session_of line.event)).posture line.reply
-      × LeavesUnsent t u line.event (standing lines (session_of line.event)).posture (work_at old (session_of line.event)) (work_at new (session_of line.event)) line.reply
-  pub passed : EachStep StepIsCalm (length lines + 1) line.event before after old new (Ok line.reply) handled
-      → AskedPassed (length lines + 1) handled.asked before after old new (Ok line.reply) handled.answers
-  pub bounded : AnswersSoon lines (length lines + 1) handled.asked before after old new (Ok line.reply) handled.answers
-  pub names : NamesAt (length lines + 1) handled.asked before after old new (Ok line.reply) handled.answers
+      × LeavesUnsent line.event (standing lines (session_of line.event)).posture (hand_at t old (session_of line.event)) (hand_at u new (session_of line.event)) line.reply
+  pub passed : EachStep StepIsCalm (length lines + 1) line.event (span_of before after old new) (Ok line.reply) handled
+      → AskedPassed (length lines + 1) handled.asked (span_of before after old new) (Ok line.reply) handled.answers
+  pub bounded : AnswersSoon lines (length lines + 1) handled.asked (span_of before after old new) (Ok line.reply) handled.answers
+  pub names : NamesAt (length lines + 1) handled.asked (span_of before after old new) (Ok line.reply) handled.answers
   pub leaves : LeavesSo (length lines + 1) line.event before after old new line.reply handled
   pub ends : (t : CloudState) → before.state ≡ Some t → EndsSo t (length lines + 1) line.event before after old new line.reply handled
   pub kept : (u : CloudState) → after.state ≡ Some u → IsKeptLine (committed (lines ++ line ∷ []) u) lines line
   pub left_none : (u : CloudState) → after.state ≡ Some u
       → IsLeftReply (committed (lines ++ line ∷ []) u) (standing lines (session_of line.event)).posture (session_at new.sessions (session_of line.event)).work line.reply
   pub left : (u : CloudState) → after.state ≡ Some u → LeftIsRight u line.reply
-  pub shows : EachStep StepShows (length lines + 1) line.event before after old new (Ok line.reply) handled
-  pub shows_by : EachStep (StepShowsBy lines) (length lines + 1) line.event before after old new (Ok line.reply) handled
+  pub shows : EachStep StepShows (length lines + 1) line.event (span_of before after old new) (Ok line.reply) handled
+  pub shows_by : EachStep (StepShowsBy lines) (length lines + 1) line.event (span_of before after old new) (Ok line.reply) handled
 
 -- and so does each line
 abbrev pub AreExplained : (before : Seen) (old : World) (lines : List Line) (after : Seen) (new : World) → WentOn before old lines after new → Type 0
@@ -111,7 +112,7 @@ AreExplained before old _ after new (further lines line mid _ world _ went handl
 abbrev pub GoThrough : (before : Seen) (old : World) (lines : List Line) (after : Seen) (new : World) → WentOn before old lines after new → Type 0
 GoThrough before old lines after new start = Unit {0}
 GoThrough before old _ after new (further lines line mid _ world _ went handled) =
-    GoThrough before old lines mid world went × EachStep StepGoesThrough (length lines + 1) line.event mid after world new (Ok line.reply) handled
+    GoThrough before old lines mid world went × EachStep StepGoesThrough (length lines + 1) line.event (span_of mid after world new) (Ok line.reply) handled
 
 -- then, behind its policy and behind each work of it that passes nothing over, a session that works as a writer of k leaves at most k - 1 messages in each
 -- pending update queue
@@ -126,8 +127,8 @@ GoAlone session before old lines after new start = Unit {0}
 GoAlone session before old _ after new (further lines line mid _ world _ went handled) =
     GoAlone session before old lines mid world went
     × LeavesAlone session line.event
-    × EachStep StepIsUndisturbed (length lines + 1) line.event mid after world new (Ok line.reply) handled
-    × EachStep StepSpendsNone (length lines + 1) line.event mid after world new (Ok line.reply) handled
+    × EachStep StepIsUndisturbed (length lines + 1) line.event (span_of mid after world new) (Ok line.reply) handled
+    × EachStep StepSpendsNone (length lines + 1) line.event (span_of mid after world new) (Ok line.reply) handled
 
 -- then a session that works as a writer of k behind each commit, whatever its works tell that they passed over, leaves few behind each of them: none was passed over
 abbrev pub LeavesFewAlone : (before : Seen) (old : World) (lines : List Line) (after : Seen) (new : World) → WentOn before old lines after new → Type 0
@@ -148,7 +149,7 @@ abbrev pub IsSoundLine : List Line → Line → Type 0
 IsSoundLine before line = IsSoundFor line.event (standing before (session_of line.event)).posture line.reply
 
 -- a settling has a sound reply and explains itself; of other lines nothing is said
-abbrev pub SettlesSo : (lines : List Line) (event : Event) (r : Reply) (before after : Seen) (old new : World) → Handled (length lines + 1) event before after old new (Ok r) → Type 0
+abbrev pub SettlesSo : (lines : List Line) (event : Event) (r : Reply) (before after : Seen) (old new : World) → Handled (length lines + 1) event (span_of before after old new) (Ok r) → Type 0
 SettlesSo lines event.Settle r before after old new handled =
     IsSoundLine lines (record { event = event.Settle; reply = r }) × IsExplained lines (record { event = event.Settle; reply = r }) before after old new handled
 SettlesSo lines event r before after old new handled = Unit {0}
@@ -191,7 +192,7 @@ events_of lines = map (λ line. line.event) lines
 abbrev pub AreCaused : (before : Seen) (old : World) (lines : List Line) (after : Seen) (new : World) → WentOn before old lines after new → Type 0
 AreCaused before old lines after new start = Unit {0}
 AreCaused before old _ after new (further lines line mid _ world _ went handled) =
-    AreCaused before old lines mid world went × LineHasCauses (length lines + 1) line.event mid after world new (Ok line.reply) handled
+    AreCaused before old lines mid world went × LineHasCauses (length lines + 1) line.event (span_of mid after world new) (Ok line.reply) handled
 
 -- no two of the rows that were added to the trace of a cloud that tells its state open one transaction
 abbrev pub OpensNoneTwice : Seen → Seen → Type 0
@@ -221,11 +222,11 @@ pub record IsUnanswered (blind : Bool) (lines : List Line) (event : Event) (faul
   pub mid : Seen
   pub answered : AreAnswered blind lines before mid
   pub last : World
-  pub handled : Handled (length lines + 1) event mid after answered.last last (Err fault)
+  pub handled : Handled (length lines + 1) event (span_of mid after answered.last last) (Err fault)
   pub short : LeavesShort event answered.last last (Err fault)
   pub kinds : (t : CloudState) (reply : Reply) → before.state ≡ Some t → AddsTo (length lines + 1) (lines ++ record { event = event; reply = reply } ∷ []) t after
   pub once : OpenEachOnce (events_of lines ++ event ∷ []) → OpensNoneTwice before after
-  pub caused : LineHasCauses (length lines + 1) event mid after answered.last last (Err fault) handled
+  pub caused : LineHasCauses (length lines + 1) event (span_of mid after answered.last last) (Err fault) handled
 
 -- every report is right for the lines up to its own and the state up to its line
 abbrev pub ReportsAreRight : List Line → CloudState → Type 0

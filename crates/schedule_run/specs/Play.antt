@@ -16,6 +16,7 @@ use Rattle.world_core.specs.Added.{WorldAdds}
 use Rattle.world_core.specs.Opened.{OpenEachOnce}
 use Rattle.world_core.specs.Quota.{SpendsQuota}
 use Rattle.world_core.specs.Stands.{WorldStands, StandsOn, Grows}
+use Rattle.world_core.specs.Span.{span_of}
 use Rattle.schedule_run.specs.InPlay.{Play}
 use Rattle.schedule_run.specs.Answered.{IsNew, AskNoReport, WentOn, AreSettled, IsOfRuns, LeavesOne, IsUnanswered, events_of, OpensNoneTwice, ReportsAreRight, KeepsTheTheorem, AreExplained, AreMetered, AreCaused, ReportsCome}
 
@@ -30,15 +31,15 @@ pub record IsFresh (blind : Bool) (play : Play) : Type 0 where
 pub record IsNext (event : Event) (reply : Reply) (before after : Seen) (old new : Play) : Type 0 where
   pub count : new.handled ≡ old.handled + 1
   pub within : new.handled < 2 ^ 64
-  pub handled : Handled new.handled event before after old.world new.world (Ok reply)
-  pub stands : StandsOn new.handled event before after old.world new.world (Ok reply)
+  pub handled : Handled new.handled event (span_of before after old.world new.world) (Ok reply)
+  pub stands : StandsOn new.handled event (span_of before after old.world new.world) (Ok reply)
   pub grows : Grows new.handled before after
   pub spends : SpendsQuota before after old.left new.left
 
 -- memory ran out before it did anything, or while it was handled
 pub data RanOut (event : Event) (before after : Seen) (old new : Play) : Type 0 where
   uncounted : after ≡ before → RanOut event before after old new
-  no_answer : Handled (old.handled + 1) event before after old.world new.world (Err world.Memory) → Grows (old.handled + 1) before after
+  no_answer : Handled (old.handled + 1) event (span_of before after old.world new.world) (Err world.Memory) → Grows (old.handled + 1) before after
       → RanOut event before after old new
 
 abbrev pub Takes : Event → Result Reply WorldFault → Seen → Seen → Play → Play → Type 0

@@ -14,6 +14,7 @@ use Rattle.world_core.specs.declared.world.WorldFault.{WorldFault}
 use Rattle.world_core.specs.declared.world.WorldFault.TheVariants as world
 use Rattle.world_core.specs.Handled.{Handled}
 use Rattle.world_core.specs.Stands.{WorldStands, StandsOn}
+use Rattle.world_core.specs.Span.{span_of}
 use Rattle.schedule_run.specs.declared.replay.LineFault.{LineFault}
 use Rattle.schedule_run.specs.declared.replay.LineFault.TheVariants.{BadLine, WriteFault, Memory}
 use Rattle.schedule_run.specs.Answered.{WentOn, AreAnswered, IsUnanswered, ReportsAreRight, KeepsTheTheorem}
@@ -98,8 +99,8 @@ pub record HasHandledLines (text rest : List ℕ) (n : ℕ) (written now_written
 
 -- an event was handled and has this reply, and what stood stands with it
 pub record IsAnswered (n : ℕ) (event : Event) (start now : Seen) (old new : World) (reply : Reply) : Type 0 where
-  pub handled : Handled n event start now old new (Ok reply)
-  pub stands : StandsOn n event start now old new (Ok reply)
+  pub handled : Handled n event (span_of start now old new) (Ok reply)
+  pub stands : StandsOn n event (span_of start now old new) (Ok reply)
 
 -- what the event of a line did: its reply is written, or a part of it, or there is none
 abbrev pub LineHandled : Result (Unit {0}) LineFault → ℕ → Event → Written → Written → Seen → Seen → World → World → Type 0
@@ -110,7 +111,7 @@ LineHandled (Err WriteFault) n event written now_written start now old new =
     (reply : Reply) × IsAnswered n event start now old new reply × AddsPart written now_written (reply_line n reply)
 LineHandled (Err Memory) n event written now_written start now old new =
     ((reply : Reply) × IsAnswered n event start now old new reply × AddsPart written now_written (reply_line n reply))
-    ⊎ (Handled n event start now old new (Err world.Memory) × (now_written ≡ written))
+    ⊎ (Handled n event (span_of start now old new) (Err world.Memory) × (now_written ≡ written))
 
 -- what a line did whose text is in no grammar: nothing of it was handled, and its refusal is written, or a part of it
 abbrev pub LineRefused : Result (Unit {0}) LineFault → ℕ → Written → Written → Type 0

@@ -19,6 +19,7 @@ use Rattle.schedule_run.specs.Play.{Played, StoppedAt}
 use Rattle.schedule_run.specs.Written.{NothingRan, reply_line}
 use Rattle.world_core.specs.Handled.{Handled}
 use Rattle.world_core.specs.World.{World}
+use Rattle.world_core.specs.Span.{span_of}
 
 -- a reply says that the settling is done
 abbrev pub is_settled : Reply → Bool
@@ -37,7 +38,7 @@ pub record WasSettled (reply : Reply) (start now : Seen) : Type 0 where
   pub played : Played true (record { event = Settle; reply = reply } ∷ []) start now play
   pub first : World
   pub fresh : IsNew true first
-  pub handled : Handled 1 Settle start now first play.world (Ok reply)
+  pub handled : Handled 1 Settle (span_of start now first play.world) (Ok reply)
   pub settles : (t : CloudState) → start.state ≡ Some t → IsOfRuns t → SettlesSo [] Settle reply start now first play.world handled
   pub opens : OpensNothing start now
 

@@ -25,12 +25,13 @@ use Rattle.world_core.specs.declared.world.WorldFault.{WorldFault}
 use Rattle.world_core.specs.Acknowledged.{AnswersDurably}
 use Rattle.world_core.specs.Handled.{StepsLooked, Handled}
 use Rattle.world_core.specs.World.{World}
+use Rattle.world_core.specs.Span.{span_of}
 use Rattle.world_core.proofs.CommitReplies.{OfReply, SaysNothing, asked_keeps}
 use Rattle.world_core.proofs.StandsLemmas.{IsUnderWay, told_under, call, steps_own}
 
 -- the end of a commit that a step made
 step_commits : (lines : List Line) (line : Line) (who : Caller) (wish : Wish) (before after : Seen) (old new : World) (u : CloudState) (c : CommitAnswer) → who.event ≡ length lines + 1
-    → IsUnderWay lines old before → after.state ≡ Some u → StepsLooked who wish before after old new (Ended (answer.Commit c))
+    → IsUnderWay lines old before → after.state ≡ Some u → StepsLooked who wish (span_of before after old new) (Ended (answer.Commit c))
     → IsKeptAt (committed (lines ++ line ∷ []) u) (standing lines who.session).client (standing lines who.session).posture c
 step_commits lines line who wish before after old new u c number way told p =
     subst Kept (one left.state u (sym (p.look_after.stays left.state left.told) ∙ told))
@@ -66,7 +67,7 @@ kept_reply entries client p left (reply.Commit a) h = h
 kept_reply entries client p left r h = tt
 
 pub durable_after : (n : ℕ) (event : Event) (before after : Seen) (old new : World) (result : Result Reply WorldFault)
-    → Handled n event before after old new result → AnswersDurably n event before after old new result
+    → Handled n event (span_of before after old new) result → AnswersDurably n event (span_of before after old new) result
 durable_after n event before after old new (Ok r) h = λ lines t u at told stands seen.
     let entries : List Entry = committed (lines ++ line_of event r ∷ []) u in
     let client : ℕ = (standing lines (session_of event)).client in

@@ -28,6 +28,7 @@ use Rattle.world_core.specs.Replying.{done_reply}
 use Rattle.world_core.specs.Sessions.{NotesIn, AbortsIn, joined}
 use Rattle.world_core.specs.Handled.{NotesChange, DropsChanges, Does, Answers, Handled}
 use Rattle.world_core.specs.Added.{WorldAdds}
+use Rattle.world_core.specs.Span.{span_of}
 use Rattle.world_core.proofs.WorkerRows.{adds_work}
 use Rattle.world_core.proofs.AddedSteps.{adds_policy, adds_declined, adds_quietly, adds_step, adds_run, adds_crash, adds_errand, adds_wait, adds_report}
 use Rattle.world_core.proofs.BeginLemmas.{IsOk, refused_is, opens, has_in_hand, commits, reads, scans, looks, works_with}
@@ -35,12 +36,12 @@ use Rattle.world_core.proofs.EveryLine.{does_own, asked_is}
 
 -- a request to a session is served, or it is not done
 request_adds : (n k : ℕ) (event : Event) (Is : Result Request Refused → Type 0) (asked : Asked) (before after : Seen) (old new : World) (r : Reply) (lines : List Line) (first : CloudState)
-    → OfSession k Is asked → Answers n asked before after old new (Ok r) → WorldAdds lines first old before
-    → ((request : Request) → 1 ≤ k → Is (Ok request) → Does n k request before after old new (Ok r) → WorldAdds (lines ++ line_of event r ∷ []) first new after)
+    → OfSession k Is asked → Answers n asked (span_of before after old new) (Ok r) → WorldAdds lines first old before
+    → ((request : Request) → 1 ≤ k → Is (Ok request) → Does (record { session = k; event = n }) request (span_of before after old new) (Ok r) → WorldAdds (lines ++ line_of event r ∷ []) first new after)
     → WorldAdds (lines ++ line_of event r ∷ []) first new after
 request_adds n k event Is (Session number (Ok request)) before after old new r lines first belongs (inl p) w served =
     let own : IsSession k = subst IsSession belongs.0 p.0 in
-    served request own.some belongs.1 (subst (λ j. Does n j request before after old new (Ok r)) belongs.0 p.1)
+    served request own.some belongs.1 (subst (λ j. Does (record { session = j; event = n }) request (span_of before after old new) (Ok r)) belongs.0 p.1)
 request_adds n k event Is (Session number (Err why)) before after old new r lines first belongs (inl p) w served =
     adds_declined lines event r why first before after old new p.1 w
 request_adds n k event Is (Session number request) before after old new r lines first belongs (inr none) w served =
@@ -88,9 +89,9 @@ aborts_acts k r a b s p acts = on p.dropped p.drops p.replies
 
 noted_adds : (lines : List Line) (event : Event) (n k : ℕ) (noting : Noting) (request : Request) (before after : Seen) (old new : World) (r : Reply) (first : CloudState)
     → session_of event ≡ k → 1 ≤ k → ((q : Reply) (s : Standing) → after_own event q s ≡ joins (joined noting) q s)
-    → WorldAdds lines first old before → IsNoted noting (Ok request) → Does n k request before after old new (Ok r) → WorldAdds (lines ++ line_of event r ∷ []) first new after
+    → WorldAdds lines first old before → IsNoted noting (Ok request) → Does (record { session = k; event = n }) request (span_of before after old new) (Ok r) → WorldAdds (lines ++ line_of event r ∷ []) first new after
 noted_adds lines event n k noting (Note asked) before after old new r first own some does w is done =
-    let h : Does n k (Note noting) before after old new (Ok r) = subst (λ j. Does n k (Note j) before after old new (Ok r)) is.0 done in
+    let h : Does (record { session = k; event = n }) (Note noting) (span_of before after old new) (Ok r) = subst (λ j. Does (record { session = k; event = n }) (Note j) (span_of before after old new) (Ok r)) is.0 done in
     adds_quietly lines event r k first before after old new _ own some h.0 h.1
     (notes_acts event noting r h.1.before h.1.after (standing lines k) does h.1.does) w
 noted_adds lines event n k noting (Begin o) before after old new r first own some does w is done = absurd is
@@ -108,14 +109,14 @@ module _ (n : ℕ) (before after : Seen) (old new : World) (r : Reply) (lines : 
   abbrev Adds : Event → Type 0
   Adds event = WorldAdds (lines ++ line_of event r ∷ []) first new after
 
-  by_request : (k : ℕ) (event : Event) (Is : Result Request Refused → Type 0) (asked : Asked) → OfSession k Is asked → Answers n asked before after old new (Ok r)
-      → ((request : Request) → 1 ≤ k → Is (Ok request) → Does n k request before after old new (Ok r) → Adds event) → Adds event
+  by_request : (k : ℕ) (event : Event) (Is : Result Request Refused → Type 0) (asked : Asked) → OfSession k Is asked → Answers n asked (span_of before after old new) (Ok r)
+      → ((request : Request) → 1 ≤ k → Is (Ok request) → Does (record { session = k; event = n }) request (span_of before after old new) (Ok r) → Adds event) → Adds event
   by_request k event Is asked asks answers served = request_adds n k event Is asked before after old new r lines first asks answers w served
 
-  does : (k : ℕ) (request own : Request) → request ≡ own → Does n k request before after old new (Ok r) → Does n k own before after old new (Ok r)
+  does : (k : ℕ) (request own : Request) → request ≡ own → Does (record { session = k; event = n }) request (span_of before after old new) (Ok r) → Does (record { session = k; event = n }) own (span_of before after old new) (Ok r)
   does k request own is done = does_own n k request own before after old new r is done
 
-  asked_adds : (event : Event) (asked : Asked) → Asks event asked → Answers n asked before after old new (Ok r) → Adds event
+  asked_adds : (event : Event) (asked : Asked) → Asks event asked → Answers n asked (span_of before after old new) (Ok r) → Adds event
   asked_adds (event.Open k client) asked asks answers = by_request k (event.Open k client) (IsOpening client) asked asks answers
       (λ request some is done.
       let h = does k request (Begin (op.Open client)) is.1 done in
@@ -180,11 +181,11 @@ module _ (n : ℕ) (before after : Seen) (old new : World) (r : Reply) (lines : 
   asked_adds (event.Crash k d) asked asks answers = by_request k (event.Crash k d) (λ request. request ≡ Ok (Crash d)) asked asks answers
       (λ request some is done. adds_crash lines first k n d r before after old new at some w (does k request (Crash d) (asked_is request (Crash d) is) done))
   asked_adds (event.Wait ticks) asked asks answers =
-      adds_wait lines first ticks r before after old new w (subst (λ z. Answers n z before after old new (Ok r)) asks answers)
+      adds_wait lines first ticks r before after old new w (subst (λ z. Answers n z (span_of before after old new) (Ok r)) asks answers)
   asked_adds (event.Report tree) asked asks answers =
-      adds_report lines first tree r before after old new w (subst (λ z. Answers n z before after old new (Ok r)) asks answers)
+      adds_report lines first tree r before after old new w (subst (λ z. Answers n z (span_of before after old new) (Ok r)) asks answers)
   asked_adds event.Settle asked asks answers =
-      adds_errand settles lines first n r before after old new at w (subst (λ z. Answers n z before after old new (Ok r)) asks answers)
+      adds_errand settles lines first n r before after old new at w (subst (λ z. Answers n z (span_of before after old new) (Ok r)) asks answers)
   asked_adds (event.Sweep number) (Sweep (Ok tree)) asks answers =
       subst (λ (k : ℕ). WorldAdds (lines ++ line_of (event.Sweep k) r ∷ []) first new after) asks.0 (adds_errand (sweeps tree) lines first n r before after old new at w answers.1)
   asked_adds (event.Sweep number) (Sweep (Err why)) asks answers = adds_declined lines (event.Sweep number) r why first before after old new answers w
@@ -194,5 +195,5 @@ module _ (n : ℕ) (before after : Seen) (old new : World) (r : Reply) (lines : 
 
 -- a line that was handled
 pub handled_adds : (n : ℕ) (event : Event) (before after : Seen) (old new : World) (r : Reply) (lines : List Line) (first : CloudState) → length lines + 1 ≡ n
-    → Handled n event before after old new (Ok r) → WorldAdds lines first old before → WorldAdds (lines ++ line_of event r ∷ []) first new after
+    → Handled n event (span_of before after old new) (Ok r) → WorldAdds lines first old before → WorldAdds (lines ++ line_of event r ∷ []) first new after
 handled_adds n event before after old new r lines first at h w = asked_adds n before after old new r lines first at w event h.asked h.asks h.answers

@@ -36,6 +36,7 @@ use Rattle.world_core.specs.Replying.{RepliesTo, RepliesTurn}
 use Rattle.world_core.specs.Sessions.{Changes}
 use Rattle.world_core.specs.Handled.{Declines, Has, MakesNoCall, SetsWish, StepsLooked, MakesStep, Went, start, further, RunsTo, Runs, SettlesTo, SettlesOn, Settles, Dies, DiesDone, Crashes, WaitsFor, WaitsTooLong, Reports, Policies}
 use Rattle.world_core.specs.Added.{WorldAdds}
+use Rattle.world_core.specs.Span.{span_of}
 use Rattle.world_core.proofs.Errands.{still_stands, works_first}
 use Rattle.world_core.proofs.StandsLemmas.{refused_is, changed_at, changed_was, changed_rests, went_rests, replies_to, no_stop, no_memory, crashed_own, closed_twice, has_at, settler}
 
@@ -83,7 +84,7 @@ stays lines event r first before after old new same still a w =
     let P : World → Type 0 = λ z. WorldAdds (lines ++ line_of event r ∷ []) first z after in
     subst P (sym same) (through lines (line_of event r) first old after a (still_line lines event r (session_at old.sessions) still w.acts) w.rests)
 
-pub adds_declined : (lines : List Line) (event : Event) (r : Reply) (why : Refused) (first : CloudState) (before after : Seen) (old new : World) → Declines why before after old new (Ok r)
+pub adds_declined : (lines : List Line) (event : Event) (r : Reply) (why : Refused) (first : CloudState) (before after : Seen) (old new : World) → Declines why (span_of before after old new) (Ok r)
     → WorldAdds lines first old before → WorldAdds (lines ++ line_of event r ∷ []) first new after
 adds_declined lines event r (refused.Rule rule) first before after old new is w =
     let P : Reply → Type 0 = λ z. WorldAdds (lines ++ line_of event z ∷ []) first new after in
@@ -93,7 +94,7 @@ adds_declined lines event r refused.Memory first before after old new is w = abs
 
 -- a line of a session that makes no call
 pub adds_quietly : (lines : List Line) (event : Event) (r : Reply) (k : ℕ) (first : CloudState) (before after : Seen) (old new : World) (Does : Acting → Acting → Type 0)
-    → session_of event ≡ k → 1 ≤ k → MakesNoCall before after old new → (c : Changes k Does old.sessions new.sessions)
+    → session_of event ≡ k → 1 ≤ k → MakesNoCall (span_of before after old new) → (c : Changes k Does old.sessions new.sessions)
     → (ActsAs c.before (standing lines k) → ActsAs c.after (after_own event r (standing lines k)))
     → WorldAdds lines first old before → WorldAdds (lines ++ line_of event r ∷ []) first new after
 adds_quietly lines event r k first before after old new Does own some quiet c leaves w =
@@ -132,7 +133,7 @@ module _ (lines : List Line) (first : CloudState) (who : Caller) (wish : Wish) (
       called_step.work rows_under.adds)
 
 module _ (lines : List Line) (first : CloudState) (who : Caller) (wish : Wish) (before after : Seen) (old new : World) (turn : Turn Answer)
-    (event : who.event ≡ length lines + 1) (way : IsAdding lines first old before) (p : StepsLooked who wish before after old new turn) where
+    (event : who.event ≡ length lines + 1) (way : IsAdding lines first old before) (p : StepsLooked who wish (span_of before after old new) turn) where
   abbrev f : Sessions
   f = session_at old.sessions
 
@@ -146,7 +147,7 @@ module _ (lines : List Line) (first : CloudState) (who : Caller) (wish : Wish) (
   sessions_after = changed_at who.session _ old.sessions new.sessions p.session
 
 more_adding : (lines : List Line) (first : CloudState) (who : Caller) (wish : Wish) (before after : Seen) (old new : World) → who.event ≡ length lines + 1
-    → IsAdding lines first old before → StepsLooked who wish before after old new More → IsAdding lines first new after
+    → IsAdding lines first old before → StepsLooked who wish (span_of before after old new) More → IsAdding lines first new after
 more_adding lines first who wish before after old new event way p =
     let f : Sessions = session_at old.sessions in
     let own = own_step lines first who wish before after old new More event way p in
@@ -170,7 +171,7 @@ went_adding lines first who before old after new number way (further mid _ world
 -- a line whose last step is answered
 ends_adding : (lines : List Line) (event : Event) (first : CloudState) (who : Caller) (wish : Wish) (before after : Seen) (old new : World) (a : Answer) (r : Reply)
     → session_of event ≡ who.session → ((s : Standing) → after_own event r s ≡ steps r s) → who.event ≡ length lines + 1 → 1 ≤ who.session
-    → IsAdding lines first old before → SettlerRests (session_at old.sessions) → (p : StepsLooked who wish before after old new (Ended a)) → RepliesTo a p.session.after (Ok r)
+    → IsAdding lines first old before → SettlerRests (session_at old.sessions) → (p : StepsLooked who wish (span_of before after old new) (Ended a)) → RepliesTo a p.session.after (Ok r)
     → WorldAdds (lines ++ line_of event r ∷ []) first new after
 ends_adding lines event first who wish before after old new a r own_is does number some way rests p replies =
     let f : Sessions = session_at old.sessions in
@@ -189,7 +190,7 @@ ends_adding lines event first who wish before after old new a r own_is does numb
     (changed_rests who.session _ old.sessions new.sessions some p.session rests)
 
 runs_adding : (lines : List Line) (first : CloudState) (k n : ℕ) (r : Reply) (before after : Seen) (old new : World) → length lines + 1 ≡ n → 1 ≤ k
-    → WorldAdds lines first old before → RunsTo n k before after old new (Ok r) → WorldAdds (lines ++ line_of (event.Run k) r ∷ []) first new after
+    → WorldAdds lines first old before → RunsTo (record { session = k; event = n }) (span_of before after old new) (Ok r) → WorldAdds (lines ++ line_of (event.Run k) r ∷ []) first new after
 runs_adding lines first k n r before after old new at some w run =
     let who : Caller = record { session = k; event = n } in
     let c = run.comes in
@@ -198,14 +199,14 @@ runs_adding lines first k n r before after old new at some w run =
     (went_rests who before old c.mid c.world some c.went w.rests) c.steps run.replies
 
 pub adds_run : (lines : List Line) (first : CloudState) (k n : ℕ) (r : Reply) (before after : Seen) (old new : World) → length lines + 1 ≡ n → 1 ≤ k
-    → WorldAdds lines first old before → Runs n k before after old new (Ok r) → WorldAdds (lines ++ line_of (event.Run k) r ∷ []) first new after
+    → WorldAdds lines first old before → Runs (record { session = k; event = n }) (span_of before after old new) (Ok r) → WorldAdds (lines ++ line_of (event.Run k) r ∷ []) first new after
 adds_run lines first k n r before after old new at some w (inl refuses) = adds_declined lines (event.Run k) r _ first before after old new refuses.declines w
 adds_run lines first k n r before after old new at some w (inr (inl run)) = runs_adding lines first k n r before after old new at some w run
 adds_run lines first k n r before after old new at some w (inr (inr memory)) = absurd (no_memory r memory.0)
 
 -- a step that goes on
 called_adding : (lines : List Line) (first : CloudState) (k n : ℕ) (wish : Wish) (before after : Seen) (old new : World) → length lines + 1 ≡ n → 1 ≤ k
-    → WorldAdds lines first old before → StepsLooked (record { session = k; event = n }) wish before after old new More
+    → WorldAdds lines first old before → StepsLooked (record { session = k; event = n }) wish (span_of before after old new) More
     → WorldAdds (lines ++ line_of (event.Step k wish) reply.Called ∷ []) first new after
 called_adding lines first k n wish before after old new at some w p =
     let on = more_adding lines first (record { session = k; event = n }) wish before after old new (sym at) (adding_begins lines first old before w) p in
@@ -213,7 +214,7 @@ called_adding lines first k n wish before after old new at some w p =
     (still_line lines (event.Step k wish) reply.Called (session_at new.sessions) (λ s. refl) on.acts) (changed_rests k _ old.sessions new.sessions some p.session w.rests)
 
 step_adding : (lines : List Line) (first : CloudState) (k n : ℕ) (wish : Wish) (r : Reply) (before after : Seen) (old new : World) (turn : Turn Answer) → length lines + 1 ≡ n → 1 ≤ k
-    → WorldAdds lines first old before → (p : StepsLooked (record { session = k; event = n }) wish before after old new turn) → RepliesTurn turn p.session.after (Ok r)
+    → WorldAdds lines first old before → (p : StepsLooked (record { session = k; event = n }) wish (span_of before after old new) turn) → RepliesTurn turn p.session.after (Ok r)
     → WorldAdds (lines ++ line_of (event.Step k wish) r ∷ []) first new after
 step_adding lines first k n wish r before after old new More at some w p replies =
     let is : r ≡ reply.Called = cc in
@@ -226,7 +227,7 @@ step_adding lines first k n wish r before after old new (Stopped trouble) at som
     absurd (no_stop _ p.under p.to p.session.before p.session.after trouble p.session.does)
 
 pub adds_step : (lines : List Line) (first : CloudState) (k n : ℕ) (wish : Wish) (r : Reply) (before after : Seen) (old new : World) → length lines + 1 ≡ n → 1 ≤ k
-    → WorldAdds lines first old before → MakesStep n k wish before after old new (Ok r) → WorldAdds (lines ++ line_of (event.Step k wish) r ∷ []) first new after
+    → WorldAdds lines first old before → MakesStep (record { session = k; event = n }) wish (span_of before after old new) (Ok r) → WorldAdds (lines ++ line_of (event.Step k wish) r ∷ []) first new after
 adds_step lines first k n wish r before after old new at some w (inl refuses) = adds_declined lines (event.Step k wish) r _ first before after old new refuses.declines w
 adds_step lines first k n wish r before after old new at some w (inr (inl step)) = step_adding lines first k n wish r before after old new step.turn at some w step.steps step.replies
 adds_step lines first k n wish r before after old new at some w (inr (inr memory)) = absurd (no_memory r memory.0)
@@ -234,7 +235,7 @@ adds_step lines first k n wish r before after old new at some w (inr (inr memory
 -- ---- a session's ledger
 
 pub adds_policy : (lines : List Line) (first : CloudState) (k number : ℕ) (role : Role) (r : Reply) (before after : Seen) (old new : World) → WorldAdds lines first old before
-    → Policies k role number before after old new (Ok r) → WorldAdds (lines ++ line_of (event.Policy k role number) r ∷ []) first new after
+    → Policies k role number (span_of before after old new) (Ok r) → WorldAdds (lines ++ line_of (event.Policy k role number) r ∷ []) first new after
 adds_policy lines first k number role r before after old new w (inl refuses) = adds_declined lines (event.Policy k role number) r _ first before after old new refuses.declines w
 adds_policy lines first k number role r before after old new w (inr (inl refuses)) = adds_declined lines (event.Policy k role number) r _ first before after old new refuses.1.declines w
 adds_policy lines first k number role r before after old new w (inr (inr gives)) =
@@ -245,7 +246,7 @@ adds_policy lines first k number role r before after old new w (inr (inr gives))
 -- ---- a session that dies
 
 dies_adding : (lines : List Line) (first : CloudState) (k : ℕ) (done : Bool) (r : Reply) (before after : Seen) (old new : World) → 1 ≤ k
-    → WorldAdds lines first old before → Dies k before after old new (Ok r) → WorldAdds (lines ++ line_of (event.Crash k done) r ∷ []) first new after
+    → WorldAdds lines first old before → Dies k (span_of before after old new) (Ok r) → WorldAdds (lines ++ line_of (event.Crash k done) r ∷ []) first new after
 dies_adding lines first k done r before after old new some w h =
     let is : r ≡ reply.Crashed = cc (h.replies) in
     let P : Reply → Type 0 = λ z. WorldAdds (lines ++ line_of (event.Crash k done) z ∷ []) first new after in
@@ -253,7 +254,7 @@ dies_adding lines first k done r before after old new some w h =
     (λ acts. subst (λ a. ActsAs a (after_own (event.Crash k done) reply.Crashed (standing lines k))) (sym h.closed.does) (crashed_own k done (standing lines k))) w)
 
 done_adding : (lines : List Line) (first : CloudState) (k n : ℕ) (r : Reply) (before after : Seen) (old new : World) → length lines + 1 ≡ n → 1 ≤ k
-    → WorldAdds lines first old before → DiesDone n k before after old new (Ok r) → WorldAdds (lines ++ line_of (event.Crash k true) r ∷ []) first new after
+    → WorldAdds lines first old before → DiesDone (record { session = k; event = n }) (span_of before after old new) (Ok r) → WorldAdds (lines ++ line_of (event.Crash k true) r ∷ []) first new after
 done_adding lines first k n r before after old new at_n some w h =
     let is : r ≡ reply.Crashed = cc (h.replies) in
     let P : Reply → Type 0 = λ z. WorldAdds (lines ++ line_of (event.Crash k true) z ∷ []) first new after in
@@ -282,7 +283,7 @@ done_adding lines first k n r before after old new at_n some w h =
         (changed_rests k _ old.sessions h.world.sessions some h.steps.session w.rests)
 
 pub adds_crash : (lines : List Line) (first : CloudState) (k n : ℕ) (done : Bool) (r : Reply) (before after : Seen) (old new : World) → length lines + 1 ≡ n → 1 ≤ k
-    → WorldAdds lines first old before → Crashes n k done before after old new (Ok r) → WorldAdds (lines ++ line_of (event.Crash k done) r ∷ []) first new after
+    → WorldAdds lines first old before → Crashes (record { session = k; event = n }) done (span_of before after old new) (Ok r) → WorldAdds (lines ++ line_of (event.Crash k done) r ∷ []) first new after
 adds_crash lines first k n false r before after old new at some w h = dies_adding lines first k false r before after old new some w h
 adds_crash lines first k n true r before after old new at some w (inl idle) = dies_adding lines first k true r before after old new some w idle.dies
 adds_crash lines first k n true r before after old new at some w (inr (inl done)) = done_adding lines first k n r before after old new at some w done
@@ -313,7 +314,7 @@ module _ (errand : Errand) (n : ℕ) (lines : List Line) (first : CloudState) (o
       settler_called.work settler_under.adds)
 
 module _ (errand : Errand) (n : ℕ) (lines : List Line) (first : CloudState) (others : Sessions) (row : AreRowsOf errand lines (settler n)) (before after : Seen) (old new : World) (turn : Turn Answer)
-    (way : SettlerAdds errand n lines first others old before) (p : StepsLooked (settler n) Plain before after old new turn) where
+    (way : SettlerAdds errand n lines first others old before) (p : StepsLooked (settler n) Plain (span_of before after old new) turn) where
   settler_step : StepsSession (settler n) p.under p.to (session_at old.sessions 0) p.session.after (Ok turn)
   settler_step = settler_called errand n lines first others row before p.from p.under p.to after old new turn way p.look_before p.wishes p.session p.look_after
 
@@ -324,7 +325,7 @@ module _ (errand : Errand) (n : ℕ) (lines : List Line) (first : CloudState) (o
   settler_rest m ne = changed_at 0 _ old.sessions new.sessions p.session m ∙ at_other 0 p.session.after (session_at old.sessions) m ne ∙ way.rest m ne
 
 settler_more : (errand : Errand) (n : ℕ) (lines : List Line) (first : CloudState) (others : Sessions) → AreRowsOf errand lines (settler n) → (before after : Seen) (old new : World)
-    → SettlerAdds errand n lines first others old before → StepsLooked (settler n) Plain before after old new More → SettlerAdds errand n lines first others new after
+    → SettlerAdds errand n lines first others old before → StepsLooked (settler n) Plain (span_of before after old new) More → SettlerAdds errand n lines first others new after
 settler_more errand n lines first others row before after old new way p =
     let own = settler_step errand n lines first others row before after old new More way p in
     record {
@@ -357,7 +358,7 @@ module _ (errand : Errand) (lines : List Line) (first : CloudState) (n : ℕ) (r
   }
 
 settles_adding : (errand : Errand) (lines : List Line) (first : CloudState) (n : ℕ) (r : Reply) (before after : Seen) (old begun new : World) → length lines + 1 ≡ n → WorldAdds lines first old before
-    → Has 0 (session_for errand) old begun → SettlesTo errand (settler n) before after begun new (Ok r) → WorldAdds (lines ++ line_of (event_for errand) r ∷ []) first new after
+    → Has 0 (session_for errand) old begun → SettlesTo errand (settler n) (span_of before after begun new) (Ok r) → WorldAdds (lines ++ line_of (event_for errand) r ∷ []) first new after
 settles_adding errand lines first n r before after old begun new number w begins h = record {
   rows = subst (λ m. AddsTo m all first after) whole s;
   acts = λ m. subst (λ z. ActsAs (session_at new.sessions m) z) (sym (standing_line lines (line_of (event_for errand) r) m))
@@ -400,19 +401,19 @@ settles_adding errand lines first n r before after old begun new number w begins
             ∙ settler_rest errand n all first others row h.comes.mid after h.comes.world h.left (Ended h.answer) way h.comes.steps m ne)) (w.acts m)
 
 settles_on : (errand : Errand) (lines : List Line) (first : CloudState) (n : ℕ) (r : Reply) (before after : Seen) (old begun new : World) → length lines + 1 ≡ n → WorldAdds lines first old before
-    → Has 0 (session_for errand) old begun → SettlesOn errand (settler n) before after begun new (Ok r) → WorldAdds (lines ++ line_of (event_for errand) r ∷ []) first new after
+    → Has 0 (session_for errand) old begun → SettlesOn errand (settler n) (span_of before after begun new) (Ok r) → WorldAdds (lines ++ line_of (event_for errand) r ∷ []) first new after
 settles_on errand lines first n r before after old begun new number w begins (inl h) = settles_adding errand lines first n r before after old begun new number w begins h
 settles_on errand lines first n r before after old begun new number w begins (inr memory) = absurd (no_memory r memory.0)
 
 pub adds_errand : (errand : Errand) (lines : List Line) (first : CloudState) (n : ℕ) (r : Reply) (before after : Seen) (old new : World) → length lines + 1 ≡ n → WorldAdds lines first old before
-    → Settles errand n before after old new (Ok r) → WorldAdds (lines ++ line_of (event_for errand) r ∷ []) first new after
+    → Settles errand n (span_of before after old new) (Ok r) → WorldAdds (lines ++ line_of (event_for errand) r ∷ []) first new after
 adds_errand errand lines first n r before after old new number w (inl h) = settles_on errand lines first n r before after old h.begun new number w h.begins h.settles
 adds_errand errand lines first n r before after old new number w (inr memory) = absurd (no_memory r memory.0)
 
 -- ---- waits and reports
 
 pub adds_wait : (lines : List Line) (first : CloudState) (ticks : ℕ) (r : Reply) (before after : Seen) (old new : World) → WorldAdds lines first old before
-    → (WaitsFor ticks before after (Ok r) × (new ≡ old)) ⊎ WaitsTooLong ticks before after old new (Ok r) → WorldAdds (lines ++ line_of (event.Wait ticks) r ∷ []) first new after
+    → (WaitsFor ticks before after (Ok r) × (new ≡ old)) ⊎ WaitsTooLong ticks (span_of before after old new) (Ok r) → WorldAdds (lines ++ line_of (event.Wait ticks) r ∷ []) first new after
 adds_wait lines first ticks r before after old new w (inl h) =
     let a = rows_begin lines first before w.rows in
     let waited = h.0.waited a.state a.told in
@@ -424,7 +425,7 @@ adds_wait lines first ticks r before after old new w (inl h) =
 adds_wait lines first ticks r before after old new w (inr long) = adds_declined lines (event.Wait ticks) r _ first before after old new long.declines w
 
 pub adds_report : (lines : List Line) (first : CloudState) (tree : ℕ) (r : Reply) (before after : Seen) (old new : World) → WorldAdds lines first old before
-    → Reports tree before after old new (Ok r) → WorldAdds (lines ++ line_of (event.Report tree) r ∷ []) first new after
+    → Reports tree (span_of before after old new) (Ok r) → WorldAdds (lines ++ line_of (event.Report tree) r ∷ []) first new after
 adds_report lines first tree r before after old new w h =
     stays lines (event.Report tree) r first before after old new h.world (λ s. refl)
     (rows_stay (length lines + 1) lines first before after h.looked.stays (rows_begin lines first before w.rows)) w

@@ -42,6 +42,7 @@ use Rattle.world_core.specs.declared.asked.Noting.{Noting}
 use Rattle.world_core.specs.declared.asked.Request.{Request}
 use Rattle.world_core.specs.declared.asked.Request.TheVariants.{Begin, Note, Abort, Policy, Work as WorksDue, Step, Run, Crash}
 use Rattle.world_core.specs.declared.world.WorldFault.{WorldFault}
+use Rattle.world_core.specs.Span.{span_of}
 
 state_is : (x y : CloudState) → Some x ≡ Some y → x ≡ y
 state_is x y e = cc (e)
@@ -56,12 +57,12 @@ pub record IsAloneSeen (session : ℕ) (world : World) (seen : Seen) : Type 0 wh
 
 -- a step that was undisturbed is calm where its session was alone, and leaves it so
 abbrev StepGoesAlone : StepFact
-StepGoesAlone who wish before after old new turn p =
-    IsAloneSeen who.session old before → StepIsUndisturbed who wish before after old new turn p → StepIsCalm who wish before after old new turn p × IsAloneSeen who.session new after
+StepGoesAlone who wish span turn p =
+    IsAloneSeen who.session span.old span.before → StepIsUndisturbed who wish span turn p → StepIsCalm who wish span turn p × IsAloneSeen who.session span.new span.after
 
 step_alone : (n : ℕ) (lines : List Line) (who : Caller) (wish : Wish) (before after : Seen) (old new : World) (turn : Turn Answer) (x : CloudState)
-    → CloudHolds n lines (session_at old.sessions) old.audit old.blind x → (p : StepsLooked who wish before after old new turn) → p.under.state ≡ Some (record x { wish = wish })
-    → StepGoesAlone who wish before after old new turn p
+    → CloudHolds n lines (session_at old.sessions) old.audit old.blind x → (p : StepsLooked who wish (span_of before after old new) turn) → p.under.state ≡ Some (record x { wish = wish })
+    → StepGoesAlone who wish (span_of before after old new) turn p
 step_alone n lines who wish before after old new turn x holds p under h undisturbed = (
   both.0,
   record {
@@ -95,7 +96,7 @@ step_alone n lines who wish before after old new turn x holds p under h undistur
     alone : IsAlone p.session.before.work (record h.state { wish = wish })
     alone = subst (λ (a : Acting). IsAlone a.work h.state) own_was h.alone
 
-    both : StepIsCalm who wish before after old new turn p × IsAlone p.session.after.work left.after
+    both : StepIsCalm who wish (span_of before after old new) turn p × IsAlone p.session.after.work left.after
     both =
         session_alone who p.under p.to (record h.state { wish = wish }) left.after held.book held.order (session_at old.sessions) told left.told stand p.session.before p.session.after turn own_was p.session.does alone
         undisturbed
@@ -111,9 +112,9 @@ module _ (who : Caller) where
       let last = goes.1 first.1 undisturbed.1 in
       ((first.0, last.0), last.1)
 
-  comes_alone : (before after : Seen) (old new : World) (a : Answer) → (comes : ComesTo who before after old new a) → EachCome StepGoesAlone who before after old new a comes
-      → EachCome StepIsUndisturbed who before after old new a comes → IsAloneSeen who.session old before
-      → EachCome StepIsCalm who before after old new a comes × IsAloneSeen who.session new after
+  comes_alone : (before after : Seen) (old new : World) (a : Answer) → (comes : ComesTo who (span_of before after old new) a) → EachCome StepGoesAlone who (span_of before after old new) a comes
+      → EachCome StepIsUndisturbed who (span_of before after old new) a comes → IsAloneSeen who.session old before
+      → EachCome StepIsCalm who (span_of before after old new) a comes × IsAloneSeen who.session new after
   comes_alone before after old new a comes goes undisturbed h =
       let first = went_alone before old comes.mid comes.world comes.went goes.0 undisturbed.0 h in
       let last = goes.1 first.1 undisturbed.1 in
@@ -176,7 +177,7 @@ module _ (n session : ℕ) (before after : Seen) (old new : World) (r : Reply) (
   unchanged : after ≡ before → new ≡ old → Left
   unchanged seen world = with_leases seen (ap (λ (w : World). leases_of (work_at w session)) world)
 
-  declined_alone : (why : Refused) → Declines why before after old new result → Left
+  declined_alone : (why : Refused) → Declines why (span_of before after old new) result → Left
   declined_alone why d = unchanged d.seen d.world
 
   -- where the session alone changes
@@ -196,35 +197,35 @@ module _ (n session : ℕ) (before after : Seen) (old new : World) (r : Reply) (
   dropped_same a b (Ok done) p = ap (λ (x : Acting). leases_of x.work) p.0
   dropped_same a b (Err why) p = ap (λ (x : Acting). leases_of x.work) p.0
 
-  policies_alone : (role : Role) (k : ℕ) → Policies session role k before after old new result → Left
+  policies_alone : (role : Role) (k : ℕ) → Policies session role k (span_of before after old new) result → Left
   policies_alone role k (inl refuses) = declined_alone _ refuses.declines
   policies_alone role k (inr (inl refuses)) = declined_alone _ refuses.1.declines
   policies_alone role k (inr (inr gives)) = with_leases gives.quiet.seen (ap (λ (l : List Acting). leases_of (session_at l session).work) gives.sessions)
 
   -- ---- steps, runs and work
 
-  made_alone : (wish : Wish) (p : MakesStep n session wish before after old new result) → EachMade StepGoesAlone n session wish before after old new result p
-      → EachMade StepIsUndisturbed n session wish before after old new result p → EachMade StepIsCalm n session wish before after old new result p × Left
+  made_alone : (wish : Wish) (p : MakesStep (record { session = session; event = n }) wish (span_of before after old new) result) → EachMade StepGoesAlone (record { session = session; event = n }) wish (span_of before after old new) result p
+      → EachMade StepIsUndisturbed (record { session = session; event = n }) wish (span_of before after old new) result p → EachMade StepIsCalm (record { session = session; event = n }) wish (span_of before after old new) result p × Left
   made_alone wish (inl refused) goes undisturbed = (tt, declined_alone _ refused.declines)
   made_alone wish (inr (inl made)) goes undisturbed = goes h undisturbed
   made_alone wish (inr (inr memory)) goes undisturbed = absurd (no_memory r memory.0)
 
-  run_alone : (p : Runs n session before after old new result) → EachRun StepGoesAlone n session before after old new result p
-      → EachRun StepIsUndisturbed n session before after old new result p → EachRun StepIsCalm n session before after old new result p × Left
+  run_alone : (p : Runs (record { session = session; event = n }) (span_of before after old new) result) → EachRun StepGoesAlone (record { session = session; event = n }) (span_of before after old new) result p
+      → EachRun StepIsUndisturbed (record { session = session; event = n }) (span_of before after old new) result p → EachRun StepIsCalm (record { session = session; event = n }) (span_of before after old new) result p × Left
   run_alone (inl refused) goes undisturbed = (tt, declined_alone _ refused.declines)
   run_alone (inr (inl run)) goes undisturbed = comes_alone who before after old new run.answer run.comes goes undisturbed h
   run_alone (inr (inr memory)) goes undisturbed = absurd (no_memory r memory.0)
 
-  through_alone : (p : WorksThrough n session before after old new result) → EachThrough StepGoesAlone n session before after old new result p
-      → EachThrough StepIsUndisturbed n session before after old new result p → EachThrough StepIsCalm n session before after old new result p × Left
+  through_alone : (p : WorksThrough (record { session = session; event = n }) (span_of before after old new) result) → EachThrough StepGoesAlone (record { session = session; event = n }) (span_of before after old new) result p
+      → EachThrough StepIsUndisturbed (record { session = session; event = n }) (span_of before after old new) result p → EachThrough StepIsCalm (record { session = session; event = n }) (span_of before after old new) result p × Left
   through_alone (inl refuses) goes undisturbed = (tt, declined_alone _ refuses.declines)
   through_alone (inr (inl d)) goes undisturbed = works_alone who before old d.queues d.done d.passed after new d.works goes undisturbed h
   through_alone (inr (inr memory)) goes undisturbed = absurd (no_memory r memory.0)
 
   -- ---- a request
 
-  done_alone : (request : Request) → IsNoCrash request → (d : Does n session request before after old new result) → EachDone StepGoesAlone n session request before after old new result d
-      → EachDone StepIsUndisturbed n session request before after old new result d → EachDone StepIsCalm n session request before after old new result d × Left
+  done_alone : (request : Request) → IsNoCrash request → (d : Does (record { session = session; event = n }) request (span_of before after old new) result) → EachDone StepGoesAlone (record { session = session; event = n }) request (span_of before after old new) result d
+      → EachDone StepIsUndisturbed (record { session = session; event = n }) request (span_of before after old new) result d → EachDone StepIsCalm (record { session = session; event = n }) request (span_of before after old new) result d × Left
   done_alone (Step wish) plain d goes undisturbed = made_alone wish d goes undisturbed
   done_alone Run plain d goes undisturbed = run_alone d goes undisturbed
   done_alone WorksDue plain d goes undisturbed = through_alone d goes undisturbed
@@ -238,11 +239,11 @@ module _ (n session : ℕ) (before after : Seen) (old new : World) (r : Reply) (
 
   abbrev Served : ℕ → Request → Type 0
   Served j request =
-      (d : Does n j request before after old new result) → EachDone StepGoesAlone n j request before after old new result d → EachDone StepIsUndisturbed n j request before after old new result d
-      → EachDone StepIsCalm n j request before after old new result d × Left
+      (d : Does (record { session = j; event = n }) request (span_of before after old new) result) → EachDone StepGoesAlone (record { session = j; event = n }) request (span_of before after old new) result d → EachDone StepIsUndisturbed (record { session = j; event = n }) request (span_of before after old new) result d
+      → EachDone StepIsCalm (record { session = j; event = n }) request (span_of before after old new) result d × Left
 
-  asked_alone : (asked : Asked) → AsksAlone session asked → (a : Answers n asked before after old new result) → EachAsked StepGoesAlone n asked before after old new result a
-      → EachAsked StepIsUndisturbed n asked before after old new result a → EachAsked StepIsCalm n asked before after old new result a × Left
+  asked_alone : (asked : Asked) → AsksAlone session asked → (a : Answers n asked (span_of before after old new) result) → EachAsked StepGoesAlone n asked (span_of before after old new) result a
+      → EachAsked StepIsUndisturbed n asked (span_of before after old new) result a → EachAsked StepIsCalm n asked (span_of before after old new) result a × Left
   asked_alone (Session j (Ok request)) is (inl served) goes undisturbed =
       subst (λ (i : ℕ). Served i request) (sym is.0) (done_alone request is.1) served.1 goes undisturbed
   asked_alone (Session j (Err why)) is (inl served) goes undisturbed = (tt, declined_alone why served.1)
@@ -329,7 +330,7 @@ module _ (session : ℕ) where
   leaves_it (event.Sweep tree) asked asks never = absurd never
   leaves_it (event.Crash s done) asked asks never = absurd never
 
-pub keeps_alone : (n : ℕ) (e : Event) (before after : Seen) (old new : World) (result : Result Reply WorldFault) → KeepsAlone n e before after old new result
+pub keeps_alone : (n : ℕ) (e : Event) (before after : Seen) (old new : World) (result : Result Reply WorldFault) → KeepsAlone n e (span_of before after old new) result
 keeps_alone n e before after old new (Ok r) = λ lines t u number told told_after stands handled undisturbed session leaves alone.
     let h : IsAloneSeen session old before = record { state = t; told = told; alone = alone } in
     let both =

@@ -42,6 +42,7 @@ use Rattle.world_core.specs.World.{World}
 use Rattle.world_core.specs.declared.world.WorldFault.{WorldFault}
 use Rattle.world_core.specs.Begun.{CommitShows, KeptShows, BeginShows, WasBegun, ShowsBegin, DoesShow, ServesShow, AsksShow}
 use Rattle.world_core.specs.Handled.{BeginsOp, Does, Serves, Answers}
+use Rattle.world_core.specs.Span.{span_of}
 
 -- ---- each operation
 
@@ -131,7 +132,7 @@ begin_shown o (Err why) old new untold = was_begun o old untold.left untold.begu
 -- ---- the begin of a line
 
 module _ (n : ℕ) (before after : Seen) (old new : World) (result : Result Reply WorldFault) where
-  does_begun : (k : ℕ) (request : Request) (h : Does n k request before after old new result) → DoesShow n k request before after old new result h
+  does_begun : (k : ℕ) (request : Request) (h : Does (record { session = k; event = n }) request (span_of before after old new) result) → DoesShow (record { session = k; event = n }) request (span_of before after old new) result h
   does_begun k (Begin o) h = begin_shown o result h.1.before h.1.after h.1.does
   does_begun k (Step wish) h = tt
   does_begun k Run h = tt
@@ -141,11 +142,11 @@ module _ (n : ℕ) (before after : Seen) (old new : World) (result : Result Repl
   does_begun k (Policy role number) h = tt
   does_begun k WorksDue h = tt
 
-  serves_begun : (k : ℕ) (request : Result Request Refused) (h : Serves n k request before after old new result) → ServesShow n k request before after old new result h
+  serves_begun : (k : ℕ) (request : Result Request Refused) (h : Serves (record { session = k; event = n }) request (span_of before after old new) result) → ServesShow (record { session = k; event = n }) request (span_of before after old new) result h
   serves_begun k (Ok request) h = does_begun k request h
   serves_begun k (Err why) h = tt
 
-  pub asked_begun : (asked : Asked) (h : Answers n asked before after old new result) → AsksShow n asked before after old new result h
+  pub asked_begun : (asked : Asked) (h : Answers n asked (span_of before after old new) result) → AsksShow n asked (span_of before after old new) result h
   asked_begun (Session k request) (inl served) = serves_begun k request served.1
   asked_begun (Session k request) (inr none) = tt
   asked_begun (Wait ticks) waits = tt

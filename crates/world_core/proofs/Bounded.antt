@@ -34,6 +34,7 @@ use Rattle.world_core.specs.declared.world.WorldFault.{WorldFault}
 use Rattle.world_core.specs.Bounded.{steps_of, WereFew, WasSoon, StepsSoon, CameSoon, RanSoon, RunsSoon, CrashesSoon, EachSoon, WorksSoon, calls_of, DoesSoon, ServesSoon, AnswersSoon, MakesFewCalls}
 use Rattle.world_core.specs.Handled.{StepsLooked, StepsTo, MakesStep, ComesTo, RunsTo, Runs, Crashes, Does, Serves, Answers, Checkpoints, Works, WorksThrough, checkpoint_more, no_checkpoint}
 use Rattle.world_core.specs.Stands.{WorldStands}
+use Rattle.world_core.specs.Span.{span_of}
 use Rattle.std.proofs.lemmas.Option.{same_Some}
 
 module _ (lines : List Line) (n : ℕ) (before after : Seen) (old new : World) (result : Result Reply WorldFault) (t : CloudState) (number : length lines + 1 ≡ n) (told : before.state ≡ Some t)
@@ -49,22 +50,22 @@ module _ (lines : List Line) (n : ℕ) (before after : Seen) (old new : World) (
     who = record { session = k; event = n }
 
     -- one call of the session
-    one_few : (wish : Wish) (world : World) (turn : Turn Answer) (p : StepsLooked who wish before after old world turn)
-        → WereFew (calls_told lines k + 1) who wish before after old world turn p
+    one_few : (wish : Wish) (world : World) (turn : Turn Answer) (p : StepsLooked who wish (span_of before after old world) turn)
+        → WereFew (calls_told lines k + 1) who wish (span_of before after old world) turn p
     one_few wish world turn p last seen =
         few_of lines who (sym number) (calls_told lines) wish before after old world turn way p (calls_told lines k)
         (begins_own lines k old way.after all_way) last seen
 
-    was_soon : (wish : Wish) (r : Result Reply WorldFault) (h : StepsTo n k wish before after old new r) → WasSoon lines n k wish before after old new r h
+    was_soon : (wish : Wish) (r : Result Reply WorldFault) (h : StepsTo (record { session = k; event = n }) wish (span_of before after old new) r) → WasSoon lines (record { session = k; event = n }) wish (span_of before after old new) r h
     was_soon wish (Ok reply) made = one_few wish new made.turn made.steps
     was_soon wish (Err why) made = one_few wish made.left made.turn made.steps
 
-    steps_soon : (wish : Wish) (h : MakesStep n k wish before after old new result) → StepsSoon lines n k wish before after old new result h
+    steps_soon : (wish : Wish) (h : MakesStep (record { session = k; event = n }) wish (span_of before after old new) result) → StepsSoon lines (record { session = k; event = n }) wish (span_of before after old new) result h
     steps_soon wish (inl refused) = tt
     steps_soon wish (inr (inl made)) = was_soon wish result made
     steps_soon wish (inr (inr memory)) = tt
 
-    came_soon : (left : World) (answer : Answer) (c : ComesTo who before after old left answer) → CameSoon lines n k before after old left answer c
+    came_soon : (left : World) (answer : Answer) (c : ComesTo who (span_of before after old left) answer) → CameSoon lines (record { session = k; event = n }) (span_of before after old left) answer c
     came_soon left answer c = λ last seen.
         let gone = went_on lines who before old c.mid c.world (sym number) way c.went in
         let sum : (calls_told lines k + steps_of who before old c.mid c.world c.went) + 1 ≡ calls_told lines k + (steps_of who before old c.mid c.world c.went + 1) = omega arith in
@@ -73,16 +74,16 @@ module _ (lines : List Line) (n : ℕ) (before after : Seen) (old new : World) (
         (calls_told lines k + steps_of who before old c.mid c.world c.went)
         (went_counts lines who (sym number) (calls_told lines) before old c.mid c.world way all_way c.went gone.after gone.told) last seen)
 
-    ran_soon : (r : Result Reply WorldFault) (h : RunsTo n k before after old new r) → RanSoon lines n k before after old new r h
+    ran_soon : (r : Result Reply WorldFault) (h : RunsTo (record { session = k; event = n }) (span_of before after old new) r) → RanSoon lines (record { session = k; event = n }) (span_of before after old new) r h
     ran_soon (Ok reply) run = came_soon new run.answer run.comes
     ran_soon (Err why) run = came_soon run.left run.answer run.comes
 
-    runs_soon : (h : Runs n k before after old new result) → RunsSoon lines n k before after old new result h
+    runs_soon : (h : Runs (record { session = k; event = n }) (span_of before after old new) result) → RunsSoon lines (record { session = k; event = n }) (span_of before after old new) result h
     runs_soon (inl refused) = tt
     runs_soon (inr (inl run)) = ran_soon result run
     runs_soon (inr (inr memory)) = tt
 
-    crashes_soon : (done : Bool) (h : Crashes n k done before after old new result) → CrashesSoon lines n k done before after old new result h
+    crashes_soon : (done : Bool) (h : Crashes (record { session = k; event = n }) done (span_of before after old new) result) → CrashesSoon lines (record { session = k; event = n }) done (span_of before after old new) result h
     crashes_soon false h = tt
     crashes_soon true (inl idle) = tt
     crashes_soon true (inr (inl dies)) = one_few Plain dies.world dies.turn dies.steps
@@ -91,8 +92,8 @@ module _ (lines : List Line) (n : ℕ) (before after : Seen) (old new : World) (
     -- each checkpoint that is due makes its own calls
     module _ (all_lines : List Line) (home : Home) (row : IsWorkersRow all_lines (worker k n)) (first : Sessions) where
       made_soon : (queue : QueueName) (from to : Seen) (world left : World) (a : Answer) → IsBetween k home first world → (h : HoldsWithin n all_lines world from) (mine : ℕ)
-          → CountsAll (at k mine (calls_told lines)) h.state (session_at world.sessions) → (c : Checkpoints (worker k n) queue from to world left a)
-          → WereFew (calls_of (worker k n) from to c.begun left a c.comes) (worker k n) Plain c.comes.mid to c.comes.world left (Ended a) c.comes.steps
+          → CountsAll (at k mine (calls_told lines)) h.state (session_at world.sessions) → (c : Checkpoints (worker k n) queue (span_of from to world left) a)
+          → WereFew (calls_of (worker k n) (span_of from to c.begun left) a c.comes) (worker k n) Plain (span_of c.comes.mid to c.comes.world left) (Ended a) c.comes.steps
       made_soon queue from to world left a w h mine counts c = λ last seen.
           let begun = within_begun k home first queue world c.begun w c.begins in
           let held = holds_begun n all_lines k queue from world c.begun h c.begins in
@@ -115,7 +116,7 @@ module _ (lines : List Line) (n : ℕ) (before after : Seen) (old new : World) (
             made_soon queue mid to prior left a (within_works (worker k n) home first from world others kept passes_by mid prior w works) gone was.0 was.1 makes,
           )
 
-    works_soon : (h : WorksThrough n k before after old new result) → WorksSoon n k before after old new result h
+    works_soon : (h : WorksThrough (record { session = k; event = n }) (span_of before after old new) result) → WorksSoon (record { session = k; event = n }) (span_of before after old new) result h
     works_soon (inl refused) = tt
     works_soon (inr (inl down)) =
         let rest = open_rests k old down.opened in
@@ -127,7 +128,7 @@ module _ (lines : List Line) (n : ℕ) (before after : Seen) (old new : World) (
         down.works
     works_soon (inr (inr memory)) = tt
 
-    does_soon : (request : Request) (h : Does n k request before after old new result) → DoesSoon lines n k request before after old new result h
+    does_soon : (request : Request) (h : Does (record { session = k; event = n }) request (span_of before after old new) result) → DoesSoon lines (record { session = k; event = n }) request (span_of before after old new) result h
     does_soon (Step wish) h = steps_soon wish h
     does_soon Run h = runs_soon h
     does_soon (Crash done) h = crashes_soon done h
@@ -137,11 +138,11 @@ module _ (lines : List Line) (n : ℕ) (before after : Seen) (old new : World) (
     does_soon (Note noting) h = tt
     does_soon Abort h = tt
 
-    serves_soon : (request : Result Request Refused) (h : Serves n k request before after old new result) → ServesSoon lines n k request before after old new result h
+    serves_soon : (request : Result Request Refused) (h : Serves (record { session = k; event = n }) request (span_of before after old new) result) → ServesSoon lines (record { session = k; event = n }) request (span_of before after old new) result h
     serves_soon (Ok request) h = does_soon request h
     serves_soon (Err why) h = tt
 
-  answers_soon : (asked : Asked) (h : Answers n asked before after old new result) → AnswersSoon lines n asked before after old new result h
+  answers_soon : (asked : Asked) (h : Answers n asked (span_of before after old new) result) → AnswersSoon lines n asked (span_of before after old new) result h
   answers_soon (Session k request) (inl served) = serves_soon k request served.1
   answers_soon (Session k request) (inr none) = tt
   answers_soon (Wait ticks) h = tt
@@ -149,6 +150,6 @@ module _ (lines : List Line) (n : ℕ) (before after : Seen) (old new : World) (
   answers_soon Settle h = tt
   answers_soon (Sweep tree) h = tt
 
-pub few_calls : (n : ℕ) (event : Event) (before after : Seen) (old new : World) (result : Result Reply WorldFault) → MakesFewCalls n event before after old new result
+pub few_calls : (n : ℕ) (event : Event) (before after : Seen) (old new : World) (result : Result Reply WorldFault) → MakesFewCalls n event (span_of before after old new) result
 few_calls n event before after old new result lines t number told stands handled =
     answers_soon lines n before after old new result t number told stands handled.asked handled.answers

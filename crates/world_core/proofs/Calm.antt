@@ -55,7 +55,7 @@ use Rattle.world_core.specs.declared.asked.Request.TheVariants.{Begin, Note, Abo
 use Rattle.world_core.specs.World.{World}
 use Rattle.world_core.specs.declared.world.WorldFault.{WorldFault}
 use Rattle.world_core.specs.Asked.{Asks, OfSession, IsOpening, IsReading, IsScanning, IsLookingUp, IsPaging, IsFolding, IsNoted, IsStep, bound_of, noting_of}
-use Rattle.world_core.specs.Calm.{StepIsCalm, spent_by, work_at, DoesWell, BeginsWell, RunsWell, StepsWell, RepliesWell, SweepsWell, AnswersWell, WorksWell}
+use Rattle.world_core.specs.Calm.{StepIsCalm, spent_by, hand_at, work_at, DoesWell, BeginsWell, RunsWell, StepsWell, RepliesWell, SweepsWell, AnswersWell, WorksWell}
 use Rattle.world_core.specs.EachStep.{EachWent, EachMade, EachRun, EachSettlingOn, EachSettling, EachDone, EachAsked}
 use Rattle.world_core.specs.Explained.{StepExplains}
 use Rattle.world_core.specs.Handled.{Declines, Has, BeginsOp, NotesChange, DropsChanges, StepsLooked, MakesStep, Went, start, further, Runs, SettlesOn, Settles, Crashes, Does, Answers, Policies, WorksThrough}
@@ -63,6 +63,7 @@ use Rattle.world_core.specs.Replying.{declined, RepliesTo, RepliesBegun, Replies
 use Rattle.world_core.specs.Sessions.{Changes, NotesIn, AbortsIn}
 use Rattle.world_core.specs.Sound.{IsSoundSweep, IsSoundFor}
 use Rattle.world_core.specs.UnsentPages.{GoesOnUnsent, IsOfUnsent, KeepsUnsent, LeavesUnsent, RepliesUnsent}
+use Rattle.world_core.specs.Span.{span_of}
 use Rattle.world_core.proofs.Behind.{LinesStand}
 use Rattle.world_core.proofs.Explained.{explained}
 use Rattle.world_core.proofs.Sound.{sound_after}
@@ -74,7 +75,7 @@ use Rattle.world_core.proofs.CalmAnswers.{answers_as, IsOfNone, counts_on, answe
 -- ---- steps
 
 -- the session of a world in which it changed
-session_is : (who : Caller) (wish : Wish) (before after : Seen) (old new : World) (turn : Turn Answer) → (p : StepsLooked who wish before after old new turn)
+session_is : (who : Caller) (wish : Wish) (before after : Seen) (old new : World) (turn : Turn Answer) → (p : StepsLooked who wish (span_of before after old new) turn)
     → session_at new.sessions who.session ≡ p.session.after
 session_is who wish before after old new turn p =
     changed_at who.session _ old.sessions new.sessions p.session who.session ∙ at_same who.session p.session.after (session_at old.sessions) who.session refl
@@ -93,7 +94,7 @@ state_is x y e = cc
 pub goes_in : (session : ℕ) (seen : Seen) (world : World) → GoesWellAt session seen world → SessionIsUntroubled session seen world
 goes_in session seen world (t, told, well) u told_u = subst (λ (x : CloudState). IsUntroubled x (work_at world session)) (state_is t u (sym told ∙ told_u)) well
 
-module _ (who : Caller) (wish : Wish) (before after : Seen) (old new : World) (turn : Turn Answer) (p : StepsLooked who wish before after old new turn) where
+module _ (who : Caller) (wish : Wish) (before after : Seen) (old new : World) (turn : Turn Answer) (p : StepsLooked who wish (span_of before after old new) turn) where
   abbrev Goes : Seen → World → Type 0
   Goes seen world = GoesWellAt who.session seen world
 
@@ -101,22 +102,22 @@ module _ (who : Caller) (wish : Wish) (before after : Seen) (old new : World) (t
   told_under : (t : CloudState) → before.state ≡ Some t → p.under.state ≡ Some (record t { wish = wish })
   told_under t told = p.wishes.set t (p.look_before.stays t told)
 
-  untroubled_before : (calm : StepIsCalm who wish before after old new turn p) → Goes before old → IsUntroubled calm.calm.before p.session.before.work
+  untroubled_before : (calm : StepIsCalm who wish (span_of before after old new) turn p) → Goes before old → IsUntroubled calm.calm.before p.session.before.work
   untroubled_before calm (t, told, well) =
       subst (λ (x : CloudState). IsUntroubled x p.session.before.work) (state_is (record t { wish = wish }) calm.calm.before (sym (told_under t told) ∙ calm.calm.told))
       (untroubled_later t (record t { wish = wish }) p.session.before.work (record { versions = λ name. begins_itself (t.versions name); messages = λ queue. omega arith; rows = omega arith })
       (omega arith)
       (subst (λ (a : Acting). IsUntroubled t a.work) (changed_was who.session _ old.sessions new.sessions p.session) well))
 
-  untroubled_after : (calm : StepIsCalm who wish before after old new turn p) → IsUntroubled calm.calm.after p.session.after.work → Goes after new
+  untroubled_after : (calm : StepIsCalm who wish (span_of before after old new) turn p) → IsUntroubled calm.calm.after p.session.after.work → Goes after new
   untroubled_after calm well = (
     calm.calm.after,
     p.look_after.stays calm.calm.after calm.calm.left,
     subst (λ (a : Acting). IsUntroubled calm.calm.after a.work) (sym (session_is who wish before after old new turn p)) well,
   )
 
-goes_calmly : (who : Caller) (wish : Wish) (before after : Seen) (old new : World) (p : StepsLooked who wish before after old new More) → StepIsCalm who wish before after old new More p
-    → StepExplains who wish before after old new More p → GoesWellAt who.session before old → GoesWellAt who.session after new
+goes_calmly : (who : Caller) (wish : Wish) (before after : Seen) (old new : World) (p : StepsLooked who wish (span_of before after old new) More) → StepIsCalm who wish (span_of before after old new) More p
+    → StepExplains who wish (span_of before after old new) More p → GoesWellAt who.session before old → GoesWellAt who.session after new
 goes_calmly who wish before after old new p calm explains well =
     untroubled_after who wish before after old new More p calm
     (step_untroubled who p.under p.to p.session.before p.session.after p.session.does calm explains (untroubled_before who wish before after old new More p calm well))
@@ -133,14 +134,14 @@ tells_any who before after old new (answer.Commit b) p calm c e = let same : b �
 tells_any who before after old new a p calm c e = absurd (cc (e))
 
 -- the answer of a calm step
-pub answers_calmly : (who : Caller) (wish : Wish) (before after : Seen) (old new : World) (a : Answer) (p : StepsLooked who wish before after old new (Ended a))
-    → (calm : StepIsCalm who wish before after old new (Ended a) p) → StepExplains who wish before after old new (Ended a) p → GoesWellAt who.session before old
+pub answers_calmly : (who : Caller) (wish : Wish) (before after : Seen) (old new : World) (a : Answer) (p : StepsLooked who wish (span_of before after old new) (Ended a))
+    → (calm : StepIsCalm who wish (span_of before after old new) (Ended a) p) → StepExplains who wish (span_of before after old new) (Ended a) p → GoesWellAt who.session before old
     → IsOfNone (spent_for p.session.before.work) calm.calm.after p.session.after.work a
 answers_calmly who wish before after old new a p calm explains well =
     let is = answer_untroubled who p.under p.to p.session.before p.session.after a p.session.does calm explains (untroubled_before who wish before after old new (Ended a) p calm well) in
     record { trouble = is.0; left = is.1; told = tells_any who p.under p.to p.session.before p.session.after a p.session.does calm }
 
-answers_rest : (who : Caller) (wish : Wish) (before after : Seen) (old new : World) (a : Answer) (p : StepsLooked who wish before after old new (Ended a)) → IsAtRest (work_at new who.session)
+answers_rest : (who : Caller) (wish : Wish) (before after : Seen) (old new : World) (a : Answer) (p : StepsLooked who wish (span_of before after old new) (Ended a)) → IsAtRest (work_at new who.session)
 answers_rest who wish before after old new a p =
     subst (λ (b : Acting). IsAtRest b.work) (sym (session_is who wish before after old new (Ended a) p))
     (answered_rests who p.under p.to p.session.before.work p.session.after.work a p.session.does.work)
@@ -203,8 +204,8 @@ module _ (lines : List Line) (n k : ℕ) (before after : Seen) (old new : World)
   way = way_begins lines before old t told stands
 
   -- a step that is answered, behind some that went on
-  ended_well : (wish : Wish) (mid : Seen) (world : World) (a : Answer) → IsUnderWay lines world mid → (p : StepsLooked who wish mid after world new (Ended a))
-      → (calm : StepIsCalm who wish mid after world new (Ended a) p) → StepExplains who wish mid after world new (Ended a) p → GoesWellAt k mid world
+  ended_well : (wish : Wish) (mid : Seen) (world : World) (a : Answer) → IsUnderWay lines world mid → (p : StepsLooked who wish (span_of mid after world new) (Ended a))
+      → (calm : StepIsCalm who wish (span_of mid after world new) (Ended a) p) → StepExplains who wish (span_of mid after world new) (Ended a) p → GoesWellAt k mid world
       → IsSoundReply posture r → RepliesTo a p.session.after (Ok r) → RunsWell u posture r
   ended_well wish mid world a on p calm explains still sound replies =
       let own = steps_own lines who wish mid after world new (Ended a) (sym number) on p in
@@ -217,26 +218,26 @@ module _ (lines : List Line) (n k : ℕ) (before after : Seen) (old new : World)
       (subst (λ (x : CloudState). IsOfNone (spent_for p.session.before.work) x p.session.after.work a)
       (state_is calm.calm.after u (sym (p.look_after.stays calm.calm.after calm.calm.left) ∙ told_after)) (answers_calmly who wish mid after world new a p calm explains still)))))
 
-  not_done : (why : Refused) → Declines why before after old new (Ok r) → Behind × ((rule : Refusal) × (r ≡ reply.Refused rule))
+  not_done : (why : Refused) → Declines why (span_of before after old new) (Ok r) → Behind × ((rule : Refusal) × (r ≡ reply.Refused rule))
   not_done (refused.Rule rule) h = let is : r ≡ reply.Refused rule = cc (h.reply) in (unchanged k before after old new h.seen h.world well, (rule, is))
   not_done refused.Memory h = absurd (cc (h.reply))
 
-  makes_well : (wish : Wish) (h : MakesStep n k wish before after old new (Ok r)) → EachMade StepIsCalm n k wish before after old new (Ok r) h
-      → EachMade StepExplains n k wish before after old new (Ok r) h → IsSoundReply posture r → Behind × StepsWell u posture r
+  makes_well : (wish : Wish) (h : MakesStep (record { session = k; event = n }) wish (span_of before after old new) (Ok r)) → EachMade StepIsCalm (record { session = k; event = n }) wish (span_of before after old new) (Ok r) h
+      → EachMade StepExplains (record { session = k; event = n }) wish (span_of before after old new) (Ok r) h → IsSoundReply posture r → Behind × StepsWell u posture r
   makes_well wish (inl refuses) calm explains sound =
       let is = not_done _ refuses.declines in
       (is.0, steps_of u posture r (refused_runs u posture r is.1.0 is.1.1))
   makes_well wish (inr (inl step)) calm explains sound = on step.turn step.steps step.replies calm explains
     where
-      on : (turn : Turn Answer) (p : StepsLooked who wish before after old new turn) → RepliesTurn turn p.session.after (Ok r) → StepIsCalm who wish before after old new turn p
-          → StepExplains who wish before after old new turn p → Behind × StepsWell u posture r
+      on : (turn : Turn Answer) (p : StepsLooked who wish (span_of before after old new) turn) → RepliesTurn turn p.session.after (Ok r) → StepIsCalm who wish (span_of before after old new) turn p
+          → StepExplains who wish (span_of before after old new) turn p → Behind × StepsWell u posture r
       on More p e calm explains = (goes_in k after new (goes_calmly who wish before after old new p calm explains here), let is : r ≡ reply.Called = cc in subst (StepsWell u posture) (sym is) tt)
       on (Ended a) p e calm explains =
           (rests_in k after new (answers_rest who wish before after old new a p), steps_of u posture r (ended_well wish before old a way p calm explains here sound e))
       on (Stopped q) p e calm explains = absurd (no_stop _ p.under p.to p.session.before p.session.after q p.session.does)
   makes_well wish (inr (inr memory)) calm explains sound = absurd (no_memory r memory.0)
 
-  runs_well : (h : Runs n k before after old new (Ok r)) → EachRun StepIsCalm n k before after old new (Ok r) h → EachRun StepExplains n k before after old new (Ok r) h
+  runs_well : (h : Runs (record { session = k; event = n }) (span_of before after old new) (Ok r)) → EachRun StepIsCalm (record { session = k; event = n }) (span_of before after old new) (Ok r) h → EachRun StepExplains (record { session = k; event = n }) (span_of before after old new) (Ok r) h
       → IsSoundReply posture r → Behind × RunsWell u posture r
   runs_well (inl refuses) calm explains sound = let is = not_done _ refuses.declines in (is.0, refused_runs u posture r is.1.0 is.1.1)
   runs_well (inr (inl run)) calm explains sound =
@@ -250,20 +251,20 @@ module _ (lines : List Line) (n k : ℕ) (before after : Seen) (old new : World)
   dies_well : (Changes k (λ a b. b ≡ closed_session) old.sessions new.sessions) → Behind
   dies_well c = rests_in k after new (subst (λ (a : Acting). IsAtRest a.work) (sym (changes_to k _ old new c ∙ c.does)) closed_rests)
 
-  crash_well : (done : Bool) → Crashes n k done before after old new (Ok r) → Behind
+  crash_well : (done : Bool) → Crashes (record { session = k; event = n }) done (span_of before after old new) (Ok r) → Behind
   crash_well false h = dies_well h.closed
   crash_well true (inl idle) = dies_well idle.dies.closed
   crash_well true (inr (inl h)) = rests_in k after new (has_closed k h.world new h.closes)
   crash_well true (inr (inr memory)) = absurd (no_memory r memory.0)
 
-  policy_well : (role : Role) (number : ℕ) → Policies k role number before after old new (Ok r) → Behind
+  policy_well : (role : Role) (number : ℕ) → Policies k role number (span_of before after old new) (Ok r) → Behind
   policy_well role number (inl refuses) = (not_done _ refuses.declines).0
   policy_well role number (inr (inl refuses)) = (not_done _ refuses.1.declines).0
   policy_well role number (inr (inr gives)) = λ x told_x.
       subst (λ (l : List Acting). IsUntroubled x (session_at l k).work) (sym gives.sessions) (well x (sym (ap (λ (z : Seen). z.state) gives.quiet.seen) ∙ told_x))
 
   -- a session that worked is at rest
-  through_well : WorksThrough n k before after old new (Ok r) → Behind × WorksWell r
+  through_well : WorksThrough (record { session = k; event = n }) (span_of before after old new) (Ok r) → Behind × WorksWell r
   through_well (inl refuses) = let is = not_done _ refuses.declines in (is.0, subst WorksWell (sym is.1.1) tt)
   through_well (inr (inl down)) =
       let rest = open_rests k old down.opened in
@@ -385,7 +386,7 @@ module _ (lines : List Line) (n k : ℕ) (before after : Seen) (old new : World)
   refused_unsent tree page rule is = subst (RepliesUnsent tree page u (work_at new k)) (sym is) tt
 
   answered_unsent : (tree page : ℕ) (wish : Wish) (mid : Seen) (world : World) (a : Answer) → HoldsWithin (length lines + 1) lines world mid → IsPagingOf tree page (work_at world k)
-      → UnsentAt tree page k mid world → (p : StepsLooked who wish mid after world new (Ended a)) → StepIsCalm who wish mid after world new (Ended a) p → RepliesTo a p.session.after (Ok r)
+      → UnsentAt tree page k mid world → (p : StepsLooked who wish (span_of mid after world new) (Ended a)) → StepIsCalm who wish (span_of mid after world new) (Ended a) p → RepliesTo a p.session.after (Ok r)
       → Unsent tree page
   answered_unsent tree page wish mid world (answer.Trouble q) h at kept p calm e =
       let is = replies_to (answer.Trouble q) p.session.after r e in
@@ -397,12 +398,12 @@ module _ (lines : List Line) (n k : ℕ) (before after : Seen) (old new : World)
       subst (RepliesUnsent tree page u (work_at new k)) (sym is) tt
   answered_unsent tree page wish mid world a h at kept p calm e = absurd (answers_page (length lines + 1) lines who wish mid after world new h tree page at kept a p)
 
-  step_leaves : (wish : Wish) (h : MakesStep n k wish before after old new (Ok r)) → EachMade StepIsCalm n k wish before after old new (Ok r) h → (tree page : ℕ)
+  step_leaves : (wish : Wish) (h : MakesStep (record { session = k; event = n }) wish (span_of before after old new) (Ok r)) → EachMade StepIsCalm (record { session = k; event = n }) wish (span_of before after old new) (Ok r) h → (tree page : ℕ)
       → posture ≡ Working (Paging tree page) → KeepsUnsent tree page t (work_at old k) → Unsent tree page
   step_leaves wish (inl refuses) calm tree page is kept = let no = not_done _ refuses.declines in refused_unsent tree page no.1.0 no.1.1
   step_leaves wish (inr (inl step)) calm tree page is kept = on step.turn step.steps step.replies calm
     where
-      on : (turn : Turn Answer) (p : StepsLooked who wish before after old new turn) → RepliesTurn turn p.session.after (Ok r) → StepIsCalm who wish before after old new turn p → Unsent tree page
+      on : (turn : Turn Answer) (p : StepsLooked who wish (span_of before after old new) turn) → RepliesTurn turn p.session.after (Ok r) → StepIsCalm who wish (span_of before after old new) turn p → Unsent tree page
       on More p e calm =
           let same : r ≡ reply.Called = cc in
           subst (RepliesUnsent tree page u (work_at new k)) (sym same)
@@ -411,7 +412,7 @@ module _ (lines : List Line) (n k : ℕ) (before after : Seen) (old new : World)
       on (Stopped q) p e calm = absurd (no_stop _ p.under p.to p.session.before p.session.after q p.session.does)
   step_leaves wish (inr (inr memory)) calm tree page is kept = absurd (no_memory r memory.0)
 
-  run_leaves : (h : Runs n k before after old new (Ok r)) → EachRun StepIsCalm n k before after old new (Ok r) h → (tree page : ℕ) → posture ≡ Working (Paging tree page)
+  run_leaves : (h : Runs (record { session = k; event = n }) (span_of before after old new) (Ok r)) → EachRun StepIsCalm (record { session = k; event = n }) (span_of before after old new) (Ok r) h → (tree page : ℕ) → posture ≡ Working (Paging tree page)
       → KeepsUnsent tree page t (work_at old k) → Unsent tree page
   run_leaves (inl refuses) calm tree page is kept = let no = not_done _ refuses.declines in refused_unsent tree page no.1.0 no.1.1
   run_leaves (inr (inl run)) calm tree page is kept =
@@ -441,10 +442,10 @@ module _ (lines : List Line) (n k : ℕ) (before after : Seen) (old new : World)
   -- what a request does, each step of it calm and explained
   abbrev DoesCalmly : ℕ → Request → Type 0
   DoesCalmly j request =
-      (h : Does n j request before after old new (Ok r)) × EachDone StepIsCalm n j request before after old new (Ok r) h × EachDone StepExplains n j request before after old new (Ok r) h
+      (h : Does (record { session = j; event = n }) request (span_of before after old new) (Ok r)) × EachDone StepIsCalm (record { session = j; event = n }) request (span_of before after old new) (Ok r) h × EachDone StepExplains (record { session = j; event = n }) request (span_of before after old new) (Ok r) h
 
   request_well : (Well : Reply → Type 0) → ((rule : Refusal) → Well (reply.Refused rule)) → (Is : Result Request Refused → Type 0) (asked : Asked) → OfSession k Is asked
-      → (h : Answers n asked before after old new (Ok r)) → EachAsked StepIsCalm n asked before after old new (Ok r) h → EachAsked StepExplains n asked before after old new (Ok r) h
+      → (h : Answers n asked (span_of before after old new) (Ok r)) → EachAsked StepIsCalm n asked (span_of before after old new) (Ok r) h → EachAsked StepExplains n asked (span_of before after old new) (Ok r) h
       → ((request : Request) → Is (Ok request) → DoesCalmly k request → Behind × Well r) → Behind × Well r
   request_well Well rules Is (Session j (Ok request)) belongs (inl p) calm explains served =
       served request belongs.1 (subst (λ i. DoesCalmly i request) belongs.0 (p.1, calm, explains))
@@ -522,13 +523,13 @@ module _ (lines : List Line) (n : ℕ) (before after : Seen) (old new : World) (
         subst (λ (a : Acting). WorksOn errand a.work) (sym (changed_at 0 _ prior.sessions left.sessions p.session 0 ∙ at_same 0 p.session.after (session_at prior.sessions) 0 refl))
         (errand_goes errand first p.under p.to p.session.before.work p.session.after.work p.session.does.work had)
 
-    pub errand_well : (h : Settles errand n before after old new (Ok r)) → EachSettling StepIsCalm errand n before after old new (Ok r) h
-        → EachSettling StepExplains errand n before after old new (Ok r) h → IsSoundFor (event_for errand) (standing lines 0).posture r → SessionIsUntroubled 0 after new × EndsWell errand r
+    pub errand_well : (h : Settles errand n (span_of before after old new) (Ok r)) → EachSettling StepIsCalm errand n (span_of before after old new) (Ok r) h
+        → EachSettling StepExplains errand n (span_of before after old new) (Ok r) h → IsSoundFor (event_for errand) (standing lines 0).posture r → SessionIsUntroubled 0 after new × EndsWell errand r
     errand_well (inr memory) calm explains sound = absurd (no_memory r memory.0)
     errand_well (inl h) calm explains sound = on h.settles calm explains
       where
-        on : (s : SettlesOn errand first before after h.begun new (Ok r)) → EachSettlingOn StepIsCalm errand first before after h.begun new (Ok r) s
-            → EachSettlingOn StepExplains errand first before after h.begun new (Ok r) s → SessionIsUntroubled 0 after new × EndsWell errand r
+        on : (s : SettlesOn errand first (span_of before after h.begun new) (Ok r)) → EachSettlingOn StepIsCalm errand first (span_of before after h.begun new) (Ok r) s
+            → EachSettlingOn StepExplains errand first (span_of before after h.begun new) (Ok r) s → SessionIsUntroubled 0 after new × EndsWell errand r
         on (inr memory) calm explains = absurd (no_memory r memory.0)
         on (inl s) calm explains =
             let c = s.comes in
@@ -556,10 +557,10 @@ module _ (lines : List Line) (n : ℕ) (before after : Seen) (old new : World) (
 
   -- what is asked is answered, each step of it calm and explained
   abbrev AnswersCalmly : Asked → Type 0
-  AnswersCalmly z = (h : Answers n z before after old new (Ok r)) × EachAsked StepIsCalm n z before after old new (Ok r) h × EachAsked StepExplains n z before after old new (Ok r) h
+  AnswersCalmly z = (h : Answers n z (span_of before after old new) (Ok r)) × EachAsked StepIsCalm n z (span_of before after old new) (Ok r) h × EachAsked StepExplains n z (span_of before after old new) (Ok r) h
 
-  asked_well : (e : Event) (asked : Asked) → Asks e asked → (h : Answers n asked before after old new (Ok r)) → EachAsked StepIsCalm n asked before after old new (Ok r) h
-      → EachAsked StepExplains n asked before after old new (Ok r) h → IsSoundFor e (standing lines (session_of e)).posture r
+  asked_well : (e : Event) (asked : Asked) → Asks e asked → (h : Answers n asked (span_of before after old new) (Ok r)) → EachAsked StepIsCalm n asked (span_of before after old new) (Ok r) h
+      → EachAsked StepExplains n asked (span_of before after old new) (Ok r) h → IsSoundFor e (standing lines (session_of e)).posture r
       → SessionIsUntroubled (session_of e) before old → Well e
   asked_well (event.Open k client) asked asks h calm explains sound well =
       request_well lines n k before after old new r t number told stands well u told_after (BeginsWell u Opening) (λ rule. tt) (IsOpening client) asked asks h calm explains
@@ -619,9 +620,9 @@ module _ (lines : List Line) (n : ℕ) (before after : Seen) (old new : World) (
   asked_well (event.Crash k done) asked asks h calm explains sound well =
       request_well lines n k before after old new r t number told stands well u told_after (λ q. Unit {0}) (λ rule. tt) (λ request. request ≡ Ok (Crash done)) asked asks h calm explains
       (λ request is does. (crash_well lines n k before after old new r t number told stands well u told_after done (as_asked lines n k before after old new r t number told stands well u told_after request (Crash done) is does).0, tt))
-  asked_well (event.Wait ticks) asked asks h calm explains sound well = on (subst (λ z. Answers n z before after old new (Ok r)) asks h)
+  asked_well (event.Wait ticks) asked asks h calm explains sound well = on (subst (λ z. Answers n z (span_of before after old new) (Ok r)) asks h)
     where
-      on : Answers n (Wait ticks) before after old new (Ok r) → Well (event.Wait ticks)
+      on : Answers n (Wait ticks) (span_of before after old new) (Ok r) → Well (event.Wait ticks)
       on (inl waits) = (goes_in 0 after new (subst (λ (w : World). GoesWellAt 0 after w) (sym waits.1) behind), tt)
         where
           behind : GoesWellAt 0 after old
@@ -638,7 +639,7 @@ module _ (lines : List Line) (n : ℕ) (before after : Seen) (old new : World) (
               )
       on (inr long) = (unchanged 0 before after old new long.declines.seen long.declines.world well, tt)
   asked_well (event.Report tree) asked asks h calm explains sound well =
-      let reports = subst (λ z. Answers n z before after old new (Ok r)) asks h in
+      let reports = subst (λ z. Answers n z (span_of before after old new) (Ok r)) asks h in
       (goes_in 0 after new (t, reports.looked.stays t told, subst (λ (w : World). IsUntroubled t (work_at w 0)) (sym reports.world) (well t told)), tt)
   asked_well event.Settle asked asks h calm explains sound well =
       let d = subst AnswersCalmly asks (h, calm, explains) in
@@ -655,9 +656,9 @@ module _ (lines : List Line) (n : ℕ) (before after : Seen) (old new : World) (
       (λ request is does. noted_well lines n (session_of e) before after old new r t number told stands well u told_after (noting_of e) request is does)
 
   -- the lines of a session that is at work on a page
-  asked_unsent : (e : Event) (asked : Asked) → Asks e asked → (h : Answers n asked before after old new (Ok r)) → EachAsked StepIsCalm n asked before after old new (Ok r) h
-      → EachAsked StepExplains n asked before after old new (Ok r) h → IsSoundFor e (standing lines (session_of e)).posture r → SessionIsUntroubled (session_of e) before old
-      → LeavesUnsent t u e (standing lines (session_of e)).posture (work_at old (session_of e)) (work_at new (session_of e)) r
+  asked_unsent : (e : Event) (asked : Asked) → Asks e asked → (h : Answers n asked (span_of before after old new) (Ok r)) → EachAsked StepIsCalm n asked (span_of before after old new) (Ok r) h
+      → EachAsked StepExplains n asked (span_of before after old new) (Ok r) h → IsSoundFor e (standing lines (session_of e)).posture r → SessionIsUntroubled (session_of e) before old
+      → LeavesUnsent e (standing lines (session_of e)).posture (hand_at t old (session_of e)) (hand_at u new (session_of e)) r
   asked_unsent (event.Page k tree page) asked asks h calm explains sound well =
       (request_well lines n k before after old new r t number told stands well u told_after (RepliesUnsent tree page u (work_at new k)) (λ rule. tt) (IsPaging tree page) asked asks h calm explains
       (λ request is does.
@@ -667,7 +668,7 @@ module _ (lines : List Line) (n : ℕ) (before after : Seen) (old new : World) (
       ))).1
   asked_unsent (event.Step k wish) asked asks h calm explains sound well =
       (request_well lines n k before after old new r t number told stands well u told_after
-      (GoesOnUnsent t u (standing lines k).posture (work_at old k) (work_at new k))
+      (GoesOnUnsent (standing lines k).posture (hand_at t old k) (hand_at u new k))
       (λ rule. goes_unsent t u (standing lines k).posture (work_at old k) (work_at new k) (reply.Refused rule) (λ tree page is kept. tt)) (IsStep wish) asked asks h calm explains
       (λ request is does.
       let d = as_asked lines n k before after old new r t number told stands well u told_after request (Step wish) (ap (λ q. Ok q) is) does in (
@@ -677,7 +678,7 @@ module _ (lines : List Line) (n : ℕ) (before after : Seen) (old new : World) (
       ))).1
   asked_unsent (event.Run k) asked asks h calm explains sound well =
       (request_well lines n k before after old new r t number told stands well u told_after
-      (GoesOnUnsent t u (standing lines k).posture (work_at old k) (work_at new k))
+      (GoesOnUnsent (standing lines k).posture (hand_at t old k) (hand_at u new k))
       (λ rule. goes_unsent t u (standing lines k).posture (work_at old k) (work_at new k) (reply.Refused rule) (λ tree page is kept. tt)) (λ request. request ≡ Ok Run) asked asks h calm explains
       (λ request is does.
       let d = as_asked lines n k before after old new r t number told stands well u told_after request Run is does in (
@@ -687,7 +688,7 @@ module _ (lines : List Line) (n : ℕ) (before after : Seen) (old new : World) (
       ))).1
   asked_unsent e asked asks h calm explains sound well = tt
 
-pub well_after : (n : ℕ) (e : Event) (before after : Seen) (old new : World) (result : Result Reply WorldFault) → AnswersWell n e before after old new result
+pub well_after : (n : ℕ) (e : Event) (before after : Seen) (old new : World) (result : Result Reply WorldFault) → AnswersWell n e (span_of before after old new) result
 well_after n e before after old new (Ok r) = λ lines t u number told told_after stands handled calm well.
     let explains = explained n e before after old new (Ok r) lines t number told stands handled in
     let sound = sound_after n e before after old new (Ok r) handled lines t number told stands in

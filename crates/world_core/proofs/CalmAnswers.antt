@@ -185,6 +185,6 @@ paging_of (work.Broken lease) s tree page acts is = absurd (cc (acts, is))
 
 -- of other sessions nothing is said
 pub goes_unsent : (t u : CloudState) (posture : Posture) (v w : Work) (r : Reply)
-    → ((tree page : ℕ) → posture ≡ Working (Paging tree page) → KeepsUnsent tree page t v → RepliesUnsent tree page u w r) → GoesOnUnsent t u posture v w r
+    → ((tree page : ℕ) → posture ≡ Working (Paging tree page) → KeepsUnsent tree page t v → RepliesUnsent tree page u w r) → GoesOnUnsent posture (record { cloud = t; work = v }) (record { cloud = u; work = w }) r
 goes_unsent t u (Working (Paging tree page)) v w r each = each tree page refl
 goes_unsent t u posture v w r each = tt

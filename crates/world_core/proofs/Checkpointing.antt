@@ -40,6 +40,7 @@ use Rattle.world_core.specs.Put.{put_of, put_of_hand}
 use Rattle.world_core.specs.Sessions.{Changes, HasPut, IsAtWork}
 use Rattle.world_core.specs.Stands.{Grows}
 use Rattle.world_core.specs.Handled.{BeginsCheckpoint, ComesTo, IsOpen, FallsShort, MakesOne, NotesCall, NotesEnd, NotesStep, SetsWish, StepsLooked, Works, no_checkpoint, checkpoint_more, as_one, checkpoint_of, done_by, is_done, note_of_hand}
+use Rattle.world_core.specs.Span.{span_of}
 use Rattle.world_core.proofs.Going.{after_there, put_before, same_session}
 use Rattle.world_core.proofs.GrowthLemmas.{grows_between}
 use Rattle.world_core.proofs.Landing.{audited_none}
@@ -121,12 +122,12 @@ checkpoint_answers who before after home (Folding h f) new a p is = absurd p
 checkpoint_answers who before after home w new a p is = absurd is
 
 pub answers_checkpoint : (who : Caller) (queue : QueueName) (before after : Seen) (old begun new : World) (a : Answer) → IsOpen who.session old.sessions
-    → BeginsCheckpoint who.session queue old begun → ComesTo who before after begun new a → IsOfCheckpoint a
+    → BeginsCheckpoint who.session queue old begun → ComesTo who (span_of before after begun new) a → IsOfCheckpoint a
 answers_checkpoint who queue before after old begun new a opened b c =
     checkpoint_answers who p.under p.to rest.0 p.session.before.work p.session.after.work a p.session.does.work
     (subst (λ (x : Acting). HasCheckpoint rest.0 x.work) (changed_was who.session _ c.world.sessions new.sessions p.session) inside.works)
   where
-    p : StepsLooked who Plain c.mid after c.world new (Ended a)
+    p : StepsLooked who Plain (span_of c.mid after c.world new) (Ended a)
     p = c.steps
 
     rest : (home : Home) × (home.client ≡ opened.client) × IsBetween who.session home (session_at old.sessions) old
@@ -137,13 +138,13 @@ answers_checkpoint who queue before after old begun new a opened b c =
         within_went who rest.0 (session_at old.sessions) before begun c.mid c.world (within_begun who.session rest.0 (session_at old.sessions) queue old begun rest.2 b) c.went
 
 -- one was made, and the session is open behind it
-pub stays_open : (who : Caller) (queue : QueueName) (done : Bool) (before after : Seen) (old new : World) → IsOpen who.session old.sessions → MakesOne who queue done before after old new
+pub stays_open : (who : Caller) (queue : QueueName) (done : Bool) (before after : Seen) (old new : World) → IsOpen who.session old.sessions → MakesOne who queue done (span_of before after old new)
     → IsOpen who.session new.sessions
 stays_open who queue done before after old new opened m =
     between_open who.session rest.0 (session_at old.sessions) new p.session.after (after_there who.session _ m.makes.comes.world.sessions new.sessions p.session)
     (within_made who rest.0 (session_at old.sessions) queue before after old new m.answer m.passes rest.2 m.makes)
   where
-    p : StepsLooked who Plain m.makes.comes.mid after m.makes.comes.world new (Ended m.answer)
+    p : StepsLooked who Plain (span_of m.makes.comes.mid after m.makes.comes.world new) (Ended m.answer)
     p = m.makes.comes.steps
 
     rest : (home : Home) × (home.client ≡ opened.client) × IsBetween who.session home (session_at old.sessions) old
@@ -174,7 +175,7 @@ going_first who queues most before old is opened pending = record {
 }
 
 pub going_more : (who : Caller) (queues left rest : List QueueName) (queue : QueueName) (most done passed done_after passed_after : ℕ) (kept : Bool) (before mid after : Seen) (old world new : World)
-    → left ≡ queue ∷ rest → IsGoing who queues left most done passed before mid old world → MakesOne who queue kept mid after world new
+    → left ≡ queue ∷ rest → IsGoing who queues left most done passed before mid old world → MakesOne who queue kept (span_of mid after world new)
     → done_after ≡ done + as_one kept → passed_after ≡ passed + as_one (not kept) → IsGoing who queues rest most done_after passed_after before after old new
 going_more who queues left rest queue most done passed done_after passed_after kept before mid after old world new is g m d p = record {
   gone = g.gone ++ queue ∷ [];
@@ -285,7 +286,7 @@ no_put_of blind sees (inr none) = none
 
 pub step_noted : (who : Caller) (wish : Wish) (before under to : Seen) (old noted called new : World) (turn : Turn Answer) (done : Bool) → (old.blind ≡ true) ⊎ HasPut who.session old.sessions None
     → NotesCall who.session old noted → SetsWish wish before under → Changes who.session (λ a b. StepsSession who under to a b (Ok turn)) noted.sessions called.sessions → called.audit ≡ noted.audit
-    → called.blind ≡ noted.blind → called.notes ≡ noted.notes → done ≡ is_done turn → NotesEnd who.session done called new → StepsLooked who wish before to old new turn
+    → called.blind ≡ noted.blind → called.notes ≡ noted.notes → done ≡ is_done turn → NotesEnd who.session done called new → StepsLooked who wish (span_of before to old new) turn
 step_noted who wish before under to old noted called new turn done unlooked n sets s audit blind notes same e =
     let m : Changes who.session (λ a b. StepsSession who under to a b (Ok turn)) old.sessions new.sessions =
     step_moves who under to old.sessions noted.sessions called.sessions new.sessions turn n.sessions s e.sessions in
@@ -309,7 +310,7 @@ step_noted who wish before under to old noted called new turn done unlooked n se
 -- where there was no memory for the note behind it
 pub step_unnoted : (who : Caller) (wish : Wish) (before under to : Seen) (old noted called new : World) (turn : Turn Answer) (done : Bool) → NotesCall who.session old noted → SetsWish wish before under
     → Changes who.session (λ a b. StepsSession who under to a b (Ok turn)) noted.sessions called.sessions → called.blind ≡ noted.blind → done ≡ is_done turn → done ≡ true → new ≡ called
-    → FallsShort who wish before to old new
+    → FallsShort who wish (span_of before to old new)
 step_unnoted who wish before under to old noted called new turn done n sets s blind same was e = inr (record {
   from = before;
   under = under;

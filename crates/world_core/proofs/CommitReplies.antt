@@ -41,6 +41,7 @@ use Rattle.world_core.specs.Replying.{declined, done_reply, value_reply, Replies
 use Rattle.world_core.specs.Sessions.{Changes}
 use Rattle.world_core.proofs.Behind.{LinesStand}
 use Rattle.world_core.specs.World.{World}
+use Rattle.world_core.specs.Span.{span_of}
 use Rattle.world_core.proofs.Texts.{commit_is, errand_is}
 use Rattle.world_core.proofs.StandsLemmas.{IsUnderWay, changed_was, way_begins, went_on, no_stop, no_memory, replies_to}
 
@@ -66,7 +67,7 @@ module _ (Holds : Posture → Work → CommitAnswer → Type 0) (posture : Postu
   refused_keeps r (refused.Rule rule) e = plainly r (reply.Refused rule) e tt
   refused_keeps r refused.Memory e = absurd (cc)
 
-  declines_keeps : (r : Reply) (why : Refused) (before after : Seen) (old new : World) → Declines why before after old new (Ok r) → Keeps r
+  declines_keeps : (r : Reply) (why : Refused) (before after : Seen) (old new : World) → Declines why (span_of before after old new) (Ok r) → Keeps r
   declines_keeps r why before after old new h = refused_keeps r why h.reply
 
   done_keeps : (r q : Reply) → Keeps q → (done : Result (Unit {0}) Refused) → IsOk r (done_reply q done) → Keeps r
@@ -132,7 +133,7 @@ begin_rests (op.Tree tree) old new begun does = subst IsAtRest (sym does.1) tt
 module _ (Holds : Posture → Work → CommitAnswer → Type 0) (nothing : SaysNothing Holds) (lines : List Line) (n k : ℕ) (before after : Seen) (old new : World) (r : Reply) (t : CloudState)
     (number : length lines + 1 ≡ n) (told : before.state ≡ Some t) (stands : LinesStand lines old t)
     (ends : (wish : Wish) (mid : Seen) (world : World) (c : CommitAnswer) → IsUnderWay lines world mid
-    → StepsLooked (record { session = k; event = n }) wish mid after world new (Ended (answer.Commit c)) → Holds (standing lines k).posture (session_at new.sessions k).work c) where
+    → StepsLooked (record { session = k; event = n }) wish (span_of mid after world new) (Ended (answer.Commit c)) → Holds (standing lines k).posture (session_at new.sessions k).work c) where
   abbrev stood : Standing
   stood = standing lines k
 
@@ -148,7 +149,7 @@ module _ (Holds : Posture → Work → CommitAnswer → Type 0) (nothing : SaysN
   way : IsUnderWay lines old before
   way = way_begins lines before old t told stands
 
-  not_done : (why : Refused) → Declines why before after old new (Ok r) → Kept r
+  not_done : (why : Refused) → Declines why (span_of before after old new) (Ok r) → Kept r
   not_done why h = declines_keeps Holds stood.posture hand r why before after old new h
 
   plain : (q : Reply) → IsOk r (Ok q) → Kept q → Kept r
@@ -174,46 +175,46 @@ module _ (Holds : Posture → Work → CommitAnswer → Type 0) (nothing : SaysN
       on (Ok begun) does e = rests (f k).work (begin_rests o (f k) c.after begun does) (stands.acts k).work
       on (Err why) does e = refused_keeps Holds stood.posture hand r why e
 
-  step_keeps : (wish : Wish) (mid : Seen) (world : World) (a : Answer) → IsUnderWay lines world mid → (p : StepsLooked who wish mid after world new (Ended a))
+  step_keeps : (wish : Wish) (mid : Seen) (world : World) (a : Answer) → IsUnderWay lines world mid → (p : StepsLooked who wish (span_of mid after world new) (Ended a))
       → RepliesTo a p.session.after (Ok r) → Kept r
   step_keeps wish mid world a under p replies =
       answer_keeps Holds stood.posture hand a p.session.after r replies
-      (λ c is. ends wish mid world c under (subst (λ b. StepsLooked who wish mid after world new (Ended b)) is p))
+      (λ c is. ends wish mid world c under (subst (λ b. StepsLooked who wish (span_of mid after world new) (Ended b)) is p))
 
-  makes_keeps : (wish : Wish) → MakesStep n k wish before after old new (Ok r) → Kept r
+  makes_keeps : (wish : Wish) → MakesStep (record { session = k; event = n }) wish (span_of before after old new) (Ok r) → Kept r
   makes_keeps wish (inl refuses) = not_done _ refuses.declines
   makes_keeps wish (inr (inl step)) = on step.turn step.steps step.replies
     where
-      on : (turn : Turn Answer) (p : StepsLooked who wish before after old new turn) → RepliesTurn turn p.session.after (Ok r) → Kept r
+      on : (turn : Turn Answer) (p : StepsLooked who wish (span_of before after old new) turn) → RepliesTurn turn p.session.after (Ok r) → Kept r
       on More p e = plain reply.Called e tt
       on (Ended a) p e = step_keeps wish before old a way p e
       on (Stopped q) p e = absurd (no_stop _ p.under p.to p.session.before p.session.after q p.session.does)
   makes_keeps wish (inr (inr memory)) = absurd (no_memory r memory.0)
 
-  runs_keeps : Runs n k before after old new (Ok r) → Kept r
+  runs_keeps : Runs (record { session = k; event = n }) (span_of before after old new) (Ok r) → Kept r
   runs_keeps (inl refuses) = not_done _ refuses.declines
   runs_keeps (inr (inl run)) =
       step_keeps Plain run.comes.mid run.comes.world run.answer
       (went_on lines who before old run.comes.mid run.comes.world (sym number) way run.comes.went) run.comes.steps run.replies
   runs_keeps (inr (inr memory)) = absurd (no_memory r memory.0)
 
-  crash_keeps : (done : Bool) → Crashes n k done before after old new (Ok r) → Kept r
+  crash_keeps : (done : Bool) → Crashes (record { session = k; event = n }) done (span_of before after old new) (Ok r) → Kept r
   crash_keeps false h = plain reply.Crashed h.replies tt
   crash_keeps true (inl idle) = plain reply.Crashed idle.dies.replies tt
   crash_keeps true (inr (inl h)) = plain reply.Crashed h.replies tt
   crash_keeps true (inr (inr memory)) = absurd (no_memory r memory.0)
 
-  policy_keeps : (role : Role) (number : ℕ) → Policies k role number before after old new (Ok r) → Kept r
+  policy_keeps : (role : Role) (number : ℕ) → Policies k role number (span_of before after old new) (Ok r) → Kept r
   policy_keeps role number (inl refuses) = not_done _ refuses.declines
   policy_keeps role number (inr (inl refuses)) = not_done _ refuses.1.declines
   policy_keeps role number (inr (inr gives)) = plain reply.Noted gives.replies tt
 
-  through_keeps : WorksThrough n k before after old new (Ok r) → Kept r
+  through_keeps : WorksThrough (record { session = k; event = n }) (span_of before after old new) (Ok r) → Kept r
   through_keeps (inl refuses) = not_done _ refuses.declines
   through_keeps (inr (inl down)) = plain (reply.Worked down.done down.passed) down.replies tt
   through_keeps (inr (inr memory)) = absurd (no_memory r memory.0)
 
-  does_keeps : (request : Request) → Does n k request before after old new (Ok r) → Kept r
+  does_keeps : (request : Request) → Does (record { session = k; event = n }) request (span_of before after old new) (Ok r) → Kept r
   does_keeps (Begin o) h = begin_keeps o h.1
   does_keeps (Note noting) h = done_keeps Holds stood.posture hand r reply.Noted tt h.1.does.noted h.1.does.replies
   does_keeps Abort h = done_keeps Holds stood.posture hand r reply.Aborted tt h.1.does.dropped h.1.does.replies
@@ -223,8 +224,8 @@ module _ (Holds : Posture → Work → CommitAnswer → Type 0) (nothing : SaysN
   does_keeps Run h = runs_keeps h
   does_keeps (Crash done) h = crash_keeps done h
 
-  request_keeps : (Is : Result Request Refused → Type 0) (asked : Asked) → OfSession k Is asked → Answers n asked before after old new (Ok r) → Kept r
-  request_keeps Is (Session j (Ok request)) belongs (inl p) = does_keeps request (subst (λ i. Does n i request before after old new (Ok r)) belongs.0 p.1)
+  request_keeps : (Is : Result Request Refused → Type 0) (asked : Asked) → OfSession k Is asked → Answers n asked (span_of before after old new) (Ok r) → Kept r
+  request_keeps Is (Session j (Ok request)) belongs (inl p) = does_keeps request (subst (λ i. Does (record { session = i; event = n }) request (span_of before after old new) (Ok r)) belongs.0 p.1)
   request_keeps Is (Session j (Err why)) belongs (inl p) = not_done why p.1
   request_keeps Is (Session j request) belongs (inr none) = not_done _ none.declines
   request_keeps Is (Wait ticks) belongs answers = absurd belongs
@@ -236,19 +237,19 @@ module _ (Holds : Posture → Work → CommitAnswer → Type 0) (nothing : SaysN
 
 -- a wait, a report, a settling and a sweep are answered with the end of no commit
 module _ (Holds : Posture → Work → CommitAnswer → Type 0) (posture : Posture) (hand : Work) where
-  wait_keeps : (ticks n : ℕ) (before after : Seen) (old new : World) (r : Reply) → Answers n (Wait ticks) before after old new (Ok r) → OfReply Holds posture hand r
+  wait_keeps : (ticks n : ℕ) (before after : Seen) (old new : World) (r : Reply) → Answers n (Wait ticks) (span_of before after old new) (Ok r) → OfReply Holds posture hand r
   wait_keeps ticks n before after old new r (inl h) = plainly Holds posture hand r reply.Waited h.0.replies tt
   wait_keeps ticks n before after old new r (inr long) = declines_keeps Holds posture hand r _ before after old new long.declines
 
-  errand_keeps : (errand : Errand) (n : ℕ) (before after : Seen) (old new : World) (r : Reply) → Settles errand n before after old new (Ok r) → OfReply Holds posture hand r
+  errand_keeps : (errand : Errand) (n : ℕ) (before after : Seen) (old new : World) (r : Reply) → Settles errand n (span_of before after old new) (Ok r) → OfReply Holds posture hand r
   errand_keeps errand n before after old new r (inr memory) = absurd (no_memory r memory.0)
   errand_keeps errand n before after old new r (inl h) = by_end h.settles
     where
-      by_end : SettlesOn errand (record { session = 0; event = n }) before after h.begun new (Ok r) → OfReply Holds posture hand r
+      by_end : SettlesOn errand (record { session = 0; event = n }) (span_of before after h.begun new) (Ok r) → OfReply Holds posture hand r
       by_end (inr memory) = absurd (no_memory r memory.0)
       by_end (inl s) = errand_is (λ q. OfReply Holds posture hand q) (λ calls. tt) (λ k text. tt) (λ kept removed. tt) (λ k text. tt) errand s.answer r s.replies
 
-  report_keeps : (tree : ℕ) (before after : Seen) (old new : World) (r : Reply) → Reports tree before after old new (Ok r) → OfReply Holds posture hand r
+  report_keeps : (tree : ℕ) (before after : Seen) (old new : World) (r : Reply) → Reports tree (span_of before after old new) (Ok r) → OfReply Holds posture hand r
   report_keeps tree before after old new (reply.Commit a) h = absurd h.reply
   report_keeps tree before after old new r h = tt
 
@@ -256,7 +257,7 @@ module _ (Holds : Posture → Work → CommitAnswer → Type 0) (posture : Postu
 abbrev pub EndsSo : (Posture → Work → CommitAnswer → Type 0) → List Line → ℕ → Event → Seen → World → Type 0
 EndsSo Holds lines n event after new =
     (wish : Wish) (mid : Seen) (world : World) (c : CommitAnswer) → IsUnderWay lines world mid
-    → StepsLooked (record { session = session_of event; event = n }) wish mid after world new (Ended (answer.Commit c))
+    → StepsLooked (record { session = session_of event; event = n }) wish (span_of mid after world new) (Ended (answer.Commit c))
     → Holds (standing lines (session_of event)).posture (session_at new.sessions (session_of event)).work c
 
 module _ (Holds : Posture → Work → CommitAnswer → Type 0) (nothing : SaysNothing Holds) (n : ℕ) (before after : Seen) (old new : World) (r : Reply) (lines : List Line) (t : CloudState)
@@ -265,11 +266,11 @@ module _ (Holds : Posture → Work → CommitAnswer → Type 0) (nothing : SaysN
   KeptFor e = OfReply Holds (standing lines (session_of e)).posture (session_at new.sessions (session_of e)).work r
 
   -- a line of a session
-  of_session : (e : Event) → EndsSo Holds lines n e after new → (Is : Result Request Refused → Type 0) (asked : Asked) → OfSession (session_of e) Is asked → Answers n asked before after old new (Ok r)
+  of_session : (e : Event) → EndsSo Holds lines n e after new → (Is : Result Request Refused → Type 0) (asked : Asked) → OfSession (session_of e) Is asked → Answers n asked (span_of before after old new) (Ok r)
       → KeptFor e
   of_session e ends Is asked asks answers = request_keeps Holds nothing lines n (session_of e) before after old new r t at told stands ends Is asked asks answers
 
-  pub asked_keeps : (e : Event) → EndsSo Holds lines n e after new → (asked : Asked) → Asks e asked → Answers n asked before after old new (Ok r) → KeptFor e
+  pub asked_keeps : (e : Event) → EndsSo Holds lines n e after new → (asked : Asked) → Asks e asked → Answers n asked (span_of before after old new) (Ok r) → KeptFor e
   asked_keeps (event.Open k client) ends asked asks answers = of_session (event.Open k client) ends (IsOpening client) asked asks answers
   asked_keeps (event.Close k) ends asked asks answers = of_session (event.Close k) ends (λ request. request ≡ Ok (Begin op.Close)) asked asks answers
   asked_keeps (event.Renew k) ends asked asks answers = of_session (event.Renew k) ends (λ request. request ≡ Ok (Begin op.Renew)) asked asks answers
@@ -285,10 +286,10 @@ module _ (Holds : Posture → Work → CommitAnswer → Type 0) (nothing : SaysN
   asked_keeps (event.Step k wish) ends asked asks answers = of_session (event.Step k wish) ends (IsStep wish) asked asks answers
   asked_keeps (event.Run k) ends asked asks answers = of_session (event.Run k) ends (λ request. request ≡ Ok Run) asked asks answers
   asked_keeps (event.Crash k done) ends asked asks answers = of_session (event.Crash k done) ends (λ request. request ≡ Ok (Crash done)) asked asks answers
-  asked_keeps (event.Wait ticks) ends asked asks answers = wait_keeps Holds _ _ ticks n before after old new r (subst (λ z. Answers n z before after old new (Ok r)) asks answers)
+  asked_keeps (event.Wait ticks) ends asked asks answers = wait_keeps Holds _ _ ticks n before after old new r (subst (λ z. Answers n z (span_of before after old new) (Ok r)) asks answers)
   asked_keeps (event.Report tree) ends asked asks answers =
-      report_keeps Holds _ _ tree before after old new r (subst (λ z. Answers n z before after old new (Ok r)) asks answers)
-  asked_keeps event.Settle ends asked asks answers = errand_keeps Holds _ _ settles n before after old new r (subst (λ z. Answers n z before after old new (Ok r)) asks answers)
+      report_keeps Holds _ _ tree before after old new r (subst (λ z. Answers n z (span_of before after old new) (Ok r)) asks answers)
+  asked_keeps event.Settle ends asked asks answers = errand_keeps Holds _ _ settles n before after old new r (subst (λ z. Answers n z (span_of before after old new) (Ok r)) asks answers)
   asked_keeps (event.Sweep number) ends (Sweep (Ok tree)) asks answers = errand_keeps Holds _ _ (sweeps tree) n before after old new r answers.1
   asked_keeps (event.Sweep number) ends (Sweep (Err why)) asks answers = declines_keeps Holds _ _ r why before after old new answers
   asked_keeps (event.Sweep number) ends asked asks answers = absurd asks

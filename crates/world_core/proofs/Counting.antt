@@ -72,6 +72,7 @@ use Rattle.world_core.specs.declared.asked.Noting.{Noting}
 use Rattle.world_core.specs.declared.asked.Request.{Request}
 use Rattle.world_core.specs.declared.asked.Request.TheVariants.{Begin, Note, Abort, Policy, Work as WorksDue, Step, Run, Crash}
 use Rattle.world_core.specs.declared.world.WorldFault.{WorldFault}
+use Rattle.world_core.specs.Span.{span_of}
 use Rattle.std.proofs.lemmas.Option.{same_Some}
 
 no_more : (n : ℕ) → n ≤ n
@@ -252,7 +253,7 @@ module _ (r : Reply) (calls : ℕ) (s : CloudState) (a b : Acting) where
 
 -- ---- one step
 
-module _ (who : Caller) (wish : Wish) (before after : Seen) (old new : World) (turn : Turn Answer) (p : StepsLooked who wish before after old new turn) (x : CloudState)
+module _ (who : Caller) (wish : Wish) (before after : Seen) (old new : World) (turn : Turn Answer) (p : StepsLooked who wish (span_of before after old new) turn) (x : CloudState)
     (told : before.state ≡ Some x) (book : Book) (order : List Entry) (stand : SessionsStand book order (record x { wish = wish }) (session_at old.sessions))
     (own : StepsSession who p.under p.to (session_at old.sessions who.session) p.session.after (Ok turn)) (y : CloudState) (left : p.to.state ≡ Some y)
     (calls : ℕ → ℕ) (all : CountsAll calls x (session_at old.sessions)) (last : CloudState) (seen : after.state ≡ Some last) where
@@ -275,7 +276,7 @@ module _ (who : Caller) (wish : Wish) (before after : Seen) (old new : World) (t
       (subst (λ (z : CloudState). FewFor (calls who.session + 1) z (session_at old.sessions who.session).work) last_is
       (session_few who p.under p.to wished y book order (session_at old.sessions) told_wished left stand calls p.session.after turn under_wish own))
 
-  pub step_names : StepNames who wish before after old new turn p
+  pub step_names : StepNames who wish (span_of before after old new) turn p
   step_names s told_at home m done works ends =
       subst (λ (z : CloudState). NamesPieces z m done) (same_Some wished s (sym told_wished ∙ told_at))
       (session_names who p.under p.to wished y book order (session_at old.sessions) told_wished left stand calls p.session.after turn under_wish own home m done
@@ -307,7 +308,7 @@ module _ (lines : List Line) (who : Caller) (number : who.event ≡ length lines
   abbrev Own : ℕ → CloudState → World → Type 0
   Own own s world = CountsAll (at who.session own calls) s (session_at world.sessions)
 
-  module _ (wish : Wish) (before after : Seen) (old new : World) (turn : Turn Answer) (way : IsUnderWay lines old before) (p : StepsLooked who wish before after old new turn)
+  module _ (wish : Wish) (before after : Seen) (old new : World) (turn : Turn Answer) (way : IsUnderWay lines old before) (p : StepsLooked who wish (span_of before after old new) turn)
       (mine : ℕ) (all : Own mine way.after old) (last : CloudState) (seen : after.state ≡ Some last) where
     held : CloudHolds (length lines + 1) lines (session_at old.sessions) old.audit old.blind (record way.after { wish = wish })
     held = wish_holds (length lines + 1) lines (session_at old.sessions) old.audit old.blind way.after wish way.goes.holds
@@ -326,7 +327,7 @@ module _ (lines : List Line) (who : Caller) (number : who.event ≡ length lines
         subst (λ (n : ℕ). FewFor (n + 1) last p.session.before.work) mine_is
         (step_few who wish before after old new turn p way.after way.told held.book held.order held.stand steps leaves.state leaves.told (at who.session mine calls) all last seen)
 
-    pub names_to : StepNames who wish before after old new turn p
+    pub names_to : StepNames who wish (span_of before after old new) turn p
     names_to =
         step_names who wish before after old new turn p way.after way.told held.book held.order held.stand steps leaves.state leaves.told (at who.session mine calls) all last seen
 
@@ -345,8 +346,8 @@ module _ (lines : List Line) (who : Caller) (number : who.event ≡ length lines
         (step_end who wish before after old new turn p way.after way.told held.book held.order held.stand steps leaves.state leaves.told (at who.session mine calls) all last seen a k ends)
 
   -- what is left of a call that was made is told
-  pub names_of : (wish : Wish) (before after : Seen) (old new : World) (turn : Turn Answer) (way : IsUnderWay lines old before) (p : StepsLooked who wish before after old new turn)
-      (mine : ℕ) → Own mine way.after old → StepNames who wish before after old new turn p
+  pub names_of : (wish : Wish) (before after : Seen) (old new : World) (turn : Turn Answer) (way : IsUnderWay lines old before) (p : StepsLooked who wish (span_of before after old new) turn)
+      (mine : ℕ) → Own mine way.after old → StepNames who wish (span_of before after old new) turn p
   names_of wish before after old new turn way p mine all =
       let c = call lines who wish before after old new turn number way p in
       names_to wish before after old new turn way p mine all c.state (p.look_after.stays c.state c.told)
@@ -405,7 +406,7 @@ module _ (n k : ℕ) (lines : List Line) (home : Home) (row : IsWorkersRow lines
   Mine mine s world = CountsAll (at k mine calls) s (session_at world.sessions)
 
   module _ (before after : Seen) (old new : World) (turn : Turn Answer) (w : IsInside k home first old) (h : HoldsWithin n lines old before)
-      (p : StepsLooked (worker k n) Plain before after old new turn) (mine : ℕ) (all : Mine mine h.state old) (last : CloudState) (seen : after.state ≡ Some last) where
+      (p : StepsLooked (worker k n) Plain (span_of before after old new) turn) (mine : ℕ) (all : Mine mine h.state old) (last : CloudState) (seen : after.state ≡ Some last) where
     held_in : CloudHolds n lines (session_at old.sessions) old.audit old.blind (record h.state { wish = Plain })
     held_in = wish_holds n lines (session_at old.sessions) old.audit old.blind h.state Plain h.holds
 
@@ -423,7 +424,7 @@ module _ (n k : ℕ) (lines : List Line) (home : Home) (row : IsWorkersRow lines
         subst (λ (j : ℕ). FewFor (j + 1) last p.session.before.work) own_mine
         (step_few (worker k n) Plain before after old new turn p h.state h.told held_in.book held_in.order held_in.stand steps_in left_in.state left_in.told (at k mine calls) all last seen)
 
-    pub worker_names : StepNames (worker k n) Plain before after old new turn p
+    pub worker_names : StepNames (worker k n) Plain (span_of before after old new) turn p
     worker_names =
         step_names (worker k n) Plain before after old new turn p h.state h.told held_in.book held_in.order held_in.stand steps_in left_in.state left_in.told (at k mine calls) all last seen
 
@@ -451,7 +452,7 @@ module _ (n k : ℕ) (lines : List Line) (home : Home) (row : IsWorkersRow lines
 
   -- behind one that begins
   pub made_none : (queue : QueueName) (before after : Seen) (old new : World) (a : Answer) → IsBetween k home first old → (h : HoldsWithin n lines old before) (mine : ℕ) → Mine mine h.state old
-      → Checkpoints (worker k n) queue before after old new a → (s : CloudState) → after.state ≡ Some s → Mine 0 s new
+      → Checkpoints (worker k n) queue (span_of before after old new) a → (s : CloudState) → after.state ≡ Some s → Mine 0 s new
   made_none queue before after old new a w h mine all c s seen =
       let begun = within_begun k home first queue old c.begun w c.begins in
       let held_in = holds_begun n lines k queue before old c.begun h c.begins in
@@ -504,13 +505,13 @@ module _ (lines : List Line) (n : ℕ) (number : length lines + 1 ≡ n) (before
   refused_still : (rule : Refusal) → r ≡ reply.Refused rule → (calls : ℕ) → counted r calls ≡ calls
   refused_still rule is calls = ap (λ (q : Reply). counted q calls) is
 
-  declined_counts : (why : Refused) → Declines why before after old new (Ok r) → Behind
+  declined_counts : (why : Refused) → Declines why (span_of before after old new) (Ok r) → Behind
   declined_counts (refused.Rule rule) d = idle_counts d.seen d.world (refused_still rule (refused_is r rule d.reply))
   declined_counts refused.Memory d = absurd (cc (d.reply))
 
   -- one session changes, and makes no call
   module _ (k : ℕ) (own : session_of e ≡ k) where
-    changed_counts : (Does : Acting → Acting → Type 0) → MakesNoCall before after old new → (c : Changes k Does old.sessions new.sessions)
+    changed_counts : (Does : Acting → Acting → Type 0) → MakesNoCall (span_of before after old new) → (c : Changes k Does old.sessions new.sessions)
         → (CountsWork (calls_told lines k) t c.before.work → CountsWork (counted r (calls_told lines k)) t c.after.work) → Behind
     changed_counts Does quiet c mine =
         subst (λ (z : CloudState). CountsAll (calls_told (lines ++ line_of e r ∷ [])) z (session_at new.sessions)) (unmoved quiet.seen)
@@ -531,12 +532,12 @@ module _ (lines : List Line) (n : ℕ) (number : length lines + 1 ≡ n) (before
                 subst (λ (j : ℕ). CountsWork j t (at k c.after (session_at old.sessions) m).work) (sym (at_other k (counted r (calls_told lines k)) (calls_told lines) m other))
                 (subst (λ (a : Acting). CountsWork (calls_told lines m) t a.work) (sym (at_other k c.after (session_at old.sessions) m other)) (all m))
 
-    begun : (o : Op) → MakesNoCall before after old new → Changes k (BeginsOp o (Ok r)) old.sessions new.sessions → Behind
+    begun : (o : Op) → MakesNoCall (span_of before after old new) → Changes k (BeginsOp o (Ok r)) old.sessions new.sessions → Behind
     begun o quiet c =
         changed_counts (BeginsOp o (Ok r)) quiet c
         (λ was. begin_counts r (calls_told lines k) t c.before c.after o c.does.begun c.does.begins c.does.replies was)
 
-    noted : (noting : Noting) → MakesNoCall before after old new → Changes k (NotesChange noting (Ok r)) old.sessions new.sessions → Behind
+    noted : (noting : Noting) → MakesNoCall (span_of before after old new) → Changes k (NotesChange noting (Ok r)) old.sessions new.sessions → Behind
     noted noting quiet c = changed_counts (NotesChange noting (Ok r)) quiet c (λ was. on was c.does.noted c.does.notes c.does.replies)
       where
         on : CountsWork (calls_told lines k) t c.before.work → (result : Result (Unit {0}) Refused) → NotesIn noting c.before c.after result
@@ -547,7 +548,7 @@ module _ (lines : List Line) (n : ℕ) (number : length lines + 1 ≡ n) (before
         on was (Err (refused.Rule rule)) h q = refused_counts r (calls_told lines k) t c.before c.after rule q h.0 was
         on was (Err refused.Memory) h q = absurd (cc (q))
 
-    aborted : MakesNoCall before after old new → Changes k (DropsChanges (Ok r)) old.sessions new.sessions → Behind
+    aborted : MakesNoCall (span_of before after old new) → Changes k (DropsChanges (Ok r)) old.sessions new.sessions → Behind
     aborted quiet c = changed_counts (DropsChanges (Ok r)) quiet c (λ was. on was c.does.dropped c.does.drops c.does.replies)
       where
         on : CountsWork (calls_told lines k) t c.before.work → (result : Result (Unit {0}) Refused) → AbortsIn c.before c.after result
@@ -569,7 +570,7 @@ module _ (lines : List Line) (n : ℕ) (number : length lines + 1 ≡ n) (before
         counts_like (at k calls (calls_told lines)) (calls_told (lines ++ line_of e r ∷ [])) u (session_at new.sessions) (session_at new.sessions)
         (λ m. line_tells lines e r k own m ∙ ap (λ (c : ℕ). at k c (calls_told lines) m) same) (λ m. refl) mine
 
-    stepped : (wish : Wish) (turn : Turn Answer) → (p : StepsLooked who wish before after old new turn) → RepliesTurn turn p.session.after (Ok r) → Behind
+    stepped : (wish : Wish) (turn : Turn Answer) → (p : StepsLooked who wish (span_of before after old new) turn) → RepliesTurn turn p.session.after (Ok r) → Behind
     stepped wish More p replies =
         let is : r ≡ reply.Called = cc (replies) in
         told_own (calls_told lines k + 1) (ap (λ (q : Reply). counted q (calls_told lines k)) is)
@@ -579,12 +580,12 @@ module _ (lines : List Line) (n : ℕ) (number : length lines + 1 ≡ n) (before
         (end_of lines who (sym number) (calls_told lines) wish before after old new (Ended a) way p (calls_told lines k) (begins_own lines k old way.after all_way) u seen a (counted r (calls_told lines k)) refl)
     stepped wish (Stopped trouble) p replies = absurd (no_stop who p.under p.to p.session.before p.session.after trouble p.session.does)
 
-    makes : (wish : Wish) → MakesStep n k wish before after old new (Ok r) → Behind
+    makes : (wish : Wish) → MakesStep (record { session = k; event = n }) wish (span_of before after old new) (Ok r) → Behind
     makes wish (inl refuses) = declined_counts _ refuses.declines
     makes wish (inr (inl step)) = stepped wish step.turn step.steps step.replies
     makes wish (inr (inr memory)) = absurd (no_memory r memory.0)
 
-    runs : Runs n k before after old new (Ok r) → Behind
+    runs : Runs (record { session = k; event = n }) (span_of before after old new) (Ok r) → Behind
     runs (inl refuses) = declined_counts _ refuses.declines
     runs (inr (inl run)) =
         let c = run.comes in
@@ -595,13 +596,13 @@ module _ (lines : List Line) (n : ℕ) (number : length lines + 1 ≡ n) (before
         (went_counts lines who (sym number) (calls_told lines) before old c.mid c.world way all_way c.went gone.after gone.told) u seen run.answer (counted r (calls_told lines k)) refl)
     runs (inr (inr memory)) = absurd (no_memory r memory.0)
 
-    dies : Dies k before after old new (Ok r) → Behind
+    dies : Dies k (span_of before after old new) (Ok r) → Behind
     dies d =
         changed_counts (λ a b. b ≡ closed_session) d.quiet d.closed
         (λ was. subst (λ (a : Acting). CountsWork (counted r (calls_told lines k)) t a.work) (sym d.closed.does) tt)
 
     -- whatever its call came to, it is closed then
-    closed_counts : (wish : Wish) (world : World) (turn : Turn Answer) (p : StepsLooked who wish before after old world turn) → Has k closed_session world new
+    closed_counts : (wish : Wish) (world : World) (turn : Turn Answer) (p : StepsLooked who wish (span_of before after old world) turn) → Has k closed_session world new
         → (calls : ℕ) → CountsAll (at k calls (calls_told lines)) u (session_at world.sessions) → Behind
     closed_counts wish world turn p closes calls mine = λ m. on m (cases_eq m k)
       where
@@ -615,7 +616,7 @@ module _ (lines : List Line) (n : ℕ) (number : length lines + 1 ≡ n) (before
             (subst (λ (c : ℕ). CountsWork c u (session_at world.sessions m).work)
             (at_other k calls (calls_told lines) m other ∙ sym (line_tells lines e r k own m ∙ at_other k (counted r (calls_told lines k)) (calls_told lines) m other)) (mine m))
 
-    dies_done : (world : World) (turn : Turn Answer) → StepsLooked who Plain before after old world turn → Has k closed_session world new → Behind
+    dies_done : (world : World) (turn : Turn Answer) → StepsLooked who Plain (span_of before after old world) turn → Has k closed_session world new → Behind
     dies_done world More p closes =
         closed_counts Plain world More p closes (calls_told lines k + 1)
         (more_of lines who (sym number) (calls_told lines) Plain before after old world More way p (calls_told lines k) (begins_own lines k old way.after all_way) u seen refl)
@@ -624,13 +625,13 @@ module _ (lines : List Line) (n : ℕ) (number : length lines + 1 ≡ n) (before
         (end_of lines who (sym number) (calls_told lines) Plain before after old world (Ended a) way p (calls_told lines k) (begins_own lines k old way.after all_way) u seen a 0 refl)
     dies_done world (Stopped trouble) p closes = absurd (no_stop who p.under p.to p.session.before p.session.after trouble p.session.does)
 
-    crashes : (done : Bool) → Crashes n k done before after old new (Ok r) → Behind
+    crashes : (done : Bool) → Crashes (record { session = k; event = n }) done (span_of before after old new) (Ok r) → Behind
     crashes false d = dies d
     crashes true (inl idle) = dies idle.dies
     crashes true (inr (inl d)) = dies_done d.world d.turn d.steps d.closes
     crashes true (inr (inr memory)) = absurd (no_memory r memory.0)
 
-    policy : (role : Role) (kept : ℕ) → Policies k role kept before after old new (Ok r) → Behind
+    policy : (role : Role) (kept : ℕ) → Policies k role kept (span_of before after old new) (Ok r) → Behind
     policy role kept (inl refuses) = declined_counts _ refuses.declines
     policy role kept (inr (inl refuses)) = declined_counts _ refuses.1.declines
     policy role kept (inr (inr gives)) =
@@ -640,7 +641,7 @@ module _ (lines : List Line) (n : ℕ) (number : length lines + 1 ≡ n) (before
         (still_tells lines e r (λ (calls : ℕ). ap (λ (q : Reply). counted q calls) is)) (λ m. ap (λ (l : List Acting). session_at l m) gives.sessions) all)
 
     -- behind its work a session is open, and the others made as many calls as before
-    worked : WorksThrough n k before after old new (Ok r) → Behind
+    worked : WorksThrough (record { session = k; event = n }) (span_of before after old new) (Ok r) → Behind
     worked (inl refuses) = declined_counts _ refuses.declines
     worked (inr (inl down)) = λ m. on m (cases_eq m k)
       where
@@ -679,7 +680,7 @@ module _ (lines : List Line) (n : ℕ) (number : length lines + 1 ≡ n) (before
             (at_other k end.0 (calls_told lines) m other ∙ sym (still_tells lines e r (λ (calls : ℕ). ap (λ (z : Reply). counted z calls) is) m)) (end.1 m)
     worked (inr (inr memory)) = absurd (no_memory r memory.0)
 
-    does : (request : Request) → Does n k request before after old new (Ok r) → Behind
+    does : (request : Request) → Does (record { session = k; event = n }) request (span_of before after old new) (Ok r) → Behind
     does (Policy role kept) h = policy role kept h
     does WorksDue h = worked h
     does (Begin o) h = begun o h.0 h.1
@@ -689,7 +690,7 @@ module _ (lines : List Line) (n : ℕ) (number : length lines + 1 ≡ n) (before
     does Run h = runs h
     does (Crash done) h = crashes done h
 
-    serves : (request : Result Request Refused) → Serves n k request before after old new (Ok r) → Behind
+    serves : (request : Result Request Refused) → Serves (record { session = k; event = n }) request (span_of before after old new) (Ok r) → Behind
     serves (Ok request) h = does request h
     serves (Err why) h = declined_counts why h
 
@@ -706,7 +707,7 @@ module _ (lines : List Line) (n : ℕ) (number : length lines + 1 ≡ n) (before
     goes = settler_begins errand right lines n before old begun t (sym number) told stands begins r plain
 
     step_on : (mid end : Seen) (world next : World) (turn : Turn Answer) → (g : SettlerGoes errand n lined (session_at old.sessions) world mid)
-        → (p : StepsLooked (settler n) Plain mid end world next turn) → (calls : ℕ → ℕ) → CountsAll calls g.state (session_at world.sessions)
+        → (p : StepsLooked (settler n) Plain (span_of mid end world next) turn) → (calls : ℕ → ℕ) → CountsAll calls g.state (session_at world.sessions)
         → (s : CloudState) → end.state ≡ Some s → (turn ≡ More) ⊎ ((a : Answer) × (turn ≡ Ended a))
         → (own : ℕ) × CountsAll (at 0 own calls) s (session_at next.sessions)
     step_on mid end world next turn g p calls mine s at_end which = on which
@@ -755,7 +756,7 @@ module _ (lines : List Line) (n : ℕ) (number : length lines + 1 ≡ n) (before
               (λ m. sym (own_twice 0 was.0 one.0 (calls_told lines) m)) (λ m. refl) one.1,
         )
 
-    settled_counts : (left : World) (a : Answer) → ComesTo (settler n) before after begun left a → Has 0 closed_session left new → Behind
+    settled_counts : (left : World) (a : Answer) → ComesTo (settler n) (span_of before after begun left) a → Has 0 closed_session left new → Behind
     settled_counts left a comes closes = λ m. on m (cases_eq m 0)
       where
         g : SettlerGoes errand n lined (session_at old.sessions) comes.world comes.mid
@@ -779,7 +780,7 @@ module _ (lines : List Line) (n : ℕ) (number : length lines + 1 ≡ n) (before
 
   -- ---- every line
 
-  waited : (ticks : ℕ) → Answers n (Wait ticks) before after old new (Ok r) → Behind
+  waited : (ticks : ℕ) → Answers n (Wait ticks) (span_of before after old new) (Ok r) → Behind
   waited ticks (inl h) =
       let w = h.0.waited t told in
       let is : r ≡ reply.Waited = cc (h.0.replies) in
@@ -796,7 +797,7 @@ module _ (lines : List Line) (n : ℕ) (number : length lines + 1 ≡ n) (before
   report_still (reply.Refused rule) tree h calls = refl
   report_still q tree h calls = absurd h
 
-  reported : (tree : ℕ) → Reports tree before after old new (Ok r) → Behind
+  reported : (tree : ℕ) → Reports tree (span_of before after old new) (Ok r) → Behind
   reported tree h =
       subst (λ (z : CloudState). CountsAll (calls_told (lines ++ line_of e r ∷ [])) z (session_at new.sessions)) (same_Some t u (sym (h.looked.stays t told) ∙ seen))
       (counts_like (calls_told lines) (calls_told (lines ++ line_of e r ∷ [])) t (session_at old.sessions) (session_at new.sessions)
@@ -805,15 +806,15 @@ module _ (lines : List Line) (n : ℕ) (number : length lines + 1 ≡ n) (before
   errand_still : (errand : Errand) (a : Answer) (q : Reply) → RepliesFor errand a (Ok q) → (calls : ℕ) → counted q calls ≡ calls
   errand_still errand a q e calls = errand_is (λ (z : Reply). counted z calls ≡ calls) (λ made. refl) (λ k text. refl) (λ kept removed. refl) (λ k text. refl) errand a q e
 
-  errand_counts : (errand : Errand) → IsRightErrand errand → Settles errand n before after old new (Ok r) → Behind
+  errand_counts : (errand : Errand) → IsRightErrand errand → Settles errand n (span_of before after old new) (Ok r) → Behind
   errand_counts errand right (inl h) = on h.settles
     where
-      on : SettlesOn errand (settler n) before after h.begun new (Ok r) → Behind
+      on : SettlesOn errand (settler n) (span_of before after h.begun new) (Ok r) → Behind
       on (inl s) = settled_counts errand right h.begun h.begins (errand_plain errand s.answer r s.replies) (errand_still errand s.answer r s.replies) s.left s.answer s.comes s.closes
       on (inr memory) = absurd (no_memory r memory.0)
   errand_counts errand right (inr memory) = absurd (no_memory r memory.0)
 
-  answers_count : (asked : Asked) → Asks e asked → Answers n asked before after old new (Ok r) → Behind
+  answers_count : (asked : Asked) → Asks e asked → Answers n asked (span_of before after old new) (Ok r) → Behind
   answers_count (Session k request) asks (inl served) = serves k (own_session e k request asks) request served.1
   answers_count (Session k request) asks (inr none) = declined_counts _ none.declines
   answers_count (Wait ticks) asks h = waited ticks h
@@ -825,7 +826,7 @@ module _ (lines : List Line) (n : ℕ) (number : length lines + 1 ≡ n) (before
 -- ---- what stands behind a line
 
 pub stands_after : (n : ℕ) (e : Event) (before after : Seen) (old new : World) (result : Result Reply WorldFault)
-    → Handled n e before after old new result → StandsOn n e before after old new result
+    → Handled n e (span_of before after old new) result → StandsOn n e (span_of before after old new) result
 stands_after n e before after old new (Ok r) h = λ lines t at told stands.
     let l = line_leaves n e before after old new r h lines t at told stands.by_lines in
     record {

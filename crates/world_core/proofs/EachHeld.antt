@@ -30,20 +30,21 @@ use Rattle.world_core.specs.World.{World}
 use Rattle.world_core.specs.declared.world.WorldFault.{WorldFault}
 use Rattle.world_core.specs.EachStep.{StepFact, EachWent, EachCome, EachTold, EachMade, EachRunTold, EachRun, EachCrashed, EachSettlingOn, EachSettling, EachDone, EachServed, EachAsked, EachThrough, EachWork}
 use Rattle.world_core.specs.Handled.{StepsLooked, StepsTo, MakesStep, Went, start, further, ComesTo, RunsTo, Runs, SettlesOn, Settles, Crashes, Does, Serves, Answers, Checkpoints, Works, WorksThrough, checkpoint_more, no_checkpoint}
+use Rattle.world_core.specs.Span.{span_of}
 use Rattle.world_core.proofs.Behind.{LinesStand}
 use Rattle.world_core.proofs.Errands.{IsRightErrand}
 use Rattle.world_core.proofs.StandsLemmas.{IsUnderWay, way_begins, told_under, went_on, SettlerGoes, settler, settler_went, settler_begins}
 
 module _ (Holds : StepFact)
     (holds_step : (n : ℕ) (lines : List Line) (who : Caller) (wish : Wish) (before after : Seen) (old new : World) (turn : Turn Answer) (x : CloudState)
-    → CloudHolds n lines (session_at old.sessions) old.audit old.blind x → (p : StepsLooked who wish before after old new turn) → p.under.state ≡ Some (record x { wish = wish })
-    → Holds who wish before after old new turn p) where
+    → CloudHolds n lines (session_at old.sessions) old.audit old.blind x → (p : StepsLooked who wish (span_of before after old new) turn) → p.under.state ≡ Some (record x { wish = wish })
+    → Holds who wish (span_of before after old new) turn p) where
   -- ---- a session's work
 
   -- each step of a checkpoint, within its own line
   module _ (n k : ℕ) (lines : List Line) (home : Home) (row : IsWorkersRow lines (worker k n)) (first : Sessions) where
-    worker_each : (before after : Seen) (old new : World) (turn : Turn Answer) → HoldsWithin n lines old before → (p : StepsLooked (worker k n) Plain before after old new turn)
-        → Holds (worker k n) Plain before after old new turn p
+    worker_each : (before after : Seen) (old new : World) (turn : Turn Answer) → HoldsWithin n lines old before → (p : StepsLooked (worker k n) Plain (span_of before after old new) turn)
+        → Holds (worker k n) Plain (span_of before after old new) turn p
     worker_each before after old new turn h p =
         holds_step n lines (worker k n) Plain before after old new turn h.state h.holds p (p.wishes.set h.state (p.look_before.stays h.state h.told))
 
@@ -56,7 +57,7 @@ module _ (Holds : StepFact)
     )
 
     makes_each : (queue : QueueName) (before after : Seen) (old new : World) (a : Answer) → IsBetween k home first old → HoldsWithin n lines old before
-        → (c : Checkpoints (worker k n) queue before after old new a) → EachCome Holds (worker k n) before after c.begun new a c.comes
+        → (c : Checkpoints (worker k n) queue (span_of before after old new) a) → EachCome Holds (worker k n) (span_of before after c.begun new) a c.comes
     makes_each queue before after old new a w h c =
         let begun = within_begun k home first queue old c.begun w c.begins in
         let held = holds_begun n lines k queue before old c.begun h c.begins in (
@@ -77,7 +78,7 @@ module _ (Holds : StepFact)
 
   module _ (lines : List Line) where
     own_each : (who : Caller) (wish : Wish) (before after : Seen) (old new : World) (turn : Turn Answer) → who.event ≡ length lines + 1 → IsUnderWay lines old before
-        → (p : StepsLooked who wish before after old new turn) → Holds who wish before after old new turn p
+        → (p : StepsLooked who wish (span_of before after old new) turn) → Holds who wish (span_of before after old new) turn p
     own_each who wish before after old new turn number way p =
         holds_step (length lines + 1) lines who wish before after old new turn way.after way.goes.holds p (told_under lines who wish before after old new turn number way p)
 
@@ -97,39 +98,39 @@ module _ (Holds : StepFact)
       abbrev who : ℕ → Caller
       who k = record { session = k; event = n }
 
-      told_each : (k : ℕ) (wish : Wish) (r : Result Reply WorldFault) (h : StepsTo n k wish before after old new r) → EachTold Holds n k wish before after old new r h
+      told_each : (k : ℕ) (wish : Wish) (r : Result Reply WorldFault) (h : StepsTo (record { session = k; event = n }) wish (span_of before after old new) r) → EachTold Holds (record { session = k; event = n }) wish (span_of before after old new) r h
       told_each k wish (Ok reply) made = own_each (who k) wish before after old new made.turn (sym number) way made.steps
       told_each k wish (Err why) made = own_each (who k) wish before after old made.left made.turn (sym number) way made.steps
 
-      made_each : (k : ℕ) (wish : Wish) (h : MakesStep n k wish before after old new result) → EachMade Holds n k wish before after old new result h
+      made_each : (k : ℕ) (wish : Wish) (h : MakesStep (record { session = k; event = n }) wish (span_of before after old new) result) → EachMade Holds (record { session = k; event = n }) wish (span_of before after old new) result h
       made_each k wish (inl refused) = tt
       made_each k wish (inr (inl made)) = told_each k wish result made
       made_each k wish (inr (inr memory)) = tt
 
-      come_each : (k : ℕ) (left : World) (answer : Answer) (comes : ComesTo (who k) before after old left answer) → EachCome Holds (who k) before after old left answer comes
+      come_each : (k : ℕ) (left : World) (answer : Answer) (comes : ComesTo (who k) (span_of before after old left) answer) → EachCome Holds (who k) (span_of before after old left) answer comes
       come_each k left answer comes = (
         went_each (who k) before old comes.mid comes.world (sym number) way comes.went,
         own_each (who k) Plain comes.mid after comes.world left (Ended answer) (sym number)
             (went_on lines (who k) before old comes.mid comes.world (sym number) way comes.went) comes.steps,
       )
 
-      ran_each : (k : ℕ) (r : Result Reply WorldFault) (h : RunsTo n k before after old new r) → EachRunTold Holds n k before after old new r h
+      ran_each : (k : ℕ) (r : Result Reply WorldFault) (h : RunsTo (record { session = k; event = n }) (span_of before after old new) r) → EachRunTold Holds (record { session = k; event = n }) (span_of before after old new) r h
       ran_each k (Ok reply) run = come_each k new run.answer run.comes
       ran_each k (Err why) run = come_each k run.left run.answer run.comes
 
-      run_each : (k : ℕ) (h : Runs n k before after old new result) → EachRun Holds n k before after old new result h
+      run_each : (k : ℕ) (h : Runs (record { session = k; event = n }) (span_of before after old new) result) → EachRun Holds (record { session = k; event = n }) (span_of before after old new) result h
       run_each k (inl refused) = tt
       run_each k (inr (inl run)) = ran_each k result run
       run_each k (inr (inr memory)) = tt
 
-      crash_each : (k : ℕ) (done : Bool) (h : Crashes n k done before after old new result) → EachCrashed Holds n k done before after old new result h
+      crash_each : (k : ℕ) (done : Bool) (h : Crashes (record { session = k; event = n }) done (span_of before after old new) result) → EachCrashed Holds (record { session = k; event = n }) done (span_of before after old new) result h
       crash_each k false dies = tt
       crash_each k true (inl idle) = tt
       crash_each k true (inr (inl dies)) = own_each (who k) Plain before after old dies.world dies.turn (sym number) way dies.steps
       crash_each k true (inr (inr memory)) = tt
 
       -- its line is one of the lines, whatever is replied to that
-      through_each : (k : ℕ) (h : WorksThrough n k before after old new result) → EachThrough Holds n k before after old new result h
+      through_each : (k : ℕ) (h : WorksThrough (record { session = k; event = n }) (span_of before after old new) result) → EachThrough Holds (record { session = k; event = n }) (span_of before after old new) result h
       through_each k (inl refused) = tt
       through_each k (inr (inl down)) =
           let rest = open_rests k old down.opened in
@@ -138,7 +139,7 @@ module _ (Holds : StepFact)
           down.queues down.done down.passed after new rest.2 (worker_begins lines k n before old t (sym number) told stands q tt) down.works
       through_each k (inr (inr memory)) = tt
 
-      does_each : (k : ℕ) (request : Request) (h : Does n k request before after old new result) → EachDone Holds n k request before after old new result h
+      does_each : (k : ℕ) (request : Request) (h : Does (record { session = k; event = n }) request (span_of before after old new) result) → EachDone Holds (record { session = k; event = n }) request (span_of before after old new) result h
       does_each k (Step wish) h = made_each k wish h
       does_each k Run h = run_each k h
       does_each k (Crash done) h = crash_each k done h
@@ -148,7 +149,7 @@ module _ (Holds : StepFact)
       does_each k (Note noting) h = tt
       does_each k Abort h = tt
 
-      serves_each : (k : ℕ) (request : Result Request Refused) (h : Serves n k request before after old new result) → EachServed Holds n k request before after old new result h
+      serves_each : (k : ℕ) (request : Result Request Refused) (h : Serves (record { session = k; event = n }) request (span_of before after old new) result) → EachServed Holds (record { session = k; event = n }) request (span_of before after old new) result h
       serves_each k (Ok request) h = does_each k request h
       serves_each k (Err why) h = tt
 
@@ -156,8 +157,8 @@ module _ (Holds : StepFact)
 
   -- each step of the settler, within its own line
   module _ (errand : Errand) (n : ℕ) (lines : List Line) (first : Sessions) (row : AreRowsOf errand lines (settler n)) where
-    settler_each : (before after : Seen) (old new : World) (turn : Turn Answer) → SettlerGoes errand n lines first old before → (p : StepsLooked (settler n) Plain before after old new turn)
-        → Holds (settler n) Plain before after old new turn p
+    settler_each : (before after : Seen) (old new : World) (turn : Turn Answer) → SettlerGoes errand n lines first old before → (p : StepsLooked (settler n) Plain (span_of before after old new) turn)
+        → Holds (settler n) Plain (span_of before after old new) turn p
     settler_each before after old new turn goes p =
         holds_step n lines (settler n) Plain before after old new turn goes.state goes.holds p (p.wishes.set goes.state (p.look_before.stays goes.state goes.told))
 
@@ -169,8 +170,8 @@ module _ (Holds : StepFact)
       settler_each mid after world new More (settler_went errand n lines first row before old mid world goes went) step,
     )
 
-    comes_each : (before after : Seen) (old new : World) (answer : Answer) → SettlerGoes errand n lines first old before → (comes : ComesTo (settler n) before after old new answer)
-        → EachCome Holds (settler n) before after old new answer comes
+    comes_each : (before after : Seen) (old new : World) (answer : Answer) → SettlerGoes errand n lines first old before → (comes : ComesTo (settler n) (span_of before after old new) answer)
+        → EachCome Holds (settler n) (span_of before after old new) answer comes
     comes_each before after old new answer goes comes = (
       settled_each before old comes.mid comes.world goes comes.went,
       settler_each comes.mid after comes.world new (Ended answer) (settler_went errand n lines first row before old comes.mid comes.world goes comes.went) comes.steps,
@@ -182,11 +183,11 @@ module _ (Holds : StepFact)
     abbrev r : Reply
     r = reply.Settled 0
 
-    errand_each : (errand : Errand) → IsRightErrand errand → (h : Settles errand n before after old new result) → EachSettling Holds errand n before after old new result h
+    errand_each : (errand : Errand) → IsRightErrand errand → (h : Settles errand n (span_of before after old new) result) → EachSettling Holds errand n (span_of before after old new) result h
     errand_each errand right (inr memory) = tt
     errand_each errand right (inl h) = on h.settles
       where
-        on : (s : SettlesOn errand (settler n) before after h.begun new result) → EachSettlingOn Holds errand (settler n) before after h.begun new result s
+        on : (s : SettlesOn errand (settler n) (span_of before after h.begun new) result) → EachSettlingOn Holds errand (settler n) (span_of before after h.begun new) result s
         on (inr memory) = tt
         on (inl s) =
             comes_each errand n (lines ++ line_of (event_for errand) r ∷ []) (session_at old.sessions) (errand_row errand lines r (settler n) refl (sym number)) before after h.begun s.left s.answer
@@ -195,7 +196,7 @@ module _ (Holds : StepFact)
   -- ---- every line
 
   pub each_held : (lines : List Line) (n : ℕ) (asked : Asked) (before after : Seen) (old new : World) (result : Result Reply WorldFault) (t : CloudState) → length lines + 1 ≡ n
-      → before.state ≡ Some t → LinesStand lines old t → (h : Answers n asked before after old new result) → EachAsked Holds n asked before after old new result h
+      → before.state ≡ Some t → LinesStand lines old t → (h : Answers n asked (span_of before after old new) result) → EachAsked Holds n asked (span_of before after old new) result h
   each_held lines n (Session k request) before after old new result t number told stands (inl served) =
       serves_each lines n before after old new result t number told stands k request served.1
   each_held lines n (Session k request) before after old new result t number told stands (inr none) = tt

@@ -21,15 +21,16 @@ use Rattle.world_core.specs.declared.world.WorldFault.{WorldFault}
 use Rattle.world_core.specs.EachStep.{StepFact, EachWent, EachCome, EachTold, EachMade, EachRunTold, EachRun, EachCrashed, EachSettling, EachDone, EachServed, EachAsked, EachThrough}
 use Rattle.world_core.specs.Handled.{StepsLooked, StepsTo, MakesStep, Went, start, further, ComesTo, RunsTo, Runs, Settles, Crashes, Does, Serves, Answers, WorksThrough}
 use Rattle.world_core.specs.Stands.{WorldStands}
+use Rattle.world_core.specs.Span.{span_of}
 use Rattle.world_core.proofs.StandsLemmas.{IsUnderWay, way_begins, went_on}
 
 module _ (Holds : StepFact) (lines : List Line)
     (own : (who : Caller) (wish : Wish) (before after : Seen) (old new : World) (turn : Turn Answer) → who.event ≡ length lines + 1 → IsUnderWay lines old before
-    → (p : StepsLooked who wish before after old new turn) → Holds who wish before after old new turn p)
-    (errands : (errand : Errand) (n : ℕ) (before after : Seen) (old new : World) (result : Result Reply WorldFault) (h : Settles errand n before after old new result)
-    → EachSettling Holds errand n before after old new result h)
-    (works : (n k : ℕ) (before after : Seen) (old new : World) (result : Result Reply WorldFault) (h : WorksThrough n k before after old new result)
-    → EachThrough Holds n k before after old new result h) where
+    → (p : StepsLooked who wish (span_of before after old new) turn) → Holds who wish (span_of before after old new) turn p)
+    (errands : (errand : Errand) (n : ℕ) (before after : Seen) (old new : World) (result : Result Reply WorldFault) (h : Settles errand n (span_of before after old new) result)
+    → EachSettling Holds errand n (span_of before after old new) result h)
+    (works : (n k : ℕ) (before after : Seen) (old new : World) (result : Result Reply WorldFault) (h : WorksThrough (record { session = k; event = n }) (span_of before after old new) result)
+    → EachThrough Holds (record { session = k; event = n }) (span_of before after old new) result h) where
   went_each : (who : Caller) (before : Seen) (old : World) (after : Seen) (new : World) → who.event ≡ length lines + 1 → IsUnderWay lines old before
       → (went : Went who before old after new) → EachWent Holds who before old after new went
   went_each who before old after new number way start = tt
@@ -46,38 +47,38 @@ module _ (Holds : StepFact) (lines : List Line)
     abbrev who : ℕ → Caller
     who k = record { session = k; event = n }
 
-    told_each : (k : ℕ) (wish : Wish) (r : Result Reply WorldFault) (h : StepsTo n k wish before after old new r) → EachTold Holds n k wish before after old new r h
+    told_each : (k : ℕ) (wish : Wish) (r : Result Reply WorldFault) (h : StepsTo (record { session = k; event = n }) wish (span_of before after old new) r) → EachTold Holds (record { session = k; event = n }) wish (span_of before after old new) r h
     told_each k wish (Ok reply) made = own (who k) wish before after old new made.turn (sym number) way made.steps
     told_each k wish (Err why) made = own (who k) wish before after old made.left made.turn (sym number) way made.steps
 
-    made_each : (k : ℕ) (wish : Wish) (h : MakesStep n k wish before after old new result) → EachMade Holds n k wish before after old new result h
+    made_each : (k : ℕ) (wish : Wish) (h : MakesStep (record { session = k; event = n }) wish (span_of before after old new) result) → EachMade Holds (record { session = k; event = n }) wish (span_of before after old new) result h
     made_each k wish (inl refused) = tt
     made_each k wish (inr (inl made)) = told_each k wish result made
     made_each k wish (inr (inr memory)) = tt
 
-    come_each : (k : ℕ) (left : World) (answer : Answer) (comes : ComesTo (who k) before after old left answer) → EachCome Holds (who k) before after old left answer comes
+    come_each : (k : ℕ) (left : World) (answer : Answer) (comes : ComesTo (who k) (span_of before after old left) answer) → EachCome Holds (who k) (span_of before after old left) answer comes
     come_each k left answer comes = (
       went_each (who k) before old comes.mid comes.world (sym number) way comes.went,
       own (who k) Plain comes.mid after comes.world left (Ended answer) (sym number)
           (went_on lines (who k) before old comes.mid comes.world (sym number) way comes.went) comes.steps,
     )
 
-    ran_each : (k : ℕ) (r : Result Reply WorldFault) (h : RunsTo n k before after old new r) → EachRunTold Holds n k before after old new r h
+    ran_each : (k : ℕ) (r : Result Reply WorldFault) (h : RunsTo (record { session = k; event = n }) (span_of before after old new) r) → EachRunTold Holds (record { session = k; event = n }) (span_of before after old new) r h
     ran_each k (Ok reply) run = come_each k new run.answer run.comes
     ran_each k (Err why) run = come_each k run.left run.answer run.comes
 
-    run_each : (k : ℕ) (h : Runs n k before after old new result) → EachRun Holds n k before after old new result h
+    run_each : (k : ℕ) (h : Runs (record { session = k; event = n }) (span_of before after old new) result) → EachRun Holds (record { session = k; event = n }) (span_of before after old new) result h
     run_each k (inl refused) = tt
     run_each k (inr (inl run)) = ran_each k result run
     run_each k (inr (inr memory)) = tt
 
-    crash_each : (k : ℕ) (done : Bool) (h : Crashes n k done before after old new result) → EachCrashed Holds n k done before after old new result h
+    crash_each : (k : ℕ) (done : Bool) (h : Crashes (record { session = k; event = n }) done (span_of before after old new) result) → EachCrashed Holds (record { session = k; event = n }) done (span_of before after old new) result h
     crash_each k false dies = tt
     crash_each k true (inl idle) = tt
     crash_each k true (inr (inl dies)) = own (who k) Plain before after old dies.world dies.turn (sym number) way dies.steps
     crash_each k true (inr (inr memory)) = tt
 
-    does_each : (k : ℕ) (request : Request) (h : Does n k request before after old new result) → EachDone Holds n k request before after old new result h
+    does_each : (k : ℕ) (request : Request) (h : Does (record { session = k; event = n }) request (span_of before after old new) result) → EachDone Holds (record { session = k; event = n }) request (span_of before after old new) result h
     does_each k (Step wish) h = made_each k wish h
     does_each k Run h = run_each k h
     does_each k (Crash done) h = crash_each k done h
@@ -87,13 +88,13 @@ module _ (Holds : StepFact) (lines : List Line)
     does_each k (Note noting) h = tt
     does_each k Abort h = tt
 
-    serves_each : (k : ℕ) (request : Result Request Refused) (h : Serves n k request before after old new result) → EachServed Holds n k request before after old new result h
+    serves_each : (k : ℕ) (request : Result Request Refused) (h : Serves (record { session = k; event = n }) request (span_of before after old new) result) → EachServed Holds (record { session = k; event = n }) request (span_of before after old new) result h
     serves_each k (Ok request) h = does_each k request h
     serves_each k (Err why) h = tt
 
     -- ---- every line
 
-    pub each_step : (asked : Asked) → (h : Answers n asked before after old new result) → EachAsked Holds n asked before after old new result h
+    pub each_step : (asked : Asked) → (h : Answers n asked (span_of before after old new) result) → EachAsked Holds n asked (span_of before after old new) result h
     each_step (Session k request) (inl served) = serves_each k request served.1
     each_step (Session k request) (inr none) = tt
     each_step (Wait ticks) waits = tt

@@ -17,18 +17,19 @@ use Rattle.world_core.specs.World.{World}
 use Rattle.world_core.specs.declared.world.WorldFault.{WorldFault}
 use Rattle.world_core.specs.EachStep.{StepFact, EachWent, EachCome, EachTold, EachMade, EachRunTold, EachRun, EachCrashed, EachSettlingOn, EachSettling, EachDone, EachServed, EachAsked, EachThrough, EachWork}
 use Rattle.world_core.specs.Handled.{StepsLooked, StepsTo, MakesStep, Went, start, further, ComesTo, RunsTo, Runs, SettlesOn, Settles, Crashes, Does, Serves, Answers, Works, WorksThrough, checkpoint_more, no_checkpoint}
+use Rattle.world_core.specs.Span.{span_of}
 
 module _ (First Then : StepFact)
-    (own : (who : Caller) (wish : Wish) (before after : Seen) (old new : World) (turn : Turn Answer) (p : StepsLooked who wish before after old new turn)
-    → First who wish before after old new turn p → Then who wish before after old new turn p) where
+    (own : (who : Caller) (wish : Wish) (before after : Seen) (old new : World) (turn : Turn Answer) (p : StepsLooked who wish (span_of before after old new) turn)
+    → First who wish (span_of before after old new) turn p → Then who wish (span_of before after old new) turn p) where
   went_where : (who : Caller) (before : Seen) (old : World) (after : Seen) (new : World) (went : Went who before old after new) → EachWent First who before old after new went
       → EachWent Then who before old after new went
   went_where who before old after new start each = tt
   went_where who before old after new (further mid _ world _ went step) each =
       (went_where who before old mid world went each.0, own who _ mid after world new _ step each.1)
 
-  comes_where : (who : Caller) (before after : Seen) (old new : World) (answer : Answer) (comes : ComesTo who before after old new answer) → EachCome First who before after old new answer comes
-      → EachCome Then who before after old new answer comes
+  comes_where : (who : Caller) (before after : Seen) (old new : World) (answer : Answer) (comes : ComesTo who (span_of before after old new) answer) → EachCome First who (span_of before after old new) answer comes
+      → EachCome Then who (span_of before after old new) answer comes
   comes_where who before after old new answer comes each =
       (went_where who before old comes.mid comes.world comes.went each.0, own who _ comes.mid after comes.world new _ comes.steps each.1)
 
@@ -39,40 +40,40 @@ module _ (First Then : StepFact)
       (works_where who before old others kept left mid world works each.0, comes_where who mid after makes.begun new a makes.comes each.1)
 
   module _ (n : ℕ) (before after : Seen) (old new : World) (result : Result Reply WorldFault) where
-    told_where : (k : ℕ) (wish : Wish) (r : Result Reply WorldFault) (h : StepsTo n k wish before after old new r) → EachTold First n k wish before after old new r h
-        → EachTold Then n k wish before after old new r h
+    told_where : (k : ℕ) (wish : Wish) (r : Result Reply WorldFault) (h : StepsTo (record { session = k; event = n }) wish (span_of before after old new) r) → EachTold First (record { session = k; event = n }) wish (span_of before after old new) r h
+        → EachTold Then (record { session = k; event = n }) wish (span_of before after old new) r h
     told_where k wish (Ok reply) made each = own _ wish before after old new made.turn made.steps each
     told_where k wish (Err why) made each = own _ wish before after old made.left made.turn made.steps each
 
-    made_where : (k : ℕ) (wish : Wish) (h : MakesStep n k wish before after old new result) → EachMade First n k wish before after old new result h
-        → EachMade Then n k wish before after old new result h
+    made_where : (k : ℕ) (wish : Wish) (h : MakesStep (record { session = k; event = n }) wish (span_of before after old new) result) → EachMade First (record { session = k; event = n }) wish (span_of before after old new) result h
+        → EachMade Then (record { session = k; event = n }) wish (span_of before after old new) result h
     made_where k wish (inl refused) each = tt
     made_where k wish (inr (inl made)) each = told_where k wish result made each
     made_where k wish (inr (inr memory)) each = tt
 
-    ran_where : (k : ℕ) (r : Result Reply WorldFault) (h : RunsTo n k before after old new r) → EachRunTold First n k before after old new r h → EachRunTold Then n k before after old new r h
+    ran_where : (k : ℕ) (r : Result Reply WorldFault) (h : RunsTo (record { session = k; event = n }) (span_of before after old new) r) → EachRunTold First (record { session = k; event = n }) (span_of before after old new) r h → EachRunTold Then (record { session = k; event = n }) (span_of before after old new) r h
     ran_where k (Ok reply) run each = comes_where _ before after old new run.answer run.comes each
     ran_where k (Err why) run each = comes_where _ before after old run.left run.answer run.comes each
 
-    run_where : (k : ℕ) (h : Runs n k before after old new result) → EachRun First n k before after old new result h → EachRun Then n k before after old new result h
+    run_where : (k : ℕ) (h : Runs (record { session = k; event = n }) (span_of before after old new) result) → EachRun First (record { session = k; event = n }) (span_of before after old new) result h → EachRun Then (record { session = k; event = n }) (span_of before after old new) result h
     run_where k (inl refused) each = tt
     run_where k (inr (inl run)) each = ran_where k result run each
     run_where k (inr (inr memory)) each = tt
 
-    through_where : (k : ℕ) (h : WorksThrough n k before after old new result) → EachThrough First n k before after old new result h → EachThrough Then n k before after old new result h
+    through_where : (k : ℕ) (h : WorksThrough (record { session = k; event = n }) (span_of before after old new) result) → EachThrough First (record { session = k; event = n }) (span_of before after old new) result h → EachThrough Then (record { session = k; event = n }) (span_of before after old new) result h
     through_where k (inl refused) each = tt
     through_where k (inr (inl down)) each = works_where _ before old down.queues down.done down.passed after new down.works each
     through_where k (inr (inr memory)) each = tt
 
-    crash_where : (k : ℕ) (done : Bool) (h : Crashes n k done before after old new result) → EachCrashed First n k done before after old new result h
-        → EachCrashed Then n k done before after old new result h
+    crash_where : (k : ℕ) (done : Bool) (h : Crashes (record { session = k; event = n }) done (span_of before after old new) result) → EachCrashed First (record { session = k; event = n }) done (span_of before after old new) result h
+        → EachCrashed Then (record { session = k; event = n }) done (span_of before after old new) result h
     crash_where k false dies each = tt
     crash_where k true (inl idle) each = tt
     crash_where k true (inr (inl dies)) each = own _ _ before after old dies.world dies.turn dies.steps each
     crash_where k true (inr (inr memory)) each = tt
 
-    does_where : (k : ℕ) (request : Request) (h : Does n k request before after old new result) → EachDone First n k request before after old new result h
-        → EachDone Then n k request before after old new result h
+    does_where : (k : ℕ) (request : Request) (h : Does (record { session = k; event = n }) request (span_of before after old new) result) → EachDone First (record { session = k; event = n }) request (span_of before after old new) result h
+        → EachDone Then (record { session = k; event = n }) request (span_of before after old new) result h
     does_where k (Step wish) h each = made_where k wish h each
     does_where k Run h each = run_where k h each
     does_where k (Crash done) h each = crash_where k done h each
@@ -82,23 +83,23 @@ module _ (First Then : StepFact)
     does_where k (Note noting) h each = tt
     does_where k Abort h each = tt
 
-    serves_where : (k : ℕ) (request : Result Request Refused) (h : Serves n k request before after old new result) → EachServed First n k request before after old new result h
-        → EachServed Then n k request before after old new result h
+    serves_where : (k : ℕ) (request : Result Request Refused) (h : Serves (record { session = k; event = n }) request (span_of before after old new) result) → EachServed First (record { session = k; event = n }) request (span_of before after old new) result h
+        → EachServed Then (record { session = k; event = n }) request (span_of before after old new) result h
     serves_where k (Ok request) h each = does_where k request h each
     serves_where k (Err why) h each = tt
 
-    settles_where : (errand : Errand) (h : Settles errand n before after old new result) → EachSettling First errand n before after old new result h
-        → EachSettling Then errand n before after old new result h
+    settles_where : (errand : Errand) (h : Settles errand n (span_of before after old new) result) → EachSettling First errand n (span_of before after old new) result h
+        → EachSettling Then errand n (span_of before after old new) result h
     settles_where errand (inr memory) each = tt
     settles_where errand (inl h) each = on h.settles each
       where
-        on : (s : SettlesOn errand (record { session = 0; event = n }) before after h.begun new result) → EachSettlingOn First errand (record { session = 0; event = n }) before after h.begun new result s
-            → EachSettlingOn Then errand (record { session = 0; event = n }) before after h.begun new result s
+        on : (s : SettlesOn errand (record { session = 0; event = n }) (span_of before after h.begun new) result) → EachSettlingOn First errand (record { session = 0; event = n }) (span_of before after h.begun new) result s
+            → EachSettlingOn Then errand (record { session = 0; event = n }) (span_of before after h.begun new) result s
         on (inr memory) each = tt
         on (inl s) each = comes_where _ before after h.begun s.left s.answer s.comes each
 
-    pub asked_where : (asked : Asked) (h : Answers n asked before after old new result) → EachAsked First n asked before after old new result h
-        → EachAsked Then n asked before after old new result h
+    pub asked_where : (asked : Asked) (h : Answers n asked (span_of before after old new) result) → EachAsked First n asked (span_of before after old new) result h
+        → EachAsked Then n asked (span_of before after old new) result h
     asked_where (Session k request) (inl served) each = serves_where k request served.1 each
     asked_where (Session k request) (inr none) each = tt
     asked_where (Wait ticks) waits each = tt

@@ -19,6 +19,7 @@ use Rattle.world_core.specs.declared.asked.Asked.TheVariants.{Session, Wait, Rep
 use Rattle.world_core.specs.Asked.{noting_of, bound_of, IsOpening, IsReading, IsScanning, IsLookingUp, IsPaging, IsFolding, IsNoted, IsStep, OfSession, Asks}
 use Rattle.world_core.specs.Sessions.{joined}
 use Rattle.world_core.specs.Handled.{MakesNoCall, Does, Answers, Handled}
+use Rattle.world_core.specs.Span.{span_of}
 use Rattle.world_core.proofs.Behind.{LinesStand, LineLeaves}
 use Rattle.session_facts.specs.Lines.Errands.{settles, sweeps}
 use Rattle.world_core.proofs.StandsLemmas.{Ready, declines, runs, makes_step, crashes, policies, goes_errand, waits, reports}
@@ -33,18 +34,18 @@ pub record Served (lines : List Line) (n k : ℕ) (t : CloudState) (before : See
   pub stands : LinesStand lines old t
 
 ready_of : (lines : List Line) (event : Event) (n k : ℕ) (before after : Seen) (old new : World) (t : CloudState) → session_of event ≡ k → Served lines n k t before old
-    → MakesNoCall before after old new → Ready lines event k before after old new t
+    → MakesNoCall (span_of before after old new) → Ready lines event k before after old new t
 ready_of lines event n k before after old new t own s quiet = record { own = own; some = s.session.some; quiet = quiet; told = s.told; stands = s.stands }
 
 -- a request to a session is served, or it is not done
 request_stands : (n k : ℕ) (event : Event) (Is : Result Request Refused → Type 0) (asked : Asked) (before after : Seen) (old new : World) (r : Reply) (lines : List Line) (t : CloudState)
-    → OfSession k Is asked → Answers n asked before after old new (Ok r) → length lines + 1 ≡ n → before.state ≡ Some t → LinesStand lines old t
-    → ((request : Request) → Served lines n k t before old → Is (Ok request) → Does n k request before after old new (Ok r) → LineLeaves (lines ++ line_of event r ∷ []) new after r)
+    → OfSession k Is asked → Answers n asked (span_of before after old new) (Ok r) → length lines + 1 ≡ n → before.state ≡ Some t → LinesStand lines old t
+    → ((request : Request) → Served lines n k t before old → Is (Ok request) → Does (record { session = k; event = n }) request (span_of before after old new) (Ok r) → LineLeaves (lines ++ line_of event r ∷ []) new after r)
     → LineLeaves (lines ++ line_of event r ∷ []) new after r
 request_stands n k event Is (Session number (Ok request)) before after old new r lines t belongs (inl p) at told stands served =
     served request
     (record { session = subst IsSession belongs.0 p.0; at = at; told = told; stands = stands }) belongs.1
-    (subst (λ j. Does n j request before after old new (Ok r)) belongs.0 p.1)
+    (subst (λ j. Does (record { session = j; event = n }) request (span_of before after old new) (Ok r)) belongs.0 p.1)
 request_stands n k event Is (Session number (Err why)) before after old new r lines t belongs (inl p) at told stands served =
     declines lines event r why before after old new t p.1 told stands
 request_stands n k event Is (Session number request) before after old new r lines t belongs (inr none) at told stands served =
@@ -58,9 +59,9 @@ request_stands n k event Is (Sweep tree) before after old new r lines t belongs 
 
 noted_line : (lines : List Line) (event : Event) (n k : ℕ) (noting : Noting) (request : Request) (before after : Seen) (old new : World) (r : Reply) (t : CloudState)
     → session_of event ≡ k → ((q : Reply) (s : Standing) → after_own event q s ≡ joins (joined noting) q s)
-    → Served lines n k t before old → IsNoted noting (Ok request) → Does n k request before after old new (Ok r) → LineLeaves (lines ++ line_of event r ∷ []) new after r
+    → Served lines n k t before old → IsNoted noting (Ok request) → Does (record { session = k; event = n }) request (span_of before after old new) (Ok r) → LineLeaves (lines ++ line_of event r ∷ []) new after r
 noted_line lines event n k noting (Note asked) before after old new r t own does s is done =
-    let h : Does n k (Note noting) before after old new (Ok r) = subst (λ j. Does n k (Note j) before after old new (Ok r)) is.0 done in
+    let h : Does (record { session = k; event = n }) (Note noting) (span_of before after old new) (Ok r) = subst (λ j. Does (record { session = k; event = n }) (Note j) (span_of before after old new) (Ok r)) is.0 done in
     notes lines event k noting r before after old new t is.1 is.2 does (ready_of lines event n k before after old new t own s h.0) h.1
 noted_line lines event n k noting (Policy role number) before after old new r t own does s is done = absurd is
 noted_line lines event n k noting WorksDue before after old new r t own does s is done = absurd is
@@ -71,15 +72,15 @@ noted_line lines event n k noting Run before after old new r t own does s is don
 noted_line lines event n k noting (Crash d) before after old new r t own does s is done = absurd is
 
 -- what is done is what was asked
-pub does_own : (n k : ℕ) (request own : Request) (before after : Seen) (old new : World) (r : Reply) → request ≡ own → Does n k request before after old new (Ok r)
-    → Does n k own before after old new (Ok r)
-does_own n k request own before after old new r is done = subst (λ z. Does n k z before after old new (Ok r)) is done
+pub does_own : (n k : ℕ) (request own : Request) (before after : Seen) (old new : World) (r : Reply) → request ≡ own → Does (record { session = k; event = n }) request (span_of before after old new) (Ok r)
+    → Does (record { session = k; event = n }) own (span_of before after old new) (Ok r)
+does_own n k request own before after old new r is done = subst (λ z. Does (record { session = k; event = n }) z (span_of before after old new) (Ok r)) is done
 
 pub asked_is : (request own : Request) → (let a : Result Request Refused = Ok request in let b : Result Request Refused = Ok own in a ≡ b) → request ≡ own
 asked_is request own e = cc
 
 asked_stands : (n : ℕ) (event : Event) (asked : Asked) (before after : Seen) (old new : World) (r : Reply) (lines : List Line) (t : CloudState)
-    → Asks event asked → Answers n asked before after old new (Ok r) → length lines + 1 ≡ n → before.state ≡ Some t → LinesStand lines old t
+    → Asks event asked → Answers n asked (span_of before after old new) (Ok r) → length lines + 1 ≡ n → before.state ≡ Some t → LinesStand lines old t
     → LineLeaves (lines ++ line_of event r ∷ []) new after r
 asked_stands n (event.Open k client) asked before after old new r lines t asks answers at told stands =
     request_stands n k (event.Open k client) (IsOpening client) asked before after old new r lines t asks answers at told stands
@@ -150,11 +151,11 @@ asked_stands n (event.Work k) asked before after old new r lines t asks answers 
     (λ request s is done.
     works_through lines k n r before after old new t s.at s.session.some s.told s.stands (does_own n k request WorksDue before after old new r (asked_is request WorksDue is) done))
 asked_stands n (event.Wait ticks) asked before after old new r lines t asks answers at told stands =
-    waits lines ticks r before after old new t told stands (subst (λ z. Answers n z before after old new (Ok r)) asks answers)
+    waits lines ticks r before after old new t told stands (subst (λ z. Answers n z (span_of before after old new) (Ok r)) asks answers)
 asked_stands n (event.Report tree) asked before after old new r lines t asks answers at told stands =
-    reports lines tree r before after old new t told stands (subst (λ z. Answers n z before after old new (Ok r)) asks answers)
+    reports lines tree r before after old new t told stands (subst (λ z. Answers n z (span_of before after old new) (Ok r)) asks answers)
 asked_stands n event.Settle asked before after old new r lines t asks answers at told stands =
-    goes_errand settles tt lines n r before after old new t at told stands (subst (λ z. Answers n z before after old new (Ok r)) asks answers)
+    goes_errand settles tt lines n r before after old new t at told stands (subst (λ z. Answers n z (span_of before after old new) (Ok r)) asks answers)
 asked_stands n (event.Sweep number) (Sweep (Ok tree)) before after old new r lines t asks answers at told stands =
     subst (λ k. LineLeaves (lines ++ line_of (event.Sweep k) r ∷ []) new after r) asks.0 (goes_errand (sweeps tree) answers.0 lines n r before after old new t at told stands answers.1)
 asked_stands n (event.Sweep number) (Sweep (Err why)) before after old new r lines t asks answers at told stands =
@@ -164,6 +165,6 @@ asked_stands n e asked before after old new r lines t asks answers at told stand
     request_stands n (session_of e) e (IsNoted (noting_of e)) asked before after old new r lines t asks answers at told stands
     (λ request s is done. noted_line lines e n (session_of e) (noting_of e) request before after old new r t refl (λ q z. refl) s is done)
 
-pub line_leaves : (n : ℕ) (event : Event) (before after : Seen) (old new : World) (r : Reply) → Handled n event before after old new (Ok r)
+pub line_leaves : (n : ℕ) (event : Event) (before after : Seen) (old new : World) (r : Reply) → Handled n event (span_of before after old new) (Ok r)
     → (lines : List Line) (t : CloudState) → length lines + 1 ≡ n → before.state ≡ Some t → LinesStand lines old t → LineLeaves (lines ++ line_of event r ∷ []) new after r
 line_leaves n event before after old new r h lines t at told stands = asked_stands n event h.asked before after old new r lines t h.asks h.answers at told stands

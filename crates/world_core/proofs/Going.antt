@@ -30,6 +30,7 @@ use Rattle.world_core.specs.Sessions.{Changes, IsAtWork, HasPut}
 use Rattle.world_core.specs.Put.{noted_put}
 use Rattle.world_core.specs.declared.world.WorldFault.{WorldFault}
 use Rattle.world_core.specs.Handled.{StepsLooked, Went, further}
+use Rattle.world_core.specs.Span.{span_of}
 
 -- the session of a number that has one is no other
 pub same_session : (sessions : List Acting) (place : ℕ) (a b : Acting) → slice_get sessions place ≡ Some a → slice_get sessions place ≡ Some b → a ≡ b
@@ -81,13 +82,13 @@ more_asks who before after Closed new p = absurd p
 more_asks who before after (Idle home) new p = absurd p
 more_asks who before after (Broken lease) new p = absurd p
 
-pub works_on : (who : Caller) (wish : Wish) (before after : Seen) (old new : World) → StepsLooked who wish before after old new More → IsAtWork who.session new.sessions
+pub works_on : (who : Caller) (wish : Wish) (before after : Seen) (old new : World) → StepsLooked who wish (span_of before after old new) More → IsAtWork who.session new.sessions
 works_on who wish before after old new p =
     let asks = more_asks who p.under p.to p.session.before.work p.session.after.work p.session.does.work in
     record { session = p.session.after; there = after_there who.session _ old.sessions new.sessions p.session; ask = asks.0; hand = asks.1 }
 
 -- and fewer calls than before
-pub goes_less : (who : Caller) (wish : Wish) (before after : Seen) (old new : World) → StepsLooked who wish before after old new More
+pub goes_less : (who : Caller) (wish : Wish) (before after : Seen) (old new : World) → StepsLooked who wish (span_of before after old new) More
     → calls_left (in_hand new.sessions who.session) < calls_left (in_hand old.sessions who.session)
 goes_less who wish before after old new p =
     let less = session_less who p.under p.to p.session.before p.session.after p.session.does in
@@ -100,17 +101,17 @@ goes_less who wish before after old new p =
 -- ---- the last of some steps
 
 pub went_further : (who : Caller) (before mid after : Seen) (old world new : World) (turn : Turn Answer) → turn ≡ More → Went who before old mid world
-    → StepsLooked who Plain mid after world new turn → Went who before old after new
+    → StepsLooked who Plain (span_of mid after world new) turn → Went who before old after new
 went_further who before mid after old world new turn is went step =
-    further mid after world new went (subst (λ t. StepsLooked who Plain mid after world new t) is step)
+    further mid after world new went (subst (λ t. StepsLooked who Plain (span_of mid after world new) t) is step)
 
-pub works_further : (who : Caller) (before after : Seen) (old new : World) (turn : Turn Answer) → turn ≡ More → StepsLooked who Plain before after old new turn
+pub works_further : (who : Caller) (before after : Seen) (old new : World) (turn : Turn Answer) → turn ≡ More → StepsLooked who Plain (span_of before after old new) turn
     → IsAtWork who.session new.sessions
-works_further who before after old new turn is step = works_on who Plain before after old new (subst (λ t. StepsLooked who Plain before after old new t) is step)
+works_further who before after old new turn is step = works_on who Plain before after old new (subst (λ t. StepsLooked who Plain (span_of before after old new) t) is step)
 
-pub less_further : (who : Caller) (before after : Seen) (old new : World) (turn : Turn Answer) → turn ≡ More → StepsLooked who Plain before after old new turn
+pub less_further : (who : Caller) (before after : Seen) (old new : World) (turn : Turn Answer) → turn ≡ More → StepsLooked who Plain (span_of before after old new) turn
     → calls_left (in_hand new.sessions who.session) < calls_left (in_hand old.sessions who.session)
-less_further who before after old new turn is step = goes_less who Plain before after old new (subst (λ t. StepsLooked who Plain before after old new t) is step)
+less_further who before after old new turn is step = goes_less who Plain before after old new (subst (λ t. StepsLooked who Plain (span_of before after old new) t) is step)
 
 -- ---- what a step that is a put leaves of the audit
 

@@ -49,6 +49,7 @@ use Rattle.world_core.specs.declared.asked.Noting.{Noting}
 use Rattle.world_core.specs.declared.asked.Request.{Request}
 use Rattle.world_core.specs.declared.asked.Request.TheVariants.{Begin, Note, Abort, Policy, Work as WorksDue, Step, Run, Crash}
 use Rattle.world_core.specs.declared.world.WorldFault.{WorldFault}
+use Rattle.world_core.specs.Span.{span_of}
 
 -- ---- what a line asks is right
 
@@ -165,7 +166,7 @@ on_same world seen t book order f told same stand = record {
 
 -- ---- lines that make no call
 
-module _ (k : ℕ) (before after : Seen) (old new : World) (Does : Acting → Acting → Type 0) (on : OnBook old before) (quiet : MakesNoCall before after old new)
+module _ (k : ℕ) (before after : Seen) (old new : World) (Does : Acting → Acting → Type 0) (on : OnBook old before) (quiet : MakesNoCall (span_of before after old new))
     (c : Changes k Does old.sessions new.sessions) where
   abbrev f : Sessions
   f = session_at old.sessions
@@ -194,7 +195,7 @@ module _ (k : ℕ) (before after : Seen) (old new : World) (Does : Acting → Ac
   crash_on is =
       quiet_on (subst (λ (a : Acting). SessionsStand on.book on.order on.state (at k a f)) (sym is) (crash_keeps on.book on.order on.state f k on.stand))
 
-begin_on : (k : ℕ) (before after : Seen) (old new : World) (o : Op) (r : Reply) → IsRightOp o → OnBook old before → MakesNoCall before after old new
+begin_on : (k : ℕ) (before after : Seen) (old new : World) (o : Op) (r : Reply) → IsRightOp o → OnBook old before → MakesNoCall (span_of before after old new)
     → Changes k (BeginsOp o (Ok r)) old.sessions new.sessions → OnBook new after
 begin_on k before after old new o r right on quiet c =
     quiet_on k before after old new _ on quiet c
@@ -202,7 +203,7 @@ begin_on k before after old new o r right on quiet c =
     (subst (λ (a : Acting). Begins o a c.after c.does.begun) (sym (changed_was k _ old.sessions new.sessions c)) c.does.begins))
 
 note_on : (k : ℕ) (noting : Noting) (before after : Seen) (old new : World) (result : Result Reply WorldFault) → IsPlace noting × IsChange (change_in noting) → OnBook old before
-    → MakesNoCall before after old new → Changes k (NotesChange noting result) old.sessions new.sessions → OnBook new after
+    → MakesNoCall (span_of before after old new) → Changes k (NotesChange noting result) old.sessions new.sessions → OnBook new after
 note_on k noting before after old new result right on quiet c = by c.does.noted c.does.notes
   where
     by : (noted : Result (Unit {0}) Refused) → NotesIn noting c.before c.after noted → OnBook new after
@@ -211,7 +212,7 @@ note_on k noting before after old new result right on quiet c = by c.does.noted 
         (may_join noting c.before.buffer right.0 right.1 h.3 (subst (λ (a : Acting). length a.buffer ≤ 200) h.0 h.2) (may_before k before after old new _ on quiet c))
     by (Err why) h = same_on k before after old new _ on quiet c h.0
 
-abort_on : (k : ℕ) (before after : Seen) (old new : World) (result : Result Reply WorldFault) → OnBook old before → MakesNoCall before after old new
+abort_on : (k : ℕ) (before after : Seen) (old new : World) (result : Result Reply WorldFault) → OnBook old before → MakesNoCall (span_of before after old new)
     → Changes k (DropsChanges result) old.sessions new.sessions → OnBook new after
 abort_on k before after old new result on quiet c = by c.does.dropped c.does.drops
   where
@@ -221,7 +222,7 @@ abort_on k before after old new result on quiet c = by c.does.dropped c.does.dro
 
 -- ---- steps
 
-step_on : (who : Caller) (wish : Wish) (before after : Seen) (old new : World) (turn : Turn Answer) → OnBook old before → StepsLooked who wish before after old new turn → OnBook new after
+step_on : (who : Caller) (wish : Wish) (before after : Seen) (old new : World) (turn : Turn Answer) → OnBook old before → StepsLooked who wish (span_of before after old new) turn → OnBook new after
 step_on who wish before after old new turn on p =
     on_same new after left.after goes.book_after goes.order_after (at who.session p.session.after f) (p.look_after.stays left.after left.told)
     (changed_at who.session _ old.sessions new.sessions p.session) goes.stand
@@ -265,7 +266,7 @@ close_on k seen old new on is =
 abbrev IsStill : World → Seen → Type 0
 IsStill world seen = OnBook world seen × SettlerRests (session_at world.sessions)
 
-declined_still : (why : Refused) (before after : Seen) (old new : World) (result : Result Reply WorldFault) → IsStill old before → Declines why before after old new result → IsStill new after
+declined_still : (why : Refused) (before after : Seen) (old new : World) (result : Result Reply WorldFault) → IsStill old before → Declines why (span_of before after old new) result → IsStill new after
 declined_still why before after old new result still h = subst (λ (w : World). IsStill w after) (sym h.world) (subst (IsStill old) (sym h.seen) still)
 
 module _ (n k : ℕ) (before after : Seen) (old new : World) (r : Reply) (some : 1 ≤ k) (still : IsStill old before) where
@@ -275,12 +276,12 @@ module _ (n k : ℕ) (before after : Seen) (old new : World) (r : Reply) (some :
   changed_still : (Does : Acting → Acting → Type 0) → Changes k Does old.sessions new.sessions → OnBook new after → IsStill new after
   changed_still Does c on = (on, changed_rests k Does old.sessions new.sessions some c still.1)
 
-  step_still : (wish : Wish) → MakesStep n k wish before after old new (Ok r) → IsStill new after
+  step_still : (wish : Wish) → MakesStep (record { session = k; event = n }) wish (span_of before after old new) (Ok r) → IsStill new after
   step_still wish (inl refuses) = declined_still _ before after old new (Ok r) still refuses.declines
   step_still wish (inr (inl step)) = changed_still _ step.steps.session (step_on who wish before after old new step.turn still.0 step.steps)
   step_still wish (inr (inr memory)) = absurd (no_memory r memory.0)
 
-  run_still : Runs n k before after old new (Ok r) → IsStill new after
+  run_still : Runs (record { session = k; event = n }) (span_of before after old new) (Ok r) → IsStill new after
   run_still (inl refuses) = declined_still _ before after old new (Ok r) still refuses.declines
   run_still (inr (inl run)) =
       let c = run.comes in (
@@ -289,10 +290,10 @@ module _ (n k : ℕ) (before after : Seen) (old new : World) (r : Reply) (some :
       )
   run_still (inr (inr memory)) = absurd (no_memory r memory.0)
 
-  dies_still : Dies k before after old new (Ok r) → IsStill new after
+  dies_still : Dies k (span_of before after old new) (Ok r) → IsStill new after
   dies_still h = changed_still _ h.closed (crash_on k before after old new _ still.0 h.quiet h.closed h.closed.does)
 
-  crash_still : (done : Bool) → Crashes n k done before after old new (Ok r) → IsStill new after
+  crash_still : (done : Bool) → Crashes (record { session = k; event = n }) done (span_of before after old new) (Ok r) → IsStill new after
   crash_still false h = dies_still h
   crash_still true (inl idle) = dies_still idle.dies
   crash_still true (inr (inl h)) = (
@@ -301,7 +302,7 @@ module _ (n k : ℕ) (before after : Seen) (old new : World) (r : Reply) (some :
   )
   crash_still true (inr (inr memory)) = absurd (no_memory r memory.0)
 
-  policy_still : (role : Role) (number : ℕ) → Policies k role number before after old new (Ok r) → IsStill new after
+  policy_still : (role : Role) (number : ℕ) → Policies k role number (span_of before after old new) (Ok r) → IsStill new after
   policy_still role number (inl refuses) = declined_still _ before after old new (Ok r) still refuses.declines
   policy_still role number (inr (inl refuses)) = declined_still _ before after old new (Ok r) still refuses.1.declines
   policy_still role number (inr (inr gives)) = (
@@ -327,12 +328,12 @@ module _ (n k : ℕ) (before after : Seen) (old new : World) (r : Reply) (some :
         changed_rests k _ c.world.sessions world.sessions some c.steps.session (went_rests who mid makes.begun c.mid c.world some c.went rests),
       )
 
-  through_still : WorksThrough n k before after old new (Ok r) → IsStill new after
+  through_still : WorksThrough (record { session = k; event = n }) (span_of before after old new) (Ok r) → IsStill new after
   through_still (inl refuses) = declined_still _ before after old new (Ok r) still refuses.declines
   through_still (inr (inl down)) = works_still down.queues down.done down.passed after new down.works
   through_still (inr (inr memory)) = absurd (no_memory r memory.0)
 
-  does_still : (request : Request) → IsRight request → Does n k request before after old new (Ok r) → IsStill new after
+  does_still : (request : Request) → IsRight request → Does (record { session = k; event = n }) request (span_of before after old new) (Ok r) → IsStill new after
   does_still (Begin o) right h = changed_still _ h.1 (begin_on k before after old new o r right still.0 h.0 h.1)
   does_still (Note noting) right h = changed_still _ h.1 (note_on k noting before after old new (Ok r) right still.0 h.0 h.1)
   does_still Abort right h = changed_still _ h.1 (abort_on k before after old new (Ok r) still.0 h.0 h.1)
@@ -344,7 +345,7 @@ module _ (n k : ℕ) (before after : Seen) (old new : World) (r : Reply) (some :
 
 -- ---- the settler
 
-errand_still : (errand : Errand) → IsRightErrand errand → (n : ℕ) (before after : Seen) (old new : World) (r : Reply) → IsStill old before → Settles errand n before after old new (Ok r)
+errand_still : (errand : Errand) → IsRightErrand errand → (n : ℕ) (before after : Seen) (old new : World) (r : Reply) → IsStill old before → Settles errand n (span_of before after old new) (Ok r)
     → IsStill new after
 errand_still errand right n before after old new r still (inr memory) = absurd (no_memory r memory.0)
 errand_still errand right n before after old new r still (inl h) = by h.settles
@@ -357,7 +358,7 @@ errand_still errand right n before after old new r still (inl h) = by h.settles
         on_same h.begun before still.0.state still.0.book still.0.order (at 0 (session_for errand) (session_at old.sessions)) still.0.told (has_at 0 (session_for errand) old h.begun h.begins)
         (begins_errand errand right still.0.book still.0.order still.0.state (session_at old.sessions) 0 still.1 still.0.stand)
 
-    by : SettlesOn errand who before after h.begun new (Ok r) → IsStill new after
+    by : SettlesOn errand who (span_of before after h.begun new) (Ok r) → IsStill new after
     by (inr memory) = absurd (no_memory r memory.0)
     by (inl s) =
         let c = s.comes in (
@@ -372,7 +373,7 @@ stays_still : (seen : Seen) (old new : World) → new ≡ old → OnBook old see
 stays_still seen old new same on rests = subst (λ (w : World). IsStill w seen) (sym same) (on, rests)
 
 wait_still : (ticks : ℕ) (before after : Seen) (old new : World) (r : Reply) → IsStill old before
-    → (WaitsFor ticks before after (Ok r) × (new ≡ old)) ⊎ WaitsTooLong ticks before after old new (Ok r) → IsStill new after
+    → (WaitsFor ticks before after (Ok r) × (new ≡ old)) ⊎ WaitsTooLong ticks (span_of before after old new) (Ok r) → IsStill new after
 wait_still ticks before after old new r still (inl h) =
     let w = h.0.waited still.0.state still.0.told in
     let within = h.0.clock still.0.state still.0.told in
@@ -389,7 +390,7 @@ wait_still ticks before after old new r still (inl h) =
 wait_still ticks before after old new r still (inr long) =
     declined_still _ before after old new (Ok r) still long.declines
 
-report_still : (tree : ℕ) (before after : Seen) (old new : World) (r : Reply) → IsStill old before → Reports tree before after old new (Ok r) → IsStill new after
+report_still : (tree : ℕ) (before after : Seen) (old new : World) (r : Reply) → IsStill old before → Reports tree (span_of before after old new) (Ok r) → IsStill new after
 report_still tree before after old new r still h =
     stays_still after old new h.world
     (record {
@@ -402,7 +403,7 @@ report_still tree before after old new r still h =
 
 -- ---- every line
 
-asked_still : (n : ℕ) (asked : Asked) (before after : Seen) (old new : World) (r : Reply) → AsksRight asked → IsStill old before → Answers n asked before after old new (Ok r)
+asked_still : (n : ℕ) (asked : Asked) (before after : Seen) (old new : World) (r : Reply) → AsksRight asked → IsStill old before → Answers n asked (span_of before after old new) (Ok r)
     → IsStill new after
 asked_still n (Session k (Ok request)) before after old new r right still (inl served) = does_still n k before after old new r served.0.some still request right served.1
 asked_still n (Session k (Err why)) before after old new r right still (inl served) = declined_still why before after old new (Ok r) still served.1
@@ -413,7 +414,7 @@ asked_still n Settle before after old new r right still h = errand_still settles
 asked_still n (Sweep (Ok tree)) before after old new r right still h = errand_still (sweeps tree) h.0 n before after old new r still h.1
 asked_still n (Sweep (Err why)) before after old new r right still h = declined_still why before after old new (Ok r) still h
 
-pub keeps_book : (n : ℕ) (e : Event) (before after : Seen) (old new : World) (result : Result Reply WorldFault) → Handled n e before after old new result → KeepsABook before after old new result
+pub keeps_book : (n : ℕ) (e : Event) (before after : Seen) (old new : World) (result : Result Reply WorldFault) → Handled n e (span_of before after old new) result → KeepsABook (span_of before after old new) result
 keeps_book n e before after old new (Ok r) handled = λ t told stands.
     let on : OnBook old before = record { state = t; told = told; book = stands.book; order = stands.order; stand = stands.stand } in
     let still = asked_still n handled.asked before after old new r (asks_right e handled.asked handled.asks) (on, stands.rests) handled.answers in

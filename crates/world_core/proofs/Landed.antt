@@ -40,6 +40,7 @@ use Rattle.world_core.specs.Handled.{BeginsCheckpoint, ComesTo, StepsLooked, Wen
 use Rattle.world_core.specs.Metered.{HasLedger, IsWriters}
 use Rattle.world_core.specs.Spared.{HasSent, HaveLanded}
 use Rattle.world_core.specs.World.{World}
+use Rattle.world_core.specs.Span.{span_of}
 
 -- ---- messages
 
@@ -137,8 +138,8 @@ pub record HasSentSeen (session k : ℕ) (world : World) (seen : Seen) : Type 0 
   pub told : seen.state ≡ Some state
   pub sent : HasSent session k world state
 
-module _ (who : Caller) (wish : Wish) (before after : Seen) (old new : World) (turn : Turn Answer) (p : StepsLooked who wish before after old new turn) (k : ℕ)
-    (undisturbed : StepIsUndisturbed who wish before after old new turn p) (h : HasSentSeen who.session k old before) where
+module _ (who : Caller) (wish : Wish) (before after : Seen) (old new : World) (turn : Turn Answer) (p : StepsLooked who wish (span_of before after old new) turn) (k : ℕ)
+    (undisturbed : StepIsUndisturbed who wish (span_of before after old new) turn p) (h : HasSentSeen who.session k old before) where
   abbrev wished : CloudState
   wished = record h.state { wish = wish }
 
@@ -219,7 +220,7 @@ module _ (who : Caller) (k : ℕ) where
   went_sent before old after new (further mid _ world _ went step) undisturbed h =
       step_sent who _ mid after world new _ step k undisturbed.1 (went_sent before old mid world went undisturbed.0 h)
 
-  pub comes_sent : (before after : Seen) (old new : World) (a : Answer) → (comes : ComesTo who before after old new a) → EachCome StepIsUndisturbed who before after old new a comes
+  pub comes_sent : (before after : Seen) (old new : World) (a : Answer) → (comes : ComesTo who (span_of before after old new) a) → EachCome StepIsUndisturbed who (span_of before after old new) a comes
       → HasSentSeen who.session k old before → HasSentSeen who.session k new after
   comes_sent before after old new a comes undisturbed h =
       step_sent who _ comes.mid after comes.world new _ comes.steps k undisturbed.1 (went_sent before old comes.mid comes.world comes.went undisturbed.0 h)

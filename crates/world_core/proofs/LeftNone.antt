@@ -26,12 +26,13 @@ use Rattle.world_core.specs.declared.world.WorldFault.{WorldFault}
 use Rattle.world_core.specs.LeftNone.{LeavesNoCommit}
 use Rattle.world_core.specs.Handled.{StepsLooked, Handled}
 use Rattle.world_core.specs.World.{World}
+use Rattle.world_core.specs.Span.{span_of}
 use Rattle.world_core.proofs.CommitReplies.{OfReply, SaysNothing, asked_keeps}
 use Rattle.world_core.proofs.StandsLemmas.{changed_at, IsUnderWay, told_under, call, steps_own}
 
 -- the end of a commit that a step made
 step_leaves : (lines : List Line) (line : Line) (who : Caller) (wish : Wish) (before after : Seen) (old new : World) (u : CloudState) (c : CommitAnswer) → who.event ≡ length lines + 1
-    → IsUnderWay lines old before → after.state ≡ Some u → StepsLooked who wish before after old new (Ended (answer.Commit c))
+    → IsUnderWay lines old before → after.state ≡ Some u → StepsLooked who wish (span_of before after old new) (Ended (answer.Commit c))
     → LeavesNoneAt (committed (lines ++ line ∷ []) u) (standing lines who.session).posture (session_at new.sessions who.session).work c
 step_leaves lines line who wish before after old new u c number way told p =
     subst Left (one left.state u (sym (p.look_after.stays left.state left.told) ∙ told))
@@ -73,7 +74,7 @@ left_reply entries p left (reply.Commit a) h = h
 left_reply entries p left r h = tt
 
 pub nothing_after : (n : ℕ) (event : Event) (before after : Seen) (old new : World) (result : Result Reply WorldFault)
-    → Handled n event before after old new result → LeavesNoCommit n event before after old new result
+    → Handled n event (span_of before after old new) result → LeavesNoCommit n event (span_of before after old new) result
 nothing_after n event before after old new (Ok r) h = λ lines t u at told stands seen.
     let entries : List Entry = committed (lines ++ line_of event r ∷ []) u in
     left_reply entries (standing lines (session_of event)).posture (session_at new.sessions (session_of event)).work r

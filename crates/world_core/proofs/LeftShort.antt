@@ -65,6 +65,7 @@ use Rattle.world_core.specs.Put.{put_of, put_of_ask}
 use Rattle.world_core.specs.Replying.{RepliesBegun, RepliesTurn, done_reply}
 use Rattle.world_core.specs.Sessions.{Changes, NotesIn, AbortsIn}
 use Rattle.world_core.specs.World.{World}
+use Rattle.world_core.specs.Span.{span_of}
 use Rattle.world_core.proofs.Going.{after_there, put_before, same_session}
 
 -- ---- what is broken off
@@ -304,15 +305,15 @@ module _ (who : Caller) where
   went_short before old mid world new went c = went_changes who IsLeftShort new.sessions short_more before old mid world went c
 
   -- a step that was made, and that opened no client
-  made_short : (wish : Wish) (before after : Seen) (old left new : World) (turn : Turn Answer) → IsNotOpened turn → StepsLooked who wish before after old left turn → BreaksOff who.session left new
+  made_short : (wish : Wish) (before after : Seen) (old left new : World) (turn : Turn Answer) → IsNotOpened turn → StepsLooked who wish (span_of before after old left) turn → BreaksOff who.session left new
       → Changes who.session IsLeftShort old.sessions new.sessions
   made_short wish before after old left new turn not p off =
       changes_on who.session _ IsOff IsLeftShort old.sessions left.sessions new.sessions (λ x y z s is. off_behind who p.under p.to turn x y z not s is) p.session off.session
 
-  runs_short : (wish : Wish) (before after : Seen) (old new : World) → RunsShort who wish before after old new → Changes who.session IsLeftShort old.sessions new.sessions
+  runs_short : (wish : Wish) (before after : Seen) (old new : World) → RunsShort who wish (span_of before after old new) → Changes who.session IsLeftShort old.sessions new.sessions
   runs_short wish before after old new s = falls s.falls
     where
-      falls : FallsShort who wish before after old s.left → Changes who.session IsLeftShort old.sessions new.sessions
+      falls : FallsShort who wish (span_of before after old s.left) → Changes who.session IsLeftShort old.sessions new.sessions
       falls (inl un) =
           let c : Changes who.session IsOff old.sessions new.sessions = subst (λ l. Changes who.session IsOff l new.sessions) un.sessions s.breaks.session in
           let same : s.works.session ≡ c.before = same_session old.sessions who.session s.works.session c.before s.works.there c.there in
@@ -331,10 +332,10 @@ module _ (who : Caller) where
             rest = off.rest ∙ ap (λ l. slice_set l who.session off.after) steps.rest ∙ set-set old.sessions who.session steps.after off.after;
           }
 
-  stops_short : (before after : Seen) (old new : World) → StopsShort who before after old new → Changes who.session IsLeftShort old.sessions new.sessions
+  stops_short : (before after : Seen) (old new : World) → StopsShort who (span_of before after old new) → Changes who.session IsLeftShort old.sessions new.sessions
   stops_short before after old new s = went_short before old s.mid s.world new s.went (runs_short Plain s.mid after s.world new s.short)
 
-  comes_short : (before after : Seen) (old left new : World) (a : Answer) → ComesTo who before after old left a → IsNotOpened (Ended a) → BreaksOff who.session left new
+  comes_short : (before after : Seen) (old left new : World) (a : Answer) → ComesTo who (span_of before after old left) a → IsNotOpened (Ended a) → BreaksOff who.session left new
       → Changes who.session IsLeftShort old.sessions new.sessions
   comes_short before after old left new a c not off = went_short before old c.mid c.world new c.went (made_short Plain c.mid after c.world left new (Ended a) not c.steps off)
 
@@ -359,7 +360,7 @@ module _ (who : Caller) (new : World) where
   left_went : (before : Seen) (old : World) (mid : Seen) (world : World) → Went who before old mid world → LeftOpen world → LeftOpen old
   left_went before old mid world went c = went_changes who IsLeftOpen new.sessions (λ b a x y z s is. is) before old mid world went c
 
-  left_made : (queue : QueueName) (before after : Seen) (old world : World) (a : Answer) → Checkpoints who queue before after old world a → LeftOpen world → LeftOpen old
+  left_made : (queue : QueueName) (before after : Seen) (old world : World) (a : Answer) → Checkpoints who queue (span_of before after old world) a → LeftOpen world → LeftOpen old
   left_made queue before after old world a c left =
       left_before _ old c.begun c.begins.session
       (left_went before c.begun c.comes.mid c.comes.world c.comes.went (left_before _ c.comes.world world c.comes.steps.session left))
@@ -372,10 +373,10 @@ module _ (who : Caller) (new : World) where
 
 module _ (who : Caller) (home : Home) (first : Sessions) (new : World) where
   -- memory ran out in a checkpoint
-  fails_left : (before after : Seen) (begun : World) → IsInside who.session home first begun → CheckpointFails who before after begun new → LeftOpen who new begun
+  fails_left : (before after : Seen) (begun : World) → IsInside who.session home first begun → CheckpointFails who (span_of before after begun new) → LeftOpen who new begun
   fails_left before after begun w fails = by (short fails)
     where
-      short : CheckpointFails who before after begun new → Changes who.session IsLeftShort begun.sessions new.sessions
+      short : CheckpointFails who (span_of before after begun new) → Changes who.session IsLeftShort begun.sessions new.sessions
       short (inl s) = stops_short who before after begun new s
       short (inr (left, c, off)) = comes_short who before after begun left new (answer.Trouble trouble.Memory) c tt off
 
@@ -391,7 +392,7 @@ module _ (who : Caller) (home : Home) (first : Sessions) (new : World) where
         rest = c.rest;
       }
 
-  falls_left : (before after : Seen) (old : World) → IsBetween who.session home first old → KnowsNoDue who.session before after old new ⊎ FailsAt who before after old new → LeftOpen who new old
+  falls_left : (before after : Seen) (old : World) → IsBetween who.session home first old → KnowsNoDue who.session (span_of before after old new) ⊎ FailsAt who (span_of before after old new) → LeftOpen who new old
   falls_left before after old w (inl none) =
       let c = none.breaks.session in
       let idle : c.before.work ≡ Idle home = ap (λ (a : Acting). a.work) (sym (session_there old.sessions who.session c.before c.there)) ∙ w.works in
@@ -435,13 +436,13 @@ module _ (who : Caller) (new : World) where
   shut_went : (before : Seen) (old : World) (mid : Seen) (world : World) → Went who before old mid world → Shut world → Shut old
   shut_went before old mid world went c = went_changes who IsClosed new.sessions (λ b a x y z s is. is) before old mid world went c
 
-  shut_short : (before after : Seen) (old left : World) → RunsShort who Plain before after old left → Shut left → Shut old
+  shut_short : (before after : Seen) (old left : World) → RunsShort who Plain (span_of before after old left) → Shut left → Shut old
   shut_short before after old left s c = falls s.falls
     where
       off : Shut s.left
       off = shut_before IsOff s.left left s.breaks.session c
 
-      falls : FallsShort who Plain before after old s.left → Shut old
+      falls : FallsShort who Plain (span_of before after old s.left) → Shut old
       falls (inl un) = subst (λ l. Changes who.session IsClosed l new.sessions) un.sessions off
       falls (inr p) = shut_before _ old s.left p.session off
 
@@ -543,31 +544,31 @@ module _ (n : ℕ) (before after : Seen) (old new : World) (why : WorldFault) wh
   abbrev who : ℕ → Caller
   who k = record { session = k; event = n }
 
-  step_short : (k : ℕ) (wish : Wish) → MakesStep n k wish before after old new No → Short k
+  step_short : (k : ℕ) (wish : Wish) → MakesStep (record { session = k; event = n }) wish (span_of before after old new) No → Short k
   step_short k wish (inl refuses) = absurd (cc (refuses.declines.reply))
   step_short k wish (inr (inl made)) =
       made_short (who k) wish before after old made.left new made.turn (not_untold made.turn made.steps.session.after why made.replies) made.steps made.breaks
   step_short k wish (inr (inr memory)) = runs_short (who k) wish before after old new memory.1
 
-  run_short : (k : ℕ) → Runs n k before after old new No → Short k
+  run_short : (k : ℕ) → Runs (record { session = k; event = n }) (span_of before after old new) No → Short k
   run_short k (inl refuses) = absurd (cc (refuses.declines.reply))
   run_short k (inr (inl run)) =
       comes_short (who k) before after old run.left new run.answer run.comes (not_untold (Ended run.answer) run.comes.steps.session.after why run.replies) run.breaks
   run_short k (inr (inr memory)) = stops_short (who k) before after old new memory.1
 
-  crash_short : (k : ℕ) (done : Bool) → Crashes n k done before after old new No → Short k
+  crash_short : (k : ℕ) (done : Bool) → Crashes (record { session = k; event = n }) done (span_of before after old new) No → Short k
   crash_short k false dies = absurd (cc (dies.replies))
   crash_short k true (inl idle) = absurd (cc (idle.dies.replies))
   crash_short k true (inr (inl dies)) = absurd (cc (dies.replies))
   crash_short k true (inr (inr memory)) = runs_short (who k) Plain before after old new memory.1
 
   -- a ledger takes no memory
-  policy_told : (k : ℕ) (role : Role) (kept : ℕ) → Policies k role kept before after old new No → ⊥
+  policy_told : (k : ℕ) (role : Role) (kept : ℕ) → Policies k role kept (span_of before after old new) No → ⊥
   policy_told k role kept (inl refuses) = absurd (cc (refuses.declines.reply))
   policy_told k role kept (inr (inl refuses)) = absurd (cc (refuses.1.declines.reply))
   policy_told k role kept (inr (inr gives)) = absurd (cc (gives.replies))
 
-  work_short : (k : ℕ) → WorksThrough n k before after old new No → Short k
+  work_short : (k : ℕ) → WorksThrough (record { session = k; event = n }) (span_of before after old new) No → Short k
   work_short k (inl refuses) = absurd (cc (refuses.declines.reply))
   work_short k (inr (inl down)) = absurd (cc (down.replies))
   work_short k (inr (inr memory)) =
@@ -578,7 +579,7 @@ module _ (n : ℕ) (before after : Seen) (old new : World) (why : WorldFault) wh
       (falls_left (who k) rest.0 (session_at old.sessions) new s.mid after s.world
       (within_works (who k) rest.0 (session_at old.sessions) before old s.queues s.done s.passed s.mid s.world rest.2 s.works) s.falls))
 
-  does_short : (k : ℕ) (request : Request) → Does n k request before after old new No → ServesShort k request old.sessions new.sessions
+  does_short : (k : ℕ) (request : Request) → Does (record { session = k; event = n }) request (span_of before after old new) No → ServesShort k request old.sessions new.sessions
   does_short k (Begin o) h =
       let c = h.1 in
       record { before = c.before; after = c.after; there = c.there; does = untold_short o why c.before c.after c.does; rest = c.rest }
@@ -593,7 +594,7 @@ module _ (n : ℕ) (before after : Seen) (old new : World) (why : WorldFault) wh
   same_sessions : new ≡ old → new.sessions ≡ old.sessions
   same_sessions same = ap (λ (w : World). w.sessions) same
 
-  shut_on : (errand : errands.Errand) (begun : World) → SettlesOn errand (who 0) before after begun new No → Changes 0 IsClosed begun.sessions new.sessions
+  shut_on : (errand : errands.Errand) (begun : World) → SettlesOn errand (who 0) (span_of before after begun new) No → Changes 0 IsClosed begun.sessions new.sessions
   shut_on errand begun (inl s) =
       let c = s.comes in
       shut_went (who 0) new before begun c.mid c.world c.went (shut_before (who 0) new _ c.world s.left c.steps.session s.closes.session_is)
@@ -601,11 +602,11 @@ module _ (n : ℕ) (before after : Seen) (old new : World) (why : WorldFault) wh
       let s = memory.1.stops in
       shut_went (who 0) new before begun s.mid s.world s.went (shut_short (who 0) new s.mid after s.world memory.1.left s.short memory.1.closes.session_is)
 
-  errand_short : (errand : errands.Errand) → Settles errand n before after old new No → SettlerShort old.sessions new.sessions
+  errand_short : (errand : errands.Errand) → Settles errand n (span_of before after old new) No → SettlerShort old.sessions new.sessions
   errand_short errand (inl s) = inr (shut_before (who 0) new _ old s.begun s.begins.session_is (shut_on errand s.begun s.settles))
   errand_short errand (inr memory) = inl (same_sessions memory.1.world)
 
-  asked_short : (asked : Asked) → Answers n asked before after old new No → AskedShort asked old.sessions new.sessions
+  asked_short : (asked : Asked) → Answers n asked (span_of before after old new) No → AskedShort asked old.sessions new.sessions
   asked_short (Session k (Ok request)) (inl h) = does_short k request h.1
   asked_short (Session k (Err e)) (inl h) = same_sessions h.1.world
   asked_short (Session k request) (inr none) = absurd (cc (none.declines.reply))
@@ -616,7 +617,7 @@ module _ (n : ℕ) (before after : Seen) (old new : World) (why : WorldFault) wh
   asked_short (Sweep (Ok tree)) h = errand_short (errands.sweeps tree) h.1
   asked_short (Sweep (Err e)) h = same_sessions h.world
 
-pub left_short : (n : ℕ) (event : Event) (before after : Seen) (old new : World) (result : Result Reply WorldFault) → Handled n event before after old new result
+pub left_short : (n : ℕ) (event : Event) (before after : Seen) (old new : World) (result : Result Reply WorldFault) → Handled n event (span_of before after old new) result
     → LeavesShort event old new result
 left_short n event before after old new (Ok reply) h = tt
 left_short n event before after old new (Err why) h = (h.asked, h.asks, asked_short n before after old new why h.asked h.answers)

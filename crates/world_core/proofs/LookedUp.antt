@@ -46,6 +46,7 @@ use Rattle.tree_walk.specs.Walk.{object_of, sought}
 use Rattle.txn_buffer.specs.Noted.{Noted}
 use Rattle.world_core.specs.World.{World}
 use Rattle.world_core.specs.Handled.{StepsLooked, Went, start, further, ComesTo}
+use Rattle.world_core.specs.Span.{span_of}
 use Rattle.world_core.proofs.StandsLemmas.{IsUnderWay, changed_at, told_under, steps_own, went_on}
 
 -- ---- what the cloud holds
@@ -100,7 +101,7 @@ record StaleAround (before under to after : Seen) : Type 0 where
   called : under.counts.stale ≤ to.counts.stale
   last : after.counts.stale ≡ to.counts.stale
 
-stale_around : (who : Caller) (before after : Seen) (old new : World) (turn : Turn Answer) → (p : StepsLooked who Plain before after old new turn)
+stale_around : (who : Caller) (before after : Seen) (old new : World) (turn : Turn Answer) → (p : StepsLooked who Plain (span_of before after old new) turn)
     → StaleAround before p.under p.to after
 stale_around who before after old new turn p = record {
   first = ap (λ (c : Counts). c.stale) p.wishes.no_call.counts ∙ p.look_before.stale;
@@ -108,7 +109,7 @@ stale_around who before after old new turn p = record {
   last = p.look_after.stale;
 }
 
-step_stale : (who : Caller) (before after : Seen) (old new : World) (turn : Turn Answer) → StepsLooked who Plain before after old new turn
+step_stale : (who : Caller) (before after : Seen) (old new : World) (turn : Turn Answer) → StepsLooked who Plain (span_of before after old new) turn
     → before.counts.stale ≤ after.counts.stale
 step_stale who before after old new turn p =
     let s = stale_around who before after old new turn p in
@@ -161,7 +162,7 @@ module _ (lines : List Line) (who : Caller) (number : who.event ≡ length lines
     pub tagged : FindsTagged q own visits pairs
     pub each : AllByRecursion IsNewest visits
 
-  module _ (before after : Seen) (old new : World) (turn : Turn Answer) (a : IsAmid old before) (p : StepsLooked who Plain before after old new turn)
+  module _ (before after : Seen) (old new : World) (turn : Turn Answer) (a : IsAmid old before) (p : StepsLooked who Plain (span_of before after old new) turn)
       (still : after.counts.stale ≤ before.counts.stale) where
     abbrev left : Acting
     left = p.session.after
@@ -226,7 +227,7 @@ module _ (lines : List Line) (who : Caller) (number : who.event ≡ length lines
       same_then = get_holds who (object_of a.look.walk) l.walked.answer p.under.counts p.to.counts t s p.to.state same_wished leaves
 
   -- a step that goes on
-  goes_on : (before after : Seen) (old new : World) → IsAmid old before → StepsLooked who Plain before after old new More → after.counts.stale ≤ before.counts.stale → IsAmid new after
+  goes_on : (before after : Seen) (old new : World) → IsAmid old before → StepsLooked who Plain (span_of before after old new) More → after.counts.stale ≤ before.counts.stale → IsAmid new after
   goes_on before after old new a p still = on (looks before after old new More a p still).0 (looks before after old new More a p still).1 (looks before after old new More a p still).2
     where
       d : Cache
@@ -276,7 +277,7 @@ module _ (lines : List Line) (who : Caller) (number : who.event ≡ length lines
               ap (λ (x : Acting). x.cache) mine_then ∙ ((steps before after old new More a p still).shown.2 ∙ ap (λ (w : Work). shown_behind w d) is)
 
   -- the step that ends it
-  ends : (before after : Seen) (old new : World) → IsAmid old before → (p : StepsLooked who Plain before after old new (Ended answer.Scan)) → after.counts.stale ≤ before.counts.stale
+  ends : (before after : Seen) (old new : World) → IsAmid old before → (p : StepsLooked who Plain (span_of before after old new) (Ended answer.Scan)) → after.counts.stale ≤ before.counts.stale
       → HasFound (items_of p.session.after)
   ends before after old new a p still =
       on (looks before after old new turn a p still).0 (looks before after old new turn a p still).1 (looks before after old new turn a p still).3
@@ -304,7 +305,7 @@ module _ (lines : List Line) (who : Caller) (number : who.event ≡ length lines
       let last = step_stale who mid after world new More step in
       goes_on mid after world new (went before old mid world a before_it (omega (arith, last, still))) step (omega (arith, first, still))
 
-  pub comes : (before after : Seen) (old new : World) → IsAmid old before → (c : ComesTo who before after old new answer.Scan) → after.counts.stale ≤ before.counts.stale
+  pub comes : (before after : Seen) (old new : World) → IsAmid old before → (c : ComesTo who (span_of before after old new) answer.Scan) → after.counts.stale ≤ before.counts.stale
       → HasFound (items_of c.steps.session.after)
   comes before after old new a c still =
       let first = went_stale who before old c.mid c.world c.went in

@@ -46,6 +46,7 @@ use Rattle.world_core.specs.EachStep.{EachCome, EachWent}
 use Rattle.world_core.specs.Handled.{ComesTo, StepsLooked, Went, further, note_of_hand, start}
 use Rattle.world_core.specs.Metered.{IsWriters, HasLedger, StepGoesThrough}
 use Rattle.world_core.specs.World.{World}
+use Rattle.world_core.specs.Span.{span_of}
 
 -- ---- the calls of the two machines
 
@@ -131,8 +132,8 @@ module _ {M : Type 0} (ask : M → Ask) (leads : M → Answer → Next M CkptAns
   abbrev On : World → Seen → Type 0
   On world seen = OnCheckpoint ask leads wrap begin queue first.state who.session k earlier world seen
 
-  module _ (before after : Seen) (old new : World) (turn : Turn Told) (on : On old before) (p : StepsLooked who Plain before after old new turn)
-      (through : StepGoesThrough who Plain before after old new turn p) where
+  module _ (before after : Seen) (old new : World) (turn : Turn Told) (on : On old before) (p : StepsLooked who Plain (span_of before after old new) turn)
+      (through : StepGoesThrough who Plain (span_of before after old new) turn p) where
     abbrev m : M
     m = on.machine
 
@@ -181,7 +182,7 @@ module _ {M : Type 0} (ask : M → Ask) (leads : M → Answer → Next M CkptAns
           is = (row_rest who (ask m) h.answer p.under.counts p.to.counts (called who left.after.now s) left.after left.row).wish
 
   -- one call more
-  pub goes_on : (before after : Seen) (old new : World) (on : On old before) (p : StepsLooked who Plain before after old new More) → StepGoesThrough who Plain before after old new More p
+  pub goes_on : (before after : Seen) (old new : World) (on : On old before) (p : StepsLooked who Plain (span_of before after old new) More) → StepGoesThrough who Plain (span_of before after old new) More p
       → On new after
   goes_on before after old new on p through = by (goes who p.under p.to on.home on.machine p.session.before.cache p.session.does.causes.0 p.session.after.work (causes before after old new More on p through))
     where
@@ -214,7 +215,7 @@ module _ {M : Type 0} (ask : M → Ask) (leads : M → Answer → Next M CkptAns
 
   -- the last one
   pub comes_to_end : (own : Place) → queue_at own ≡ queue → length (waiting first.state queue) ≤ 256 → (before after : Seen) (old new : World) (x : CkptAnswer) (on : On old before)
-      (p : StepsLooked who Plain before after old new (Ended (told.Done x))) → StepGoesThrough who Plain before after old new (Ended (told.Done x)) p
+      (p : StepsLooked who Plain (span_of before after old new) (Ended (told.Done x))) → StepGoesThrough who Plain (span_of before after old new) (Ended (told.Done x)) p
       → AtItsEnd queue who.session k earlier new after
   comes_to_end own own_is few before after old new x on p through =
       by (ends who p.under p.to on.home on.machine p.session.before.cache p.session.does.causes.0 p.session.after.work x (causes before after old new (Ended (told.Done x)) on p through))
@@ -254,6 +255,6 @@ module _ {M : Type 0} (ask : M → Ask) (leads : M → Answer → Next M CkptAns
       goes_on mid after world new (goes_through before old mid world on went each.0) step each.1
 
   pub comes_through : (own : Place) → queue_at own ≡ queue → length (waiting first.state queue) ≤ 256 → (before after : Seen) (old new : World) (x : CkptAnswer) → On old before
-      → (c : ComesTo who before after old new (told.Done x)) → EachCome StepGoesThrough who before after old new (told.Done x) c → AtItsEnd queue who.session k earlier new after
+      → (c : ComesTo who (span_of before after old new) (told.Done x)) → EachCome StepGoesThrough who (span_of before after old new) (told.Done x) c → AtItsEnd queue who.session k earlier new after
   comes_through own own_is few before after old new x on c each =
       comes_to_end own own_is few c.mid after c.world new x (goes_through before old c.mid c.world on c.went each.0) c.steps each.1

@@ -60,6 +60,7 @@ use Rattle.world_core.specs.declared.asked.Noting.{Noting}
 use Rattle.world_core.specs.declared.asked.Request.{Request}
 use Rattle.world_core.specs.declared.asked.Request.TheVariants.{Begin, Note as NoteChange, Abort, Policy, Work as WorksDue, Step, Run, Crash}
 use Rattle.world_core.specs.declared.world.WorldFault.{WorldFault}
+use Rattle.world_core.specs.Span.{span_of}
 
 state_is : (x y : CloudState) → Some x ≡ Some y → x ≡ y
 state_is x y e = cc (e)
@@ -120,7 +121,7 @@ module _ (lines : List Line) (n session k : ℕ) (before after : Seen) (old new 
       let same : t ≡ u = state_is t u (sym told ∙ ap (λ (s : Seen). s.state) (sym seen) ∙ told_after) in
       subst (λ (w : World). Meters session k bound w u) (sym world) (subst (λ (x : CloudState). Meters session k bound old x) same m)
 
-  declined_keeps : (why : Refused) → Declines why before after old new (Ok r) → Keeps
+  declined_keeps : (why : Refused) → Declines why (span_of before after old new) (Ok r) → Keeps
   declined_keeps why d = unchanged d.seen d.world
 
   -- a session of the world changes, beside its notebook, and no call is made
@@ -161,7 +162,7 @@ module _ (lines : List Line) (n session k : ℕ) (before after : Seen) (old new 
       on (Err rule) same = notes_same same notes has
 
   abbrev DoesBegin : Op → Type 0
-  DoesBegin o = MakesNoCall before after old new × Changes session (BeginsOp o (Ok r)) old.sessions new.sessions × BeginsBook session o old new
+  DoesBegin o = MakesNoCall (span_of before after old new) × Changes session (BeginsOp o (Ok r)) old.sessions new.sessions × BeginsBook session o old new
 
   -- one that is no commit
   begins_keeps : (o : Op) → IsWritersOp o → ((left : ℕ) (buffer : List Noted) → MaySend o left buffer) → DoesBegin o → Keeps
@@ -195,7 +196,7 @@ module _ (lines : List Line) (n session k : ℕ) (before after : Seen) (old new 
 
   -- ---- changes that are noted and dropped
 
-  notes_keeps : (noting : Noting) → Does n session (NoteChange noting) before after old new (Ok r) → Keeps
+  notes_keeps : (noting : Noting) → Does (record { session = session; event = n }) (NoteChange noting) (span_of before after old new) (Ok r) → Keeps
   notes_keeps noting (quiet, c, same) =
       changes_keeps (NotesChange noting (Ok r)) quiet.seen c (λ left sends. on left c.does.noted c.does.notes sends) (notes_same same)
     where
@@ -203,7 +204,7 @@ module _ (lines : List Line) (n session k : ℕ) (before after : Seen) (old new 
       on left (Ok done) p sends = subst (λ (a : Acting). SendsAtMost left a.work) (sym p.0) sends
       on left (Err why) p sends = subst (λ (a : Acting). SendsAtMost left a.work) (sym p.0) sends
 
-  drops_keeps : Does n session Abort before after old new (Ok r) → Keeps
+  drops_keeps : Does (record { session = session; event = n }) Abort (span_of before after old new) (Ok r) → Keeps
   drops_keeps (quiet, c, same) = changes_keeps (DropsChanges (Ok r)) quiet.seen c (λ left sends. on left c.does.dropped c.does.drops sends) (notes_same same)
     where
       on : (left : ℕ) (dropped : Result (Unit {0}) Refused) → AbortsIn c.before c.after dropped → SendsAtMost left c.before.work → SendsAtMost left c.after.work
@@ -218,12 +219,12 @@ module _ (lines : List Line) (n session k : ℕ) (before after : Seen) (old new 
   seen_so : (bound : ℕ) → Meters session k bound old t → MetersSeen session k bound old before
   seen_so bound m = record { state = t; told = told; meters = m }
 
-  step_keeps : (wish : Wish) → MakesStep n session wish before after old new (Ok r) → Keeps
+  step_keeps : (wish : Wish) → MakesStep (record { session = session; event = n }) wish (span_of before after old new) (Ok r) → Keeps
   step_keeps wish (inl refused) = declined_keeps _ refused.declines
   step_keeps wish (inr (inl made)) = λ bound m. as_told bound new (meter_step who k bound wish before after old new made.turn made.steps t told m)
   step_keeps wish (inr (inr memory)) = absurd (no_memory r memory.0)
 
-  run_keeps : Runs n session before after old new (Ok r) → Keeps
+  run_keeps : Runs (record { session = session; event = n }) (span_of before after old new) (Ok r) → Keeps
   run_keeps (inl refused) = declined_keeps _ refused.declines
   run_keeps (inr (inl run)) = λ bound m. as_told bound new (meter_comes who k bound before after old new run.answer (seen_so bound m) run.comes)
   run_keeps (inr (inr memory)) = absurd (no_memory r memory.0)
@@ -234,7 +235,7 @@ module _ (lines : List Line) (n session k : ℕ) (before after : Seen) (old new 
   q = reply.Worked 0 0
 
   works_keeps : (bound : ℕ) (stage : Stage) → bound ≤ k - 1 + most_changes → (Meters session k bound new u → MetersAt stage session k new u)
-      → (p : WorksThrough n session before after old new (Ok r)) → EachThrough StepGoesThrough n session before after old new (Ok r) p → Meters session k bound old t
+      → (p : WorksThrough (record { session = session; event = n }) (span_of before after old new) (Ok r)) → EachThrough StepGoesThrough (record { session = session; event = n }) (span_of before after old new) (Ok r) p → Meters session k bound old t
       → MetersAt (works r stage) session k new u
   works_keeps bound stage limit stays (inl refuses) each m =
       subst (λ (x : Reply). MetersAt (works x stage) session k new u) (sym (refused_is r refuses.rule refuses.declines.reply)) (stays (declined_keeps _ refuses.declines bound m))
@@ -267,7 +268,7 @@ module _ (lines : List Line) (n session k : ℕ) (before after : Seen) (old new 
       → MetersAt (unbound_line k (event.Policy session role kept) r) session k new u
   policy_refused role kept rule e = subst (λ (x : Reply). MetersAt (unbound_line k (event.Policy session role kept) x) session k new u) (sym (refused_is r rule e)) tt
 
-  gives_meter : (kept : ℕ) (role : Role) (g : GivesLedger session role kept before after old new (Ok r)) → role ≡ Writer → kept ≡ k → NoCommits lines → Meters session k (k - 1) new u
+  gives_meter : (kept : ℕ) (role : Role) (g : GivesLedger session role kept (span_of before after old new) (Ok r)) → role ≡ Writer → kept ≡ k → NoCommits lines → Meters session k (k - 1) new u
   gives_meter kept role g is same none = record {
     notes = [];
     ledger = record {
@@ -299,7 +300,7 @@ module _ (lines : List Line) (n session k : ℕ) (before after : Seen) (old new 
       state_same : t ≡ u
       state_same = state_is t u (sym told ∙ ap (λ (s : Seen). s.state) (sym g.quiet.seen) ∙ told_after)
 
-  given_so : (role : Role) (kept : ℕ) → NoCommits lines → GivesLedger session role kept before after old new (Ok r) → MetersAt (given k role kept) session k new u
+  given_so : (role : Role) (kept : ℕ) → NoCommits lines → GivesLedger session role kept (span_of before after old new) (Ok r) → MetersAt (given k role kept) session k new u
   given_so Writer kept none g = on (kept == k) refl
     where
       on : (b : Bool) → (kept == k) ≡ b → MetersAt (cond b Even Unbound) session k new u
@@ -309,7 +310,7 @@ module _ (lines : List Line) (n session k : ℕ) (before after : Seen) (old new 
   given_so Watchdog kept none g = tt
   given_so Owner kept none g = tt
 
-  policy_gives : (role : Role) (kept : ℕ) → NoCommits lines → Policies session role kept before after old new (Ok r)
+  policy_gives : (role : Role) (kept : ℕ) → NoCommits lines → Policies session role kept (span_of before after old new) (Ok r)
       → MetersAt (unbound_line k (event.Policy session role kept) r) session k new u
   policy_gives role kept none (inl refuses) = policy_refused role kept rule.BadNumber refuses.declines.reply
   policy_gives role kept none (inr (inl refuses)) = policy_refused role kept refuses.1.rule refuses.1.declines.reply
@@ -324,10 +325,10 @@ module _ (lines : List Line) (n session k : ℕ) (before after : Seen) (old new 
 
   -- what a request does, each step of it gone through
   abbrev DoesThrough : ℕ → Request → Type 0
-  DoesThrough j request = (d : Does n j request before after old new (Ok r)) × EachDone StepGoesThrough n j request before after old new (Ok r) d
+  DoesThrough j request = (d : Does (record { session = j; event = n }) request (span_of before after old new) (Ok r)) × EachDone StepGoesThrough (record { session = j; event = n }) request (span_of before after old new) (Ok r) d
 
-  requests : (Out : Type 0) (Is : Result Request Refused → Type 0) (asked : Asked) → AsksOf Is asked → (h : Answers n asked before after old new (Ok r))
-      → EachAsked StepGoesThrough n asked before after old new (Ok r) h → ((why : Refused) → Declines why before after old new (Ok r) → Out)
+  requests : (Out : Type 0) (Is : Result Request Refused → Type 0) (asked : Asked) → AsksOf Is asked → (h : Answers n asked (span_of before after old new) (Ok r))
+      → EachAsked StepGoesThrough n asked (span_of before after old new) (Ok r) h → ((why : Refused) → Declines why (span_of before after old new) (Ok r) → Out)
       → ((request : Request) → Is (Ok request) → DoesThrough session request → Out) → Out
   requests Out Is (Session j (Ok request)) belongs (inl p) each declines serves =
       serves request belongs.1 (subst (λ (i : ℕ). DoesThrough i request) belongs.0 (p.1, each))
@@ -344,13 +345,13 @@ module _ (lines : List Line) (n session k : ℕ) (before after : Seen) (old new 
 
   -- one that begins an operation
   begin_line : (o : Op) → IsWritersOp o → ((left : ℕ) (buffer : List Noted) → MaySend o left buffer) → (Is : Result Request Refused → Type 0)
-      → ((request : Request) → Is (Ok request) → request ≡ Begin o) → (asked : Asked) → AsksOf Is asked → (h : Answers n asked before after old new (Ok r))
-      → EachAsked StepGoesThrough n asked before after old new (Ok r) h → Keeps
+      → ((request : Request) → Is (Ok request) → request ≡ Begin o) → (asked : Asked) → AsksOf Is asked → (h : Answers n asked (span_of before after old new) (Ok r))
+      → EachAsked StepGoesThrough n asked (span_of before after old new) (Ok r) h → Keeps
   begin_line o is may Is own asked asks h each =
       requests Keeps Is asked asks h each declined_keeps (λ request so does. begins_keeps o is may (subst (DoesThrough session) (own request so) does).0)
 
-  note_line : (noting : Noting) (asked : Asked) → AsksOf (IsNoted noting) asked → (h : Answers n asked before after old new (Ok r))
-      → EachAsked StepGoesThrough n asked before after old new (Ok r) h → Keeps
+  note_line : (noting : Noting) (asked : Asked) → AsksOf (IsNoted noting) asked → (h : Answers n asked (span_of before after old new) (Ok r))
+      → EachAsked StepGoesThrough n asked (span_of before after old new) (Ok r) h → Keeps
   note_line noting asked asks h each = requests Keeps (IsNoted noting) asked asks h each declined_keeps on
     where
       on : (request : Request) → IsNoted noting (Ok request) → DoesThrough session request → Keeps
@@ -399,8 +400,8 @@ module _ (lines : List Line) (n session k : ℕ) (before after : Seen) (old new 
       on true e = leads (eqb-true s session e)
       on false e = tt
 
-  commit_line : (s : ℕ) (asked : Asked) → AsksOf (λ request. request ≡ Ok (Begin op.Commit)) asked → (h : Answers n asked before after old new (Ok r))
-      → EachAsked StepGoesThrough n asked before after old new (Ok r) h → (stage : Stage) → MetersAt stage session k old t → Next (own_line k (event.Commit s) r stage)
+  commit_line : (s : ℕ) (asked : Asked) → AsksOf (λ request. request ≡ Ok (Begin op.Commit)) asked → (h : Answers n asked (span_of before after old new) (Ok r))
+      → EachAsked StepGoesThrough n asked (span_of before after old new) (Ok r) h → (stage : Stage) → MetersAt stage session k old t → Next (own_line k (event.Commit s) r stage)
   commit_line s asked asks h each Unbound m = tt
   commit_line s asked asks h each Even m =
       requests (Meters session k (k - 1 + most_changes) new u) (λ request. request ≡ Ok (Begin op.Commit)) asked asks h each
@@ -410,33 +411,33 @@ module _ (lines : List Line) (n session k : ℕ) (before after : Seen) (old new 
   commit_line s asked asks h each Astray m = tt
 
   -- a line that is refused is answered so
-  refused_works : (stage : Stage) (why : Refused) → Declines why before after old new (Ok r) → Next stage → Next (works r stage)
+  refused_works : (stage : Stage) (why : Refused) → Declines why (span_of before after old new) (Ok r) → Next stage → Next (works r stage)
   refused_works stage (refused.Rule rule) d next = subst (λ (x : Reply). Next (works x stage)) (sym (refused_is r rule d.reply)) next
   refused_works stage refused.Memory d next = absurd (cc (d.reply))
 
   work_at_stage : (bound : ℕ) (stage : Stage) → bound ≤ k - 1 + most_changes → (Meters session k bound new u → Next stage) → (asked : Asked)
-      → AsksOf (λ request. request ≡ Ok WorksDue) asked → (h : Answers n asked before after old new (Ok r)) → EachAsked StepGoesThrough n asked before after old new (Ok r) h
+      → AsksOf (λ request. request ≡ Ok WorksDue) asked → (h : Answers n asked (span_of before after old new) (Ok r)) → EachAsked StepGoesThrough n asked (span_of before after old new) (Ok r) h
       → Meters session k bound old t → Next (works r stage)
   work_at_stage bound stage limit stays asked asks h each m =
       requests (Next (works r stage)) (λ request. request ≡ Ok WorksDue) asked asks h each
       (λ why d. refused_works stage why d (stays (declined_keeps why d bound m)))
       (λ request is does. let own = as_asked request WorksDue is does in works_keeps bound stage limit stays own.0 own.1 m)
 
-  work_line : (s : ℕ) (asked : Asked) → AsksOf (λ request. request ≡ Ok WorksDue) asked → (h : Answers n asked before after old new (Ok r))
-      → EachAsked StepGoesThrough n asked before after old new (Ok r) h → (stage : Stage) → MetersAt stage session k old t → Next (own_line k (event.Work s) r stage)
+  work_line : (s : ℕ) (asked : Asked) → AsksOf (λ request. request ≡ Ok WorksDue) asked → (h : Answers n asked (span_of before after old new) (Ok r))
+      → EachAsked StepGoesThrough n asked (span_of before after old new) (Ok r) h → (stage : Stage) → MetersAt stage session k old t → Next (own_line k (event.Work s) r stage)
   work_line s asked asks h each Unbound m = tt
   work_line s asked asks h each Even m = work_at_stage (k - 1) Even (omega arith) (λ x. x) asked asks h each m
   work_line s asked asks h each Owing m = work_at_stage (k - 1 + most_changes) Owing (omega arith) (λ x. x) asked asks h each m
   work_line s asked asks h each Astray m = tt
 
-  policy_line : (s : ℕ) (role : Role) (kept : ℕ) (asked : Asked) → AsksOf (λ request. request ≡ Ok (Policy role kept)) asked → (h : Answers n asked before after old new (Ok r))
-      → EachAsked StepGoesThrough n asked before after old new (Ok r) h → (stage : Stage) → stage_of session k lines ≡ stage → Next (own_line k (event.Policy s role kept) r stage)
+  policy_line : (s : ℕ) (role : Role) (kept : ℕ) (asked : Asked) → AsksOf (λ request. request ≡ Ok (Policy role kept)) asked → (h : Answers n asked (span_of before after old new) (Ok r))
+      → EachAsked StepGoesThrough n asked (span_of before after old new) (Ok r) h → (stage : Stage) → stage_of session k lines ≡ stage → Next (own_line k (event.Policy s role kept) r stage)
   policy_line s role kept asked asks h each Unbound is =
       requests (Next (unbound_line k (event.Policy session role kept) r)) (λ request. request ≡ Ok (Policy role kept)) asked asks h each
       (λ why d. refused_policy why d)
       (λ request so does. policy_gives role kept (unbound_none session k lines is) (as_asked request (Policy role kept) so does).0)
     where
-      refused_policy : (why : Refused) → Declines why before after old new (Ok r) → Next (unbound_line k (event.Policy session role kept) r)
+      refused_policy : (why : Refused) → Declines why (span_of before after old new) (Ok r) → Next (unbound_line k (event.Policy session role kept) r)
       refused_policy (refused.Rule rule) d = policy_refused role kept rule d.reply
       refused_policy refused.Memory d = absurd (cc (d.reply))
   policy_line s role kept asked asks h each Even is = tt
@@ -552,18 +553,18 @@ module _ (lines : List Line) (n session k : ℕ) (before after : Seen) (old new 
   of_session : (s : ℕ) (Is : Result Request Refused → Type 0) (asked : Asked) → s ≡ session → OfSession s Is asked → AsksOf Is asked
   of_session s Is asked e asks = subst (λ (j : ℕ). OfSession j Is asked) e asks
 
-  step_line : (wish : Wish) (asked : Asked) → AsksOf (IsStep wish) asked → (h : Answers n asked before after old new (Ok r)) → EachAsked StepGoesThrough n asked before after old new (Ok r) h
+  step_line : (wish : Wish) (asked : Asked) → AsksOf (IsStep wish) asked → (h : Answers n asked (span_of before after old new) (Ok r)) → EachAsked StepGoesThrough n asked (span_of before after old new) (Ok r) h
       → Keeps
   step_line wish asked asks h each =
       requests Keeps (IsStep wish) asked asks h each declined_keeps (λ request is does. step_keeps wish (subst (DoesThrough session) is does).0)
 
-  run_line : (asked : Asked) → AsksOf (λ request. request ≡ Ok Run) asked → (h : Answers n asked before after old new (Ok r)) → EachAsked StepGoesThrough n asked before after old new (Ok r) h
+  run_line : (asked : Asked) → AsksOf (λ request. request ≡ Ok Run) asked → (h : Answers n asked (span_of before after old new) (Ok r)) → EachAsked StepGoesThrough n asked (span_of before after old new) (Ok r) h
       → Keeps
   run_line asked asks h each =
       requests Keeps (λ request. request ≡ Ok Run) asked asks h each declined_keeps (λ request is does. run_keeps (as_asked request Run is does).0)
 
-  abort_line : (asked : Asked) → AsksOf (λ request. request ≡ Ok Abort) asked → (h : Answers n asked before after old new (Ok r))
-      → EachAsked StepGoesThrough n asked before after old new (Ok r) h → Keeps
+  abort_line : (asked : Asked) → AsksOf (λ request. request ≡ Ok Abort) asked → (h : Answers n asked (span_of before after old new) (Ok r))
+      → EachAsked StepGoesThrough n asked (span_of before after old new) (Ok r) h → Keeps
   abort_line asked asks h each =
       requests Keeps (λ request. request ≡ Ok Abort) asked asks h each declined_keeps (λ request is does. drops_keeps (as_asked request Abort is does).0)
 
@@ -585,14 +586,14 @@ module _ (lines : List Line) (n session k : ℕ) (before after : Seen) (old new 
         within = m.within;
       }))
 
-  wait_line : (ticks : ℕ) → Answers n (Wait ticks) before after old new (Ok r) → Keeps
+  wait_line : (ticks : ℕ) → Answers n (Wait ticks) (span_of before after old new) (Ok r) → Keeps
   wait_line ticks (inl waits) = let w = waits.0.waited t told in still w.after w.told (ap (λ (x : CloudState). x.messages) w.rest) waits.1
   wait_line ticks (inr long) = declined_keeps _ long.declines
 
-  report_line : (tree : ℕ) → Answers n (Report tree) before after old new (Ok r) → Keeps
+  report_line : (tree : ℕ) → Answers n (Report tree) (span_of before after old new) (Ok r) → Keeps
   report_line tree reports = still t (reports.looked.stays t told) refl reports.world
 
-  pub line_keeps : (e : Event) (asked : Asked) → Asks e asked → (h : Answers n asked before after old new (Ok r)) → EachAsked StepGoesThrough n asked before after old new (Ok r) h
+  pub line_keeps : (e : Event) (asked : Asked) → Asks e asked → (h : Answers n asked (span_of before after old new) (Ok r)) → EachAsked StepGoesThrough n asked (span_of before after old new) (Ok r) h
       → (stage : Stage) → stage_of session k lines ≡ stage → MetersAt stage session k old t → Next (by_line session k e r stage)
   line_keeps (event.Open s client) asked asks h each stage is m = gone s (own_line k (event.Open s client) r) (none_open s client) stage
   line_keeps (event.Close s) asked asks h each stage is m = gone s (own_line k (event.Close s) r) (none_close s) stage
@@ -638,8 +639,8 @@ module _ (lines : List Line) (n session k : ℕ) (before after : Seen) (old new 
       by_own s (own_line k (event.Work s) r) stage (λ e. work_line s asked (of_session s _ asked e asks) h each stage m)
   line_keeps (event.Policy s role kept) asked asks h each stage is m =
       by_own s (own_line k (event.Policy s role kept) r) stage (λ e. policy_line s role kept asked (of_session s _ asked e asks) h each stage is)
-  line_keeps (event.Wait ticks) asked asks h each stage is m = stage_kept (wait_line ticks (subst (λ z. Answers n z before after old new (Ok r)) asks h)) stage m
-  line_keeps (event.Report tree) asked asks h each stage is m = stage_kept (report_line tree (subst (λ z. Answers n z before after old new (Ok r)) asks h)) stage m
+  line_keeps (event.Wait ticks) asked asks h each stage is m = stage_kept (wait_line ticks (subst (λ z. Answers n z (span_of before after old new) (Ok r)) asks h)) stage m
+  line_keeps (event.Report tree) asked asks h each stage is m = stage_kept (report_line tree (subst (λ z. Answers n z (span_of before after old new) (Ok r)) asks h)) stage m
   line_keeps event.Settle asked asks h each stage is m = tt
   line_keeps (event.Sweep tree) asked asks h each stage is m = tt
 
@@ -649,7 +650,7 @@ few_at session k world t Even m = few_left session k world t m
 few_at session k world t Owing m = tt
 few_at session k world t Astray m = tt
 
-pub keeps_meter : (n : ℕ) (e : Event) (before after : Seen) (old new : World) (result : Result Reply WorldFault) → KeepsMeter n e before after old new result
+pub keeps_meter : (n : ℕ) (e : Event) (before after : Seen) (old new : World) (result : Result Reply WorldFault) → KeepsMeter n e (span_of before after old new) result
 keeps_meter n e before after old new (Ok r) = λ lines t u number told told_after stands handled each session k m.
     let next = line_keeps lines n session k before after old new r t u number told told_after stands e handled.asked handled.asks handled.answers each (stage_of session k lines) refl m in
     (next, few_at session k new u (by_line session k e r (stage_of session k lines)) next)

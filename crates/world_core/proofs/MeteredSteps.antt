@@ -28,6 +28,7 @@ use Rattle.world_core.proofs.StandsLemmas.{changed_at, changed_was}
 use Rattle.world_core.specs.Handled.{ComesTo, NotesStep, StepsLooked, Went, further, is_done, note_of_hand, start}
 use Rattle.world_core.specs.Metered.{Meters}
 use Rattle.world_core.specs.World.{World}
+use Rattle.world_core.specs.Span.{span_of}
 
 -- a told cloud is metered so
 pub record MetersSeen (session k bound : ℕ) (world : World) (seen : Seen) : Type 0 where
@@ -43,7 +44,7 @@ not_done turn none = refl
 pub adds_call : (ask : Ask) (notes : List Note) (place : Place) → sent_since (with_note notes (note_of_hand (Some ask))) place ≤ sent_since notes place + ask_sends ask
 adds_call ask notes place = let all = adds_sends (ask ∷ []) notes place in omega (arith, all)
 
-module _ (who : Caller) (k bound : ℕ) (wish : Wish) (before after : Seen) (old new : World) (turn : Turn Answer) (p : StepsLooked who wish before after old new turn) (t : CloudState)
+module _ (who : Caller) (k bound : ℕ) (wish : Wish) (before after : Seen) (old new : World) (turn : Turn Answer) (p : StepsLooked who wish (span_of before after old new) turn) (t : CloudState)
     (told : before.state ≡ Some t) where
   abbrev wished : CloudState
   wished = record t { wish = wish }
@@ -114,7 +115,7 @@ meter_went who k bound before old after new m (further mid _ world _ went step) 
     let here = meter_went who k bound before old mid world m went in
     meter_step who k bound Plain mid after world new More step here.state here.told here.meters
 
-pub meter_comes : (who : Caller) (k bound : ℕ) (before after : Seen) (old new : World) (a : Answer) → MetersSeen who.session k bound old before → ComesTo who before after old new a
+pub meter_comes : (who : Caller) (k bound : ℕ) (before after : Seen) (old new : World) (a : Answer) → MetersSeen who.session k bound old before → ComesTo who (span_of before after old new) a
     → MetersSeen who.session k bound new after
 meter_comes who k bound before after old new a m c =
     let here = meter_went who k bound before old c.mid c.world m c.went in

@@ -48,6 +48,7 @@ use Rattle.world_core.specs.EachStep.{EachCome, EachWork}
 use Rattle.world_core.specs.Handled.{BeginsCheckpoint, Checkpoints, IsPassable, Works, checkpoint_more, checkpoint_of, no_checkpoint, passed_by}
 use Rattle.world_core.specs.Metered.{HasLedger, IsWriters, Meters, StepGoesThrough}
 use Rattle.world_core.specs.World.{World}
+use Rattle.world_core.specs.Span.{span_of}
 
 -- ---- queues
 
@@ -100,8 +101,8 @@ module _ (n k session : ℕ) (lines : List Line) where
         writer_same k notes b.notes.before b.notes.after (ap (λ (z : Notebook). z.ledger) b.notes.does)
         (subst (IsWriters k notes) (sym (book_before session _ old.notes begun.notes ledger.book b.notes ledger.there)) ledger.is)
 
-    folds : (tree : ℕ) (c : Checkpoints who (TreePu tree) before after old new (answer.Done x)) → waiting_at h.state (record { tree = tree; page = 0 }) ≤ 256
-        → EachCome StepGoesThrough who before after c.begun new (answer.Done x) c.comes → AtItsEnd (TreePu tree) session k notes new after
+    folds : (tree : ℕ) (c : Checkpoints who (TreePu tree) (span_of before after old new) (answer.Done x)) → waiting_at h.state (record { tree = tree; page = 0 }) ≤ 256
+        → EachCome StepGoesThrough who (span_of before after c.begun new) (answer.Done x) c.comes → AtItsEnd (TreePu tree) session k notes new after
     folds tree c few each =
         comes_through making_ask MakingLeads Folding (new_making tree) (TreePu tree) (λ home m. refl) tree_sends folding_more folding_ends first
         (λ m z s t comes end y between asked leads delivers short. tree_empties first tree m z s t comes end y between asked leads delivers short)
@@ -127,8 +128,8 @@ module _ (n k session : ℕ) (lines : List Line) where
           metered = metered;
         }
 
-    pages : (tree page : ℕ) (own : StandsSo (PagePu tree page)) (c : Checkpoints who (PagePu tree page) before after old new (answer.Done x)) → waiting_at h.state own.place ≤ 256
-        → EachCome StepGoesThrough who before after c.begun new (answer.Done x) c.comes → AtItsEnd (PagePu tree page) session k notes new after
+    pages : (tree page : ℕ) (own : StandsSo (PagePu tree page)) (c : Checkpoints who (PagePu tree page) (span_of before after old new) (answer.Done x)) → waiting_at h.state own.place ≤ 256
+        → EachCome StepGoesThrough who (span_of before after c.begun new) (answer.Done x) c.comes → AtItsEnd (PagePu tree page) session k notes new after
     pages tree page own c few each =
         comes_through paging_ask PagingLeads Paging (new_paging tree page) (PagePu tree page) (λ home m. refl) page_sends paging_more paging_ends first
         (λ m z s t comes end y between asked leads delivers short.
@@ -155,8 +156,8 @@ module _ (n k session : ℕ) (lines : List Line) where
           metered = metered;
         }
 
-    pub checkpoint_keeps : (queue : QueueName) (c : Checkpoints who queue before after old new (answer.Done x)) → ((place : Place) → sent_since notes place ≤ 255)
-        → EachCome StepGoesThrough who before after c.begun new (answer.Done x) c.comes → AtItsEnd queue session k notes new after
+    pub checkpoint_keeps : (queue : QueueName) (c : Checkpoints who queue (span_of before after old new) (answer.Done x)) → ((place : Place) → sent_since notes place ≤ 255)
+        → EachCome StepGoesThrough who (span_of before after c.begun new) (answer.Done x) c.comes → AtItsEnd queue session k notes new after
     checkpoint_keeps (TreePu tree) c short each = folds tree c (few (record { tree = tree; page = 0 })) each
       where
         few : (place : Place) → waiting_at h.state place ≤ 256
@@ -196,8 +197,8 @@ module _ (n k session : ℕ) (lines : List Line) where
       (earlier : List Note) (ledger : HasLedger session k earlier old.notes) (metered : IsMetered earlier h.state) (short : (place : Place) → sent_since earlier place ≤ 255) where
     -- one more
     one_off : (others : List QueueName) (kept left : ℕ) (mid : Seen) (world : World) (queue : QueueName) (a : Answer) (after : Seen) (new : World)
-        → Works who before old others kept left mid world → (makes : Checkpoints who queue mid after world new a) → IsPassable a → passed_by a ≡ 0
-        → EachCome StepGoesThrough who mid after makes.begun new a makes.comes → HasWorked others earlier world mid → HasWorked (others ++ queue ∷ []) earlier new after
+        → Works who before old others kept left mid world → (makes : Checkpoints who queue (span_of mid after world new) a) → IsPassable a → passed_by a ≡ 0
+        → EachCome StepGoesThrough who (span_of mid after makes.begun new) a makes.comes → HasWorked others earlier world mid → HasWorked (others ++ queue ∷ []) earlier new after
     one_off others kept left mid world queue a after new works makes passes none each was = record {
       notes = end.notes ++ Kept queue ∷ [];
       kept = one_kept others queue earlier was.notes end.notes was.kept end.less;
@@ -223,7 +224,7 @@ module _ (n k session : ℕ) (lines : List Line) where
             omega (arith, less, top)
 
         Ends : Answer → Type 0
-        Ends z = (c : Checkpoints who queue mid after world new z) → EachCome StepGoesThrough who mid after c.begun new z c.comes → AtItsEnd queue session k was.notes new after
+        Ends z = (c : Checkpoints who queue (span_of mid after world new) z) → EachCome StepGoesThrough who (span_of mid after c.begun new) z c.comes → AtItsEnd queue session k was.notes new after
 
         done_ends : Ends (answer.Done done_is.0)
         done_ends c steps = checkpoint_keeps mid after world new here was.notes was.ledger (subst (IsMetered was.notes) same was.metered) done_is.0 queue c shorter steps

@@ -36,10 +36,11 @@ use Rattle.world_core.specs.EachStep.{EachWent, EachCome, EachTold, EachMade, Ea
 use Rattle.world_core.specs.Handled.{StepsLooked, StepsTo, MakesStep, Went, start, further, ComesTo, RunsTo, Runs, Crashes, Does, Serves, Answers, Checkpoints, Works, WorksThrough, checkpoint_more, no_checkpoint}
 use Rattle.world_core.specs.Named.{StepNames, NamesAt, NamesSteps}
 use Rattle.world_core.specs.Stands.{WorldStands}
+use Rattle.world_core.specs.Span.{span_of}
 use Rattle.std.proofs.lemmas.Option.{same_Some}
 
 -- a step that does not end nothing names no piece
-more_names : (who : Caller) (wish : Wish) (before after : Seen) (old new : World) (p : StepsLooked who wish before after old new More) → StepNames who wish before after old new More p
+more_names : (who : Caller) (wish : Wish) (before after : Seen) (old new : World) (p : StepsLooked who wish (span_of before after old new) More) → StepNames who wish (span_of before after old new) More p
 more_names who wish before after old new p s told home m done works ends = absurd (cc (ends))
 
 went_names : (who : Caller) (before : Seen) (old : World) (after : Seen) (new : World) (went : Went who before old after new) → EachWent StepNames who before old after new went
@@ -59,21 +60,21 @@ module _ (lines : List Line) (n : ℕ) (before after : Seen) (old new : World) (
     who = record { session = k; event = n }
 
     -- one call of the session
-    one_names : (wish : Wish) (world : World) (turn : Turn Answer) (p : StepsLooked who wish before after old world turn) → StepNames who wish before after old world turn p
+    one_names : (wish : Wish) (world : World) (turn : Turn Answer) (p : StepsLooked who wish (span_of before after old world) turn) → StepNames who wish (span_of before after old world) turn p
     one_names wish world turn p =
         names_of lines who (sym number) (calls_told lines) wish before after old world turn way p (calls_told lines k) (begins_own lines k old way.after all_way)
 
-    told_names : (wish : Wish) (r : Result Reply WorldFault) (h : StepsTo n k wish before after old new r) → EachTold StepNames n k wish before after old new r h
+    told_names : (wish : Wish) (r : Result Reply WorldFault) (h : StepsTo (record { session = k; event = n }) wish (span_of before after old new) r) → EachTold StepNames (record { session = k; event = n }) wish (span_of before after old new) r h
     told_names wish (Ok reply) made = one_names wish new made.turn made.steps
     told_names wish (Err why) made = one_names wish made.left made.turn made.steps
 
-    made_names : (wish : Wish) (h : MakesStep n k wish before after old new result) → EachMade StepNames n k wish before after old new result h
+    made_names : (wish : Wish) (h : MakesStep (record { session = k; event = n }) wish (span_of before after old new) result) → EachMade StepNames (record { session = k; event = n }) wish (span_of before after old new) result h
     made_names wish (inl refused) = tt
     made_names wish (inr (inl made)) = told_names wish result made
     made_names wish (inr (inr memory)) = tt
 
     -- the calls up to an answer
-    come_names : (world : World) (answer : Answer) (c : ComesTo who before after old world answer) → EachCome StepNames who before after old world answer c
+    come_names : (world : World) (answer : Answer) (c : ComesTo who (span_of before after old world) answer) → EachCome StepNames who (span_of before after old world) answer c
     come_names world answer c =
         let gone = went_on lines who before old c.mid c.world (sym number) way c.went in (
           went_names who before old c.mid c.world c.went,
@@ -82,16 +83,16 @@ module _ (lines : List Line) (n : ℕ) (before after : Seen) (old new : World) (
               (went_counts lines who (sym number) (calls_told lines) before old c.mid c.world way all_way c.went gone.after gone.told),
         )
 
-    ran_names : (r : Result Reply WorldFault) (h : RunsTo n k before after old new r) → EachRunTold StepNames n k before after old new r h
+    ran_names : (r : Result Reply WorldFault) (h : RunsTo (record { session = k; event = n }) (span_of before after old new) r) → EachRunTold StepNames (record { session = k; event = n }) (span_of before after old new) r h
     ran_names (Ok reply) run = come_names new run.answer run.comes
     ran_names (Err why) run = come_names run.left run.answer run.comes
 
-    run_names : (h : Runs n k before after old new result) → EachRun StepNames n k before after old new result h
+    run_names : (h : Runs (record { session = k; event = n }) (span_of before after old new) result) → EachRun StepNames (record { session = k; event = n }) (span_of before after old new) result h
     run_names (inl refused) = tt
     run_names (inr (inl run)) = ran_names result run
     run_names (inr (inr memory)) = tt
 
-    crash_names : (done : Bool) (h : Crashes n k done before after old new result) → EachCrashed StepNames n k done before after old new result h
+    crash_names : (done : Bool) (h : Crashes (record { session = k; event = n }) done (span_of before after old new) result) → EachCrashed StepNames (record { session = k; event = n }) done (span_of before after old new) result h
     crash_names false dies = tt
     crash_names true (inl idle) = tt
     crash_names true (inr (inl dies)) = one_names Plain dies.world dies.turn dies.steps
@@ -100,8 +101,8 @@ module _ (lines : List Line) (n : ℕ) (before after : Seen) (old new : World) (
     -- the last call of each checkpoint that is due
     module _ (all_lines : List Line) (home : Home) (row : IsWorkersRow all_lines (worker k n)) (first : Sessions) where
       checkpoint_names : (queue : QueueName) (from to : Seen) (world left : World) (a : Answer) → IsBetween k home first world → (h : HoldsWithin n all_lines world from) (mine : ℕ)
-          → CountsAll (at k mine (calls_told lines)) h.state (session_at world.sessions) → (c : Checkpoints (worker k n) queue from to world left a)
-          → EachCome StepNames (worker k n) from to c.begun left a c.comes
+          → CountsAll (at k mine (calls_told lines)) h.state (session_at world.sessions) → (c : Checkpoints (worker k n) queue (span_of from to world left) a)
+          → EachCome StepNames (worker k n) (span_of from to c.begun left) a c.comes
       checkpoint_names queue from to world left a w h mine counts c =
           let begun = within_begun k home first queue world c.begun w c.begins in
           let held = holds_begun n all_lines k queue from world c.begun h c.begins in
@@ -128,7 +129,7 @@ module _ (lines : List Line) (n : ℕ) (before after : Seen) (old new : World) (
             checkpoint_names queue mid to prior left a (within_works (worker k n) home first from world others kept passes_by mid prior w works) gone was.0 was.1 makes,
           )
 
-    works_names : (h : WorksThrough n k before after old new result) → EachThrough StepNames n k before after old new result h
+    works_names : (h : WorksThrough (record { session = k; event = n }) (span_of before after old new) result) → EachThrough StepNames (record { session = k; event = n }) (span_of before after old new) result h
     works_names (inl refused) = tt
     works_names (inr (inl down)) =
         let rest = open_rests k old down.opened in
@@ -140,7 +141,7 @@ module _ (lines : List Line) (n : ℕ) (before after : Seen) (old new : World) (
         down.works
     works_names (inr (inr memory)) = tt
 
-    does_names : (request : Request) (h : Does n k request before after old new result) → EachDone StepNames n k request before after old new result h
+    does_names : (request : Request) (h : Does (record { session = k; event = n }) request (span_of before after old new) result) → EachDone StepNames (record { session = k; event = n }) request (span_of before after old new) result h
     does_names (Step wish) h = made_names wish h
     does_names Run h = run_names h
     does_names (Crash done) h = crash_names done h
@@ -150,13 +151,13 @@ module _ (lines : List Line) (n : ℕ) (before after : Seen) (old new : World) (
     does_names (Note noting) h = tt
     does_names Abort h = tt
 
-    serves_names : (request : Result Request Refused) (h : Serves n k request before after old new result) → EachServed StepNames n k request before after old new result h
+    serves_names : (request : Result Request Refused) (h : Serves (record { session = k; event = n }) request (span_of before after old new) result) → EachServed StepNames (record { session = k; event = n }) request (span_of before after old new) result h
     serves_names (Ok request) h = does_names request h
     serves_names (Err why) h = tt
 
   -- ---- every line
 
-  asked_names : (asked : Asked) (h : Answers n asked before after old new result) → NamesAt n asked before after old new result h
+  asked_names : (asked : Asked) (h : Answers n asked (span_of before after old new) result) → NamesAt n asked (span_of before after old new) result h
   asked_names (Session k request) (inl served) = serves_names k request served.1
   asked_names (Session k request) (inr none) = tt
   asked_names (Wait ticks) h = tt
@@ -164,6 +165,6 @@ module _ (lines : List Line) (n : ℕ) (before after : Seen) (old new : World) (
   asked_names Settle h = tt
   asked_names (Sweep tree) h = tt
 
-pub names_pieces : (n : ℕ) (event : Event) (before after : Seen) (old new : World) (result : Result Reply WorldFault) → NamesSteps n event before after old new result
+pub names_pieces : (n : ℕ) (event : Event) (before after : Seen) (old new : World) (result : Result Reply WorldFault) → NamesSteps n event (span_of before after old new) result
 names_pieces n event before after old new result lines t number told stands handled =
     asked_names lines n before after old new result t number told stands handled.asked handled.answers

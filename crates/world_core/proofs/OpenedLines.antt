@@ -64,6 +64,7 @@ use Rattle.world_core.specs.Sessions.{Changes, NotesIn, AbortsIn}
 use Rattle.world_core.specs.Handled.{Has, BeginsOp, BreaksOff, SetsWish, StepsLooked, StepsTo, FallsShort, RunsShort, MakesStep, Went, start, further, StopsShort, ComesTo, RunsTo, Runs, SettlesOn, Settles, Dies, Crashes, CrashesDone, Does, Answers, Handled, BeginsCheckpoint, CheckpointFails, FailsAt, KnowsNoDue, Policies, Works, WorksThrough, checkpoint_more, checkpoint_of, no_checkpoint}
 use Rattle.world_core.specs.Added.{WorldAdds}
 use Rattle.world_core.specs.Opened.{AsksToOpen, IsOpenedIn, OpenEachOnce, WorldApart}
+use Rattle.world_core.specs.Span.{span_of}
 use Rattle.world_core.proofs.AddedSteps.{IsAdding, SettlerAdds, adding_begins, begun_way, settler_went, went_adding}
 use Rattle.world_core.proofs.BrokenOff.{broken_away}
 use Rattle.world_core.proofs.StandsLemmas.{changed_at, changed_was, settler}
@@ -289,7 +290,7 @@ module _ (events : List Event) (first : CloudState) where
         (session_apart Was lines who under to first f session.after turn (sym at) (way.acts k).work own.work
         (wished f wish from under wishes (seen_stays f before from look_before.stays h))))
 
-    stepped : (wish : Wish) (before after : Seen) (old new : World) (turn : Turn Answer) → IsAdding lines first old before → StepsLooked who wish before after old new turn
+    stepped : (wish : Wish) (before after : Seen) (old new : World) (turn : Turn Answer) → IsAdding lines first old before → StepsLooked who wish (span_of before after old new) turn
         → WorldApart events first old before → WorldApart events first new after
     stepped wish before after old new turn way p h = called wish before p.from p.under p.to after old new turn way p.look_before p.wishes p.session p.look_after h
 
@@ -300,42 +301,42 @@ module _ (events : List Event) (first : CloudState) where
         stepped Plain mid after world new More (went_adding lines first who before old mid world (sym at) way went) step (went_on before old mid world way went h)
 
     -- memory ran out beside its call
-    ran_short : (wish : Wish) (before after : Seen) (old new : World) → IsAdding lines first old before → RunsShort who wish before after old new → WorldApart events first old before
+    ran_short : (wish : Wish) (before after : Seen) (old new : World) → IsAdding lines first old before → RunsShort who wish (span_of before after old new) → WorldApart events first old before
         → WorldApart events first new after
     ran_short wish before after old new way s h = breaks k after s.left new s.breaks (falls s.falls)
       where
-        falls : FallsShort who wish before after old s.left → WorldApart events first s.left after
+        falls : FallsShort who wish (span_of before after old s.left) → WorldApart events first s.left after
         falls (inl un) =
             apart_same Was first _ (session_at s.left.sessions) after (λ j. ap (λ (l : List Acting). session_at l j) un.sessions) (seen_stays _ before after un.looked.stays h)
         falls (inr p) = called wish before p.from p.under p.to after old s.left p.turn way p.look_before p.wishes p.session p.look_after h
 
-    made_once : (wish : Wish) (before after : Seen) (old new : World) (result : Result Reply WorldFault) → IsAdding lines first old before → StepsTo n k wish before after old new result
+    made_once : (wish : Wish) (before after : Seen) (old new : World) (result : Result Reply WorldFault) → IsAdding lines first old before → StepsTo (record { session = k; event = n }) wish (span_of before after old new) result
         → WorldApart events first old before → WorldApart events first new after
     made_once wish before after old new (Ok reply) way step h = stepped wish before after old new step.turn way step.steps h
     made_once wish before after old new (Err why) way step h = breaks k after step.left new step.breaks (stepped wish before after old step.left step.turn way step.steps h)
 
-    steps_once : (wish : Wish) (before after : Seen) (old new : World) (result : Result Reply WorldFault) → IsAdding lines first old before → MakesStep n k wish before after old new result
+    steps_once : (wish : Wish) (before after : Seen) (old new : World) (result : Result Reply WorldFault) → IsAdding lines first old before → MakesStep (record { session = k; event = n }) wish (span_of before after old new) result
         → WorldApart events first old before → WorldApart events first new after
     steps_once wish before after old new result way (inl refuses) h = nothing_done before after old new refuses.declines.world refuses.declines.seen h
     steps_once wish before after old new result way (inr (inl step)) h = made_once wish before after old new result way step h
     steps_once wish before after old new result way (inr (inr memory)) h = ran_short wish before after old new way memory.1 h
 
-    stopped_short : (before after : Seen) (old new : World) → IsAdding lines first old before → StopsShort who before after old new → WorldApart events first old before
+    stopped_short : (before after : Seen) (old new : World) → IsAdding lines first old before → StopsShort who (span_of before after old new) → WorldApart events first old before
         → WorldApart events first new after
     stopped_short before after old new way s h =
         ran_short Plain s.mid after s.world new (went_adding lines first who before old s.mid s.world (sym at) way s.went) s.short (went_on before old s.mid s.world way s.went h)
 
-    came_once : (before after : Seen) (old left : World) (answer : Answer) → IsAdding lines first old before → ComesTo who before after old left answer
+    came_once : (before after : Seen) (old left : World) (answer : Answer) → IsAdding lines first old before → ComesTo who (span_of before after old left) answer
         → WorldApart events first old before → WorldApart events first left after
     came_once before after old left answer way c h =
         stepped Plain c.mid after c.world left _ (went_adding lines first who before old c.mid c.world (sym at) way c.went) c.steps (went_on before old c.mid c.world way c.went h)
 
-    ran_once : (before after : Seen) (old new : World) (result : Result Reply WorldFault) → IsAdding lines first old before → RunsTo n k before after old new result
+    ran_once : (before after : Seen) (old new : World) (result : Result Reply WorldFault) → IsAdding lines first old before → RunsTo (record { session = k; event = n }) (span_of before after old new) result
         → WorldApart events first old before → WorldApart events first new after
     ran_once before after old new (Ok reply) way run h = came_once before after old new run.answer way run.comes h
     ran_once before after old new (Err why) way run h = breaks k after run.left new run.breaks (came_once before after old run.left run.answer way run.comes h)
 
-    runs_once : (before after : Seen) (old new : World) (result : Result Reply WorldFault) → IsAdding lines first old before → Runs n k before after old new result
+    runs_once : (before after : Seen) (old new : World) (result : Result Reply WorldFault) → IsAdding lines first old before → Runs (record { session = k; event = n }) (span_of before after old new) result
         → WorldApart events first old before → WorldApart events first new after
     runs_once before after old new result way (inl refuses) h = nothing_done before after old new refuses.declines.world refuses.declines.seen h
     runs_once before after old new result way (inr (inl run)) h = ran_once before after old new result way run h
@@ -343,17 +344,17 @@ module _ (events : List Event) (first : CloudState) where
 
     -- ---- a session that dies
 
-    dies : (before after : Seen) (old new : World) (result : Result Reply WorldFault) → Dies k before after old new result → WorldApart events first old before
+    dies : (before after : Seen) (old new : World) (result : Result Reply WorldFault) → Dies k (span_of before after old new) result → WorldApart events first old before
         → WorldApart events first new after
     dies before after old new result d h =
         quietly k before after old new _ d.quiet.seen d.closed (λ takes. closed_leads _ _ _ (ap (λ (a : Acting). a.work) d.closed.does)) h
 
-    dies_done : (before after : Seen) (old new : World) (result : Result Reply WorldFault) → IsAdding lines first old before → CrashesDone who before after old new result
+    dies_done : (before after : Seen) (old new : World) (result : Result Reply WorldFault) → IsAdding lines first old before → CrashesDone who (span_of before after old new) result
         → WorldApart events first old before → WorldApart events first new after
     dies_done before after old new result way (inl d) h = closes k after d.world new d.closes (stepped Plain before after old d.world d.turn way d.steps h)
     dies_done before after old new result way (inr memory) h = ran_short Plain before after old new way memory.1 h
 
-    crashes_once : (done : Bool) (before after : Seen) (old new : World) (result : Result Reply WorldFault) → IsAdding lines first old before → Crashes n k done before after old new result
+    crashes_once : (done : Bool) (before after : Seen) (old new : World) (result : Result Reply WorldFault) → IsAdding lines first old before → Crashes (record { session = k; event = n }) done (span_of before after old new) result
         → WorldApart events first old before → WorldApart events first new after
     crashes_once false before after old new result way d h = dies before after old new result d h
     crashes_once true before after old new result way (inl idle) h = dies before after old new result idle.dies h
@@ -374,7 +375,7 @@ module _ (events : List Event) (first : CloudState) where
         (worker_apart Was (worker k n) home under to first f session.after turn w.works own.work
         (wished f Plain from under wishes (seen_stays f before from look_before.stays h))))
 
-    worker_stepped : (before after : Seen) (old new : World) (turn : Turn Answer) → IsInside k home others old → StepsLooked (worker k n) Plain before after old new turn
+    worker_stepped : (before after : Seen) (old new : World) (turn : Turn Answer) → IsInside k home others old → StepsLooked (worker k n) Plain (span_of before after old new) turn
         → WorldApart events first old before → WorldApart events first new after
     worker_stepped before after old new turn w p h = worker_called before p.from p.under p.to after old new turn w p.look_before p.wishes p.session p.look_after h
 
@@ -405,16 +406,16 @@ module _ (events : List Event) (first : CloudState) where
         (worker_on mid makes.begun c.mid c.world begun c.went (worker_begun queue mid world makes.begun makes.begins (works_once before old earlier kept left mid world w works h)))
 
     -- memory ran out
-    worker_short : (before after : Seen) (old new : World) → IsInside k home others old → RunsShort (worker k n) Plain before after old new → WorldApart events first old before
+    worker_short : (before after : Seen) (old new : World) → IsInside k home others old → RunsShort (worker k n) Plain (span_of before after old new) → WorldApart events first old before
         → WorldApart events first new after
     worker_short before after old new w s h = breaks k after s.left new s.breaks (falls s.falls)
       where
-        falls : FallsShort (worker k n) Plain before after old s.left → WorldApart events first s.left after
+        falls : FallsShort (worker k n) Plain (span_of before after old s.left) → WorldApart events first s.left after
         falls (inl un) =
             apart_same Was first _ (session_at s.left.sessions) after (λ j. ap (λ (l : List Acting). session_at l j) un.sessions) (seen_stays _ before after un.looked.stays h)
         falls (inr p) = worker_called before p.from p.under p.to after old s.left p.turn w p.look_before p.wishes p.session p.look_after h
 
-    works_fail : (before after : Seen) (begun new : World) → IsInside k home others begun → CheckpointFails (worker k n) before after begun new → WorldApart events first begun before
+    works_fail : (before after : Seen) (begun new : World) → IsInside k home others begun → CheckpointFails (worker k n) (span_of before after begun new) → WorldApart events first begun before
         → WorldApart events first new after
     works_fail before after begun new w (inl s) h =
         worker_short s.mid after s.world new (within_went (worker k n) home others before begun s.mid s.world w s.went) s.short (worker_on before begun s.mid s.world w s.went h)
@@ -422,7 +423,7 @@ module _ (events : List Event) (first : CloudState) where
         breaks k after left new off
         (worker_stepped c.mid after c.world left _ (within_went (worker k n) home others before begun c.mid c.world w c.went) c.steps (worker_on before begun c.mid c.world w c.went h))
 
-    works_fall : (before after : Seen) (old new : World) → IsBetween k home others old → KnowsNoDue k before after old new ⊎ FailsAt (worker k n) before after old new
+    works_fall : (before after : Seen) (old new : World) → IsBetween k home others old → KnowsNoDue k (span_of before after old new) ⊎ FailsAt (worker k n) (span_of before after old new)
         → WorldApart events first old before → WorldApart events first new after
     works_fall before after old new w (inl none) h = subst (WorldApart events first new) (sym none.seen) (breaks k before old new none.breaks h)
     works_fall before after old new w (inr fails) h =
@@ -459,16 +460,16 @@ module _ (events : List Event) (first : CloudState) where
         settler_called mid p.from p.under p.to after world new More (settler_went errand n all first others row before old mid world way went) p.look_before p.wishes p.session p.look_after
         (settler_on before old mid world way went h)
 
-    settler_short : (before after : Seen) (old new : World) → SettlerAdds errand n all first others old before → RunsShort (settler n) Plain before after old new
+    settler_short : (before after : Seen) (old new : World) → SettlerAdds errand n all first others old before → RunsShort (settler n) Plain (span_of before after old new)
         → WorldApart events first old before → WorldApart events first new after
     settler_short before after old new way s h = breaks 0 after s.left new s.breaks (falls s.falls)
       where
-        falls : FallsShort (settler n) Plain before after old s.left → WorldApart events first s.left after
+        falls : FallsShort (settler n) Plain (span_of before after old s.left) → WorldApart events first s.left after
         falls (inl un) =
             apart_same Was first _ (session_at s.left.sessions) after (λ j. ap (λ (l : List Acting). session_at l j) un.sessions) (seen_stays _ before after un.looked.stays h)
         falls (inr p) = settler_called before p.from p.under p.to after old s.left p.turn way p.look_before p.wishes p.session p.look_after h
 
-    settles_on : (before after : Seen) (old new : World) (result : Result Reply WorldFault) → SettlerAdds errand n all first others old before → SettlesOn errand (settler n) before after old new result
+    settles_on : (before after : Seen) (old new : World) (result : Result Reply WorldFault) → SettlerAdds errand n all first others old before → SettlesOn errand (settler n) (span_of before after old new) result
         → WorldApart events first old before → WorldApart events first new after
     settles_on before after old new result way (inl s) h =
         let c = s.comes in
@@ -491,7 +492,7 @@ module _ (events : List Event) (first : CloudState) (n : ℕ) (before after : Se
   way : IsAdding lines first old before
   way = adding_begins lines first old before w
 
-  settles_so : (errand : Errand) → Settles errand n before after old new result → Apart
+  settles_so : (errand : Errand) → Settles errand n (span_of before after old new) result → Apart
   settles_so errand (inl s) =
       settles_on events first errand lines n at (session_at old.sessions) closed before after s.begun new result (begun_way errand lines first n reply.Called before old s.begun at w s.begins) s.settles
       (changes events first 0 before old s.begun _ s.begins.session_is (λ takes. away errand _ _ _ (ap (λ (a : Acting). a.work) s.begins.session_is.does)) h)
@@ -508,17 +509,17 @@ module _ (events : List Event) (first : CloudState) (n : ℕ) (before after : Se
   begun_within o (Ok reply) a b within begins takes = begins_so o a b begins.begun within begins.begins takes
   begun_within o (Err why) a b within begins takes = broken_from a begins.left b begins.breaks
 
-  does_within : (k : ℕ) (o : Op) → OpensNoClient o → Does n k (Begin o) before after old new result → Apart
+  does_within : (k : ℕ) (o : Op) → OpensNoClient o → Does (record { session = k; event = n }) (Begin o) (span_of before after old new) result → Apart
   does_within k o within done = quietly events first k before after old new _ done.0.seen done.1 (begun_within o result done.1.before done.1.after within done.1.does) h
 
-  policy_so : (k : ℕ) (role : Role) (kept : ℕ) → Policies k role kept before after old new result → Apart
+  policy_so : (k : ℕ) (role : Role) (kept : ℕ) → Policies k role kept (span_of before after old new) result → Apart
   policy_so k role kept (inl refuses) = nothing_done events first before after old new refuses.declines.world refuses.declines.seen h
   policy_so k role kept (inr (inl refuses)) = nothing_done events first before after old new refuses.1.declines.world refuses.1.declines.seen h
   policy_so k role kept (inr (inr gives)) =
       subst (WorldApart events first new) (sym gives.quiet.seen)
       (apart_same (IsOpenedIn events) first _ (session_at new.sessions) before (λ j. ap (λ (l : List Acting). session_at l j) gives.sessions) h)
 
-  works_so : (k : ℕ) → WorksThrough n k before after old new result → Apart
+  works_so : (k : ℕ) → WorksThrough (record { session = k; event = n }) (span_of before after old new) result → Apart
   works_so k (inl refuses) = nothing_done events first before after old new refuses.declines.world refuses.declines.seen h
   works_so k (inr (inl down)) =
       let rest = open_rests k old down.opened in
@@ -530,7 +531,7 @@ module _ (events : List Event) (first : CloudState) (n : ℕ) (before after : Se
       (within_works (worker k n) rest.0 (session_at old.sessions) before old s.queues s.done s.passed s.mid s.world rest.2 s.works) s.falls
       (works_once events first n k rest.0 (session_at old.sessions) before old s.queues s.done s.passed s.mid s.world rest.2 s.works h)
 
-  waits_so : (ticks : ℕ) → Answers n (Wait ticks) before after old new result → Apart
+  waits_so : (ticks : ℕ) → Answers n (Wait ticks) (span_of before after old new) result → Apart
   waits_so ticks (inl k) =
       let waited = k.0.waited h.rows.state h.rows.told in
       subst (λ z. WorldApart events first z after) (sym k.1)
@@ -566,13 +567,13 @@ module _ (events : List Event) (first : CloudState) (n : ℕ) (before after : Se
         on (Err (refused.Rule rule)) begins = with_more (quietly events first k before after old new _ same c (same_session c.before c.after begins.1) h)
         on (Err refused.Memory) begins = absurd begins
 
-    opens_so : (k client : ℕ) → AsksToOpen e client → Does n k (Begin (op.Open client)) before after old new result → Then
+    opens_so : (k client : ℕ) → AsksToOpen e client → Does (record { session = k; event = n }) (Begin (op.Open client)) (span_of before after old new) result → Then
     opens_so k client opens done =
         let c = done.1 in
         let begins = opening_begins client result c.before c.after c.does in
         begins_one k client opens done.0.seen (record { before = c.before; after = c.after; there = c.there; does = begins; rest = c.rest })
 
-    does_so : (k : ℕ) (request : Request) → ((client : ℕ) → request ≡ Begin (op.Open client) → AsksToOpen e client) → Does n k request before after old new result → Then
+    does_so : (k : ℕ) (request : Request) → ((client : ℕ) → request ≡ Begin (op.Open client) → AsksToOpen e client) → Does (record { session = k; event = n }) request (span_of before after old new) result → Then
     does_so k (Begin (op.Open client)) own done = opens_so k client (own client refl) done
     does_so k (Begin op.Close) own done = with_more (does_within k op.Close tt done)
     does_so k (Begin op.Renew) own done = with_more (does_within k op.Renew tt done)
@@ -592,7 +593,7 @@ module _ (events : List Event) (first : CloudState) (n : ℕ) (before after : Se
     does_so k Run own done = with_more (runs_once events first lines n at k before after old new result way done h)
     does_so k (Crash d) own done = with_more (crashes_once events first lines n at k d before after old new result way done h)
 
-    asked_so : (asked : Asked) → Asks e asked → Answers n asked before after old new result → Then
+    asked_so : (asked : Asked) → Asks e asked → Answers n asked (span_of before after old new) result → Then
     asked_so (Session k (Ok request)) asks (inl p) =
         does_so k request (λ client is. begins_opening e k client (subst (λ q. Asks e (Session k (Ok q))) is asks)) p.1
     asked_so (Session k (Err why)) asks (inl p) = with_more (nothing_done events first before after old new p.1.world p.1.seen h)
@@ -606,7 +607,7 @@ module _ (events : List Event) (first : CloudState) (n : ℕ) (before after : Se
 
 -- a line that was handled
 pub handled_apart : (n : ℕ) (e : Event) (before after : Seen) (old new : World) (result : Result Reply WorldFault) (events : List Event) (lines : List Line) (first : CloudState)
-    → length lines + 1 ≡ n → OpenEachOnce (events ++ e ∷ []) → Handled n e before after old new result → WorldAdds lines first old before
+    → length lines + 1 ≡ n → OpenEachOnce (events ++ e ∷ []) → Handled n e (span_of before after old new) result → WorldAdds lines first old before
     → WorldApart events first old before → WorldApart (events ++ e ∷ []) first new after
 handled_apart n e before after old new result events lines first at once handled w h =
     asked_so events first n before after old new result lines at w h e once handled.asked handled.asks handled.answers

@@ -56,6 +56,7 @@ use Rattle.world_core.specs.declared.asked.Asked.TheVariants.{Session, Wait, Rep
 use Rattle.world_core.specs.declared.asked.Request.{Request}
 use Rattle.world_core.specs.declared.asked.Request.TheVariants.{Begin, Note, Abort, Policy, Work as WorksDue, Step, Run, Crash}
 use Rattle.world_core.specs.declared.world.WorldFault.{WorldFault}
+use Rattle.world_core.specs.Span.{span_of}
 
 -- ---- the checkpoint of a queue
 
@@ -112,12 +113,12 @@ module _ (n session : ℕ) (lines : List Line) (home : Home) (row : IsWorkersRow
 
   -- one that a trouble stopped
   one_passed : (queue : QueueName) (before after : Seen) (old new : World) (k : Trouble) → IsPassable (answer.Trouble k) → IsBetween session home first old → HoldsWithin n lines old before
-      → (c : Checkpoints who queue before after old new (answer.Trouble k)) → EachCome StepIsCalm who before after c.begun new (answer.Trouble k) c.comes
-      → EachCome StepExplains who before after c.begun new (answer.Trouble k) c.comes → PassesSo queue after (answer.Trouble k)
+      → (c : Checkpoints who queue (span_of before after old new) (answer.Trouble k)) → EachCome StepIsCalm who (span_of before after c.begun new) (answer.Trouble k) c.comes
+      → EachCome StepExplains who (span_of before after c.begun new) (answer.Trouble k) c.comes → PassesSo queue after (answer.Trouble k)
   one_passed queue before after old new k passes w h c calm explains =
       (u, p.look_after.stays u calm.1.calm.left, may_pass queue p.session.before.work u k is may (none.trouble k refl) (of_page queue (subst (λ (a : Acting). IsFor queue a.work) (sym begun_is) begun.0)) other)
     where
-      p : StepsLooked who Plain c.comes.mid after c.comes.world new (Ended (answer.Trouble k))
+      p : StepsLooked who Plain (span_of c.comes.mid after c.comes.world new) (Ended (answer.Trouble k))
       p = c.comes.steps
 
       u : CloudState
@@ -175,7 +176,7 @@ module _ (n session : ℕ) (lines : List Line) (home : Home) (row : IsWorkersRow
       of_page q at = tt
 
   one_so : (queue : QueueName) (before after : Seen) (old new : World) (a : Answer) → IsPassable a → IsBetween session home first old → HoldsWithin n lines old before
-      → (c : Checkpoints who queue before after old new a) → EachCome StepIsCalm who before after c.begun new a c.comes → EachCome StepExplains who before after c.begun new a c.comes
+      → (c : Checkpoints who queue (span_of before after old new) a) → EachCome StepIsCalm who (span_of before after c.begun new) a c.comes → EachCome StepExplains who (span_of before after c.begun new) a c.comes
       → PassesSo queue after a
   one_so queue before after old new (answer.Trouble k) passes w h c calm explains = one_passed queue before after old new k passes w h c calm explains
   one_so queue before after old new a passes w h c calm explains = tt
@@ -194,8 +195,8 @@ module _ (n session : ℕ) (lines : List Line) (home : Home) (row : IsWorkersRow
 
 module _ (lines : List Line) (n : ℕ) (before after : Seen) (old new : World) (result : Result Reply WorldFault) (t : CloudState) (number : length lines + 1 ≡ n) (told : before.state ≡ Some t)
     (stands : WorldStands lines old t) where
-  through_passed : (k : ℕ) (h : WorksThrough n k before after old new result) → EachThrough StepIsCalm n k before after old new result h
-      → EachThrough StepExplains n k before after old new result h → ThroughPassed n k before after old new result h
+  through_passed : (k : ℕ) (h : WorksThrough (record { session = k; event = n }) (span_of before after old new) result) → EachThrough StepIsCalm (record { session = k; event = n }) (span_of before after old new) result h
+      → EachThrough StepExplains (record { session = k; event = n }) (span_of before after old new) result h → ThroughPassed (record { session = k; event = n }) (span_of before after old new) result h
   through_passed k (inl refused) calm explains = tt
   through_passed k (inr (inl d)) calm explains =
       let rest = open_rests k old d.opened in
@@ -204,8 +205,8 @@ module _ (lines : List Line) (n : ℕ) (before after : Seen) (old new : World) (
       d.done d.passed after new rest.2 (worker_begins lines k n before old t (sym number) told stands.by_lines q tt) d.works calm explains
   through_passed k (inr (inr memory)) calm explains = tt
 
-  done_passed : (k : ℕ) (request : Request) (h : Does n k request before after old new result) → EachDone StepIsCalm n k request before after old new result h
-      → EachDone StepExplains n k request before after old new result h → DonePassed n k request before after old new result h
+  done_passed : (k : ℕ) (request : Request) (h : Does (record { session = k; event = n }) request (span_of before after old new) result) → EachDone StepIsCalm (record { session = k; event = n }) request (span_of before after old new) result h
+      → EachDone StepExplains (record { session = k; event = n }) request (span_of before after old new) result h → DonePassed (record { session = k; event = n }) request (span_of before after old new) result h
   done_passed k WorksDue h calm explains = through_passed k h calm explains
   done_passed k (Step wish) h calm explains = tt
   done_passed k Run h calm explains = tt
@@ -215,13 +216,13 @@ module _ (lines : List Line) (n : ℕ) (before after : Seen) (old new : World) (
   done_passed k (Note noting) h calm explains = tt
   done_passed k Abort h calm explains = tt
 
-  served_passed : (k : ℕ) (request : Result Request Refused) (h : Serves n k request before after old new result) → EachServed StepIsCalm n k request before after old new result h
-      → EachServed StepExplains n k request before after old new result h → ServedPassed n k request before after old new result h
+  served_passed : (k : ℕ) (request : Result Request Refused) (h : Serves (record { session = k; event = n }) request (span_of before after old new) result) → EachServed StepIsCalm (record { session = k; event = n }) request (span_of before after old new) result h
+      → EachServed StepExplains (record { session = k; event = n }) request (span_of before after old new) result h → ServedPassed (record { session = k; event = n }) request (span_of before after old new) result h
   served_passed k (Ok request) h calm explains = done_passed k request h calm explains
   served_passed k (Err why) h calm explains = tt
 
-  asked_passed : (asked : Asked) (h : Answers n asked before after old new result) → EachAsked StepIsCalm n asked before after old new result h
-      → EachAsked StepExplains n asked before after old new result h → AskedPassed n asked before after old new result h
+  asked_passed : (asked : Asked) (h : Answers n asked (span_of before after old new) result) → EachAsked StepIsCalm n asked (span_of before after old new) result h
+      → EachAsked StepExplains n asked (span_of before after old new) result h → AskedPassed n asked (span_of before after old new) result h
   asked_passed (Session k request) (inl served) calm explains = served_passed k request served.1 calm explains
   asked_passed (Session k request) (inr none) calm explains = tt
   asked_passed (Wait ticks) h calm explains = tt
@@ -229,6 +230,6 @@ module _ (lines : List Line) (n : ℕ) (before after : Seen) (old new : World) (
   asked_passed Settle h calm explains = tt
   asked_passed (Sweep tree) h calm explains = tt
 
-pub passes_well : (n : ℕ) (event : Event) (before after : Seen) (old new : World) (result : Result Reply WorldFault) → PassesWell n event before after old new result
+pub passes_well : (n : ℕ) (event : Event) (before after : Seen) (old new : World) (result : Result Reply WorldFault) → PassesWell n event (span_of before after old new) result
 passes_well n event before after old new result lines t number told stands handled calm =
     asked_passed lines n before after old new result t number told stands handled.asked handled.answers calm (explained n event before after old new result lines t number told stands handled)

@@ -21,6 +21,7 @@ use Rattle.world_core.specs.Quota.{SpendsQuota}
 use Rattle.world_core.specs.Sessions.{Changes}
 use Rattle.world_core.specs.World.{World}
 use Rattle.world_core.specs.declared.world.WorldFault.{WorldFault}
+use Rattle.world_core.specs.Span.{span_of}
 
 -- ---- one behind another
 
@@ -99,7 +100,7 @@ spends_between who wish before from under to after number old new turn quota lef
 
 -- a step for which one was taken, however it ends
 pub spends_taken : (who : Caller) (wish : Wish) (before after : Seen) (old new : World) (result : Result (Turn Answer) WorldFault) (quota left : ℕ)
-    → left + 1 ≡ quota → IfOk result (λ turn. StepsLooked who wish before after old new turn) → OnErr result (FallsShort who wish before after old new)
+    → left + 1 ≡ quota → IfOk result (λ turn. StepsLooked who wish (span_of before after old new) turn) → OnErr result (FallsShort who wish (span_of before after old new))
     → SpendsQuota before after quota left
 spends_taken who wish before after old new (Ok turn) quota left taken p short =
     spends_between who wish before p.from p.under p.to after who.session old.sessions new.sessions turn quota left taken p.look_before p.wishes p.session p.look_after

@@ -18,6 +18,7 @@ use Rattle.world_core.specs.declared.world.WorldFault.{WorldFault}
 use Rattle.world_core.specs.Sessions.{Changes}
 use Rattle.world_core.specs.Replying.{RepliesBegun, RepliesTo, RepliesTurn}
 use Rattle.world_core.specs.Handled.{LeavesReplied, BeginsOp, StepsLooked, StepsTold, StepsTo, ComesTo, RunsTold, RunsTo}
+use Rattle.world_core.specs.Span.{span_of}
 use Rattle.world_core.proofs.Going.{same_session, after_there}
 
 -- the session of a number that changed is the changed one
@@ -29,29 +30,29 @@ mine_of : (other number : ℕ) (sessions : List Acting) (left : Acting) → othe
 mine_of other number sessions left same there = subst (λ n. slice_get sessions n ≡ Some left) same there
 
 pub steps_to : (who : Caller) (wish : Wish) (before after : Seen) (old world new : World) (turn : Turn Answer) (other : ℕ) (left : Acting) (result : Result Reply WorldFault)
-    → other ≡ who.session → StepsLooked who wish before after old world turn → slice_get world.sessions other ≡ Some left → RepliesTurn turn left result
-    → LeavesReplied who.session result world new → StepsTo who.event who.session wish before after old new result
+    → other ≡ who.session → StepsLooked who wish (span_of before after old world) turn → slice_get world.sessions other ≡ Some left → RepliesTurn turn left result
+    → LeavesReplied who.session result world new → StepsTo who wish (span_of before after old new) result
 steps_to who wish before after old world new turn other left result same p there replies leaves =
     by_reply result (subst (λ a. RepliesTurn turn a result) (left_there who.session _ old.sessions world.sessions left p.session (mine_of other who.session world.sessions left same there)) replies)
     leaves
   where
-    by_reply : (r : Result Reply WorldFault) → RepliesTurn turn p.session.after r → LeavesReplied who.session r world new → StepsTo who.event who.session wish before after old new r
+    by_reply : (r : Result Reply WorldFault) → RepliesTurn turn p.session.after r → LeavesReplied who.session r world new → StepsTo who wish (span_of before after old new) r
     by_reply (Ok reply) replies stays =
-        subst (λ w. StepsTold who.event who.session wish before after old w reply) (sym stays) (record { turn = turn; steps = p; replies = replies })
+        subst (λ w. StepsTold who wish (span_of before after old w) reply) (sym stays) (record { turn = turn; steps = p; replies = replies })
     by_reply (Err why) replies breaks = record { left = world; turn = turn; steps = p; replies = replies; breaks = breaks }
 
 pub runs_to : (who : Caller) (before after : Seen) (old world new : World) (answer : Answer) (other : ℕ) (left : Acting) (result : Result Reply WorldFault) → other ≡ who.session
-    → ComesTo who before after old world answer → slice_get world.sessions other ≡ Some left → RepliesTo answer left result → LeavesReplied who.session result world new
-    → RunsTo who.event who.session before after old new result
+    → ComesTo who (span_of before after old world) answer → slice_get world.sessions other ≡ Some left → RepliesTo answer left result → LeavesReplied who.session result world new
+    → RunsTo who (span_of before after old new) result
 runs_to who before after old world new answer other left result same comes there replies leaves =
     by_reply result
     (subst (λ a. RepliesTo answer a result)
     (left_there who.session _ comes.world.sessions world.sessions left comes.steps.session (mine_of other who.session world.sessions left same there)) replies)
     leaves
   where
-    by_reply : (r : Result Reply WorldFault) → RepliesTo answer comes.steps.session.after r → LeavesReplied who.session r world new → RunsTo who.event who.session before after old new r
+    by_reply : (r : Result Reply WorldFault) → RepliesTo answer comes.steps.session.after r → LeavesReplied who.session r world new → RunsTo who (span_of before after old new) r
     by_reply (Ok reply) replies stays =
-        subst (λ w. RunsTold who.event who.session before after old w reply) (sym stays) (record { answer = answer; comes = comes; replies = replies })
+        subst (λ w. RunsTold who (span_of before after old w) reply) (sym stays) (record { answer = answer; comes = comes; replies = replies })
     by_reply (Err why) replies breaks = record { left = world; answer = answer; comes = comes; replies = replies; breaks = breaks }
 
 pub begins_to : (number : ℕ) (o : Op) (old world new : World) (begun : Result Begun Refused) (left : Acting) (result : Result Reply WorldFault)

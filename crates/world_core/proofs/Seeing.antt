@@ -27,6 +27,7 @@ use Rattle.world_core.specs.declared.world.WorldFault.{WorldFault}
 use Rattle.session_facts.specs.Lines.Errands.{Errand, settles, sweeps}
 use Rattle.world_core.specs.Handled.{Declines, MakesNoCall, Has, StepsLooked, MakesStep, Went, start, further, ComesTo, Runs, SettlesOn, Crashes, Does, Reports, Answers, Handled, BeginsCheckpoint, Policies, Works, WorksThrough, checkpoint_more, no_checkpoint}
 use Rattle.world_core.specs.Sound.{IsSoundReport}
+use Rattle.world_core.specs.Span.{span_of}
 use Rattle.world_core.proofs.StandsLemmas.{no_memory}
 
 -- no fewer looks have failed, and the world is blinded only where one did
@@ -60,16 +61,16 @@ sees_further before mid after old world new f g = record { dark = omega (arith, 
     on (inl e) = earlier (f.blinded e)
     on (inr rose) = inr (omega (arith, rose, first))
 
-pub declines_sees : (why : Refused) (before after : Seen) (old new : World) (result : Result Reply WorldFault) → Declines why before after old new result → SeesOn before after old new
+pub declines_sees : (why : Refused) (before after : Seen) (old new : World) (result : Result Reply WorldFault) → Declines why (span_of before after old new) result → SeesOn before after old new
 declines_sees why before after old new result h = sees_same before after old new h.seen (ap (λ (w : World). w.blind) h.world)
 
-quiet_sees : (before after : Seen) (old new : World) → MakesNoCall before after old new → SeesOn before after old new
+quiet_sees : (before after : Seen) (old new : World) → MakesNoCall (span_of before after old new) → SeesOn before after old new
 quiet_sees before after old new h = sees_same before after old new h.seen h.blind
 
 has_sees : (seen : Seen) (number : ℕ) (session : Acting) (old new : World) → Has number session old new → SeesOn seen seen old new
 has_sees seen number session old new h = sees_same seen seen old new refl h.blind
 
-pub step_sees : (who : Caller) (wish : Wish) (before after : Seen) (old new : World) (turn : Turn Answer) → StepsLooked who wish before after old new turn → SeesOn before after old new
+pub step_sees : (who : Caller) (wish : Wish) (before after : Seen) (old new : World) (turn : Turn Answer) → StepsLooked who wish (span_of before after old new) turn → SeesOn before after old new
 step_sees who wish before after old new turn p = record { dark = omega (arith, first, still, called, last); blinded = λ b. on (p.blinded b) }
   where
     first : before.counts.dark ≤ p.from.counts.dark
@@ -95,7 +96,7 @@ went_sees who before old after new start = sees_same before before old old refl 
 went_sees who before old after new (further mid _ world _ went step) =
     sees_further before mid after old world new (went_sees who before old mid world went) (step_sees who _ mid after world new _ step)
 
-comes_sees : (who : Caller) (before after : Seen) (old new : World) (answer : Answer) → ComesTo who before after old new answer → SeesOn before after old new
+comes_sees : (who : Caller) (before after : Seen) (old new : World) (answer : Answer) → ComesTo who (span_of before after old new) answer → SeesOn before after old new
 comes_sees who before after old new answer c =
     sees_further before c.mid after old c.world new (went_sees who before old c.mid c.world c.went) (step_sees who _ c.mid after c.world new _ c.steps)
 
@@ -111,34 +112,34 @@ works_sees who before old queues done passed after new (checkpoint_more others k
     (sees_further mid mid after world makes.begun new (begun_sees mid who.session queue world makes.begun makes.begins) (comes_sees who mid after makes.begun new a makes.comes))
 
 module _ (n : ℕ) (before after : Seen) (old new : World) (r : Reply) where
-  policy_sees : (k : ℕ) (role : Role) (number : ℕ) → Policies k role number before after old new (Ok r) → SeesOn before after old new
+  policy_sees : (k : ℕ) (role : Role) (number : ℕ) → Policies k role number (span_of before after old new) (Ok r) → SeesOn before after old new
   policy_sees k role number (inl refuses) = declines_sees _ before after old new (Ok r) refuses.declines
   policy_sees k role number (inr (inl refuses)) = declines_sees _ before after old new (Ok r) refuses.1.declines
   policy_sees k role number (inr (inr gives)) = quiet_sees before after old new gives.quiet
 
-  through_sees : (k : ℕ) → WorksThrough n k before after old new (Ok r) → SeesOn before after old new
+  through_sees : (k : ℕ) → WorksThrough (record { session = k; event = n }) (span_of before after old new) (Ok r) → SeesOn before after old new
   through_sees k (inl refuses) = declines_sees _ before after old new (Ok r) refuses.declines
   through_sees k (inr (inl down)) = works_sees _ before old down.queues down.done down.passed after new down.works
   through_sees k (inr (inr memory)) = absurd (no_memory r memory.0)
 
-  made_sees : (k : ℕ) (wish : Wish) → MakesStep n k wish before after old new (Ok r) → SeesOn before after old new
+  made_sees : (k : ℕ) (wish : Wish) → MakesStep (record { session = k; event = n }) wish (span_of before after old new) (Ok r) → SeesOn before after old new
   made_sees k wish (inl refuses) = declines_sees _ before after old new (Ok r) refuses.declines
   made_sees k wish (inr (inl step)) = step_sees _ wish before after old new step.turn step.steps
   made_sees k wish (inr (inr memory)) = absurd (no_memory r memory.0)
 
-  run_sees : (k : ℕ) → Runs n k before after old new (Ok r) → SeesOn before after old new
+  run_sees : (k : ℕ) → Runs (record { session = k; event = n }) (span_of before after old new) (Ok r) → SeesOn before after old new
   run_sees k (inl refuses) = declines_sees _ before after old new (Ok r) refuses.declines
   run_sees k (inr (inl run)) = comes_sees _ before after old new run.answer run.comes
   run_sees k (inr (inr memory)) = absurd (no_memory r memory.0)
 
-  crash_sees : (k : ℕ) (done : Bool) → Crashes n k done before after old new (Ok r) → SeesOn before after old new
+  crash_sees : (k : ℕ) (done : Bool) → Crashes (record { session = k; event = n }) done (span_of before after old new) (Ok r) → SeesOn before after old new
   crash_sees k false h = quiet_sees before after old new h.quiet
   crash_sees k true (inl idle) = quiet_sees before after old new idle.dies.quiet
   crash_sees k true (inr (inl h)) =
       sees_further before after after old h.world new (step_sees _ _ before after old h.world h.turn h.steps) (has_sees after k _ h.world new h.closes)
   crash_sees k true (inr (inr memory)) = absurd (no_memory r memory.0)
 
-  does_sees : (k : ℕ) (request : Request) → Does n k request before after old new (Ok r) → SeesOn before after old new
+  does_sees : (k : ℕ) (request : Request) → Does (record { session = k; event = n }) request (span_of before after old new) (Ok r) → SeesOn before after old new
   does_sees k (Begin op) h = quiet_sees before after old new h.0
   does_sees k (Note noting) h = quiet_sees before after old new h.0
   does_sees k Abort h = quiet_sees before after old new h.0
@@ -148,13 +149,13 @@ module _ (n : ℕ) (before after : Seen) (old new : World) (r : Reply) where
   does_sees k Run h = run_sees k h
   does_sees k (Crash done) h = crash_sees k done h
 
-  errand_sees : (errand : Errand) (who : Caller) (begun : World) → SeesOn before before old begun → SettlesOn errand who before after begun new (Ok r) → SeesOn before after old new
+  errand_sees : (errand : Errand) (who : Caller) (begun : World) → SeesOn before before old begun → SettlesOn errand who (span_of before after begun new) (Ok r) → SeesOn before after old new
   errand_sees errand who begun begins (inl s) =
       sees_further before before after old begun new begins
       (sees_further before after after begun s.left new (comes_sees who before after begun s.left s.answer s.comes) (has_sees after who.session _ s.left new s.closes))
   errand_sees errand who begun begins (inr memory) = absurd (no_memory r memory.0)
 
-  asked_sees : (asked : Asked) → Answers n asked before after old new (Ok r) → SeesOn before after old new
+  asked_sees : (asked : Asked) → Answers n asked (span_of before after old new) (Ok r) → SeesOn before after old new
   asked_sees (Session k (Ok request)) (inl h) = does_sees k request h.1
   asked_sees (Session k (Err why)) (inl h) = declines_sees why before after old new (Ok r) h.1
   asked_sees (Session k request) (inr none) = declines_sees _ before after old new (Ok r) none.declines
@@ -168,15 +169,15 @@ module _ (n : ℕ) (before after : Seen) (old new : World) (r : Reply) where
   asked_sees (Sweep (Err why)) h = declines_sees why before after old new (Ok r) h
 
 -- a line that was handled sees on
-pub handled_sees : (n : ℕ) (e : Event) (before after : Seen) (old new : World) (r : Reply) → Handled n e before after old new (Ok r) → SeesOn before after old new
+pub handled_sees : (n : ℕ) (e : Event) (before after : Seen) (old new : World) (r : Reply) → Handled n e (span_of before after old new) (Ok r) → SeesOn before after old new
 handled_sees n e before after old new r h = asked_sees n before after old new r h.asked h.answers
 
 -- a report comes where the world saw and no look failed in it
-pub report_comes : (n tree : ℕ) (before after : Seen) (old new : World) (r : Reply) → Handled n (event.Report tree) before after old new (Ok r) → IsTree tree → IsSoundReport r
+pub report_comes : (n tree : ℕ) (before after : Seen) (old new : World) (r : Reply) → Handled n (event.Report tree) (span_of before after old new) (Ok r) → IsTree tree → IsSoundReport r
     → (old.blind ≡ true → ⊥) → after.counts.dark ≡ before.counts.dark → (shown : ReportShown) × (r ≡ reply.Report shown)
-report_comes n tree before after old new r h is sound saw still = on r sound (subst (λ z. Answers n z before after old new (Ok r)) h.asks h.answers)
+report_comes n tree before after old new r h is sound saw still = on r sound (subst (λ z. Answers n z (span_of before after old new) (Ok r)) h.asks h.answers)
   where
-    on : (q : Reply) → IsSoundReport q → Reports tree before after old new (Ok q) → (shown : ReportShown) × (q ≡ reply.Report shown)
+    on : (q : Reply) → IsSoundReport q → Reports tree (span_of before after old new) (Ok q) → (shown : ReportShown) × (q ≡ reply.Report shown)
     on (reply.Report shown) sound h = (shown, refl)
     on (reply.Trouble t) sound h = absurd (never (h.reply.2.failed sound))
       where

@@ -40,6 +40,7 @@ use Rattle.world_core.specs.declared.asked.Noting.{Noting}
 use Rattle.world_core.specs.declared.asked.Request.{Request}
 use Rattle.world_core.specs.declared.asked.Request.TheVariants.{Begin, Note as NoteChange, Abort, Policy, Work as WorksDue, Step, Run, Crash}
 use Rattle.world_core.specs.declared.world.WorldFault.{WorldFault}
+use Rattle.world_core.specs.Span.{span_of}
 
 -- a request that leaves a session its ledger
 abbrev KeepsLedger : Request → Type 0
@@ -80,7 +81,7 @@ module _ (n session k : ℕ) (before after : Seen) (old new : World) (r : Reply)
   same_notes : after ≡ before → new.notes ≡ old.notes → Keeps
   same_notes seen same = with_ledger seen (λ notes has. subst (λ (books : List Notebook). HasLedger session k notes books) (sym same) has)
 
-  declined_sent : (why : Refused) → Declines why before after old new result → Keeps
+  declined_sent : (why : Refused) → Declines why (span_of before after old new) result → Keeps
   declined_sent why d = same_notes d.seen (ap (λ (w : World). w.notes) d.world)
 
   -- ---- a begin
@@ -105,24 +106,24 @@ module _ (n session k : ℕ) (before after : Seen) (old new : World) (r : Reply)
 
   -- ---- a request
 
-  made_sent : (wish : Wish) (p : MakesStep n session wish before after old new result) → EachMade StepIsUndisturbed n session wish before after old new result p → Keeps
+  made_sent : (wish : Wish) (p : MakesStep (record { session = session; event = n }) wish (span_of before after old new) result) → EachMade StepIsUndisturbed (record { session = session; event = n }) wish (span_of before after old new) result p → Keeps
   made_sent wish (inl refused) each = declined_sent _ refused.declines
   made_sent wish (inr (inl made)) each = step_sent who wish before after old new made.turn made.steps k each
   made_sent wish (inr (inr memory)) each = absurd (no_memory r memory.0)
 
-  run_sent : (p : Runs n session before after old new result) → EachRun StepIsUndisturbed n session before after old new result p → Keeps
+  run_sent : (p : Runs (record { session = session; event = n }) (span_of before after old new) result) → EachRun StepIsUndisturbed (record { session = session; event = n }) (span_of before after old new) result p → Keeps
   run_sent (inl refused) each = declined_sent _ refused.declines
   run_sent (inr (inl run)) each = comes_sent who k before after old new run.answer run.comes each
   run_sent (inr (inr memory)) each = absurd (no_memory r memory.0)
 
-  through_sent : (p : WorksThrough n session before after old new result) → EachThrough StepIsUndisturbed n session before after old new result p → Keeps
+  through_sent : (p : WorksThrough (record { session = session; event = n }) (span_of before after old new) result) → EachThrough StepIsUndisturbed (record { session = session; event = n }) (span_of before after old new) result p → Keeps
   through_sent (inl refuses) each = declined_sent _ refuses.declines
   through_sent (inr (inl d)) each = works_sent who k before old d.queues d.done d.passed after new d.works each
   through_sent (inr (inr memory)) each = absurd (no_memory r memory.0)
 
   -- each step of it undisturbed
   abbrev DoesSo : ℕ → Request → Type 0
-  DoesSo j request = (d : Does n j request before after old new result) × EachDone StepIsUndisturbed n j request before after old new result d
+  DoesSo j request = (d : Does (record { session = j; event = n }) request (span_of before after old new) result) × EachDone StepIsUndisturbed (record { session = j; event = n }) request (span_of before after old new) result d
 
   done_sent : (request : Request) → KeepsLedger request → DoesSo session request → Keeps
   done_sent (Step wish) keeps d = made_sent wish d.0 d.1
@@ -134,8 +135,8 @@ module _ (n session k : ℕ) (before after : Seen) (old new : World) (r : Reply)
   done_sent (Policy role number) never d = absurd never
   done_sent (Crash done) never d = absurd never
 
-  requests : (Out : Type 0) (Is : Result Request Refused → Type 0) (asked : Asked) → OfSession session Is asked → (h : Answers n asked before after old new result)
-      → EachAsked StepIsUndisturbed n asked before after old new result h → ((why : Refused) → Declines why before after old new result → Out)
+  requests : (Out : Type 0) (Is : Result Request Refused → Type 0) (asked : Asked) → OfSession session Is asked → (h : Answers n asked (span_of before after old new) result)
+      → EachAsked StepIsUndisturbed n asked (span_of before after old new) result h → ((why : Refused) → Declines why (span_of before after old new) result → Out)
       → ((request : Request) → Is (Ok request) → DoesSo session request → Out) → Out
   requests Out Is (Session j (Ok request)) belongs (inl p) each declines serves = serves request belongs.1 (subst (λ (i : ℕ). DoesSo i request) belongs.0 (p.1, each))
   requests Out Is (Session j (Err why)) belongs (inl p) each declines serves = declines why p.1
@@ -147,7 +148,7 @@ module _ (n session k : ℕ) (before after : Seen) (old new : World) (r : Reply)
 
   -- one that leaves it the ledger
   keeps_by : (Is : Result Request Refused → Type 0) → ((request : Request) → Is (Ok request) → KeepsLedger request) → (asked : Asked) → OfSession session Is asked
-      → (h : Answers n asked before after old new result) → EachAsked StepIsUndisturbed n asked before after old new result h → Keeps
+      → (h : Answers n asked (span_of before after old new) result) → EachAsked StepIsUndisturbed n asked (span_of before after old new) result h → Keeps
   keeps_by Is own asked asks h each = requests Keeps Is asked asks h each declined_sent (λ request is d. done_sent request (own request is) d)
 
   asked_so : (own request : Request) → KeepsLedger own → (let a : Result Request Refused = Ok request in let b : Result Request Refused = Ok own in a ≡ b) → KeepsLedger request
@@ -235,7 +236,7 @@ module _ (n session k : ℕ) (before after : Seen) (old new : World) (r : Reply)
   -- ---- its ledger
 
   module _ (t : CloudState) (told : before.state ≡ Some t) where
-    gives_sent : (number : ℕ) (role : Role) → GivesLedger session role number before after old new result → role ≡ Writer → number ≡ k → HasSentSeen session k new after
+    gives_sent : (number : ℕ) (role : Role) → GivesLedger session role number (span_of before after old new) result → role ≡ Writer → number ≡ k → HasSentSeen session k new after
     gives_sent number role g is same = record {
       state = t;
       told = ap (λ (x : Seen). x.state) g.quiet.seen ∙ told;
@@ -257,7 +258,7 @@ module _ (n session k : ℕ) (before after : Seen) (old new : World) (r : Reply)
       };
     }
 
-    given_so : (role : Role) (number : ℕ) → GivesLedger session role number before after old new result → Next (given k role number)
+    given_so : (role : Role) (number : ℕ) → GivesLedger session role number (span_of before after old new) result → Next (given k role number)
     given_so Writer number g = on (number == k) refl
       where
         on : (b : Bool) → (number == k) ≡ b → Next (cond b Even Unbound)
@@ -270,19 +271,19 @@ module _ (n session k : ℕ) (before after : Seen) (old new : World) (r : Reply)
     policy_refused : (s number : ℕ) (role : Role) (rule : Refusal) → result ≡ declined (refused.Rule rule) → Next (unbound_line k (event.Policy s role number) r)
     policy_refused s number role rule e = subst (λ (x : Reply). Next (unbound_line k (event.Policy s role number) x)) (sym (refused_is r rule e)) tt
 
-    policy_declined : (s number : ℕ) (role : Role) (why : Refused) → Declines why before after old new result → Next (unbound_line k (event.Policy s role number) r)
+    policy_declined : (s number : ℕ) (role : Role) (why : Refused) → Declines why (span_of before after old new) result → Next (unbound_line k (event.Policy s role number) r)
     policy_declined s number role (refused.Rule rule) d = policy_refused s number role rule d.reply
     policy_declined s number role refused.Memory d = absurd (cc (d.reply))
 
-    policy_gives : (s number : ℕ) (role : Role) → Policies session role number before after old new result → Next (unbound_line k (event.Policy s role number) r)
+    policy_gives : (s number : ℕ) (role : Role) → Policies session role number (span_of before after old new) result → Next (unbound_line k (event.Policy s role number) r)
     policy_gives s number role (inl refuses) = policy_declined s number role _ refuses.declines
     policy_gives s number role (inr (inl refuses)) = policy_declined s number role _ refuses.1.declines
     policy_gives s number role (inr (inr g)) =
         let is : r ≡ reply.Noted = cc (g.replies) in
         subst (λ (x : Reply). Next (unbound_line k (event.Policy s role number) x)) (sym is) (given_so role number g)
 
-    policy_line : (s number : ℕ) (role : Role) (asked : Asked) → OfSession session (λ request. request ≡ Ok (Policy role number)) asked → (h : Answers n asked before after old new result)
-        → EachAsked StepIsUndisturbed n asked before after old new result h → (stage : Stage) → Next (own_line k (event.Policy s role number) r stage)
+    policy_line : (s number : ℕ) (role : Role) (asked : Asked) → OfSession session (λ request. request ≡ Ok (Policy role number)) asked → (h : Answers n asked (span_of before after old new) result)
+        → EachAsked StepIsUndisturbed n asked (span_of before after old new) result h → (stage : Stage) → Next (own_line k (event.Policy s role number) r stage)
     policy_line s number role asked asks h each Unbound =
         requests (Next (unbound_line k (event.Policy s role number) r)) (λ request. request ≡ Ok (Policy role number)) asked asks h each (policy_declined s number role)
         (λ request is d. let own : request ≡ Policy role number = same_policy request is in policy_gives s number role (subst (DoesSo session) own d).0)
@@ -311,17 +312,17 @@ module _ (n session k : ℕ) (before after : Seen) (old new : World) (r : Reply)
       };
     }
 
-    wait_line : (ticks : ℕ) → Answers n (Wait ticks) before after old new result → Keeps
+    wait_line : (ticks : ℕ) → Answers n (Wait ticks) (span_of before after old new) result → Keeps
     wait_line ticks (inl waits) =
         let w = waits.0.waited t told in
         still w.after w.told (λ x told_x. ap (λ (y : CloudState). y.messages) w.rest ∙ ap (λ (y : CloudState). y.messages) (state_is t x (sym told ∙ told_x))) waits.1
     wait_line ticks (inr long) = declined_sent _ long.declines
 
-    report_line : (tree : ℕ) → Answers n (Report tree) before after old new result → Keeps
+    report_line : (tree : ℕ) → Answers n (Report tree) (span_of before after old new) result → Keeps
     report_line tree reports =
         still t (reports.looked.stays t told) (λ x told_x. ap (λ (y : CloudState). y.messages) (state_is t x (sym told ∙ told_x))) reports.world
 
-    pub line_sent : (e : Event) (asked : Asked) → Asks e asked → (h : Answers n asked before after old new result) → EachAsked StepIsUndisturbed n asked before after old new result h
+    pub line_sent : (e : Event) (asked : Asked) → Asks e asked → (h : Answers n asked (span_of before after old new) result) → EachAsked StepIsUndisturbed n asked (span_of before after old new) result h
         → (stage : Stage) → SentAt session k stage old before → Next (by_line session k e r stage)
     line_sent (event.Open s client) asked asks h each stage m = gone s (own_line k (event.Open s client) r) refl refl refl refl stage
     line_sent (event.Close s) asked asks h each stage m = gone s (own_line k (event.Close s) r) refl refl refl refl stage
@@ -372,7 +373,7 @@ module _ (n session k : ℕ) (before after : Seen) (old new : World) (r : Reply)
         (λ e. work_line s (keeps_by (λ request. request ≡ Ok WorksDue) (λ request is. asked_so WorksDue request tt is) asked (of_session s _ asked asks e) h each) stage m)
     line_sent (event.Policy s role number) asked asks h each stage m =
         by_own s (own_line k (event.Policy s role number) r) stage (λ e. policy_line s number role asked (of_session s _ asked asks e) h each stage)
-    line_sent (event.Wait ticks) asked asks h each stage m = kept_at (wait_line ticks (subst (λ z. Answers n z before after old new result) asks h)) stage m
-    line_sent (event.Report tree) asked asks h each stage m = kept_at (report_line tree (subst (λ z. Answers n z before after old new result) asks h)) stage m
+    line_sent (event.Wait ticks) asked asks h each stage m = kept_at (wait_line ticks (subst (λ z. Answers n z (span_of before after old new) result) asks h)) stage m
+    line_sent (event.Report tree) asked asks h each stage m = kept_at (report_line tree (subst (λ z. Answers n z (span_of before after old new) result) asks h)) stage m
     line_sent event.Settle asked asks h each stage m = tt
     line_sent (event.Sweep tree) asked asks h each stage m = tt

@@ -60,6 +60,7 @@ use Rattle.world_core.specs.declared.asked.Asked.{Asked}
 use Rattle.world_core.specs.declared.asked.Asked.TheVariants.{Session, Wait, Report, Settle, Sweep}
 use Rattle.world_core.specs.World.{World}
 use Rattle.world_core.specs.declared.world.WorldFault.{WorldFault}
+use Rattle.world_core.specs.Span.{span_of}
 use Rattle.world_core.proofs.StandsLemmas.{changed_at, changed_was, no_memory}
 use Rattle.std.proofs.lemmas.Option.{same_Some}
 
@@ -68,8 +69,8 @@ use Rattle.std.proofs.lemmas.Option.{same_Some}
 -- what is claimed of a step of the settler says so much of its call
 abbrev Gives : StepFact → (Deed → Type 0) → ℕ → Type 0
 Gives Holds P n =
-    (before after : Seen) (old new : World) (turn : Turn Answer) (p : StepsLooked (settler n) Plain before after old new turn) (m : Settling)
-    → p.session.before.work ≡ work.Settling m → Holds (settler n) Plain before after old new turn p
+    (before after : Seen) (old new : World) (turn : Turn Answer) (p : StepsLooked (settler n) Plain (span_of before after old new) turn) (m : Settling)
+    → p.session.before.work ≡ work.Settling m → Holds (settler n) Plain (span_of before after old new) turn p
     → P (record { who = settler n; ask = settle_ask m; answer = reply_of (settler n) p.under p.to p.session.before p.session.after turn p.session.does; before = p.under; after = p.to })
 
 -- the settler is under way in a world, over a cloud that is told
@@ -85,7 +86,7 @@ record WorldAtEnd (E : Settling → Answered → Moment → Type 0) (x : Answere
   holds : E settling x now
 
 module _ (Holds : StepFact) (B : Settling → Moment → Type 0) (E : Settling → Answered → Moment → Type 0) (P : Deed → Type 0) (hands : Hands B E P) (n : ℕ) (gives : Gives Holds P n) where
-  module _ (before after : Seen) (old new : World) (turn : Turn Answer) (at_way : WorldOnWay B P old before) (p : StepsLooked (settler n) Plain before after old new turn) where
+  module _ (before after : Seen) (old new : World) (turn : Turn Answer) (at_way : WorldOnWay B P old before) (p : StepsLooked (settler n) Plain (span_of before after old new) turn) where
     abbrev own : OnWay B P p.session.before at_way.state
     own = of_session B P (session_at old.sessions 0) p.session.before at_way.state (changed_was 0 _ old.sessions new.sessions p.session) at_way.way
 
@@ -95,8 +96,8 @@ module _ (Holds : StepFact) (B : Settling → Moment → Type 0) (E : Settling �
     session_after : session_at new.sessions 0 ≡ p.session.after
     session_after = changed_at 0 _ old.sessions new.sessions p.session 0 ∙ at_same 0 p.session.after (session_at old.sessions) 0 refl
 
-  world_more : (before after : Seen) (old new : World) → WorldOnWay B P old before → (p : StepsLooked (settler n) Plain before after old new More)
-      → Holds (settler n) Plain before after old new More p → WorldOnWay B P new after
+  world_more : (before after : Seen) (old new : World) → WorldOnWay B P old before → (p : StepsLooked (settler n) Plain (span_of before after old new) More)
+      → Holds (settler n) Plain (span_of before after old new) More p → WorldOnWay B P new after
   world_more before after old new at_way p holds =
       let way = own before after old new More at_way p in
       let on = step_on B E P hands n p.under p.to p.session.before p.session.after at_way.state way (under before after old new More at_way p) p.session.does
@@ -107,8 +108,8 @@ module _ (Holds : StepFact) (B : Settling → Moment → Type 0) (E : Settling �
         way = of_session B P p.session.after (session_at new.sessions 0) on.state (sym (session_after before after old new More at_way p)) on.way;
       }
 
-  world_ends : (x : Answered) (before after : Seen) (old new : World) → WorldOnWay B P old before → (p : StepsLooked (settler n) Plain before after old new (Ended (answer.Settled x)))
-      → Holds (settler n) Plain before after old new (Ended (answer.Settled x)) p → WorldAtEnd E x after
+  world_ends : (x : Answered) (before after : Seen) (old new : World) → WorldOnWay B P old before → (p : StepsLooked (settler n) Plain (span_of before after old new) (Ended (answer.Settled x)))
+      → Holds (settler n) Plain (span_of before after old new) (Ended (answer.Settled x)) p → WorldAtEnd E x after
   world_ends x before after old new at_way p holds =
       let way = own before after old new (Ended (answer.Settled x)) at_way p in
       let ends = step_ends B E P hands n p.under p.to p.session.before p.session.after at_way.state way (under before after old new (Ended (answer.Settled x)) at_way p) x p.session.does
@@ -143,15 +144,15 @@ module _ (Holds : StepFact) (B : Settling → Moment → Type 0) (E : Settling �
     no_trouble calls trouble.Memory e = absurd (cc (e))
     no_trouble calls t e = absurd (cc (e))
 
-    world_settles : (after : Seen) (new : World) (calls : ℕ) (h : SettlesTo settles (settler n) before after begun new (Ok (reply.Settled calls)))
-        → EachCome Holds (settler n) before after begun h.left h.answer h.comes → (x : Answered) × ((x.calls ≡ calls) × WorldAtEnd E x after)
+    world_settles : (after : Seen) (new : World) (calls : ℕ) (h : SettlesTo settles (settler n) (span_of before after begun new) (Ok (reply.Settled calls)))
+        → EachCome Holds (settler n) (span_of before after begun h.left) h.answer h.comes → (x : Answered) × ((x.calls ≡ calls) × WorldAtEnd E x after)
     world_settles after new calls h each = on h.answer h.comes.steps h.replies each.1
       where
         way : WorldOnWay B P h.comes.world h.comes.mid
         way = world_went before begun h.comes.mid h.comes.world world_begins h.comes.went each.0
 
-        on : (a : Answer) → (p : StepsLooked (settler n) Plain h.comes.mid after h.comes.world h.left (Ended a)) → RepliesSettled a (Ok (reply.Settled calls))
-            → Holds (settler n) Plain h.comes.mid after h.comes.world h.left (Ended a) p → (x : Answered) × ((x.calls ≡ calls) × WorldAtEnd E x after)
+        on : (a : Answer) → (p : StepsLooked (settler n) Plain (span_of h.comes.mid after h.comes.world h.left) (Ended a)) → RepliesSettled a (Ok (reply.Settled calls))
+            → Holds (settler n) Plain (span_of h.comes.mid after h.comes.world h.left) (Ended a) p → (x : Answered) × ((x.calls ≡ calls) × WorldAtEnd E x after)
         on (answer.Settled x) p e holds = (x, (same_calls calls x e, world_ends x h.comes.mid after h.comes.world h.left way p holds))
         on (answer.Trouble q) p e holds = absurd (no_trouble calls q e)
         on a p e holds = absurd e
@@ -204,8 +205,8 @@ record WorldAlone (world : World) (seen : Seen) : Type 0 where
   alone : IsAlone at.way.settling at.state
 
 module _ (n : ℕ) where
-  module _ (before after : Seen) (old new : World) (turn : Turn Answer) (here : WorldAlone old before) (p : StepsLooked (settler n) Plain before after old new turn)
-      (well : StepGoesWell (settler n) Plain before after old new turn p) where
+  module _ (before after : Seen) (old new : World) (turn : Turn Answer) (here : WorldAlone old before) (p : StepsLooked (settler n) Plain (span_of before after old new) turn)
+      (well : StepGoesWell (settler n) Plain (span_of before after old new) turn p) where
     abbrev way : OnWay Anything AnyCall p.session.before here.at.state
     way = own StepGoesWell Anything AnyEnd AnyCall any_hands n (any_gives StepGoesWell n) before after old new turn here.at p
 
@@ -226,7 +227,7 @@ module _ (n : ℕ) where
         calm_with Anything AnyEnd AnyCall any_hands n p.under p.to p.session.before p.session.after here.at.state way wish_set turn p.session.does here.alone well.counts
         (λ t told. subst (λ (ask : Ask). NamesLasting ask t.now) asked (well.lasting t told))
 
-    well_calm : StepIsCalm (settler n) Plain before after old new turn p
+    well_calm : StepIsCalm (settler n) Plain (span_of before after old new) turn p
     well_calm = record {
       ask = settle_ask way.settling;
       hand = ap ask_of_work way.works;
@@ -235,8 +236,8 @@ module _ (n : ℕ) where
       memory = well.memory;
     }
 
-  well_more : (before after : Seen) (old new : World) → WorldAlone old before → (p : StepsLooked (settler n) Plain before after old new More)
-      → StepGoesWell (settler n) Plain before after old new More p → WorldAlone new after
+  well_more : (before after : Seen) (old new : World) → WorldAlone old before → (p : StepsLooked (settler n) Plain (span_of before after old new) More)
+      → StepGoesWell (settler n) Plain (span_of before after old new) More p → WorldAlone new after
   well_more before after old new here p well =
       let on = step_on Anything AnyEnd AnyCall any_hands n p.under p.to p.session.before p.session.after here.at.state (way before after old new More here p well)
       (wish_set before after old new More here p well) p.session.does tt in
@@ -264,12 +265,12 @@ module _ (n : ℕ) where
       alone = begins_alone t free;
     }
 
-    settling_calm : (h : SettlesLine settles n before after old new (Ok r)) → EachSettling StepGoesWell settles n before after old new (Ok r) h → EachSettling StepIsCalm settles n before after old new (Ok r) h
+    settling_calm : (h : SettlesLine settles n (span_of before after old new) (Ok r)) → EachSettling StepGoesWell settles n (span_of before after old new) (Ok r) h → EachSettling StepIsCalm settles n (span_of before after old new) (Ok r) h
     settling_calm (inr memory) each = tt
     settling_calm (inl h) each = on h.settles each
       where
-        on : (s : SettlesOn settles (settler n) before after h.begun new (Ok r)) → EachSettlingOn StepGoesWell settles (settler n) before after h.begun new (Ok r) s
-            → EachSettlingOn StepIsCalm settles (settler n) before after h.begun new (Ok r) s
+        on : (s : SettlesOn settles (settler n) (span_of before after h.begun new) (Ok r)) → EachSettlingOn StepGoesWell settles (settler n) (span_of before after h.begun new) (Ok r) s
+            → EachSettlingOn StepIsCalm settles (settler n) (span_of before after h.begun new) (Ok r) s
         on (inr memory) steps = tt
         on (inl s) steps =
             let went = went_calm before h.begun s.comes.mid s.comes.world (begins_free h.begun h.begins) s.comes.went steps.0 in
@@ -279,7 +280,7 @@ module _ (n : ℕ) where
 
 -- nothing is asked of a step
 abbrev AnyStep : StepFact
-AnyStep who wish before after old new turn p = Unit {0}
+AnyStep who wish span turn p = Unit {0}
 
 abbrev SettlerOnWay : World → Seen → Type 0
 SettlerOnWay world seen = WorldOnWay Anything AnyCall world seen
@@ -288,10 +289,10 @@ state_is : (x y z : CloudState) → x ≡ y → Some y ≡ Some z → x ≡ z
 state_is x y z e f = e ∙ cc (f)
 
 module _ (n : ℕ) where
-  settler_more : (before after : Seen) (old new : World) → SettlerOnWay old before → StepsLooked (settler n) Plain before after old new More → SettlerOnWay new after
+  settler_more : (before after : Seen) (old new : World) → SettlerOnWay old before → StepsLooked (settler n) Plain (span_of before after old new) More → SettlerOnWay new after
   settler_more before after old new way p = world_more AnyStep Anything AnyEnd AnyCall any_hands n (any_gives AnyStep n) before after old new way p tt
 
-  module _ (before after : Seen) (old new : World) (turn : Turn Answer) (at_way : SettlerOnWay old before) (p : StepsLooked (settler n) Plain before after old new turn) where
+  module _ (before after : Seen) (old new : World) (turn : Turn Answer) (at_way : SettlerOnWay old before) (p : StepsLooked (settler n) Plain (span_of before after old new) turn) where
     abbrev goes : OnWay Anything AnyCall p.session.before at_way.state
     goes = own AnyStep Anything AnyEnd AnyCall any_hands n (any_gives AnyStep n) before after old new turn at_way p
 
@@ -306,11 +307,11 @@ module _ (n : ℕ) where
         subst (λ (x : CloudState). SessionsStand at.book at.order x at.sessions)
         (state_is at.state (record at_way.state { wish = Plain }) s goes.now_is (sym wished ∙ told)) at.stand
 
-    settler_explains : StepExplains (settler n) Plain before after old new turn p
+    settler_explains : StepExplains (settler n) Plain (span_of before after old new) turn p
     settler_explains s t told left =
         session_explains (settler n) p.under p.to s t at.book at.order at.sessions told left (stand s told) p.session.before p.session.after turn goes.session_is p.session.does
 
-  settler_stops : (before after : Seen) (old new : World) (q : Trouble) → SettlerOnWay old before → StepsLooked (settler n) Plain before after old new (Ended (answer.Trouble q)) → MaySettle q
+  settler_stops : (before after : Seen) (old new : World) (q : Trouble) → SettlerOnWay old before → StepsLooked (settler n) Plain (span_of before after old new) (Ended (answer.Trouble q)) → MaySettle q
   settler_stops before after old new q at_way p =
       subst (λ (w : Work). MayAnswer w q) works
       (session_stops (settler n) p.under p.to s left.after here.book here.order here.sessions told left.told (stand before after old new (Ended (answer.Trouble q)) at_way p s told) p.session.after q steps)
@@ -350,11 +351,11 @@ module _ (n : ℕ) where
     begins_way : (begun : World) → Has 0 settling_session old begun → SettlerOnWay begun before
     begins_way begun begins = world_begins AnyStep Anything AnyEnd AnyCall any_hands n (any_gives AnyStep n) before old begun t told stands begins tt
 
-    settling_explains : (h : SettlesLine settles n before after old new (Ok r)) → EachSettling StepExplains settles n before after old new (Ok r) h
+    settling_explains : (h : SettlesLine settles n (span_of before after old new) (Ok r)) → EachSettling StepExplains settles n (span_of before after old new) (Ok r) h
     settling_explains (inr memory) = tt
     settling_explains (inl h) = on h.settles
       where
-        on : (s : SettlesOn settles (settler n) before after h.begun new (Ok r)) → EachSettlingOn StepExplains settles (settler n) before after h.begun new (Ok r) s
+        on : (s : SettlesOn settles (settler n) (span_of before after h.begun new) (Ok r)) → EachSettlingOn StepExplains settles (settler n) (span_of before after h.begun new) (Ok r) s
         on (inr memory) = tt
         on (inl s) =
             let went = went_explains before h.begun s.comes.mid s.comes.world (begins_way h.begun h.begins) s.comes.went in
@@ -364,18 +365,18 @@ module _ (n : ℕ) where
     unsettled_sound posture trouble.Memory e may = absurd (cc (e))
     unsettled_sound posture q e may = let is : r ≡ reply.NotSettled q = cc (e) in subst (IsSoundReply posture) (sym is) may
 
-    settling_sound : SettlesLine settles n before after old new (Ok r) → (posture : Posture) → IsSoundReply posture r
+    settling_sound : SettlesLine settles n (span_of before after old new) (Ok r) → (posture : Posture) → IsSoundReply posture r
     settling_sound (inr memory) posture = absurd (no_memory r memory.0)
     settling_sound (inl h) posture = by_end h.settles
       where
-        by_end : SettlesOn settles (settler n) before after h.begun new (Ok r) → IsSoundReply posture r
+        by_end : SettlesOn settles (settler n) (span_of before after h.begun new) (Ok r) → IsSoundReply posture r
         by_end (inr memory) = absurd (no_memory r memory.0)
         by_end (inl s) = on s.answer s.comes.steps s.replies
           where
             way : SettlerOnWay s.comes.world s.comes.mid
             way = (went_explains before h.begun s.comes.mid s.comes.world (begins_way h.begun h.begins) s.comes.went).1
 
-            on : (a : Answer) → StepsLooked (settler n) Plain s.comes.mid after s.comes.world s.left (Ended a) → RepliesSettled a (Ok r) → IsSoundReply posture r
+            on : (a : Answer) → StepsLooked (settler n) Plain (span_of s.comes.mid after s.comes.world s.left) (Ended a) → RepliesSettled a (Ok r) → IsSoundReply posture r
             on (answer.Settled x) p e = let is : r ≡ reply.Settled x.calls = cc (e) in subst (IsSoundReply posture) (sym is) tt
             on (answer.Trouble q) p e = unsettled_sound posture q e (settler_stops s.comes.mid after s.comes.world s.left q way p)
             on a p e = absurd e
@@ -395,22 +396,22 @@ module _ (trees : TreesRun) (pages : PagesRun) (clients : RecoveriesRun) (n : �
   abbrev answered : Result Reply WorldFault
   answered = Ok (reply.Settled calls)
 
-  line_leaves : (h : SettlesLine settles n before after old new answered) → EachSettling StepDelivers settles n before after old new answered h → LeftNothing after
+  line_leaves : (h : SettlesLine settles n (span_of before after old new) answered) → EachSettling StepDelivers settles n (span_of before after old new) answered h → LeftNothing after
   line_leaves (inr memory) each = absurd (no_memory (reply.Settled calls) memory.0)
   line_leaves (inl h) each = on h.settles each
     where
-      on : (s : SettlesOn settles (settler n) before after h.begun new answered) → EachSettlingOn StepDelivers settles (settler n) before after h.begun new answered s → LeftNothing after
+      on : (s : SettlesOn settles (settler n) (span_of before after h.begun new) answered) → EachSettlingOn StepDelivers settles (settler n) (span_of before after h.begun new) answered s → LeftNothing after
       on (inr memory) steps = absurd (no_memory (reply.Settled calls) memory.0)
       on (inl s) steps =
           let end = (world_settles StepDelivers Left NothingWaits IsDelivered (left_hands trees pages clients) n (delivers_gives n) before old h.begun t told stands h.begins
           (left_begins stands.book stands.order t (session_at old.sessions) stands.rests stands.stand) after new calls s steps) in
           record { state = end.1.1.now.state; told = end.1.1.told; nothing = leaves_nothing end.1.1.now end.1.1.settling end.0 end.1.1.holds }
 
-  line_within : (h : SettlesLine settles n before after old new answered) → EachSettling StepIsCalm settles n before after old new answered h → SettledWithin t after calls
+  line_within : (h : SettlesLine settles n (span_of before after old new) answered) → EachSettling StepIsCalm settles n (span_of before after old new) answered h → SettledWithin t after calls
   line_within (inr memory) each = absurd (no_memory (reply.Settled calls) memory.0)
   line_within (inl h) each = on h.settles each
     where
-      on : (s : SettlesOn settles (settler n) before after h.begun new answered) → EachSettlingOn StepIsCalm settles (settler n) before after h.begun new answered s → SettledWithin t after calls
+      on : (s : SettlesOn settles (settler n) (span_of before after h.begun new) answered) → EachSettlingOn StepIsCalm settles (settler n) (span_of before after h.begun new) answered s → SettledWithin t after calls
       on (inr memory) steps = absurd (no_memory (reply.Settled calls) memory.0)
       on (inl s) steps =
           let end = (world_settles StepIsCalm (LeftAndCost t) (SettledWell t) GoesCalmly (cost_hands t trees pages clients) n (calm_gives n) before old h.begun t told stands h.begins
@@ -427,8 +428,8 @@ module _ (trees : TreesRun) (pages : PagesRun) (clients : RecoveriesRun) (n : �
 
 module _ (trees : TreesRun) (pages : PagesRun) (clients : RecoveriesRun) where
   asked_leaves : (n : ℕ) (before after : Seen) (old new : World) (t : CloudState) (calls : ℕ) → before.state ≡ Some t → SomeBookStands (session_at old.sessions) t
-      → (asked : Asked) → asked ≡ Settle → (answers : Answers n asked before after old new (Ok (reply.Settled calls)))
-      → EachAsked StepDelivers n asked before after old new (Ok (reply.Settled calls)) answers → LeftNothing after
+      → (asked : Asked) → asked ≡ Settle → (answers : Answers n asked (span_of before after old new) (Ok (reply.Settled calls)))
+      → EachAsked StepDelivers n asked (span_of before after old new) (Ok (reply.Settled calls)) answers → LeftNothing after
   asked_leaves n before after old new t calls told stands Settle is answers each = line_leaves trees pages clients n before after old new t calls told stands answers each
   asked_leaves n before after old new t calls told stands (Session j request) is answers each = absurd (cc (is))
   asked_leaves n before after old new t calls told stands (Wait ticks) is answers each = absurd (cc (is))
@@ -436,22 +437,22 @@ module _ (trees : TreesRun) (pages : PagesRun) (clients : RecoveriesRun) where
   asked_leaves n before after old new t calls told stands (Sweep tree) is answers each = absurd (cc (is))
 
   asked_within : (n : ℕ) (before after : Seen) (old new : World) (t : CloudState) (calls : ℕ) → before.state ≡ Some t → SomeBookStands (session_at old.sessions) t
-      → (asked : Asked) → asked ≡ Settle → (answers : Answers n asked before after old new (Ok (reply.Settled calls)))
-      → EachAsked StepIsCalm n asked before after old new (Ok (reply.Settled calls)) answers → SettledWithin t after calls
+      → (asked : Asked) → asked ≡ Settle → (answers : Answers n asked (span_of before after old new) (Ok (reply.Settled calls)))
+      → EachAsked StepIsCalm n asked (span_of before after old new) (Ok (reply.Settled calls)) answers → SettledWithin t after calls
   asked_within n before after old new t calls told stands Settle is answers each = line_within trees pages clients n before after old new t calls told stands answers each
   asked_within n before after old new t calls told stands (Session j request) is answers each = absurd (cc (is))
   asked_within n before after old new t calls told stands (Wait ticks) is answers each = absurd (cc (is))
   asked_within n before after old new t calls told stands (Report tree) is answers each = absurd (cc (is))
   asked_within n before after old new t calls told stands (Sweep tree) is answers each = absurd (cc (is))
 
-  leaves_for : (n : ℕ) (e : Event) (before after : Seen) (old new : World) (result : Result Reply WorldFault) → SettlingLeaves n e before after old new result
+  leaves_for : (n : ℕ) (e : Event) (before after : Seen) (old new : World) (result : Result Reply WorldFault) → SettlingLeaves n e (span_of before after old new) result
   leaves_for n event.Settle before after old new (Ok (reply.Settled calls)) = λ t told stands handled each.
       asked_leaves n before after old new t calls told stands handled.asked handled.asks handled.answers each
   leaves_for n e before after old new result = tt
 
 asked_calm : (n : ℕ) (before after : Seen) (old new : World) (t : CloudState) (r : Reply) → before.state ≡ Some t → SomeBookStands (session_at old.sessions) t → NoLockHeld t
-    → (asked : Asked) → asked ≡ Settle → (answers : Answers n asked before after old new (Ok r)) → EachAsked StepGoesWell n asked before after old new (Ok r) answers
-    → EachAsked StepIsCalm n asked before after old new (Ok r) answers
+    → (asked : Asked) → asked ≡ Settle → (answers : Answers n asked (span_of before after old new) (Ok r)) → EachAsked StepGoesWell n asked (span_of before after old new) (Ok r) answers
+    → EachAsked StepIsCalm n asked (span_of before after old new) (Ok r) answers
 asked_calm n before after old new t r told stands free Settle is answers each = settling_calm n before after old new r t told stands free answers each
 asked_calm n before after old new t r told stands free (Session j request) is answers each = absurd (cc (is))
 asked_calm n before after old new t r told stands free (Wait ticks) is answers each = absurd (cc (is))
@@ -459,13 +460,13 @@ asked_calm n before after old new t r told stands free (Report tree) is answers 
 asked_calm n before after old new t r told stands free (Sweep tree) is answers each = absurd (cc (is))
 
 -- what is asked of a settling is right
-record AsksRightly (n : ℕ) (asked : Asked) (before after : Seen) (old new : World) (r : Reply) (answers : Answers n asked before after old new (Ok r)) : Type 0 where
+record AsksRightly (n : ℕ) (asked : Asked) (before after : Seen) (old new : World) (r : Reply) (answers : Answers n asked (span_of before after old new) (Ok r)) : Type 0 where
   sound : (posture : Posture) → IsSoundReply posture r
-  explains : EachAsked StepExplains n asked before after old new (Ok r) answers
-  calm : EachAsked StepIsCalm n asked before after old new (Ok r) answers → (u : CloudState) → after.state ≡ Some u → IsUntroubled u (work_at new 0) × SettlesWell u r
+  explains : EachAsked StepExplains n asked (span_of before after old new) (Ok r) answers
+  calm : EachAsked StepIsCalm n asked (span_of before after old new) (Ok r) answers → (u : CloudState) → after.state ≡ Some u → IsUntroubled u (work_at new 0) × SettlesWell u r
 
 asked_right : (n : ℕ) (before after : Seen) (old new : World) (t : CloudState) (r : Reply) → before.state ≡ Some t → SomeBookStands (session_at old.sessions) t
-    → (asked : Asked) → asked ≡ Settle → (answers : Answers n asked before after old new (Ok r)) → AsksRightly n asked before after old new r answers
+    → (asked : Asked) → asked ≡ Settle → (answers : Answers n asked (span_of before after old new) (Ok r)) → AsksRightly n asked before after old new r answers
 asked_right n before after old new t r told stands Settle is answers =
     let sound = settling_sound n before after old new r t told stands answers in
     let explains = settling_explains n before after old new r t told stands answers in
@@ -475,29 +476,29 @@ asked_right n before after old new t r told stands (Wait ticks) is answers = abs
 asked_right n before after old new t r told stands (Report tree) is answers = absurd (cc (is))
 asked_right n before after old new t r told stands (Sweep tree) is answers = absurd (cc (is))
 
-pub settling_right : (n : ℕ) (e : Event) (before after : Seen) (old new : World) (result : Result Reply WorldFault) → SettlingIsRight n e before after old new result
+pub settling_right : (n : ℕ) (e : Event) (before after : Seen) (old new : World) (result : Result Reply WorldFault) → SettlingIsRight n e (span_of before after old new) result
 settling_right n event.Settle before after old new (Ok r) = λ t told stands handled.
     let right = asked_right n before after old new t r told stands handled.asked handled.asks handled.answers in
     record { sound = right.sound; explains = right.explains; calm = right.calm }
 settling_right n e before after old new result = tt
 
 module _ (trees : TreesRun) (pages : PagesRun) (clients : RecoveriesRun) where
-  settles_for : (n : ℕ) (e : Event) (before after : Seen) (old new : World) (result : Result Reply WorldFault) → SettlingEnds n e before after old new result
+  settles_for : (n : ℕ) (e : Event) (before after : Seen) (old new : World) (result : Result Reply WorldFault) → SettlingEnds n e (span_of before after old new) result
   settles_for n event.Settle before after old new (Ok r) = λ t told stands free handled each.
       let calm = asked_calm n before after old new t r told stands free handled.asked handled.asks handled.answers each in
       let right = asked_right n before after old new t r told stands handled.asked handled.asks handled.answers in
       let kept = keeps_book n event.Settle before after old new (Ok r) handled t told stands in
       on r t told stands handled calm kept.0 kept.1 (right.calm calm kept.0 kept.1).1
     where
-      on : (q : Reply) (t : CloudState) → before.state ≡ Some t → SomeBookStands (session_at old.sessions) t → (handled : Handled n event.Settle before after old new (Ok q))
-          → EachStep StepIsCalm n event.Settle before after old new (Ok q) handled → (u : CloudState) → after.state ≡ Some u → SettlesWell u q → AnswersSettled t after q
+      on : (q : Reply) (t : CloudState) → before.state ≡ Some t → SomeBookStands (session_at old.sessions) t → (handled : Handled n event.Settle (span_of before after old new) (Ok q))
+          → EachStep StepIsCalm n event.Settle (span_of before after old new) (Ok q) handled → (u : CloudState) → after.state ≡ Some u → SettlesWell u q → AnswersSettled t after q
       on (reply.Settled calls) t told stands handled calm u told_after well = asked_within trees pages clients n before after old new t calls told stands handled.asked handled.asks handled.answers calm
       on (reply.NotSettled k) t told stands handled calm u told_after well = (u, told_after, well)
       on q t told stands handled calm u told_after well = absurd well
   settles_for n e before after old new result = tt
 
-pub settling_leaves : (n : ℕ) (e : Event) (before after : Seen) (old new : World) (result : Result Reply WorldFault) → SettlingLeaves n e before after old new result
+pub settling_leaves : (n : ℕ) (e : Event) (before after : Seen) (old new : World) (result : Result Reply WorldFault) → SettlingLeaves n e (span_of before after old new) result
 settling_leaves n e before after old new result = leaves_for trees_run pages_run recoveries_run n e before after old new result
 
-pub settling_ends : (n : ℕ) (e : Event) (before after : Seen) (old new : World) (result : Result Reply WorldFault) → SettlingEnds n e before after old new result
+pub settling_ends : (n : ℕ) (e : Event) (before after : Seen) (old new : World) (result : Result Reply WorldFault) → SettlingEnds n e (span_of before after old new) result
 settling_ends n e before after old new result = settles_for trees_run pages_run recoveries_run n e before after old new result

@@ -19,6 +19,7 @@ use Rattle.world_core.specs.World.{World}
 use Rattle.world_core.specs.Replying.{IsOfErrand}
 use Rattle.world_core.specs.Sessions.{Changes, IsAtWork}
 use Rattle.world_core.specs.Handled.{Went, start, further, ComesTo}
+use Rattle.world_core.specs.Span.{span_of}
 use Rattle.world_core.proofs.Errands.{works_first}
 use Rattle.world_core.proofs.Going.{same_session, after_there}
 
@@ -82,7 +83,7 @@ module _ (errand : Errand) where
       }
 
   pub answers_errand : (who : Caller) (before after : Seen) (old new : World) (a : Answer) → slice_get old.sessions who.session ≡ Some (session_for errand)
-      → ComesTo who before after old new a → IsOfErrand errand a
+      → ComesTo who (span_of before after old new) a → IsOfErrand errand a
   answers_errand who before after old new a there comes =
       let c = comes.steps.session in
       let s = went_goes who before old comes.mid comes.world comes.went (record { session = session_for errand; there = there; works = works_first errand }) in

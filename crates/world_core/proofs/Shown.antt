@@ -11,11 +11,12 @@ use Rattle.world_core.specs.World.{World}
 use Rattle.world_core.specs.declared.world.WorldFault.{WorldFault}
 use Rattle.world_core.specs.Handled.{StepsLooked}
 use Rattle.world_core.specs.Shown.{StepShows, ShowsSteps}
+use Rattle.world_core.specs.Span.{span_of}
 use Rattle.world_core.proofs.EachAny.{asked_each}
 
-step_shows : (who : Caller) (wish : Wish) (before after : Seen) (old new : World) (turn : Turn Answer) (p : StepsLooked who wish before after old new turn)
-    → StepShows who wish before after old new turn p
+step_shows : (who : Caller) (wish : Wish) (before after : Seen) (old new : World) (turn : Turn Answer) (p : StepsLooked who wish (span_of before after old new) turn)
+    → StepShows who wish (span_of before after old new) turn p
 step_shows who wish before after old new turn p = p.session.does.whole
 
-pub shown : (n : ℕ) (event : Event) (before after : Seen) (old new : World) (result : Result Reply WorldFault) → ShowsSteps n event before after old new result
+pub shown : (n : ℕ) (event : Event) (before after : Seen) (old new : World) (result : Result Reply WorldFault) → ShowsSteps n event (span_of before after old new) result
 shown n event before after old new result handled = asked_each StepShows step_shows n before after old new result handled.asked handled.answers

@@ -31,12 +31,13 @@ use Rattle.world_core.specs.declared.asked.Asked.TheVariants.{Session, Wait, Rep
 use Rattle.world_core.specs.EachStep.{EachWent, EachSettlingOn, EachSettling, EachAsked, EachThrough, EachWork}
 use Rattle.world_core.specs.Handled.{StepsLooked, Went, start, further, SettlesOn, Settles, Answers, Works, WorksThrough, checkpoint_more, no_checkpoint}
 use Rattle.world_core.specs.ShownByLines.{StepShowsBy, ShowsStepsBy}
+use Rattle.world_core.specs.Span.{span_of}
 use Rattle.world_core.proofs.EachUnderWay.{each_step}
 use Rattle.world_core.proofs.StandsLemmas.{IsUnderWay, changed_at, changed_was, has_at, told_under, steps_own, settler}
 
 module _ (lines : List Line) where
   own_shows : (who : Caller) (wish : Wish) (before after : Seen) (old new : World) (turn : Turn Answer) → who.event ≡ length lines + 1 → IsUnderWay lines old before
-      → (p : StepsLooked who wish before after old new turn) → StepShowsBy lines who wish before after old new turn p
+      → (p : StepsLooked who wish (span_of before after old new) turn) → StepShowsBy lines who wish (span_of before after old new) turn p
   own_shows who wish before after old new turn number way p s under =
       subst (λ (a : Acting). ShowsByLines lines s who p.under p.to a p.session.after turn) (changed_was who.session _ old.sessions new.sessions p.session)
       (shown_by_lines (length lines + 1) lines (session_at old.sessions) old.audit old.blind s held who p.under p.to p.session.after turn (way.goes.acts who.session)
@@ -57,12 +58,12 @@ module _ (lines : List Line) where
 -- its session settles or sweeps at each of its steps, and such a step shows nothing
 module _ (lines : List Line) (n : ℕ) where
   step_shows : (wish : Wish) (before after : Seen) (old new : World) (turn : Turn Answer) → IsSettler (session_at old.sessions 0).work
-      → (p : StepsLooked (settler n) wish before after old new turn) → StepShowsBy lines (settler n) wish before after old new turn p
+      → (p : StepsLooked (settler n) wish (span_of before after old new) turn) → StepShowsBy lines (settler n) wish (span_of before after old new) turn p
   step_shows wish before after old new turn settles p s under =
       settler_by_lines lines s (settler n) p.under p.to p.session.before p.session.after turn
       (subst (λ (a : Acting). IsSettler a.work) (changed_was 0 _ old.sessions new.sessions p.session) settles) p.session.does
 
-  step_goes : (before after : Seen) (old new : World) → IsSettler (session_at old.sessions 0).work → StepsLooked (settler n) Plain before after old new More
+  step_goes : (before after : Seen) (old new : World) → IsSettler (session_at old.sessions 0).work → StepsLooked (settler n) Plain (span_of before after old new) More
       → IsSettler (session_at new.sessions 0).work
   step_goes before after old new settles p =
       subst (λ (a : Acting). IsSettler a.work) (sym (changed_at 0 _ old.sessions new.sessions p.session 0 ∙ at_same 0 p.session.after (session_at old.sessions) 0 refl))
@@ -86,15 +87,15 @@ module _ (lines : List Line) (n : ℕ) where
   first_works errands.settles = tt
   first_works (errands.sweeps tree) = tt
 
-  pub errand_shows : (errand : Errand) (before after : Seen) (old new : World) (result : Result Reply WorldFault) (h : Settles errand n before after old new result)
-      → EachSettling (StepShowsBy lines) errand n before after old new result h
+  pub errand_shows : (errand : Errand) (before after : Seen) (old new : World) (result : Result Reply WorldFault) (h : Settles errand n (span_of before after old new) result)
+      → EachSettling (StepShowsBy lines) errand n (span_of before after old new) result h
   errand_shows errand before after old new result (inr memory) = tt
   errand_shows errand before after old new result (inl h) = on h.settles
     where
       begins : IsSettler (session_at h.begun.sessions 0).work
       begins = subst (λ (a : Acting). IsSettler a.work) (sym (has_at 0 (session_for errand) old h.begun h.begins 0 ∙ at_same 0 (session_for errand) (session_at old.sessions) 0 refl)) (first_works errand)
 
-      on : (s : SettlesOn errand (settler n) before after h.begun new result) → EachSettlingOn (StepShowsBy lines) errand (settler n) before after h.begun new result s
+      on : (s : SettlesOn errand (settler n) (span_of before after h.begun new) result) → EachSettlingOn (StepShowsBy lines) errand (settler n) (span_of before after h.begun new) result s
       on (inr memory) = tt
       on (inl s) = (
         went_shows before h.begun s.comes.mid s.comes.world begins s.comes.went,
@@ -105,8 +106,8 @@ module _ (lines : List Line) (n : ℕ) where
 
 -- its session has a checkpoint in hand at each of its steps
 module _ (lines : List Line) (who : Caller) (home : Home) (first : Sessions) where
-  checkpoint_shows : (before after : Seen) (old new : World) (turn : Turn Answer) → IsInside who.session home first old → (p : StepsLooked who Plain before after old new turn)
-      → StepShowsBy lines who Plain before after old new turn p
+  checkpoint_shows : (before after : Seen) (old new : World) (turn : Turn Answer) → IsInside who.session home first old → (p : StepsLooked who Plain (span_of before after old new) turn)
+      → StepShowsBy lines who Plain (span_of before after old new) turn p
   checkpoint_shows before after old new turn w p s under =
       checkpoint_by_lines lines s who p.under p.to home p.session.before p.session.after turn
       (subst (λ (a : Acting). HasCheckpoint home a.work) (changed_was who.session _ old.sessions new.sessions p.session) w.works) p.session.does
@@ -131,8 +132,8 @@ module _ (lines : List Line) (who : Caller) (home : Home) (first : Sessions) whe
         ),
       )
 
-working_shows : (lines : List Line) (n k : ℕ) (before after : Seen) (old new : World) (result : Result Reply WorldFault) (h : WorksThrough n k before after old new result)
-    → EachThrough (StepShowsBy lines) n k before after old new result h
+working_shows : (lines : List Line) (n k : ℕ) (before after : Seen) (old new : World) (result : Result Reply WorldFault) (h : WorksThrough (record { session = k; event = n }) (span_of before after old new) result)
+    → EachThrough (StepShowsBy lines) (record { session = k; event = n }) (span_of before after old new) result h
 working_shows lines n k before after old new result (inl refused) = tt
 working_shows lines n k before after old new result (inr (inl down)) =
     let rest = open_rests k old down.opened in
@@ -141,13 +142,13 @@ working_shows lines n k before after old new result (inr (inr memory)) = tt
 
 -- ---- every line
 
-pub shown_by : (n : ℕ) (event : Event) (before after : Seen) (old new : World) (result : Result Reply WorldFault) → ShowsStepsBy n event before after old new result
+pub shown_by : (n : ℕ) (event : Event) (before after : Seen) (old new : World) (result : Result Reply WorldFault) → ShowsStepsBy n event (span_of before after old new) result
 shown_by n event before after old new result lines t number told stands handled =
     each_step (StepShowsBy lines) lines (own_shows lines) (λ errand m. errand_shows lines m errand) (working_shows lines) n before after old new result t number told stands handled.asked handled.answers
 
 -- and one that settles, whatever lines led there
 pub settled_by : (lines : List Line) (n : ℕ) (asked : Asked) (before after : Seen) (old new : World) (result : Result Reply WorldFault) → asked ≡ Settle
-    → (h : Answers n asked before after old new result) → EachAsked (StepShowsBy lines) n asked before after old new result h
+    → (h : Answers n asked (span_of before after old new) result) → EachAsked (StepShowsBy lines) n asked (span_of before after old new) result h
 settled_by lines n Settle before after old new result is h = errand_shows lines n errands.settles before after old new result h
 settled_by lines n (Session k request) before after old new result is h = absurd (cc (is))
 settled_by lines n (Wait ticks) before after old new result is h = tt

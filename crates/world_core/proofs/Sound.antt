@@ -60,6 +60,7 @@ use Rattle.world_core.specs.Handled.{Declines, BeginsOp, MakesNoCall, StepsLooke
 use Rattle.world_core.specs.Replying.{declined, done_reply, trouble_reply, unsettled_reply, value_reply, RepliesTo, RepliesFor, RepliesBegun, RepliesTurn}
 use Rattle.world_core.specs.Sessions.{Changes}
 use Rattle.world_core.specs.Sound.{IsSoundReport, IsSoundSweep, IsSoundFor, AnswersSoundly}
+use Rattle.world_core.specs.Span.{span_of}
 use Rattle.world_core.proofs.Behind.{LinesStand}
 use Rattle.world_core.proofs.Texts.{commit_is}
 use Rattle.world_core.proofs.StandsLemmas.{IsUnderWay, changed_was, way_begins, told_under, call, steps_own, went_on, no_stop, no_memory, replies_to, SettlerGoes, settler, settler_own, settler_call, settler_went, settler_begins, errand_plain}
@@ -79,7 +80,7 @@ module _ (posture : Posture) where
   refused_sound r (refused.Rule rule) e = let is : r ≡ reply.Refused rule = cc in subst Sound (sym is) tt
   refused_sound r refused.Memory e = absurd (cc)
 
-  declines_sound : (r : Reply) (why : Refused) (before after : Seen) (old new : World) → Declines why before after old new (Ok r) → Sound r
+  declines_sound : (r : Reply) (why : Refused) (before after : Seen) (old new : World) → Declines why (span_of before after old new) (Ok r) → Sound r
   declines_sound r why before after old new h = refused_sound r why h.reply
 
   value_sound : (value : Option Value) (r : Reply) → r ≡ value_reply value → Sound r
@@ -104,7 +105,7 @@ module _ (posture : Posture) where
 
 -- the trouble of a step is right by how the lines say that its session stands
 step_stops : (lines : List Line) (who : Caller) (wish : Wish) (before after : Seen) (old new : World) (t : Trouble) → who.event ≡ length lines + 1 → IsUnderWay lines old before
-    → StepsLooked who wish before after old new (Ended (answer.Trouble t)) → MayTrouble (standing lines who.session).posture t
+    → StepsLooked who wish (span_of before after old new) (Ended (answer.Trouble t)) → MayTrouble (standing lines who.session).posture t
 step_stops lines who wish before after old new t number way p =
     may_by_lines (session_at old.sessions who.session).work (standing lines who.session) t (way.goes.acts who.session).work
     (session_stops who p.under p.to (record way.after { wish = wish }) left.state held.book held.order (session_at old.sessions) under left.told held.stand p.session.after t own)
@@ -123,7 +124,7 @@ step_stops lines who wish before after old new t number way p =
 
 -- and so is the end of a commit
 step_commits : (lines : List Line) (who : Caller) (wish : Wish) (before after : Seen) (old new : World) (c : CommitAnswer) → who.event ≡ length lines + 1
-    → IsUnderWay lines old before → StepsLooked who wish before after old new (Ended (answer.Commit c)) → MayEnd c
+    → IsUnderWay lines old before → StepsLooked who wish (span_of before after old new) (Ended (answer.Commit c)) → MayEnd c
 step_commits lines who wish before after old new c number way p =
     session_ends who p.under p.to (record way.after { wish = wish }) left.state held.book held.order (session_at old.sessions) under left.told held.stand p.session.after c own
   where
@@ -141,12 +142,12 @@ step_commits lines who wish before after old new c number way p =
 
 -- the answer of a step
 step_sound : (lines : List Line) (who : Caller) (wish : Wish) (before after : Seen) (old new : World) (a : Answer) (r : Reply) → who.event ≡ length lines + 1
-    → IsUnderWay lines old before → (p : StepsLooked who wish before after old new (Ended a)) → RepliesTo a p.session.after (Ok r)
+    → IsUnderWay lines old before → (p : StepsLooked who wish (span_of before after old new) (Ended a)) → RepliesTo a p.session.after (Ok r)
     → IsSoundReply (standing lines who.session).posture r
 step_sound lines who wish before after old new a r number way p replies =
     answer_sound (standing lines who.session).posture a p.session.after r replies
-    (λ t is other. step_stops lines who wish before after old new t number way (subst (λ b. StepsLooked who wish before after old new (Ended b)) is p))
-    (λ c is. step_commits lines who wish before after old new c number way (subst (λ b. StepsLooked who wish before after old new (Ended b)) is p))
+    (λ t is other. step_stops lines who wish before after old new t number way (subst (λ b. StepsLooked who wish (span_of before after old new) (Ended b)) is p))
+    (λ c is. step_commits lines who wish before after old new c number way (subst (λ b. StepsLooked who wish (span_of before after old new) (Ended b)) is p))
 
 -- ---- what a line asks of a session
 
@@ -161,7 +162,7 @@ module _ (lines : List Line) (n k : ℕ) (before after : Seen) (old new : World)
   way : IsUnderWay lines old before
   way = way_begins lines before old t told stands
 
-  not_done : (why : Refused) → Declines why before after old new (Ok r) → Sounds r
+  not_done : (why : Refused) → Declines why (span_of before after old new) (Ok r) → Sounds r
   not_done why h = declines_sound (standing lines k).posture r why before after old new h
 
   plainly : (q : Reply) → IsOk r (Ok q) → Sounds q → Sounds r
@@ -172,7 +173,7 @@ module _ (lines : List Line) (n k : ℕ) (before after : Seen) (old new : World)
   done_sound q sound (Err why) e = refused_sound (standing lines k).posture r why e
 
   -- a begin makes no call
-  begin_sound : (o : Op) → IsRightOp o → MakesNoCall before after old new → Changes k (BeginsOp o (Ok r)) old.sessions new.sessions → Sounds r
+  begin_sound : (o : Op) → IsRightOp o → MakesNoCall (span_of before after old new) → Changes k (BeginsOp o (Ok r)) old.sessions new.sessions → Sounds r
   begin_sound o right quiet c = on c.does.begun begins c.does.replies
     where
       f : Sessions
@@ -194,36 +195,36 @@ module _ (lines : List Line) (n k : ℕ) (before after : Seen) (old new : World)
       on (Ok (Answered a)) does e = answer_sound (standing lines k).posture a c.after r e (stops a does) (ends a does)
       on (Err why) does e = refused_sound (standing lines k).posture r why e
 
-  makes_sound : (wish : Wish) → MakesStep n k wish before after old new (Ok r) → Sounds r
+  makes_sound : (wish : Wish) → MakesStep (record { session = k; event = n }) wish (span_of before after old new) (Ok r) → Sounds r
   makes_sound wish (inl refuses) = not_done _ refuses.declines
   makes_sound wish (inr (inl step)) = on step.turn step.steps step.replies
     where
-      on : (turn : Turn Answer) (p : StepsLooked who wish before after old new turn) → RepliesTurn turn p.session.after (Ok r) → Sounds r
+      on : (turn : Turn Answer) (p : StepsLooked who wish (span_of before after old new) turn) → RepliesTurn turn p.session.after (Ok r) → Sounds r
       on More p e = plainly reply.Called e tt
       on (Ended a) p e = step_sound lines who wish before after old new a r (sym number) way p e
       on (Stopped q) p e = absurd (no_stop _ p.under p.to p.session.before p.session.after q p.session.does)
   makes_sound wish (inr (inr memory)) = absurd (no_memory r memory.0)
 
-  runs_sound : Runs n k before after old new (Ok r) → Sounds r
+  runs_sound : Runs (record { session = k; event = n }) (span_of before after old new) (Ok r) → Sounds r
   runs_sound (inl refuses) = not_done _ refuses.declines
   runs_sound (inr (inl run)) =
       step_sound lines who Plain run.comes.mid after run.comes.world new run.answer r (sym number)
       (went_on lines who before old run.comes.mid run.comes.world (sym number) way run.comes.went) run.comes.steps run.replies
   runs_sound (inr (inr memory)) = absurd (no_memory r memory.0)
 
-  crash_sound : (done : Bool) → Crashes n k done before after old new (Ok r) → Sounds r
+  crash_sound : (done : Bool) → Crashes (record { session = k; event = n }) done (span_of before after old new) (Ok r) → Sounds r
   crash_sound false h = plainly reply.Crashed h.replies tt
   crash_sound true (inl idle) = plainly reply.Crashed idle.dies.replies tt
   crash_sound true (inr (inl h)) = plainly reply.Crashed h.replies tt
   crash_sound true (inr (inr memory)) = absurd (no_memory r memory.0)
 
-  policy_sound : (role : Role) (number : ℕ) → Policies k role number before after old new (Ok r) → Sounds r
+  policy_sound : (role : Role) (number : ℕ) → Policies k role number (span_of before after old new) (Ok r) → Sounds r
   policy_sound role number (inl refuses) = not_done _ refuses.declines
   policy_sound role number (inr (inl refuses)) = not_done _ refuses.1.declines
   policy_sound role number (inr (inr gives)) = plainly reply.Noted gives.replies tt
 
   -- what was passed over is not told
-  through_sound : WorksThrough n k before after old new (Ok r) → Sounds r
+  through_sound : WorksThrough (record { session = k; event = n }) (span_of before after old new) (Ok r) → Sounds r
   through_sound (inl refuses) = not_done _ refuses.declines
   through_sound (inr (inl down)) = plainly (reply.Worked down.done down.passed) down.replies tt
   through_sound (inr (inr memory)) = absurd (no_memory r memory.0)
@@ -233,7 +234,7 @@ module _ (lines : List Line) (n k : ℕ) (before after : Seen) (old new : World)
   IsRight (Begin o) = IsRightOp o
   IsRight request = Unit {0}
 
-  does_sound : (request : Request) → IsRight request → Does n k request before after old new (Ok r) → Sounds r
+  does_sound : (request : Request) → IsRight request → Does (record { session = k; event = n }) request (span_of before after old new) (Ok r) → Sounds r
   does_sound (Begin o) right h = begin_sound o right h.0 h.1
   does_sound (Note noting) right h = done_sound reply.Noted tt h.1.does.noted h.1.does.replies
   does_sound Abort right h = done_sound reply.Aborted tt h.1.does.dropped h.1.does.replies
@@ -243,10 +244,10 @@ module _ (lines : List Line) (n k : ℕ) (before after : Seen) (old new : World)
   does_sound Run right h = runs_sound h
   does_sound (Crash done) right h = crash_sound done h
 
-  request_sound : (Is : Result Request Refused → Type 0) (asked : Asked) → OfSession k Is asked → Answers n asked before after old new (Ok r)
+  request_sound : (Is : Result Request Refused → Type 0) (asked : Asked) → OfSession k Is asked → Answers n asked (span_of before after old new) (Ok r)
       → ((request : Request) → Is (Ok request) → IsRight request) → Sounds r
   request_sound Is (Session j (Ok request)) belongs (inl p) right =
-      does_sound request (right request belongs.1) (subst (λ i. Does n i request before after old new (Ok r)) belongs.0 p.1)
+      does_sound request (right request belongs.1) (subst (λ i. Does (record { session = i; event = n }) request (span_of before after old new) (Ok r)) belongs.0 p.1)
   request_sound Is (Session j (Err why)) belongs (inl p) right = not_done why p.1
   request_sound Is (Session j request) belongs (inr none) right = not_done _ none.declines
   request_sound Is (Wait ticks) belongs answers right = absurd belongs
@@ -281,7 +282,7 @@ errand_may errand w t works may = absurd works
 
 -- the trouble of a step of the settler
 settler_stops : (errand : Errand) (n : ℕ) (lines : List Line) (first : Sessions) → AreRowsOf errand lines (settler n) → (before after : Seen) (old new : World) (t : Trouble)
-    → SettlerGoes errand n lines first old before → StepsLooked (settler n) Plain before after old new (Ended (answer.Trouble t)) → MayStopOn errand t
+    → SettlerGoes errand n lines first old before → StepsLooked (settler n) Plain (span_of before after old new) (Ended (answer.Trouble t)) → MayStopOn errand t
 settler_stops errand n lines first row before after old new t way p =
     errand_may errand (session_at old.sessions 0).work t way.works
     (session_stops (settler n) p.under p.to (record way.state { wish = Plain }) left.state held.book held.order (session_at old.sessions) under left.told held.stand p.session.after t own)
@@ -319,11 +320,11 @@ module _ (lines : List Line) (n : ℕ) (before after : Seen) (old new : World) (
   replied_sound (sweeps tree) (answer.Trouble q) e stops = unswept tree q e (stops q refl)
   replied_sound (sweeps tree) a e stops = absurd e
 
-  errand_sound : (errand : Errand) → IsRightErrand errand → Settles errand n before after old new (Ok r) → SoundFor errand r
+  errand_sound : (errand : Errand) → IsRightErrand errand → Settles errand n (span_of before after old new) (Ok r) → SoundFor errand r
   errand_sound errand right (inr memory) = absurd (no_memory r memory.0)
   errand_sound errand right (inl h) = by_end h.settles
     where
-      by_end : SettlesOn errand (settler n) before after h.begun new (Ok r) → SoundFor errand r
+      by_end : SettlesOn errand (settler n) (span_of before after h.begun new) (Ok r) → SoundFor errand r
       by_end (inr memory) = absurd (no_memory r memory.0)
       by_end (inl s) = replied_sound errand s.answer s.replies (λ q is. stops s.answer s.comes.steps q is)
         where
@@ -338,7 +339,7 @@ module _ (lines : List Line) (n : ℕ) (before after : Seen) (old new : World) (
               settler_went errand n all (session_at old.sessions) row before h.begun s.comes.mid s.comes.world
               (settler_begins errand right lines n before old h.begun t (sym number) told stands h.begins r (errand_plain errand s.answer r s.replies)) s.comes.went
 
-          stops : (a : Answer) → StepsLooked (settler n) Plain s.comes.mid after s.comes.world s.left (Ended a) → (q : Trouble) → a ≡ answer.Trouble q → MayStopOn errand q
+          stops : (a : Answer) → StepsLooked (settler n) Plain (span_of s.comes.mid after s.comes.world s.left) (Ended a) → (q : Trouble) → a ≡ answer.Trouble q → MayStopOn errand q
           stops (answer.Trouble k) p q is =
               let same : k ≡ q = cc (is) in
               subst (MayStopOn errand) same (settler_stops errand n all (session_at old.sessions) row s.comes.mid after s.comes.world s.left k way p)
@@ -347,7 +348,7 @@ module _ (lines : List Line) (n : ℕ) (before after : Seen) (old new : World) (
 -- ---- a report
 
 report_sound : (lines : List Line) (tree : ℕ) (r : Reply) (before after : Seen) (old new : World) (t : CloudState) → before.state ≡ Some t → LinesStand lines old t
-    → Reports tree before after old new (Ok r) → IsSoundReport r
+    → Reports tree (span_of before after old new) (Ok r) → IsSoundReport r
 report_sound lines tree (reply.Trouble q) before after old new t told stands h = on old.blind refl
   where
     cloud : StandsUnder stands.holds.book stands.holds.order t
@@ -372,7 +373,7 @@ refused_sweep (refused.Rule rule) r e = let is : r ≡ reply.Refused rule = cc i
 refused_sweep refused.Memory r e = absurd (cc)
 
 asked_sound : (n : ℕ) (event : Event) (asked : Asked) (before after : Seen) (old new : World) (r : Reply) (lines : List Line) (t : CloudState)
-    → Asks event asked → Answers n asked before after old new (Ok r) → length lines + 1 ≡ n → before.state ≡ Some t → LinesStand lines old t
+    → Asks event asked → Answers n asked (span_of before after old new) (Ok r) → length lines + 1 ≡ n → before.state ≡ Some t → LinesStand lines old t
     → IsSoundFor event (standing lines (session_of event)).posture r
 asked_sound n (event.Open k client) asked before after old new r lines t asks answers at told stands =
     request_sound lines n k before after old new r t at told stands (IsOpening client) asked asks answers
@@ -419,15 +420,15 @@ asked_sound n (event.Run k) asked before after old new r lines t asks answers at
 asked_sound n (event.Crash k done) asked before after old new r lines t asks answers at told stands =
     request_sound lines n k before after old new r t at told stands (λ request. request ≡ Ok (Crash done)) asked asks answers
     (λ request is. same_right lines n k before after old new r t at told stands request (Crash done) is tt)
-asked_sound n (event.Wait ticks) asked before after old new r lines t asks answers at told stands = on (subst (λ z. Answers n z before after old new (Ok r)) asks answers)
+asked_sound n (event.Wait ticks) asked before after old new r lines t asks answers at told stands = on (subst (λ z. Answers n z (span_of before after old new) (Ok r)) asks answers)
   where
-    on : Answers n (Wait ticks) before after old new (Ok r) → IsSoundReply (standing lines 0).posture r
+    on : Answers n (Wait ticks) (span_of before after old new) (Ok r) → IsSoundReply (standing lines 0).posture r
     on (inl h) = plainly lines n 0 before after old new r t at told stands reply.Waited h.0.replies tt
     on (inr long) = not_done lines n 0 before after old new r t at told stands _ long.declines
 asked_sound n (event.Report tree) asked before after old new r lines t asks answers at told stands =
-    report_sound lines tree r before after old new t told stands (subst (λ z. Answers n z before after old new (Ok r)) asks answers)
+    report_sound lines tree r before after old new t told stands (subst (λ z. Answers n z (span_of before after old new) (Ok r)) asks answers)
 asked_sound n event.Settle asked before after old new r lines t asks answers at told stands =
-    errand_sound lines n before after old new r t at told stands settles tt (subst (λ z. Answers n z before after old new (Ok r)) asks answers)
+    errand_sound lines n before after old new r t at told stands settles tt (subst (λ z. Answers n z (span_of before after old new) (Ok r)) asks answers)
 asked_sound n (event.Sweep number) (Sweep (Ok tree)) before after old new r lines t asks answers at told stands =
     subst (λ k. IsSoundFor (event.Sweep k) (standing lines 0).posture r) asks.0 (errand_sound lines n before after old new r t at told stands (sweeps tree) answers.0 answers.1)
 asked_sound n (event.Sweep number) (Sweep (Err why)) before after old new r lines t asks answers at told stands = refused_sweep why r answers.reply
@@ -437,6 +438,6 @@ asked_sound n e asked before after old new r lines t asks answers at told stands
     (noted_right lines n (session_of e) before after old new r t at told stands (noting_of e))
 
 pub sound_after : (n : ℕ) (event : Event) (before after : Seen) (old new : World) (result : Result Reply WorldFault)
-    → Handled n event before after old new result → AnswersSoundly n event before after old new result
+    → Handled n event (span_of before after old new) result → AnswersSoundly n event (span_of before after old new) result
 sound_after n event before after old new (Ok r) h = λ lines t at told stands. asked_sound n event h.asked before after old new r lines t h.asks h.answers at told stands.by_lines
 sound_after n event before after old new (Err fault) h = tt

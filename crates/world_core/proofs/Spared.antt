@@ -62,6 +62,7 @@ use Rattle.world_core.specs.declared.asked.Asked.TheVariants.{Session, Wait, Rep
 use Rattle.world_core.specs.declared.asked.Request.{Request}
 use Rattle.world_core.specs.declared.asked.Request.TheVariants.{Work as WorksDue}
 use Rattle.world_core.specs.declared.world.WorldFault.{WorldFault}
+use Rattle.world_core.specs.Span.{span_of}
 
 state_is : (x y : CloudState) → Some x ≡ Some y → x ≡ y
 state_is x y e = cc (e)
@@ -96,7 +97,7 @@ record IsSentSeen (queue : QueueName) (seen : Seen) : Type 0 where
   told : seen.state ≡ Some state
   some : state.messages queue ≢ []
 
-step_some : (queue : QueueName) (who : Caller) (wish : Wish) (before after : Seen) (old new : World) (turn : Turn Answer) → StepsLooked who wish before after old new turn → IsSentSeen queue before
+step_some : (queue : QueueName) (who : Caller) (wish : Wish) (before after : Seen) (old new : World) (turn : Turn Answer) → StepsLooked who wish (span_of before after old new) turn → IsSentSeen queue before
     → IsSentSeen queue after
 step_some queue who wish before after old new turn p h = record {
   state = left.after;
@@ -120,7 +121,7 @@ went_some : (queue : QueueName) (who : Caller) (before : Seen) (old : World) (af
 went_some queue who before old after new start h = h
 went_some queue who before old after new (further mid _ world _ went step) h = step_some queue who _ mid after world new _ step (went_some queue who before old mid world went h)
 
-comes_some : (queue : QueueName) (who : Caller) (before after : Seen) (old new : World) (a : Answer) → ComesTo who before after old new a → IsSentSeen queue before → IsSentSeen queue after
+comes_some : (queue : QueueName) (who : Caller) (before after : Seen) (old new : World) (a : Answer) → ComesTo who (span_of before after old new) a → IsSentSeen queue before → IsSentSeen queue after
 comes_some queue who before after old new a comes h =
     step_some queue who _ comes.mid after comes.world new _ comes.steps (went_some queue who before old comes.mid comes.world comes.went h)
 
@@ -146,7 +147,7 @@ may_never (Atomic client) u k never other sent = never
 ended_with : (k t : Trouble) → k ≡ t → (let x : Turn Answer = Ended (answer.Trouble k) in let y : Turn Answer = Ended (answer.Trouble t) in x ≡ y)
 ended_with k t e = ap (λ (z : Trouble). Ended (answer.Trouble z)) e
 
-one_spared : (who : Caller) (queue : QueueName) (mid after : Seen) (begun new : World) (a : Answer) → (comes : ComesTo who mid after begun new a) → EachCome StepSpendsNone who mid after begun new a comes → IsPassable a
+one_spared : (who : Caller) (queue : QueueName) (mid after : Seen) (begun new : World) (a : Answer) → (comes : ComesTo who (span_of mid after begun new) a) → EachCome StepSpendsNone who (span_of mid after begun new) a comes → IsPassable a
     → PassesSo queue after a → ((tree page : ℕ) → queue ≡ PagePu tree page → IsSentSeen queue after) → passed_by a ≡ 0
 one_spared who queue mid after begun new (answer.Done n) comes each passes so sent = refl
 one_spared who queue mid after begun new (answer.Trouble k) comes each passes (u, told, may) sent =
@@ -186,7 +187,7 @@ module _ (n session k : ℕ) (before after : Seen) (old new : World) (r : Reply)
   notes = h.sent.notes
 
   -- each queue of a page that is due has a message
-  due_sent : (d : WorksDown n session before after old new result) (tree page : ℕ) → IsIn d.queues (PagePu tree page) → IsSentSeen (PagePu tree page) before
+  due_sent : (d : WorksDown (record { session = session; event = n }) (span_of before after old new) result) (tree page : ℕ) → IsIn d.queues (PagePu tree page) → IsSentSeen (PagePu tree page) before
   due_sent d tree page is = record {
     state = h.state;
     told = h.told;
@@ -220,8 +221,8 @@ module _ (n session k : ℕ) (before after : Seen) (old new : World) (r : Reply)
   refused_none : (s : ℕ) (rule : Refusal) → result ≡ declined (refused.Rule rule) → PassesNone (event.Work s) r
   refused_none s rule e = subst (λ (x : Reply). PassesNone (event.Work s) x) (sym (refused_is r rule e)) tt
 
-  through_spared : (p : WorksThrough n session before after old new result) → EachThrough StepSpendsNone n session before after old new result p
-      → ThroughPassed n session before after old new result p → (s : ℕ) → PassesNone (event.Work s) r
+  through_spared : (p : WorksThrough (record { session = session; event = n }) (span_of before after old new) result) → EachThrough StepSpendsNone (record { session = session; event = n }) (span_of before after old new) result p
+      → ThroughPassed (record { session = session; event = n }) (span_of before after old new) result p → (s : ℕ) → PassesNone (event.Work s) r
   through_spared (inl refuses) each so s = refused_none s refuses.rule refuses.declines.reply
   through_spared (inr (inl d)) each so s =
       let is : r ≡ reply.Worked d.done d.passed = cc (d.replies) in
@@ -232,13 +233,13 @@ module _ (n session k : ℕ) (before after : Seen) (old new : World) (r : Reply)
   -- a work that is asked of the session
   abbrev DoesSo : ℕ → Request → Type 0
   DoesSo j request =
-      (d : Does n j request before after old new result) × EachDone StepSpendsNone n j request before after old new result d × DonePassed n j request before after old new result d
+      (d : Does (record { session = j; event = n }) request (span_of before after old new) result) × EachDone StepSpendsNone (record { session = j; event = n }) request (span_of before after old new) result d × DonePassed (record { session = j; event = n }) request (span_of before after old new) result d
 
   same_work : (request : Request) → (let a : Result Request Refused = Ok request in a ≡ Ok WorksDue) → request ≡ WorksDue
   same_work request e = cc (e)
 
-  pub work_spared : (s : ℕ) (asked : Asked) → OfSession session (λ request. request ≡ Ok WorksDue) asked → (a : Answers n asked before after old new result)
-      → EachAsked StepSpendsNone n asked before after old new result a → AskedPassed n asked before after old new result a → PassesNone (event.Work s) r
+  pub work_spared : (s : ℕ) (asked : Asked) → OfSession session (λ request. request ≡ Ok WorksDue) asked → (a : Answers n asked (span_of before after old new) result)
+      → EachAsked StepSpendsNone n asked (span_of before after old new) result a → AskedPassed n asked (span_of before after old new) result a → PassesNone (event.Work s) r
   work_spared s (Session j (Ok request)) belongs (inl p) each so =
       let d = subst (λ (i : ℕ). DoesSo i WorksDue) belongs.0 (subst (DoesSo j) (same_work request belongs.1) (p.1, each, so)) in
       through_spared d.0 d.1 d.2 s
@@ -273,20 +274,20 @@ module _ (n session k : ℕ) (before after : Seen) (old new : World) (r : Reply)
   none_at Owing e none = none
   none_at Astray e none = tt
 
-  writes_spared : (s : ℕ) (asked : Asked) → OfSession session (λ request. request ≡ Ok WorksDue) asked → (a : Answers n asked before after old new (Ok r))
-      → EachAsked StepSpendsNone n asked before after old new (Ok r) a → AskedPassed n asked before after old new (Ok r) a → (stage : Stage) → SentAt session k stage old before
+  writes_spared : (s : ℕ) (asked : Asked) → OfSession session (λ request. request ≡ Ok WorksDue) asked → (a : Answers n asked (span_of before after old new) (Ok r))
+      → EachAsked StepSpendsNone n asked (span_of before after old new) (Ok r) a → AskedPassed n asked (span_of before after old new) (Ok r) a → (stage : Stage) → SentAt session k stage old before
       → PassesNoneAt stage (event.Work s) r
   writes_spared s asked asks a each so Unbound h = tt
   writes_spared s asked asks a each so Even h = work_spared n session k before after old new r h s asked asks a each so
   writes_spared s asked asks a each so Owing h = work_spared n session k before after old new r h s asked asks a each so
   writes_spared s asked asks a each so Astray h = tt
 
-  spared_line : (e : Event) (asked : Asked) → Asks e asked → LeavesAlone session e → (a : Answers n asked before after old new (Ok r)) → EachAsked StepSpendsNone n asked before after old new (Ok r) a
-      → AskedPassed n asked before after old new (Ok r) a → (stage : Stage) → SentAt session k stage old before → PassesNoneAt stage e r
+  spared_line : (e : Event) (asked : Asked) → Asks e asked → LeavesAlone session e → (a : Answers n asked (span_of before after old new) (Ok r)) → EachAsked StepSpendsNone n asked (span_of before after old new) (Ok r) a
+      → AskedPassed n asked (span_of before after old new) (Ok r) a → (stage : Stage) → SentAt session k stage old before → PassesNoneAt stage e r
   spared_line (event.Work s) asked asks leaves a each so stage h = writes_spared s asked (own_work s asked asks leaves) a each so stage h
   spared_line e asked asks leaves a each so stage h = none_at stage e tt
 
-pub spares_writer : (n : ℕ) (e : Event) (before after : Seen) (old new : World) (result : Result Reply WorldFault) → SparesWriter n e before after old new result
+pub spares_writer : (n : ℕ) (e : Event) (before after : Seen) (old new : World) (result : Result Reply WorldFault) → SparesWriter n e (span_of before after old new) result
 spares_writer n e before after old new (Ok r) = λ lines t u number told told_after stands handled undisturbed unspent session k leaves alone sent.
     let calm = (keeps_alone n e before after old new (Ok r) lines t u number told told_after stands handled undisturbed session leaves alone).1 in
     let so = passes_well n e before after old new (Ok r) lines t number told stands handled calm in

@@ -52,6 +52,7 @@ use Rattle.world_core.specs.Replying.{declined, trouble_reply, value_reply, Repl
 use Rattle.world_core.specs.Sessions.{Changes}
 use Rattle.world_core.specs.Handled.{Declines, Has, MakesNoCall, StepsLooked, RefusesStep, MakesStep, Went, start, further, RunsTo, Runs, SettlesTo, SettlesOn, Settles, GivesLedger, Policies, Dies, DiesDone, Crashes, WaitsFor, WaitsTooLong, Shows, Reports}
 use Rattle.world_core.specs.Stands.{IsLeft, LeftIsRight}
+use Rattle.world_core.specs.Span.{span_of}
 use Rattle.world_core.proofs.Behind.{LinesStand, LineLeaves}
 use Rattle.world_core.proofs.Errands.{IsRightErrand, begins_errand, works_first}
 use Rattle.world_core.proofs.Texts.{commit_is, errand_is}
@@ -118,7 +119,7 @@ pub refused_is : (r : Reply) (rule : Refusal) → (let result : Result Reply Wor
 refused_is r rule e = cc
 
 pub declines : (lines : List Line) (event : Event) (r : Reply) (why : Refused) (before after : Seen) (old new : World) (t : CloudState)
-    → Declines why before after old new (Ok r) → before.state ≡ Some t → LinesStand lines old t → LineLeaves (lines ++ line_of event r ∷ []) new after r
+    → Declines why (span_of before after old new) (Ok r) → before.state ≡ Some t → LinesStand lines old t → LineLeaves (lines ++ line_of event r ∷ []) new after r
 declines lines event r (refused.Rule rule) before after old new t is told stands =
     refuses lines event r rule before after old new t (refused_is r rule is.reply) is.seen is.world told stands
 declines lines event r refused.Memory before after old new t is told stands = absurd (cc (is.reply))
@@ -142,7 +143,7 @@ changed_rests number Does old new some c rests = changed_at number Does old new 
 pub record Ready (lines : List Line) (event : Event) (number : ℕ) (before after : Seen) (old new : World) (t : CloudState) : Type 0 where
   pub own : session_of event ≡ number
   pub some : 1 ≤ number
-  pub quiet : MakesNoCall before after old new
+  pub quiet : MakesNoCall (span_of before after old new)
   pub told : before.state ≡ Some t
   pub stands : LinesStand lines old t
 
@@ -205,7 +206,7 @@ pub record IsStepped (lines : List Line) (new : World) (after : Seen) : Type 0 w
   pub holds : CloudHolds (length lines + 1) lines (session_at new.sessions) new.audit new.blind state
 
 module _ (lines : List Line) (who : Caller) (wish : Wish) (before after : Seen) (old new : World) (turn : Turn Answer)
-    (event : who.event ≡ length lines + 1) (way : IsUnderWay lines old before) (p : StepsLooked who wish before after old new turn) where
+    (event : who.event ≡ length lines + 1) (way : IsUnderWay lines old before) (p : StepsLooked who wish (span_of before after old new) turn) where
   abbrev f : Sessions
   f = session_at old.sessions
 
@@ -246,7 +247,7 @@ module _ (lines : List Line) (who : Caller) (wish : Wish) (before after : Seen) 
   sessions_after = changed_at who.session _ old.sessions new.sessions p.session
 
 step_more : (lines : List Line) (who : Caller) (wish : Wish) (before after : Seen) (old new : World) → who.event ≡ length lines + 1
-    → IsUnderWay lines old before → StepsLooked who wish before after old new More → IsUnderWay lines new after
+    → IsUnderWay lines old before → StepsLooked who wish (span_of before after old new) More → IsUnderWay lines new after
 step_more lines who wish before after old new event way p =
     let f : Sessions = session_at old.sessions in
     let s = stepped lines who wish before after old new More event way p in
@@ -314,7 +315,7 @@ replies_to (answer.Trouble t) left r e = on t e
 -- a line whose last step is answered
 step_ends : (lines : List Line) (event : Event) (who : Caller) (wish : Wish) (before after : Seen) (old new : World) (a : Answer) (r : Reply)
     → session_of event ≡ who.session → ((s : Standing) → after_own event r s ≡ steps r s) → who.event ≡ length lines + 1 → 1 ≤ who.session
-    → IsUnderWay lines old before → SettlerRests (session_at old.sessions) → (p : StepsLooked who wish before after old new (Ended a)) → RepliesTo a p.session.after (Ok r)
+    → IsUnderWay lines old before → SettlerRests (session_at old.sessions) → (p : StepsLooked who wish (span_of before after old new) (Ended a)) → RepliesTo a p.session.after (Ok r)
     → LineLeaves (lines ++ line_of event r ∷ []) new after r
 step_ends lines event who wish before after old new a r own_is does number some way rests p replies =
     let f : Sessions = session_at old.sessions in
@@ -339,14 +340,14 @@ pub no_stop : (who : Caller) (before after : Seen) (old new : Acting) (t : Troub
 no_stop who before after old new t p = never_stops who before after old.work new.work t p.work
 
 refused_step : (lines : List Line) (event : Event) (r : Reply) (number : ℕ) (before after : Seen) (old new : World) (t : CloudState)
-    → RefusesStep number before after old new (Ok r) → before.state ≡ Some t → LinesStand lines old t → LineLeaves (lines ++ line_of event r ∷ []) new after r
+    → RefusesStep number (span_of before after old new) (Ok r) → before.state ≡ Some t → LinesStand lines old t → LineLeaves (lines ++ line_of event r ∷ []) new after r
 refused_step lines event r number before after old new t h told stands = declines lines event r _ before after old new t h.declines told stands
 
 pub no_memory : (r : Reply) → (let result : Result Reply WorldFault = Ok r in let fault : Result Reply WorldFault = Err Memory in result ≡ fault) → ⊥
 no_memory r e = absurd (cc)
 
 runs_to : (lines : List Line) (k n : ℕ) (r : Reply) (before after : Seen) (old new : World) (t : CloudState) → length lines + 1 ≡ n → 1 ≤ k
-    → before.state ≡ Some t → LinesStand lines old t → RunsTo n k before after old new (Ok r) → LineLeaves (lines ++ line_of (event.Run k) r ∷ []) new after r
+    → before.state ≡ Some t → LinesStand lines old t → RunsTo (record { session = k; event = n }) (span_of before after old new) (Ok r) → LineLeaves (lines ++ line_of (event.Run k) r ∷ []) new after r
 runs_to lines k n r before after old new t at some told stands run =
     let who : Caller = record { session = k; event = n } in
     let c = run.comes in
@@ -355,7 +356,7 @@ runs_to lines k n r before after old new t at some told stands run =
     (went_rests who before old c.mid c.world some c.went stands.rests) c.steps run.replies
 
 pub runs : (lines : List Line) (k n : ℕ) (r : Reply) (before after : Seen) (old new : World) (t : CloudState) → length lines + 1 ≡ n → 1 ≤ k
-    → before.state ≡ Some t → LinesStand lines old t → Runs n k before after old new (Ok r) → LineLeaves (lines ++ line_of (event.Run k) r ∷ []) new after r
+    → before.state ≡ Some t → LinesStand lines old t → Runs (record { session = k; event = n }) (span_of before after old new) (Ok r) → LineLeaves (lines ++ line_of (event.Run k) r ∷ []) new after r
 runs lines k n r before after old new t at some told stands (inl refused) = refused_step lines (event.Run k) r k before after old new t refused told stands
 runs lines k n r before after old new t at some told stands (inr (inl run)) = runs_to lines k n r before after old new t at some told stands run
 runs lines k n r before after old new t at some told stands (inr (inr memory)) = absurd (no_memory r memory.0)
@@ -363,14 +364,14 @@ runs lines k n r before after old new t at some told stands (inr (inr memory)) =
 -- a step that goes on
 called_line : (lines : List Line) (event : Event) (who : Caller) (wish : Wish) (before after : Seen) (old new : World)
     → ((s : Standing) → after_own event reply.Called s ≡ s) → who.event ≡ length lines + 1 → 1 ≤ who.session
-    → IsUnderWay lines old before → SettlerRests (session_at old.sessions) → StepsLooked who wish before after old new More → LineLeaves (lines ++ line_of event reply.Called ∷ []) new after reply.Called
+    → IsUnderWay lines old before → SettlerRests (session_at old.sessions) → StepsLooked who wish (span_of before after old new) More → LineLeaves (lines ++ line_of event reply.Called ∷ []) new after reply.Called
 called_line lines event who wish before after old new still number some way rests p =
     let on = step_more lines who wish before after old new number way p in
     through lines event reply.Called after new on.after on.told on.goes.holds (still_line lines event reply.Called (session_at new.sessions) still on.goes.acts)
     (changed_rests who.session _ old.sessions new.sessions some p.session rests) tt
 
 step_to : (lines : List Line) (k n : ℕ) (wish : Wish) (r : Reply) (before after : Seen) (old new : World) (t : CloudState) (turn : Turn Answer) → length lines + 1 ≡ n → 1 ≤ k
-    → before.state ≡ Some t → LinesStand lines old t → (p : StepsLooked (record { session = k; event = n }) wish before after old new turn)
+    → before.state ≡ Some t → LinesStand lines old t → (p : StepsLooked (record { session = k; event = n }) wish (span_of before after old new) turn)
     → RepliesTurn turn p.session.after (Ok r) → LineLeaves (lines ++ line_of (event.Step k wish) r ∷ []) new after r
 step_to lines k n wish r before after old new t More at some told stands p replies =
     let is : r ≡ reply.Called = cc in
@@ -384,7 +385,7 @@ step_to lines k n wish r before after old new t (Stopped trouble) at some told s
     absurd (no_stop _ p.under p.to p.session.before p.session.after trouble p.session.does)
 
 pub makes_step : (lines : List Line) (k n : ℕ) (wish : Wish) (r : Reply) (before after : Seen) (old new : World) (t : CloudState) → length lines + 1 ≡ n → 1 ≤ k
-    → before.state ≡ Some t → LinesStand lines old t → MakesStep n k wish before after old new (Ok r) → LineLeaves (lines ++ line_of (event.Step k wish) r ∷ []) new after r
+    → before.state ≡ Some t → LinesStand lines old t → MakesStep (record { session = k; event = n }) wish (span_of before after old new) (Ok r) → LineLeaves (lines ++ line_of (event.Step k wish) r ∷ []) new after r
 makes_step lines k n wish r before after old new t at some told stands (inl refused) = refused_step lines (event.Step k wish) r k before after old new t refused told stands
 makes_step lines k n wish r before after old new t at some told stands (inr (inl step)) =
     step_to lines k n wish r before after old new t step.turn at some told stands step.steps step.replies
@@ -396,7 +397,7 @@ pub crashed_own : (k : ℕ) (done : Bool) (s : Standing) → ActsAs closed_sessi
 crashed_own k done s = record { buffer = refl; work = refl }
 
 dies : (lines : List Line) (k : ℕ) (done : Bool) (r : Reply) (before after : Seen) (old new : World) (t : CloudState) → 1 ≤ k
-    → before.state ≡ Some t → LinesStand lines old t → Dies k before after old new (Ok r) → LineLeaves (lines ++ line_of (event.Crash k done) r ∷ []) new after r
+    → before.state ≡ Some t → LinesStand lines old t → Dies k (span_of before after old new) (Ok r) → LineLeaves (lines ++ line_of (event.Crash k done) r ∷ []) new after r
 dies lines k done r before after old new t some told stands h =
     let is : r ≡ reply.Crashed = cc (h.replies) in
     let P : Reply → Type 0 = λ z. LineLeaves (lines ++ line_of (event.Crash k done) z ∷ []) new after z in
@@ -440,7 +441,7 @@ closed_holds n lines k world new t h is = subst (λ a. At a new.blind) (sym is.a
     }
 
 dies_done : (lines : List Line) (k n : ℕ) (r : Reply) (before after : Seen) (old new : World) (t : CloudState) → length lines + 1 ≡ n → 1 ≤ k
-    → before.state ≡ Some t → LinesStand lines old t → DiesDone n k before after old new (Ok r) → LineLeaves (lines ++ line_of (event.Crash k true) r ∷ []) new after r
+    → before.state ≡ Some t → LinesStand lines old t → DiesDone (record { session = k; event = n }) (span_of before after old new) (Ok r) → LineLeaves (lines ++ line_of (event.Crash k true) r ∷ []) new after r
 dies_done lines k n r before after old new t at_n some told stands h =
     let is : r ≡ reply.Crashed = cc (h.replies) in
     let P : Reply → Type 0 = λ z. LineLeaves (lines ++ line_of (event.Crash k true) z ∷ []) new after z in
@@ -470,7 +471,7 @@ dies_done lines k n r before after old new t at_n some told stands h =
         (changed_rests k _ old.sessions h.world.sessions some h.steps.session stands.rests)
 
 pub crashes : (lines : List Line) (k n : ℕ) (done : Bool) (r : Reply) (before after : Seen) (old new : World) (t : CloudState) → length lines + 1 ≡ n → 1 ≤ k
-    → before.state ≡ Some t → LinesStand lines old t → Crashes n k done before after old new (Ok r) → LineLeaves (lines ++ line_of (event.Crash k done) r ∷ []) new after r
+    → before.state ≡ Some t → LinesStand lines old t → Crashes (record { session = k; event = n }) done (span_of before after old new) (Ok r) → LineLeaves (lines ++ line_of (event.Crash k done) r ∷ []) new after r
 crashes lines k n false r before after old new t at some told stands h = dies lines k false r before after old new t some told stands h
 crashes lines k n true r before after old new t at some told stands (inl idle) = dies lines k true r before after old new t some told stands idle.dies
 crashes lines k n true r before after old new t at some told stands (inr (inl done)) = dies_done lines k n r before after old new t at some told stands done
@@ -501,7 +502,7 @@ abbrev pub settler : ℕ → Caller
 settler n = record { session = 0; event = n }
 
 module _ (errand : Errand) (n : ℕ) (lines : List Line) (first : Sessions) (row : AreRowsOf errand lines (settler n)) (before after : Seen) (old new : World) (turn : Turn Answer)
-    (way : SettlerGoes errand n lines first old before) (p : StepsLooked (settler n) Plain before after old new turn) where
+    (way : SettlerGoes errand n lines first old before) (p : StepsLooked (settler n) Plain (span_of before after old new) turn) where
   abbrev held : Sessions
   held = session_at old.sessions
 
@@ -533,7 +534,7 @@ module _ (errand : Errand) (n : ℕ) (lines : List Line) (first : Sessions) (row
   }
 
 settler_more : (errand : Errand) (n : ℕ) (lines : List Line) (first : Sessions) → AreRowsOf errand lines (settler n) → (before after : Seen) (old new : World)
-    → SettlerGoes errand n lines first old before → StepsLooked (settler n) Plain before after old new More → SettlerGoes errand n lines first new after
+    → SettlerGoes errand n lines first old before → StepsLooked (settler n) Plain (span_of before after old new) More → SettlerGoes errand n lines first new after
 settler_more errand n lines first row before after old new way p =
     let left = settler_left errand n lines first row before after old new More way p in
     let own = settler_own errand n lines first row before after old new More way p in
@@ -582,7 +583,7 @@ module _ (errand : Errand) (right : IsRightErrand errand) (lines : List Line) (n
     others = λ m ne. has_at 0 (session_for errand) old begun begins m ∙ at_other 0 (session_for errand) before_it m ne;
   }
 
-  settler_ends : (after : Seen) (new : World) (r : Reply) → SettlesTo errand (settler n) before after begun new (Ok r)
+  settler_ends : (after : Seen) (new : World) (r : Reply) → SettlesTo errand (settler n) (span_of before after begun new) (Ok r)
       → LineLeaves (lines ++ line_of (event_for errand) r ∷ []) new after r
   settler_ends after new r h = record {
     after = s.state;
@@ -620,13 +621,13 @@ module _ (errand : Errand) (right : IsRightErrand errand) (lines : List Line) (n
               subst (λ a. ActsAs a (standing lines m))
               (sym (has_at 0 closed_session h.left new h.closes m ∙ at_other 0 closed_session (session_at h.left.sessions) m ne ∙ s.others m ne)) (stands.acts m)
 
-  settler_on : (after : Seen) (new : World) (r : Reply) → SettlesOn errand (settler n) before after begun new (Ok r)
+  settler_on : (after : Seen) (new : World) (r : Reply) → SettlesOn errand (settler n) (span_of before after begun new) (Ok r)
       → LineLeaves (lines ++ line_of (event_for errand) r ∷ []) new after r
   settler_on after new r (inl h) = settler_ends after new r h
   settler_on after new r (inr memory) = absurd (no_memory r memory.0)
 
 pub goes_errand : (errand : Errand) → IsRightErrand errand → (lines : List Line) (n : ℕ) (r : Reply) (before after : Seen) (old new : World) (t : CloudState) → length lines + 1 ≡ n → before.state ≡ Some t → LinesStand lines old t
-    → Settles errand n before after old new (Ok r) → LineLeaves (lines ++ line_of (event_for errand) r ∷ []) new after r
+    → Settles errand n (span_of before after old new) (Ok r) → LineLeaves (lines ++ line_of (event_for errand) r ∷ []) new after r
 goes_errand errand right lines n r before after old new t at told stands (inl h) = settler_on errand right lines n before old h.begun t (sym at) told stands h.begins after new r h.settles
 goes_errand errand right lines n r before after old new t at told stands (inr memory) = absurd (no_memory r memory.0)
 
@@ -639,7 +640,7 @@ same_but_notes P old new s a b h =
     subst (λ z. P z new.audit new.blind) (sym s) (subst (λ z. P old.sessions z new.blind) (sym a) (subst (P old.sessions old.audit) (sym b) h))
 
 gives_ledger : (lines : List Line) (k number : ℕ) (role : Role) (r : Reply) (before after : Seen) (old new : World) (t : CloudState)
-    → before.state ≡ Some t → LinesStand lines old t → GivesLedger k role number before after old new (Ok r) → LineLeaves (lines ++ line_of (event.Policy k role number) r ∷ []) new after r
+    → before.state ≡ Some t → LinesStand lines old t → GivesLedger k role number (span_of before after old new) (Ok r) → LineLeaves (lines ++ line_of (event.Policy k role number) r ∷ []) new after r
 gives_ledger lines k number role r before after old new t told stands g =
     let is : r ≡ reply.Noted = cc (g.replies) in
     let P : Reply → Type 0 = λ z. LineLeaves (lines ++ line_of (event.Policy k role number) z ∷ []) new after z in
@@ -650,7 +651,7 @@ gives_ledger lines k number role r before after old new t told stands g =
     (subst (λ z. SettlerRests (session_at z)) (sym g.sessions) stands.rests) tt)
 
 pub policies : (lines : List Line) (k number : ℕ) (role : Role) (r : Reply) (before after : Seen) (old new : World) (t : CloudState)
-    → before.state ≡ Some t → LinesStand lines old t → Policies k role number before after old new (Ok r) → LineLeaves (lines ++ line_of (event.Policy k role number) r ∷ []) new after r
+    → before.state ≡ Some t → LinesStand lines old t → Policies k role number (span_of before after old new) (Ok r) → LineLeaves (lines ++ line_of (event.Policy k role number) r ∷ []) new after r
 policies lines k number role r before after old new t told stands (inl refuses) =
     declines lines (event.Policy k role number) r _ before after old new t refuses.declines told stands
 policies lines k number role r before after old new t told stands (inr (inl refuses)) =
@@ -663,7 +664,7 @@ pub end_later : (now ticks after : ℕ) → now ≤ greatest → end_after now t
 end_later now ticks after within later = omega arith
 
 pub waits : (lines : List Line) (ticks : ℕ) (r : Reply) (before after : Seen) (old new : World) (t : CloudState) → before.state ≡ Some t → LinesStand lines old t
-    → (WaitsFor ticks before after (Ok r) × (new ≡ old)) ⊎ WaitsTooLong ticks before after old new (Ok r) → LineLeaves (lines ++ line_of (event.Wait ticks) r ∷ []) new after r
+    → (WaitsFor ticks before after (Ok r) × (new ≡ old)) ⊎ WaitsTooLong ticks (span_of before after old new) (Ok r) → LineLeaves (lines ++ line_of (event.Wait ticks) r ∷ []) new after r
 waits lines ticks r before after old new t told stands (inl h) =
     let is : r ≡ reply.Waited = cc (h.0.replies) in
     let w = h.0.waited t told in
@@ -725,7 +726,7 @@ report_shown lines tree r before after world t told still stands is sees shows =
         (still_line lines (event.Report tree) (reply.Report r) (session_at world.sessions) (λ s. refl) stands.acts) stands.rests front
 
 pub reports : (lines : List Line) (tree : ℕ) (r : Reply) (before after : Seen) (old new : World) (t : CloudState) → before.state ≡ Some t → LinesStand lines old t
-    → Reports tree before after old new (Ok r) → LineLeaves (lines ++ line_of (event.Report tree) r ∷ []) new after r
+    → Reports tree (span_of before after old new) (Ok r) → LineLeaves (lines ++ line_of (event.Report tree) r ∷ []) new after r
 reports lines tree (reply.Report r) before after old new t told stands h =
     let P : World → Type 0 = λ w. LineLeaves (lines ++ line_of (event.Report tree) (reply.Report r) ∷ []) w after (reply.Report r) in
     subst P (sym h.world) (report_shown lines tree r before after old t told (h.looked.stays t told) stands h.reply.0 h.reply.1 h.reply.2)

@@ -49,6 +49,7 @@ use Rattle.world_core.specs.World.{World}
 use Rattle.world_core.specs.declared.asked.Asked.{Asked}
 use Rattle.world_core.specs.declared.asked.Asked.TheVariants.{Session, Wait, Report, Settle, Sweep}
 use Rattle.world_core.specs.declared.world.WorldFault.{WorldFault}
+use Rattle.world_core.specs.Span.{span_of}
 
 -- ---- its call
 
@@ -193,7 +194,7 @@ module _ (begun : CloudState) (tree n : ℕ) (before : Seen) (old : World) (on :
 
 module _ (begun : CloudState) (tree n : ℕ) where
   -- a step is that of the session as it stood
-  module _ (before after : Seen) (old new : World) (turn : Turn Answer) (on : OnSweep begun tree old before) (p : StepsLooked (settler n) Plain before after old new turn) where
+  module _ (before after : Seen) (old new : World) (turn : Turn Answer) (on : OnSweep begun tree old before) (p : StepsLooked (settler n) Plain (span_of before after old new) turn) where
     steps_of : StepsSession (settler n) p.under p.to (session_at old.sessions 0) p.session.after (Ok turn)
     steps_of = subst (λ (a : Acting). StepsSession (settler n) p.under p.to a p.session.after (Ok turn)) (sym (changed_was 0 _ old.sessions new.sessions p.session)) p.session.does
 
@@ -201,12 +202,12 @@ module _ (begun : CloudState) (tree n : ℕ) where
     step_left =
         looked_left begun tree p.to after Any p.look_after (call_left begun tree n before old on p.from p.under p.to p.look_before p.wishes p.session.after turn steps_of)
 
-  step_more : (before after : Seen) (old new : World) → OnSweep begun tree old before → StepsLooked (settler n) Plain before after old new More → OnSweep begun tree new after
+  step_more : (before after : Seen) (old new : World) → OnSweep begun tree old before → StepsLooked (settler n) Plain (span_of before after old new) More → OnSweep begun tree new after
   step_more before after old new on p =
       more_on begun tree n before old on p.from p.under p.to p.look_before p.wishes p.session.after (steps_of before after old new More on p) after new p.look_after
       (changed_at 0 _ old.sessions new.sessions p.session)
 
-  step_swept : (x : Swept) (before after : Seen) (old new : World) → OnSweep begun tree old before → StepsLooked (settler n) Plain before after old new (Ended (answer.Swept x))
+  step_swept : (x : Swept) (before after : Seen) (old new : World) → OnSweep begun tree old before → StepsLooked (settler n) Plain (span_of before after old new) (Ended (answer.Swept x))
       → IsLeftOf begun tree after (λ u. AreJustReached begun u tree)
   step_swept x before after old new on p =
       looked_left begun tree p.to after (λ u. AreJustReached begun u tree) p.look_after
@@ -217,7 +218,7 @@ module _ (begun : CloudState) (tree n : ℕ) where
   went_on before old after new on (further mid _ world _ went step) = step_more mid after world new (went_on before old mid world on went) step
 
   -- memory ran out beside a step
-  falls_left : (before after : Seen) (old new : World) → OnSweep begun tree old before → FallsShort (settler n) Plain before after old new → IsLeftOf begun tree after Any
+  falls_left : (before after : Seen) (old new : World) → OnSweep begun tree old before → FallsShort (settler n) Plain (span_of before after old new) → IsLeftOf begun tree after Any
   falls_left before after old new on (inl u) = looked_left begun tree before after Any u.looked (on_left begun tree n before old on)
   falls_left before after old new on (inr u) =
       looked_left begun tree u.to after Any u.look_after
@@ -238,7 +239,7 @@ module _ (begun : CloudState) (tree n : ℕ) where
   short_from after result e left = record { state = left.state; told = left.told; remains = left.remains; swept = memory_swept left.state result e }
 
   ends_from : (before after : Seen) (old new : World) (a : Answer) (result : Result Reply WorldFault) → OnSweep begun tree old before
-      → StepsLooked (settler n) Plain before after old new (Ended a) → RepliesSwept a result → LeavesSo begun tree after result
+      → StepsLooked (settler n) Plain (span_of before after old new) (Ended a) → RepliesSwept a result → LeavesSo begun tree after result
   ends_from before after old new (answer.Swept x) result on p e =
       let left = step_swept x before after old new on p in
       record { state = left.state; told = left.told; remains = left.remains; swept = subst (IsSweptTo begun left.state tree) (sym e) left.is }
@@ -262,7 +263,7 @@ module _ (begun : CloudState) (tree n : ℕ) where
       from = begins_from begun tree (new_sweeping tree) refl (λ e. cc (e));
     }
 
-    line_from : Settles (sweeps tree) n before after old new result → LeavesSo begun tree after result
+    line_from : Settles (sweeps tree) n (span_of before after old new) result → LeavesSo begun tree after result
     line_from (inr memory) = record {
       state = begun;
       told = ap (λ (x : Seen). x.state) memory.1.seen ∙ told;
@@ -274,7 +275,7 @@ module _ (begun : CloudState) (tree n : ℕ) where
         first : OnSweep begun tree h.begun before
         first = begins_on h.begun (has_at 0 (session_for (sweeps tree)) old h.begun h.begins)
 
-        on : SettlesOn (sweeps tree) (settler n) before after h.begun new result → LeavesSo begun tree after result
+        on : SettlesOn (sweeps tree) (settler n) (span_of before after h.begun new) result → LeavesSo begun tree after result
         on (inl s) = ends_from s.comes.mid after s.comes.world s.left s.answer result (went_on before h.begun s.comes.mid s.comes.world first s.comes.went) s.comes.steps s.replies
         on (inr (e, s)) =
             let short = s.stops.short in
@@ -283,9 +284,9 @@ module _ (begun : CloudState) (tree n : ℕ) where
 -- ---- the clause
 
 asked_from : (n tree : ℕ) (asked : Asked) (before after : Seen) (old new : World) (result : Result Reply WorldFault) (s : CloudState) → before.state ≡ Some s
-    → SomeBookStands (session_at old.sessions) s → IsTree tree → Asks (event.Sweep tree) asked → Answers n asked before after old new result → SweptFrom s after tree result
+    → SomeBookStands (session_at old.sessions) s → IsTree tree → Asks (event.Sweep tree) asked → Answers n asked (span_of before after old new) result → SweptFrom s after tree result
 asked_from n tree (Sweep (Ok found)) before after old new result s told stands of_tree asks answers =
-    let left = line_from s tree n before after old new result told stands of_tree (subst (λ (k : ℕ). Settles (sweeps k) n before after old new result) asks.0 answers.1) in
+    let left = line_from s tree n before after old new result told stands of_tree (subst (λ (k : ℕ). Settles (sweeps k) n (span_of before after old new) result) asks.0 answers.1) in
     record {
       state = left.state;
       told = left.told;
@@ -299,7 +300,7 @@ asked_from n tree (Wait ticks) before after old new result s told stands of_tree
 asked_from n tree (Report of) before after old new result s told stands of_tree asks answers = absurd asks
 asked_from n tree Settle before after old new result s told stands of_tree asks answers = absurd asks
 
-pub sweep_leaves : (n : ℕ) (e : Event) (before after : Seen) (old new : World) (result : Result Reply WorldFault) → SweepLeaves n e before after old new result
+pub sweep_leaves : (n : ℕ) (e : Event) (before after : Seen) (old new : World) (result : Result Reply WorldFault) → SweepLeaves n e (span_of before after old new) result
 sweep_leaves n (event.Sweep tree) before after old new result = λ s told stands of_tree handled.
     asked_from n tree handled.asked before after old new result s told stands of_tree handled.asks handled.answers
 sweep_leaves n e before after old new result = tt

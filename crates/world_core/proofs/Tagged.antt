@@ -41,6 +41,7 @@ use Rattle.world_core.specs.declared.asked.Asked.{Asked}
 use Rattle.world_core.specs.declared.asked.Asked.TheVariants.{Session, Wait, Report, Settle, Sweep}
 use Rattle.world_core.specs.declared.asked.Request.TheVariants.{Run}
 use Rattle.world_core.specs.declared.world.WorldFault.{WorldFault}
+use Rattle.world_core.specs.Span.{span_of}
 use Rattle.world_core.proofs.EveryLine.{asked_is, does_own}
 use Rattle.world_core.proofs.LookedUp.{HoldsSame, holds_itself, IsAmid, HasFound, comes}
 use Rattle.world_core.proofs.StandsLemmas.{IsUnderWay, way_begins, no_memory, replies_to}
@@ -79,7 +80,7 @@ of_scan (answer.Trouble t) pairs is = absurd (cc (is.0))
 
 -- a run that shows records came to them
 record ShowsItems (who : Caller) (before after : Seen) (old new : World) (pairs : List Pair) : Type 0 where
-  comes_to : ComesTo who before after old new answer.Scan
+  comes_to : ComesTo who (span_of before after old new) answer.Scan
   shown : pairs ≡ items_of comes_to.steps.session.after
 
 module _ (n k : ℕ) (before after : Seen) (old new : World) (pairs : List Pair) where
@@ -89,19 +90,19 @@ module _ (n k : ℕ) (before after : Seen) (old new : World) (pairs : List Pair)
   abbrev shows : Result Reply WorldFault
   shows = Ok (reply.Scan pairs)
 
-  by_answer : (a : Answer) → a ≡ answer.Scan → (c : ComesTo who before after old new a) → RepliesTo a c.steps.session.after shows → ShowsItems who before after old new pairs
+  by_answer : (a : Answer) → a ≡ answer.Scan → (c : ComesTo who (span_of before after old new) a) → RepliesTo a c.steps.session.after shows → ShowsItems who before after old new pairs
   by_answer answer.Scan is c replies = record { comes_to = c; shown = cc (replies) }
   by_answer a is c replies = absurd (cc (is))
 
-  of_run : Runs n k before after old new shows → ShowsItems who before after old new pairs
+  of_run : Runs (record { session = k; event = n }) (span_of before after old new) shows → ShowsItems who before after old new pairs
   of_run (inl refused) = absurd (cc (refused.declines.reply))
   of_run (inr (inl run)) =
       by_answer run.answer (of_scan run.answer pairs (replies_to run.answer run.comes.steps.session.after (reply.Scan pairs) run.replies).0) run.comes run.replies
   of_run (inr (inr memory)) = absurd (no_memory (reply.Scan pairs) memory.0)
 
-  of_line : (asked : Asked) → OfSession k (λ request. request ≡ Ok Run) asked → Answers n asked before after old new shows → ShowsItems who before after old new pairs
+  of_line : (asked : Asked) → OfSession k (λ request. request ≡ Ok Run) asked → Answers n asked (span_of before after old new) shows → ShowsItems who before after old new pairs
   of_line (Session j (Ok request)) belongs (inl p) =
-      of_run (does_own n k request Run before after old new (reply.Scan pairs) (asked_is request Run belongs.1) (subst (λ i. Does n i request before after old new shows) belongs.0 p.1))
+      of_run (does_own n k request Run before after old new (reply.Scan pairs) (asked_is request Run belongs.1) (subst (λ i. Does (record { session = i; event = n }) request (span_of before after old new) shows) belongs.0 p.1))
   of_line (Session j (Err why)) belongs (inl p) = absurd (cc (belongs.1))
   of_line (Session j request) belongs (inr none) = absurd (cc (none.declines.reply))
   of_line (Wait ticks) belongs answers = absurd belongs
@@ -156,8 +157,8 @@ module _ (n k : ℕ) (before after : Seen) (old new : World) (pairs : List Pair)
 
 -- ---- every line
 
-pub shows_tagged : (n : ℕ) (event : Event) (before after : Seen) (old new : World) (result : Result Reply WorldFault) → Handled n event before after old new result
-    → ShowsTagged n event before after old new result
+pub shows_tagged : (n : ℕ) (event : Event) (before after : Seen) (old new : World) (result : Result Reply WorldFault) → Handled n event (span_of before after old new) result
+    → ShowsTagged n event (span_of before after old new) result
 shows_tagged n (event.Run k) before after old new (Ok (reply.Scan pairs)) h = λ lines t at told stands q begun whole fresh contents are.
     finds_all n k before after old new pairs lines t at told stands q begun whole fresh contents are
     (of_line n k before after old new pairs h.asked h.asks h.answers)

@@ -30,6 +30,7 @@ use Rattle.world_core.specs.World.{World}
 use Rattle.world_core.specs.Handled.{Declines, FindsNoMemory, MakesStep, Runs, SettlesOn, Settles, Crashes, Does, ReportReply, Answers, Policies, WorksThrough}
 use Rattle.session_facts.specs.Lines.Errands.{Errand, settles, sweeps}
 use Rattle.world_core.specs.Replying.{declined, done_reply, told, told_by, commit_reply, trouble_reply, value_reply, RepliesTo, RepliesBegun, RepliesFor, RepliesTurn}
+use Rattle.world_core.specs.Span.{span_of}
 
 -- the reply of a line
 abbrev IsOk : Reply → Result Reply WorldFault → Type 0
@@ -74,7 +75,7 @@ declined_text : (r : Reply) (why : Refused) → IsOk r (declined why) → ReplyH
 declined_text r (refused.Rule rule) e = plain_text r (reply.Refused rule) e tt
 declined_text r refused.Memory e = absurd (cc)
 
-declines_text : (r : Reply) (why : Refused) (before after : Seen) (old new : World) → Declines why before after old new (Ok r) → ReplyHasText r
+declines_text : (r : Reply) (why : Refused) (before after : Seen) (old new : World) → Declines why (span_of before after old new) (Ok r) → ReplyHasText r
 declines_text r why before after old new h = declined_text r why h.reply
 
 done_text : (r q : Reply) (done : Result (Unit {0}) Refused) → IsOk r (done_reply q done) → ReplyHasText q → ReplyHasText r
@@ -127,33 +128,33 @@ turn_text (Stopped t) left r e = trouble_text r t e
 -- ---- the replies to lines
 
 module _ (n : ℕ) (before after : Seen) (old new : World) (r : Reply) where
-  step_text : (k : ℕ) (wish : Wish) → MakesStep n k wish before after old new (Ok r) → ReplyHasText r
+  step_text : (k : ℕ) (wish : Wish) → MakesStep (record { session = k; event = n }) wish (span_of before after old new) (Ok r) → ReplyHasText r
   step_text k wish (inl refuses) = declines_text r _ before after old new refuses.declines
   step_text k wish (inr (inl step)) = turn_text step.turn step.steps.session.after r step.replies
   step_text k wish (inr (inr memory)) = absurd (no_memory r memory.0)
 
-  run_text : (k : ℕ) → Runs n k before after old new (Ok r) → ReplyHasText r
+  run_text : (k : ℕ) → Runs (record { session = k; event = n }) (span_of before after old new) (Ok r) → ReplyHasText r
   run_text k (inl refuses) = declines_text r _ before after old new refuses.declines
   run_text k (inr (inl run)) = answer_text run.answer run.comes.steps.session.after r run.replies
   run_text k (inr (inr memory)) = absurd (no_memory r memory.0)
 
-  crash_text : (k : ℕ) (done : Bool) → Crashes n k done before after old new (Ok r) → ReplyHasText r
+  crash_text : (k : ℕ) (done : Bool) → Crashes (record { session = k; event = n }) done (span_of before after old new) (Ok r) → ReplyHasText r
   crash_text k false h = plain_text r reply.Crashed h.replies tt
   crash_text k true (inl idle) = plain_text r reply.Crashed idle.dies.replies tt
   crash_text k true (inr (inl h)) = plain_text r reply.Crashed h.replies tt
   crash_text k true (inr (inr memory)) = absurd (no_memory r memory.0)
 
-  policy_text : (k : ℕ) (role : Role) (number : ℕ) → Policies k role number before after old new (Ok r) → ReplyHasText r
+  policy_text : (k : ℕ) (role : Role) (number : ℕ) → Policies k role number (span_of before after old new) (Ok r) → ReplyHasText r
   policy_text k role number (inl refuses) = declines_text r _ before after old new refuses.declines
   policy_text k role number (inr (inl refuses)) = declines_text r _ before after old new refuses.1.declines
   policy_text k role number (inr (inr gives)) = plain_text r reply.Noted gives.replies tt
 
-  through_text : (k : ℕ) → WorksThrough n k before after old new (Ok r) → ReplyHasText r
+  through_text : (k : ℕ) → WorksThrough (record { session = k; event = n }) (span_of before after old new) (Ok r) → ReplyHasText r
   through_text k (inl refuses) = declines_text r _ before after old new refuses.declines
   through_text k (inr (inl down)) = plain_text r (reply.Worked down.done down.passed) down.replies tt
   through_text k (inr (inr memory)) = absurd (no_memory r memory.0)
 
-  does_text : (k : ℕ) (request : Request) → Does n k request before after old new (Ok r) → ReplyHasText r
+  does_text : (k : ℕ) (request : Request) → Does (record { session = k; event = n }) request (span_of before after old new) (Ok r) → ReplyHasText r
   does_text k (Begin op) h = begun_text h.1.does.begun h.1.after r h.1.does.replies
   does_text k (Note noting) h = done_text r reply.Noted h.1.does.noted h.1.does.replies tt
   does_text k Abort h = done_text r reply.Aborted h.1.does.dropped h.1.does.replies tt
@@ -163,11 +164,11 @@ module _ (n : ℕ) (before after : Seen) (old new : World) (r : Reply) where
   does_text k Run h = run_text k h
   does_text k (Crash done) h = crash_text k done h
 
-  errand_text : (errand : Errand) → Settles errand n before after old new (Ok r) → ReplyHasText r
+  errand_text : (errand : Errand) → Settles errand n (span_of before after old new) (Ok r) → ReplyHasText r
   errand_text errand (inr memory) = absurd (no_memory r memory.0)
   errand_text errand (inl h) = on h.settles
     where
-      on : SettlesOn errand (record { session = 0; event = n }) before after h.begun new (Ok r) → ReplyHasText r
+      on : SettlesOn errand (record { session = 0; event = n }) (span_of before after h.begun new) (Ok r) → ReplyHasText r
       on (inl s) = errand_is ReplyHasText (λ calls. tt) (λ k text. text) (λ kept removed. tt) (λ k text. text) errand s.answer r s.replies
       on (inr memory) = absurd (no_memory r memory.0)
 
@@ -177,7 +178,7 @@ report_text tree before after world (reply.Trouble t) h = h.1
 report_text tree before after world (reply.Refused rule) h = tt
 report_text tree before after world r h = absurd h
 
-pub has_text : (n : ℕ) (asked : Asked) (before after : Seen) (old new : World) (result : Result Reply WorldFault) → Answers n asked before after old new result
+pub has_text : (n : ℕ) (asked : Asked) (before after : Seen) (old new : World) (result : Result Reply WorldFault) → Answers n asked (span_of before after old new) result
     → IfOk result ReplyHasText
 has_text n (Session k (Ok request)) before after old new (Ok r) (inl h) = does_text n before after old new r k request h.1
 has_text n (Session k (Err why)) before after old new (Ok r) (inl h) = declines_text r why before after old new h.1

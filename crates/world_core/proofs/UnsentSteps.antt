@@ -38,6 +38,7 @@ use Rattle.world_core.specs.EachStep.{EachWent}
 use Rattle.world_core.specs.Handled.{StepsLooked, Went, start, further}
 use Rattle.world_core.specs.UnsentPages.{IsOfUnsent, KeepsUnsent}
 use Rattle.world_core.specs.World.{World}
+use Rattle.world_core.specs.Span.{span_of}
 
 -- ---- what is at work
 
@@ -114,7 +115,7 @@ module _ (n : ℕ) (lines : List Line) (who : Caller) (wish : Wish) (before afte
   kept_wished : KeepsUnsent tree page wished (work_at old who.session)
   kept_wished = λ k met. same_unsent tree page h.state wished refl k (kept h.state h.told k met)
 
-  module _ (turn : Turn Answer) (p : StepsLooked who wish before after old new turn) where
+  module _ (turn : Turn Answer) (p : StepsLooked who wish (span_of before after old new) turn) where
     told_under : p.under.state ≡ Some wished
     told_under = p.wishes.set h.state (p.look_before.stays h.state h.told)
 
@@ -126,7 +127,7 @@ module _ (n : ℕ) (lines : List Line) (who : Caller) (wish : Wish) (before afte
     session_is =
         changed_at who.session _ old.sessions new.sessions p.session who.session ∙ at_same who.session p.session.after (session_at old.sessions) who.session refl
 
-  pub step_unsent : (p : StepsLooked who wish before after old new More) → StepIsCalm who wish before after old new More p → UnsentAt tree page who.session after new
+  pub step_unsent : (p : StepsLooked who wish (span_of before after old new) More) → StepIsCalm who wish (span_of before after old new) More p → UnsentAt tree page who.session after new
   step_unsent p calm x told_x =
       subst (λ (y : CloudState). KeepsUnsent tree page y (work_at new who.session)) (one_state u x (sym (p.look_after.stays u calm.calm.left) ∙ told_x))
       (subst (λ (a : Acting). KeepsUnsent tree page u a.work) (sym (session_is More p))
@@ -136,14 +137,14 @@ module _ (n : ℕ) (lines : List Line) (who : Caller) (wish : Wish) (before afte
       u : CloudState
       u = calm.calm.after
 
-  pub answer_unsent : (k : Trouble) (p : StepsLooked who wish before after old new (Ended (answer.Trouble k))) (calm : StepIsCalm who wish before after old new (Ended (answer.Trouble k)) p)
+  pub answer_unsent : (k : Trouble) (p : StepsLooked who wish (span_of before after old new) (Ended (answer.Trouble k))) (calm : StepIsCalm who wish (span_of before after old new) (Ended (answer.Trouble k)) p)
       → (k ≡ trouble.Memory → ⊥) → IsOfUnsent tree page calm.calm.after k
   answer_unsent k p calm other =
       trouble_unsent who p.under p.to holds.book holds.order wished calm.calm.after (told_under (Ended (answer.Trouble k)) p) calm.calm.left holds.stand.cloud tree page
       (session_at old.sessions who.session).cache (holds.stand.parts who.session) (work_at old who.session) p.session.after.work k (holds.stand.each who.session).work at
       (step_at (Ended (answer.Trouble k)) p) other kept_wished
 
-  pub answers_page : (a : Answer) → StepsLooked who wish before after old new (Ended a) → IsPageAnswer a
+  pub answers_page : (a : Answer) → StepsLooked who wish (span_of before after old new) (Ended a) → IsPageAnswer a
   answers_page a p = page_answers who p.under p.to tree page (work_at old who.session) p.session.after.work a (step_at (Ended a) p) at
 
 -- ---- steps behind one another

@@ -25,6 +25,7 @@ use Rattle.world_core.specs.Handled.{SetsWish, StepsLooked, Went, start, further
 use Rattle.world_core.specs.Sessions.{Changes}
 use Rattle.world_core.specs.World.{World}
 use Rattle.world_core.specs.declared.world.WorldFault.{WorldFault}
+use Rattle.world_core.specs.Span.{span_of}
 use Rattle.session_facts.proofs.Lines.Worker.{worker_row}
 use Rattle.world_core.proofs.AddedSteps.{adds_declined, rows_begin, rows_seen, rows_stay, rows_wished}
 use Rattle.world_core.proofs.StandsLemmas.{changed_was, no_memory}
@@ -55,7 +56,7 @@ module _ (n k : ℕ) (lines : List Line) (first : CloudState) (home : Home) (oth
       wished : Rows under
       wished = rows_wished n lines first Plain from under wishes (rows_stay n lines first before from look_before.stays rows)
 
-  worker_stepped : (before after : Seen) (old new : World) (turn : Turn Answer) → IsInside k home others old → StepsLooked (worker k n) Plain before after old new turn → Rows before → Rows after
+  worker_stepped : (before after : Seen) (old new : World) (turn : Turn Answer) → IsInside k home others old → StepsLooked (worker k n) Plain (span_of before after old new) turn → Rows before → Rows after
   worker_stepped before after old new turn w p rows = worker_called before p.from p.under p.to after old new turn w p.look_before p.wishes p.session p.look_after rows
 
   worker_went : (before : Seen) (old : World) (after : Seen) (new : World) → IsInside k home others old → Went (worker k n) before old after new → Rows before → Rows after
@@ -63,7 +64,7 @@ module _ (n k : ℕ) (lines : List Line) (first : CloudState) (home : Home) (oth
   worker_went before old after new w (further mid _ world _ went step) rows =
       worker_stepped mid after world new More (within_went (worker k n) home others before old mid world w went) step (worker_went before old mid world w went rows)
 
-  worker_made : (queue : QueueName) (before after : Seen) (old new : World) (a : Answer) → IsBetween k home others old → Checkpoints (worker k n) queue before after old new a → Rows before
+  worker_made : (queue : QueueName) (before after : Seen) (old new : World) (a : Answer) → IsBetween k home others old → Checkpoints (worker k n) queue (span_of before after old new) a → Rows before
       → Rows after
   worker_made queue before after old new a w c rows =
       let begun = within_begun k home others queue old c.begun w c.begins in
@@ -78,23 +79,23 @@ module _ (n k : ℕ) (lines : List Line) (first : CloudState) (home : Home) (oth
       (worker_works before old earlier kept left mid world w works rows)
 
   -- memory ran out beside a step
-  worker_short : (before after : Seen) (old new : World) → IsInside k home others old → RunsShort (worker k n) Plain before after old new → Rows before → Rows after
+  worker_short : (before after : Seen) (old new : World) → IsInside k home others old → RunsShort (worker k n) Plain (span_of before after old new) → Rows before → Rows after
   worker_short before after old new w s rows = falls s.falls
     where
-      falls : FallsShort (worker k n) Plain before after old s.left → Rows after
+      falls : FallsShort (worker k n) Plain (span_of before after old s.left) → Rows after
       falls (inl un) = rows_stay n lines first before after un.looked.stays rows
       falls (inr p) = worker_called before p.from p.under p.to after old s.left p.turn w p.look_before p.wishes p.session p.look_after rows
 
-  worker_stops : (before after : Seen) (old new : World) → IsInside k home others old → StopsShort (worker k n) before after old new → Rows before → Rows after
+  worker_stops : (before after : Seen) (old new : World) → IsInside k home others old → StopsShort (worker k n) (span_of before after old new) → Rows before → Rows after
   worker_stops before after old new w s rows =
       worker_short s.mid after s.world new (within_went (worker k n) home others before old s.mid s.world w s.went) s.short (worker_went before old s.mid s.world w s.went rows)
 
-  worker_fails : (before after : Seen) (begun new : World) → IsInside k home others begun → CheckpointFails (worker k n) before after begun new → Rows before → Rows after
+  worker_fails : (before after : Seen) (begun new : World) → IsInside k home others begun → CheckpointFails (worker k n) (span_of before after begun new) → Rows before → Rows after
   worker_fails before after begun new w (inl s) rows = worker_stops before after begun new w s rows
   worker_fails before after begun new w (inr (left, c, breaks)) rows =
       worker_stepped c.mid after c.world left _ (within_went (worker k n) home others before begun c.mid c.world w c.went) c.steps (worker_went before begun c.mid c.world w c.went rows)
 
-  pub worker_falls : (before after : Seen) (old new : World) → IsBetween k home others old → KnowsNoDue k before after old new ⊎ FailsAt (worker k n) before after old new → Rows before
+  pub worker_falls : (before after : Seen) (old new : World) → IsBetween k home others old → KnowsNoDue k (span_of before after old new) ⊎ FailsAt (worker k n) (span_of before after old new) → Rows before
       → Rows after
   worker_falls before after old new w (inl none) rows = rows_seen n lines first before after none.seen rows
   worker_falls before after old new w (inr fails) rows =
@@ -103,7 +104,7 @@ module _ (n k : ℕ) (lines : List Line) (first : CloudState) (home : Home) (oth
 -- ---- a line that works
 
 works_adding : (lines : List Line) (first : CloudState) (k n : ℕ) (r : Reply) (before after : Seen) (old new : World) → length lines + 1 ≡ n → 1 ≤ k
-    → WorldAdds lines first old before → WorksDown n k before after old new (Ok r) → WorldAdds (lines ++ line_of (event.Work k) r ∷ []) first new after
+    → WorldAdds lines first old before → WorksDown (record { session = k; event = n }) (span_of before after old new) (Ok r) → WorldAdds (lines ++ line_of (event.Work k) r ∷ []) first new after
 works_adding lines first k n r before after old new number some w d = record {
   rows = subst (λ m. AddsTo m all first after) whole
       (worker_works n k all first rest.0 (session_at old.sessions) (worker_row lines r (worker k n) (sym number)) before old d.queues d.done d.passed after new rest.2 d.works
@@ -126,14 +127,14 @@ works_adding lines first k n r before after old new number some w d = record {
     last = within_works (worker k n) rest.0 (session_at old.sessions) before old d.queues d.done d.passed after new rest.2 d.works
 
 pub adds_work : (lines : List Line) (first : CloudState) (k n : ℕ) (r : Reply) (before after : Seen) (old new : World) → length lines + 1 ≡ n → 1 ≤ k
-    → WorldAdds lines first old before → WorksThrough n k before after old new (Ok r) → WorldAdds (lines ++ line_of (event.Work k) r ∷ []) first new after
+    → WorldAdds lines first old before → WorksThrough (record { session = k; event = n }) (span_of before after old new) (Ok r) → WorldAdds (lines ++ line_of (event.Work k) r ∷ []) first new after
 adds_work lines first k n r before after old new number some w (inl refuses) = adds_declined lines (event.Work k) r _ first before after old new refuses.declines w
 adds_work lines first k n r before after old new number some w (inr (inl down)) = works_adding lines first k n r before after old new number some w down
 adds_work lines first k n r before after old new number some w (inr (inr memory)) = absurd (no_memory r memory.0)
 
 -- whatever its result
 pub work_rows : (lines : List Line) (first : CloudState) (k n : ℕ) (r : Reply) (before after : Seen) (old new : World) (result : Result Reply WorldFault) → length lines + 1 ≡ n
-    → WorldAdds lines first old before → WorksThrough n k before after old new result → AddsTo n (lines ++ line_of (event.Work k) r ∷ []) first after
+    → WorldAdds lines first old before → WorksThrough (record { session = k; event = n }) (span_of before after old new) result → AddsTo n (lines ++ line_of (event.Work k) r ∷ []) first after
 work_rows lines first k n r before after old new result number w (inl refuses) =
     rows_seen n (lines ++ line_of (event.Work k) r ∷ []) first before after refuses.declines.seen (worker_rows_begin lines first k n r before number w.rows)
 work_rows lines first k n r before after old new result number w (inr (inl d)) =
@@ -141,7 +142,7 @@ work_rows lines first k n r before after old new result number w (inr (inl d)) =
     worker_works n k (lines ++ line_of (event.Work k) r ∷ []) first rest.0 (session_at old.sessions) (worker_row lines r (worker k n) (sym number)) before old d.queues d.done d.passed after new
     rest.2 d.works (worker_rows_begin lines first k n r before number w.rows)
 work_rows lines first k n r before after old new result number w (inr (inr memory)) =
-    let s : WorksShort (worker k n) before after old new = memory.1 in
+    let s : WorksShort (worker k n) (span_of before after old new) = memory.1 in
     let rest = open_rests k old s.opened in
     let row = worker_row lines r (worker k n) (sym number) in
     worker_falls n k (lines ++ line_of (event.Work k) r ∷ []) first rest.0 (session_at old.sessions) row s.mid after s.world new

@@ -39,6 +39,7 @@ use Rattle.world_core.specs.World.{World}
 use Rattle.world_core.specs.declared.world.WorldFault.{WorldFault}
 use Rattle.world_core.specs.Sessions.{Changes}
 use Rattle.world_core.specs.Handled.{StepsLooked, Went, start, further, IsOpen, BeginsCheckpoint, Checkpoints, IsPassable, Works, no_checkpoint, checkpoint_more, WorksDown, WorksThrough, checkpoint_of}
+use Rattle.world_core.specs.Span.{span_of}
 use Rattle.world_core.proofs.Behind.{LinesStand, LineLeaves}
 use Rattle.world_core.proofs.StandsLemmas.{IsNoReport, changed_at, changed_was, declines, no_memory, no_report_front, no_report_left, no_report_right}
 
@@ -129,7 +130,7 @@ module _ (k : ℕ) (home : Home) (first : Sessions) where
       within_changed (IsIdle home) (HasCheckpoint home) k first _ old begun b.session w (begun_has home queue b.session.before b.session.after b.pending b.session.does)
 
 module _ (who : Caller) (home : Home) (first : Sessions) where
-  pub within_more : (before after : Seen) (old new : World) → IsInside who.session home first old → StepsLooked who Plain before after old new More → IsInside who.session home first new
+  pub within_more : (before after : Seen) (old new : World) → IsInside who.session home first old → StepsLooked who Plain (span_of before after old new) More → IsInside who.session home first new
   within_more before after old new w p =
       within_changed (HasCheckpoint home) (HasCheckpoint home) who.session first _ old new p.session w
       (λ has. (
@@ -137,7 +138,7 @@ module _ (who : Caller) (home : Home) (first : Sessions) where
         p.session.does.buffer ∙ checkpoint_noted home p.session.before.work p.session.before.buffer has,
       ))
 
-  pub within_ended : (before after : Seen) (old new : World) (a : Answer) → IsNoWant a → IsInside who.session home first old → StepsLooked who Plain before after old new (Ended a)
+  pub within_ended : (before after : Seen) (old new : World) (a : Answer) → IsNoWant a → IsInside who.session home first old → StepsLooked who Plain (span_of before after old new) (Ended a)
       → IsBetween who.session home first new
   within_ended before after old new a some w p =
       within_changed (HasCheckpoint home) (IsIdle home) who.session first _ old new p.session w
@@ -151,7 +152,7 @@ module _ (who : Caller) (home : Home) (first : Sessions) where
   within_went before old after new w (further mid _ world _ went step) = within_more mid after world new (within_went before old mid world w went) step
 
   pub within_made : (queue : QueueName) (before after : Seen) (old new : World) (a : Answer) → IsPassable a → IsBetween who.session home first old
-      → Checkpoints who queue before after old new a → IsBetween who.session home first new
+      → Checkpoints who queue (span_of before after old new) a → IsBetween who.session home first new
   within_made queue before after old new a passes w c =
       within_ended c.comes.mid after c.comes.world new a (passable a passes)
       (within_went before c.begun c.comes.mid c.comes.world (within_begun who.session home first queue old c.begun w c.begins) c.comes.went) c.comes.steps
@@ -209,7 +210,7 @@ holds_begun n lines k queue seen old begun h b = record { state = h.state; told 
 
 module _ (n k : ℕ) (lines : List Line) (home : Home) (row : IsWorkersRow lines (worker k n)) where
   module _ (first : Sessions) (before after : Seen) (old new : World) (turn : Turn Answer) (w : IsInside k home first old) (h : HoldsWithin n lines old before)
-      (p : StepsLooked (worker k n) Plain before after old new turn) where
+      (p : StepsLooked (worker k n) Plain (span_of before after old new) turn) where
     abbrev held : Sessions
     held = session_at old.sessions
 
@@ -244,7 +245,7 @@ module _ (n k : ℕ) (lines : List Line) (home : Home) (row : IsWorkersRow lines
         holds_step first mid after world new More (within_went (worker k n) home first before old mid world w went) (holds_went before old mid world w h went) step
 
     pub holds_made : (queue : QueueName) (before after : Seen) (old new : World) (a : Answer) → IsBetween k home first old → HoldsWithin n lines old before
-        → Checkpoints (worker k n) queue before after old new a → HoldsWithin n lines new after
+        → Checkpoints (worker k n) queue (span_of before after old new) a → HoldsWithin n lines new after
     holds_made queue before after old new a w h c =
         holds_step first c.comes.mid after c.comes.world new (Ended a) (within_went (worker k n) home first before c.begun c.comes.mid c.comes.world begun c.comes.went)
         (holds_went before c.begun c.comes.mid c.comes.world begun (holds_begun n lines k queue before old c.begun h c.begins) c.comes.went) c.comes.steps
@@ -297,7 +298,7 @@ pub worked_plain : (r : Reply) (done passed : ℕ) → (let result : Result Repl
 worked_plain r done passed e = let is : r ≡ reply.Worked done passed = cc in subst IsNoReport (sym is) tt
 
 works_down : (lines : List Line) (k n : ℕ) (r : Reply) (before after : Seen) (old new : World) (t : CloudState) → length lines + 1 ≡ n → 1 ≤ k
-    → before.state ≡ Some t → LinesStand lines old t → WorksDown n k before after old new (Ok r) → LineLeaves (lines ++ line_of (event.Work k) r ∷ []) new after r
+    → before.state ≡ Some t → LinesStand lines old t → WorksDown (record { session = k; event = n }) (span_of before after old new) (Ok r) → LineLeaves (lines ++ line_of (event.Work k) r ∷ []) new after r
 works_down lines k n r before after old new t at some told stands d = record {
   after = h.state;
   told = h.told;
@@ -331,7 +332,7 @@ works_down lines k n r before after old new t at some told stands d = record {
         (worker_begins lines k n before old t (sym at) told stands r plain) d.works
 
 pub works_through : (lines : List Line) (k n : ℕ) (r : Reply) (before after : Seen) (old new : World) (t : CloudState) → length lines + 1 ≡ n → 1 ≤ k
-    → before.state ≡ Some t → LinesStand lines old t → WorksThrough n k before after old new (Ok r) → LineLeaves (lines ++ line_of (event.Work k) r ∷ []) new after r
+    → before.state ≡ Some t → LinesStand lines old t → WorksThrough (record { session = k; event = n }) (span_of before after old new) (Ok r) → LineLeaves (lines ++ line_of (event.Work k) r ∷ []) new after r
 works_through lines k n r before after old new t at some told stands (inl refuses) = declines lines (event.Work k) r _ before after old new t refuses.declines told stands
 works_through lines k n r before after old new t at some told stands (inr (inl down)) = works_down lines k n r before after old new t at some told stands down
 works_through lines k n r before after old new t at some told stands (inr (inr memory)) = absurd (no_memory r memory.0)

@@ -1,6 +1,5 @@
 -- Where a session is alone, its steps are calm that are undisturbed.
 use Rattle.std.specs.Prelude.{ℕ, ◌≡◌, ◌+◌, List, length, Some, Result, Ok, Err}
-use Rattle.cloud_trait.specs.Seen.{Seen}
 use Rattle.cloud_trait.specs.State.{CloudState}
 use Rattle.event_text.specs.declared.event.Event.{Event}
 use Rattle.event_text.specs.declared.event.Event.TheVariants as event
@@ -13,10 +12,11 @@ use Rattle.world_core.specs.Handled.{Handled}
 use Rattle.world_core.specs.Stands.{WorldStands}
 use Rattle.world_core.specs.World.{World}
 use Rattle.world_core.specs.declared.world.WorldFault.{WorldFault}
+use Rattle.world_core.specs.Span.{Span}
 
 -- a step of a session was undisturbed
 abbrev pub StepIsUndisturbed : StepFact
-StepIsUndisturbed who wish before after old new turn p = StepsUndisturbed who p.under p.to p.session.before p.session.after turn p.session.does
+StepIsUndisturbed who wish span turn p = StepsUndisturbed who p.under p.to p.session.before p.session.after turn p.session.does
 
 -- a session of a world is alone
 abbrev pub IsAloneIn : ℕ → World → CloudState → Type 0
@@ -33,10 +33,10 @@ LeavesAlone session e = session_of e ≡ session
 
 -- Whatever lines a world and a cloud stood for before a line that leaves a session alone, where each step of it was undisturbed: a session that was
 -- alone is alone behind it, and each step was calm.
-abbrev pub KeepsAlone : ℕ → Event → Seen → Seen → World → World → Result Reply WorldFault → Type 0
-KeepsAlone n event before after old new (Ok reply) =
-    (lines : List Line) (t u : CloudState) → length lines + 1 ≡ n → before.state ≡ Some t → after.state ≡ Some u → WorldStands lines old t
-    → (handled : Handled n event before after old new (Ok reply)) → EachStep StepIsUndisturbed n event before after old new (Ok reply) handled
-    → (session : ℕ) → LeavesAlone session event → IsAloneIn session old t
-    → IsAloneIn session new u × EachStep StepIsCalm n event before after old new (Ok reply) handled
-KeepsAlone n event before after old new (Err fault) = Unit {0}
+abbrev pub KeepsAlone : ℕ → Event → Span → Result Reply WorldFault → Type 0
+KeepsAlone n event span (Ok reply) =
+    (lines : List Line) (t u : CloudState) → length lines + 1 ≡ n → span.before.state ≡ Some t → span.after.state ≡ Some u → WorldStands lines span.old t
+    → (handled : Handled n event span (Ok reply)) → EachStep StepIsUndisturbed n event span (Ok reply) handled
+    → (session : ℕ) → LeavesAlone session event → IsAloneIn session span.old t
+    → IsAloneIn session span.new u × EachStep StepIsCalm n event span (Ok reply) handled
+KeepsAlone n event span (Err fault) = Unit {0}

@@ -1,4 +1,5 @@
 -- Why an operation that was answered at its begin came to that, over any cloud: it made no call, so what its client has and keeps shows it.
+use Rattle.cloud_trait.specs.Caller.{Caller}
 use Rattle.std.specs.Prelude.{ℕ, ◌≡◌, ◌≢◌, ◌⊎◌, [], List, false, Some, Result, Ok, Err}
 use Rattle.std.proofs.Common.{inl, inr}
 use Rattle.db_base.specs.declared.trouble.CommitAnswer.{CommitAnswer}
@@ -7,7 +8,6 @@ use Rattle.db_base.specs.declared.trouble.Trouble.{Trouble}
 use Rattle.db_base.specs.declared.trouble.Trouble.TheVariants as trouble
 use Rattle.db_base.specs.declared.refusal.Refused.{Refused}
 use Rattle.txn_buffer.specs.Noted.{Noted}
-use Rattle.cloud_trait.specs.Seen.{Seen}
 use Rattle.cloud_trait.specs.declared.turn.Turn.TheVariants.{Ended}
 use Rattle.page_cache.specs.Cache.{Cache}
 use Rattle.tree_walk.specs.Causes.{LinkShows}
@@ -32,9 +32,9 @@ use Rattle.world_core.specs.declared.asked.Asked.{Asked}
 use Rattle.world_core.specs.declared.asked.Asked.TheVariants.{Session, Wait, Report, Settle, Sweep}
 use Rattle.world_core.specs.declared.asked.Request.{Request}
 use Rattle.world_core.specs.declared.asked.Request.TheVariants.{Begin, Note, Abort, Policy, Work, Step, Run as RunsOn, Crash}
-use Rattle.world_core.specs.World.{World}
 use Rattle.world_core.specs.declared.world.WorldFault.{WorldFault}
 use Rattle.world_core.specs.Handled.{BeginsOp, Does, Serves, Answers, Handled}
+use Rattle.world_core.specs.Span.{Span}
 
 -- a commit of nothing is committed; any other is refused where no attempt number is left, and only there so, or by a walk through what the cache keeps,
 -- which shows why, or since a record's number would pass the greatest one
@@ -70,28 +70,28 @@ ShowsBegin o (Err why) old new untold = WasBegun o old untold.begun
 
 -- ---- the begin of a line, where it begins something
 
-abbrev pub DoesShow : (n number : ℕ) (request : Request) (before after : Seen) (old new : World) (result : Result Reply WorldFault) → Does n number request before after old new result → Type 0
-DoesShow n number (Begin o) before after old new result does = ShowsBegin o result does.1.before does.1.after does.1.does
-DoesShow n number (Step wish) before after old new result does = Unit {0}
-DoesShow n number RunsOn before after old new result does = Unit {0}
-DoesShow n number (Crash done) before after old new result does = Unit {0}
-DoesShow n number (Note noting) before after old new result does = Unit {0}
-DoesShow n number (Policy role k) before after old new result does = Unit {0}
-DoesShow n number Work before after old new result does = Unit {0}
-DoesShow n number Abort before after old new result does = Unit {0}
+abbrev pub DoesShow : (who : Caller) (request : Request) (span : Span) (result : Result Reply WorldFault) → Does who request span result → Type 0
+DoesShow who (Begin o) span result does = ShowsBegin o result does.1.before does.1.after does.1.does
+DoesShow who (Step wish) span result does = Unit {0}
+DoesShow who RunsOn span result does = Unit {0}
+DoesShow who (Crash done) span result does = Unit {0}
+DoesShow who (Note noting) span result does = Unit {0}
+DoesShow who (Policy role k) span result does = Unit {0}
+DoesShow who Work span result does = Unit {0}
+DoesShow who Abort span result does = Unit {0}
 
-abbrev pub ServesShow : (n number : ℕ) (request : Result Request Refused) (before after : Seen) (old new : World) (result : Result Reply WorldFault) → Serves n number request before after old new result → Type 0
-ServesShow n number (Ok request) before after old new result does = DoesShow n number request before after old new result does
-ServesShow n number (Err why) before after old new result declines = Unit {0}
+abbrev pub ServesShow : (who : Caller) (request : Result Request Refused) (span : Span) (result : Result Reply WorldFault) → Serves who request span result → Type 0
+ServesShow who (Ok request) span result does = DoesShow who request span result does
+ServesShow who (Err why) span result declines = Unit {0}
 
-abbrev pub AsksShow : (n : ℕ) (asked : Asked) (before after : Seen) (old new : World) (result : Result Reply WorldFault) → Answers n asked before after old new result → Type 0
-AsksShow n (Session number request) before after old new result (inl served) = ServesShow n number request before after old new result served.1
-AsksShow n (Session number request) before after old new result (inr none) = Unit {0}
-AsksShow n (Wait ticks) before after old new result waits = Unit {0}
-AsksShow n (Report tree) before after old new result reports = Unit {0}
-AsksShow n Settle before after old new result settles = Unit {0}
-AsksShow n (Sweep tree) before after old new result sweeps = Unit {0}
+abbrev pub AsksShow : (n : ℕ) (asked : Asked) (span : Span) (result : Result Reply WorldFault) → Answers n asked span result → Type 0
+AsksShow n (Session number request) span result (inl served) = ServesShow (record { session = number; event = n }) request span result served.1
+AsksShow n (Session number request) span result (inr none) = Unit {0}
+AsksShow n (Wait ticks) span result waits = Unit {0}
+AsksShow n (Report tree) span result reports = Unit {0}
+AsksShow n Settle span result settles = Unit {0}
+AsksShow n (Sweep tree) span result sweeps = Unit {0}
 
 -- it is so of the begin of a line, as it was handled
-abbrev pub BeginIsShown : (n : ℕ) (event : Event) (before after : Seen) (old new : World) (result : Result Reply WorldFault) → Handled n event before after old new result → Type 0
-BeginIsShown n event before after old new result handled = AsksShow n handled.asked before after old new result handled.answers
+abbrev pub BeginIsShown : (n : ℕ) (event : Event) (span : Span) (result : Result Reply WorldFault) → Handled n event span result → Type 0
+BeginIsShown n event span result handled = AsksShow n handled.asked span result handled.answers

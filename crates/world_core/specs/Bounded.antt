@@ -23,6 +23,7 @@ use Rattle.world_core.specs.World.{World}
 use Rattle.world_core.specs.declared.world.WorldFault.{WorldFault}
 use Rattle.world_core.specs.Handled.{StepsLooked, StepsTo, MakesStep, Went, start, further, ComesTo, RunsTo, Runs, Works, no_checkpoint, checkpoint_more, WorksThrough, Crashes, Does, Serves, Answers, Handled}
 use Rattle.world_core.specs.Stands.{WorldStands}
+use Rattle.world_core.specs.Span.{Span, span_of}
 
 -- ---- how many calls
 
@@ -32,42 +33,42 @@ steps_of who before old after new start = 0
 steps_of who before old after new (further mid _ world _ went step) = steps_of who before old mid world went + 1
 
 -- with the one that was answered
-abbrev pub calls_of : (who : Caller) (before after : Seen) (old new : World) (answer : Answer) → ComesTo who before after old new answer → ℕ
-calls_of who before after old new answer comes = steps_of who before old comes.mid comes.world comes.went + 1
+abbrev pub calls_of : (who : Caller) (span : Span) (answer : Answer) → ComesTo who span answer → ℕ
+calls_of who span answer comes = steps_of who span.before span.old comes.mid comes.world comes.went + 1
 
 -- ---- a line
 
 -- behind a line, so many calls of what a session had in hand were few, by what it had received before the last of them
-abbrev pub WereFew : ℕ → (who : Caller) (wish : Wish) (before after : Seen) (old new : World) → (turn : Turn Answer) → StepsLooked who wish before after old new turn → Type 0
-WereFew calls who wish before after old new turn p = (last : CloudState) → after.state ≡ Some last → FewFor calls last p.session.before.work
+abbrev pub WereFew : ℕ → (who : Caller) (wish : Wish) (span : Span) → (turn : Turn Answer) → StepsLooked who wish span turn → Type 0
+WereFew calls who wish span turn p = (last : CloudState) → span.after.state ≡ Some last → FewFor calls last p.session.before.work
 
 -- a step is one call more than the lines before it told, whether its reply found memory or not
-abbrev pub WasSoon : List Line → (n number : ℕ) (wish : Wish) (before after : Seen) (old new : World) (result : Result Reply WorldFault) → StepsTo n number wish before after old new result → Type 0
-WasSoon lines n number wish before after old new (Ok reply) made =
-    WereFew (calls_told lines number + 1) (record { session = number; event = n }) wish before after old new made.turn made.steps
-WasSoon lines n number wish before after old new (Err why) made =
-    WereFew (calls_told lines number + 1) (record { session = number; event = n }) wish before after old made.left made.turn made.steps
+abbrev pub WasSoon : List Line → (who : Caller) (wish : Wish) (span : Span) (result : Result Reply WorldFault) → StepsTo who wish span result → Type 0
+WasSoon lines who wish span (Ok reply) made =
+    WereFew (calls_told lines who.session + 1) who wish span made.turn made.steps
+WasSoon lines who wish span (Err why) made =
+    WereFew (calls_told lines who.session + 1) who wish (record span { new = made.left }) made.turn made.steps
 
-abbrev pub StepsSoon : List Line → (n number : ℕ) (wish : Wish) (before after : Seen) (old new : World) (result : Result Reply WorldFault) → MakesStep n number wish before after old new result → Type 0
-StepsSoon lines n number wish before after old new result (inl refused) = Unit {0}
-StepsSoon lines n number wish before after old new result (inr (inl made)) = WasSoon lines n number wish before after old new result made
-StepsSoon lines n number wish before after old new result (inr (inr memory)) = Unit {0}
+abbrev pub StepsSoon : List Line → (who : Caller) (wish : Wish) (span : Span) (result : Result Reply WorldFault) → MakesStep who wish span result → Type 0
+StepsSoon lines who wish span result (inl refused) = Unit {0}
+StepsSoon lines who wish span result (inr (inl made)) = WasSoon lines who wish span result made
+StepsSoon lines who wish span result (inr (inr memory)) = Unit {0}
 
 -- those of a run up to its answer
-abbrev pub CameSoon : List Line → (n number : ℕ) (before after : Seen) (old new : World) (answer : Answer) → ComesTo (record { session = number; event = n }) before after old new answer → Type 0
-CameSoon lines n number before after old new answer comes =
-    WereFew (calls_told lines number + calls_of (record { session = number; event = n }) before after old new answer comes)
-    (record { session = number; event = n }) Plain comes.mid after comes.world new (Ended answer) comes.steps
+abbrev pub CameSoon : List Line → (who : Caller) (span : Span) (answer : Answer) → ComesTo who span answer → Type 0
+CameSoon lines who span answer comes =
+    WereFew (calls_told lines who.session + calls_of who span answer comes)
+    who Plain (span_of comes.mid span.after comes.world span.new) (Ended answer) comes.steps
 
-abbrev pub RanSoon : List Line → (n number : ℕ) (before after : Seen) (old new : World) (result : Result Reply WorldFault) → RunsTo n number before after old new result → Type 0
-RanSoon lines n number before after old new (Ok reply) run = CameSoon lines n number before after old new run.answer run.comes
-RanSoon lines n number before after old new (Err why) run = CameSoon lines n number before after old run.left run.answer run.comes
+abbrev pub RanSoon : List Line → (who : Caller) (span : Span) (result : Result Reply WorldFault) → RunsTo who span result → Type 0
+RanSoon lines who span (Ok reply) run = CameSoon lines who span run.answer run.comes
+RanSoon lines who span (Err why) run = CameSoon lines who (record span { new = run.left }) run.answer run.comes
 
 -- a run makes its own
-abbrev pub RunsSoon : List Line → (n number : ℕ) (before after : Seen) (old new : World) (result : Result Reply WorldFault) → Runs n number before after old new result → Type 0
-RunsSoon lines n number before after old new result (inl refused) = Unit {0}
-RunsSoon lines n number before after old new result (inr (inl run)) = RanSoon lines n number before after old new result run
-RunsSoon lines n number before after old new result (inr (inr memory)) = Unit {0}
+abbrev pub RunsSoon : List Line → (who : Caller) (span : Span) (result : Result Reply WorldFault) → Runs who span result → Type 0
+RunsSoon lines who span result (inl refused) = Unit {0}
+RunsSoon lines who span result (inr (inl run)) = RanSoon lines who span result run
+RunsSoon lines who span result (inr (inr memory)) = Unit {0}
 
 -- each checkpoint that is due makes its own
 abbrev pub EachSoon : (who : Caller) (before : Seen) (old : World) (queues : List QueueName) (done passed : ℕ) (after : Seen) (new : World)
@@ -75,44 +76,44 @@ abbrev pub EachSoon : (who : Caller) (before : Seen) (old : World) (queues : Lis
 EachSoon who before old queues done passed after new no_checkpoint = Unit {0}
 EachSoon who before old queues done passed after new (checkpoint_more others kept left mid world queue answer _ _ works makes passes) =
     EachSoon who before old others kept left mid world works
-    × WereFew (calls_of who mid after makes.begun new answer makes.comes) who Plain makes.comes.mid after makes.comes.world new (Ended answer) makes.comes.steps
+    × WereFew (calls_of who (span_of mid after makes.begun new) answer makes.comes) who Plain (span_of makes.comes.mid after makes.comes.world new) (Ended answer) makes.comes.steps
 
-abbrev pub WorksSoon : (n number : ℕ) (before after : Seen) (old new : World) (result : Result Reply WorldFault) → WorksThrough n number before after old new result → Type 0
-WorksSoon n number before after old new result (inl refused) = Unit {0}
-WorksSoon n number before after old new result (inr (inl work)) =
-    EachSoon (record { session = number; event = n }) before old work.queues work.done work.passed after new work.works
-WorksSoon n number before after old new result (inr (inr memory)) = Unit {0}
+abbrev pub WorksSoon : (who : Caller) (span : Span) (result : Result Reply WorldFault) → WorksThrough who span result → Type 0
+WorksSoon who span result (inl refused) = Unit {0}
+WorksSoon who span result (inr (inl work)) =
+    EachSoon who span.before span.old work.queues work.done work.passed span.after span.new work.works
+WorksSoon who span result (inr (inr memory)) = Unit {0}
 
 -- a session that dies with its call in hand made one more
-abbrev pub CrashesSoon : List Line → (n number : ℕ) (done : Bool) (before after : Seen) (old new : World) (result : Result Reply WorldFault) → Crashes n number done before after old new result → Type 0
-CrashesSoon lines n number false before after old new result dies = Unit {0}
-CrashesSoon lines n number true before after old new result (inl idle) = Unit {0}
-CrashesSoon lines n number true before after old new result (inr (inl dies)) =
-    WereFew (calls_told lines number + 1) (record { session = number; event = n }) Plain before after old dies.world dies.turn dies.steps
-CrashesSoon lines n number true before after old new result (inr (inr memory)) = Unit {0}
+abbrev pub CrashesSoon : List Line → (who : Caller) (done : Bool) (span : Span) (result : Result Reply WorldFault) → Crashes who done span result → Type 0
+CrashesSoon lines who false span result dies = Unit {0}
+CrashesSoon lines who true span result (inl idle) = Unit {0}
+CrashesSoon lines who true span result (inr (inl dies)) =
+    WereFew (calls_told lines who.session + 1) who Plain (record span { new = dies.world }) dies.turn dies.steps
+CrashesSoon lines who true span result (inr (inr memory)) = Unit {0}
 
 -- of other requests nothing is counted
-abbrev pub DoesSoon : List Line → (n number : ℕ) (request : Request) (before after : Seen) (old new : World) (result : Result Reply WorldFault) → Does n number request before after old new result → Type 0
-DoesSoon lines n number (Step wish) before after old new result does = StepsSoon lines n number wish before after old new result does
-DoesSoon lines n number Run before after old new result does = RunsSoon lines n number before after old new result does
-DoesSoon lines n number Work before after old new result does = WorksSoon n number before after old new result does
-DoesSoon lines n number (Crash done) before after old new result does = CrashesSoon lines n number done before after old new result does
-DoesSoon lines n number request before after old new result does = Unit {0}
+abbrev pub DoesSoon : List Line → (who : Caller) (request : Request) (span : Span) (result : Result Reply WorldFault) → Does who request span result → Type 0
+DoesSoon lines who (Step wish) span result does = StepsSoon lines who wish span result does
+DoesSoon lines who Run span result does = RunsSoon lines who span result does
+DoesSoon lines who Work span result does = WorksSoon who span result does
+DoesSoon lines who (Crash done) span result does = CrashesSoon lines who done span result does
+DoesSoon lines who request span result does = Unit {0}
 
-abbrev pub ServesSoon : List Line → (n number : ℕ) (request : Result Request Refused) (before after : Seen) (old new : World) (result : Result Reply WorldFault)
-    → Serves n number request before after old new result → Type 0
-ServesSoon lines n number (Ok request) before after old new result does = DoesSoon lines n number request before after old new result does
-ServesSoon lines n number (Err why) before after old new result declines = Unit {0}
+abbrev pub ServesSoon : List Line → (who : Caller) (request : Result Request Refused) (span : Span) (result : Result Reply WorldFault)
+    → Serves who request span result → Type 0
+ServesSoon lines who (Ok request) span result does = DoesSoon lines who request span result does
+ServesSoon lines who (Err why) span result declines = Unit {0}
 
 -- whichever session is asked
-abbrev pub AnswersSoon : List Line → (n : ℕ) (asked : Asked) (before after : Seen) (old new : World) (result : Result Reply WorldFault) → Answers n asked before after old new result → Type 0
-AnswersSoon lines n (Session number request) before after old new result (inl served) = ServesSoon lines n number request before after old new result served.1
-AnswersSoon lines n (Session number request) before after old new result (inr none) = Unit {0}
-AnswersSoon lines n asked before after old new result answers = Unit {0}
+abbrev pub AnswersSoon : List Line → (n : ℕ) (asked : Asked) (span : Span) (result : Result Reply WorldFault) → Answers n asked span result → Type 0
+AnswersSoon lines n (Session number request) span result (inl served) = ServesSoon lines (record { session = number; event = n }) request span result served.1
+AnswersSoon lines n (Session number request) span result (inr none) = Unit {0}
+AnswersSoon lines n asked span result answers = Unit {0}
 
 -- Whatever lines a world and a cloud stood for before a line, however it was handled: the calls of a checkpoint up to the last one that the line made,
 -- those of steps of earlier lines among them, are few: those of a tree for the distinct ids that it received and for the pages of its tree then.
-abbrev pub MakesFewCalls : ℕ → Event → Seen → Seen → World → World → Result Reply WorldFault → Type 0
-MakesFewCalls n event before after old new result =
-    (lines : List Line) (t : CloudState) → length lines + 1 ≡ n → before.state ≡ Some t → WorldStands lines old t
-    → (handled : Handled n event before after old new result) → AnswersSoon lines n handled.asked before after old new result handled.answers
+abbrev pub MakesFewCalls : ℕ → Event → Span → Result Reply WorldFault → Type 0
+MakesFewCalls n event span result =
+    (lines : List Line) (t : CloudState) → length lines + 1 ≡ n → span.before.state ≡ Some t → WorldStands lines span.old t
+    → (handled : Handled n event span result) → AnswersSoon lines n handled.asked span result handled.answers

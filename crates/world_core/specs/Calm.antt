@@ -1,7 +1,6 @@
 -- A line whose calls are all calm is answered well.
 use Rattle.std.specs.Prelude.{ℕ, ◌≡◌, ◌+◌, List, [], length, Some, Result, Ok, Err}
 use Rattle.client_work.specs.declared.work.Work.{Work}
-use Rattle.cloud_trait.specs.Seen.{Seen}
 use Rattle.cloud_trait.specs.State.{CloudState}
 use Rattle.db_base.specs.Ids.{IsTree}
 use Rattle.db_base.specs.declared.refusal.Refusal.TheVariants as rule
@@ -19,15 +18,20 @@ use Rattle.world_core.specs.declared.world.WorldFault.{WorldFault}
 use Rattle.world_core.specs.EachStep.{StepFact, EachStep}
 use Rattle.world_core.specs.Handled.{Handled}
 use Rattle.world_core.specs.Stands.{WorldStands}
-use Rattle.world_core.specs.UnsentPages.{LeavesUnsent}
+use Rattle.world_core.specs.UnsentPages.{InHand, LeavesUnsent}
+use Rattle.world_core.specs.Span.{Span}
 
 -- a step of a session was calm
 abbrev pub StepIsCalm : StepFact
-StepIsCalm who wish before after old new turn p = StepsCalmly who p.under p.to p.session.before p.session.after turn p.session.does
+StepIsCalm who wish span turn p = StepsCalmly who p.under p.to p.session.before p.session.after turn p.session.does
 
 -- what a session of a world has in hand
 abbrev pub work_at : World → ℕ → Work
 work_at world session = (session_at world.sessions session).work
+
+-- .. while a cloud tells this state
+abbrev pub hand_at : CloudState → World → ℕ → InHand
+hand_at t world session = record { cloud = t; work = work_at world session }
 
 -- ---- answers
 
@@ -116,10 +120,10 @@ RepliesWell u event posture reply = Unit {0}
 -- Whatever lines a world and a cloud stood for before a line: where its session was untroubled and each step of the line was calm, however it was
 -- handled, the session is untroubled behind it, and the line is answered well; and the checkpoint of a page finds it absent, or no leaf, only where no
 -- message was ever sent to its queue.
-abbrev pub AnswersWell : ℕ → Event → Seen → Seen → World → World → Result Reply WorldFault → Type 0
-AnswersWell n event before after old new (Ok reply) =
-    (lines : List Line) (t u : CloudState) → length lines + 1 ≡ n → before.state ≡ Some t → after.state ≡ Some u → WorldStands lines old t
-    → (handled : Handled n event before after old new (Ok reply)) → EachStep StepIsCalm n event before after old new (Ok reply) handled
-    → IsUntroubled t (work_at old (session_of event)) → IsUntroubled u (work_at new (session_of event)) × RepliesWell u event (standing lines (session_of event)).posture reply
-    × LeavesUnsent t u event (standing lines (session_of event)).posture (work_at old (session_of event)) (work_at new (session_of event)) reply
-AnswersWell n event before after old new (Err fault) = Unit {0}
+abbrev pub AnswersWell : ℕ → Event → Span → Result Reply WorldFault → Type 0
+AnswersWell n event span (Ok reply) =
+    (lines : List Line) (t u : CloudState) → length lines + 1 ≡ n → span.before.state ≡ Some t → span.after.state ≡ Some u → WorldStands lines span.old t
+    → (handled : Handled n event span (Ok reply)) → EachStep StepIsCalm n event span (Ok reply) handled
+    → IsUntroubled t (work_at span.old (session_of event)) → IsUntroubled u (work_at span.new (session_of event)) × RepliesWell u event (standing lines (session_of event)).posture reply
+    × LeavesUnsent event (standing lines (session_of event)).posture (hand_at t span.old (session_of event)) (hand_at u span.new (session_of event)) reply
+AnswersWell n event span (Err fault) = Unit {0}

@@ -60,22 +60,23 @@ use Rattle.world_core.specs.Asked.{Asks}
 use Rattle.world_core.specs.Replying.{declined, done_reply, RepliesTo, RepliesBegun, RepliesFor, RepliesTurn}
 use Rattle.world_core.specs.declared.put.Put.{Put}
 use Rattle.world_core.specs.Sessions.{Changes, HasPut, IsAtWork, IsNotWorking, NotesIn, AbortsIn}
+use Rattle.world_core.specs.Span.{Span, span_of}
 
 -- ---- a line that is not done
 
 -- it changes neither the world nor the cloud
-pub record Declines (why : Refused) (before after : Seen) (old new : World) (result : Result Reply WorldFault) : Type 0 where
+pub record Declines (why : Refused) (span : Span) (result : Result Reply WorldFault) : Type 0 where
   pub reply : result ≡ declined why
-  pub world : new ≡ old
-  pub seen : after ≡ before
+  pub world : span.new ≡ span.old
+  pub seen : span.after ≡ span.before
 
 -- ---- lines that make no call
 
 -- no call is made, and the audit stays
-pub record MakesNoCall (before after : Seen) (old new : World) : Type 0 where
-  pub seen : after ≡ before
-  pub audit : new.audit ≡ old.audit
-  pub blind : new.blind ≡ old.blind
+pub record MakesNoCall (span : Span) : Type 0 where
+  pub seen : span.after ≡ span.before
+  pub audit : span.new.audit ≡ span.old.audit
+  pub blind : span.new.blind ≡ span.old.blind
 
 -- what is kept of a session that is open, behind the begin of an operation: a close takes its ledger away, and else the queue of a checkpoint is known
 abbrev pub book_begun : Op → Notebook → Notebook
@@ -196,166 +197,166 @@ pub record NotesEnd (number : ℕ) (done : Bool) (old new : World) : Type 0 wher
 
 -- one step of a session under a wish, between two looks where it is a put: the audit takes what the put in hand commits or applies where it
 -- was seen to land, and a look that failed blinds it
-pub record StepsLooked (who : Caller) (wish : Wish) (before after : Seen) (old new : World) (turn : Turn Answer) : Type 0 where
+pub record StepsLooked (who : Caller) (wish : Wish) (span : Span) (turn : Turn Answer) : Type 0 where
   pub from : Seen
   pub under : Seen
   pub to : Seen
-  pub look_before : Looked before from
+  pub look_before : Looked span.before from
   pub wishes : SetsWish wish from under
-  pub session : Changes who.session (λ a b. StepsSession who under to a b (Ok turn)) old.sessions new.sessions
-  pub look_after : Looked to after
-  pub newest_call : IsNewestCall who wish before after
-  pub saw : new.blind ≡ false → old.blind ≡ false
-  pub blinded : new.blind ≡ true → (old.blind ≡ true) ⊎ (Rose before.counts.dark from.counts.dark ⊎ Rose to.counts.dark after.counts.dark)
-  pub audit : new.blind ≡ false → (x y : CloudState) → before.state ≡ Some x → to.state ≡ Some y → new.audit ≡ audited (newest x) (newest y) session.before.work old.audit
-  pub notes : ChangesBook who.session (NotesStep session.before.work turn) old.notes new.notes
+  pub session : Changes who.session (λ a b. StepsSession who under to a b (Ok turn)) span.old.sessions span.new.sessions
+  pub look_after : Looked to span.after
+  pub newest_call : IsNewestCall who wish span.before span.after
+  pub saw : span.new.blind ≡ false → span.old.blind ≡ false
+  pub blinded : span.new.blind ≡ true → (span.old.blind ≡ true) ⊎ (Rose span.before.counts.dark from.counts.dark ⊎ Rose to.counts.dark span.after.counts.dark)
+  pub audit : span.new.blind ≡ false → (x y : CloudState) → span.before.state ≡ Some x → to.state ≡ Some y → span.new.audit ≡ audited (newest x) (newest y) session.before.work span.old.audit
+  pub notes : ChangesBook who.session (NotesStep session.before.work turn) span.old.notes span.new.notes
 
-pub record RefusesStep (number : ℕ) (before after : Seen) (old new : World) (result : Result Reply WorldFault) : Type 0 where
-  pub idle : IsNotWorking number old.sessions
-  pub declines : Declines (refused.Rule rule.NotWorking) before after old new result
+pub record RefusesStep (number : ℕ) (span : Span) (result : Result Reply WorldFault) : Type 0 where
+  pub idle : IsNotWorking number span.old.sessions
+  pub declines : Declines (refused.Rule rule.NotWorking) span result
 
 -- one step was made under the wish, and its answer is the reply
-pub record StepsTold (n number : ℕ) (wish : Wish) (before after : Seen) (old new : World) (reply : Reply) : Type 0 where
+pub record StepsTold (who : Caller) (wish : Wish) (span : Span) (reply : Reply) : Type 0 where
   pub turn : Turn Answer
-  pub steps : StepsLooked (record { session = number; event = n }) wish before after old new turn
+  pub steps : StepsLooked who wish span turn
   pub replies : RepliesTurn turn steps.session.after (Ok reply)
 
 -- it was made, and the reply found no memory: the session is broken off as the step left it
-pub record StepsUntold (n number : ℕ) (wish : Wish) (before after : Seen) (old new : World) (why : WorldFault) : Type 0 where
+pub record StepsUntold (who : Caller) (wish : Wish) (span : Span) (why : WorldFault) : Type 0 where
   pub left : World
   pub turn : Turn Answer
-  pub steps : StepsLooked (record { session = number; event = n }) wish before after old left turn
+  pub steps : StepsLooked who wish (record span { new = left }) turn
   pub replies : RepliesTurn turn steps.session.after (Err why)
-  pub breaks : BreaksOff number left new
+  pub breaks : BreaksOff who.session left span.new
 
-abbrev pub StepsTo : ℕ → ℕ → Wish → Seen → Seen → World → World → Result Reply WorldFault → Type 0
-StepsTo n number wish before after old new (Ok reply) = StepsTold n number wish before after old new reply
-StepsTo n number wish before after old new (Err why) = StepsUntold n number wish before after old new why
+abbrev pub StepsTo : Caller → Wish → Span → Result Reply WorldFault → Type 0
+StepsTo who wish span (Ok reply) = StepsTold who wish span reply
+StepsTo who wish span (Err why) = StepsUntold who wish span why
 
 -- want of memory has no reply
 abbrev pub FindsNoMemory : Result Reply WorldFault → Type 0
 FindsNoMemory result = result ≡ Err fault.Memory
 
 -- no call of the session was made, and looks at most
-pub record IsUncalled (before after : Seen) (old new : World) : Type 0 where
-  pub looked : Looked before after
-  pub sessions : new.sessions ≡ old.sessions
-  pub blind : new.blind ≡ old.blind
-  pub notes : KeepsNotes old new
+pub record IsUncalled (span : Span) : Type 0 where
+  pub looked : Looked span.before span.after
+  pub sessions : span.new.sessions ≡ span.old.sessions
+  pub blind : span.new.blind ≡ span.old.blind
+  pub notes : KeepsNotes span.old span.new
 
 -- what was not done behind a call: the look at a put, or the note of a checkpoint that was done
 abbrev pub IsUndone : ℕ → World → Turn Answer → Type 0
 IsUndone number old turn = ((put : Put) × HasPut number old.sessions (Some put)) ⊎ (is_done turn ≡ true)
 
 -- its call was made, and what comes behind it was not done
-pub record IsUnlooked (who : Caller) (wish : Wish) (before after : Seen) (old new : World) : Type 0 where
+pub record IsUnlooked (who : Caller) (wish : Wish) (span : Span) : Type 0 where
   pub from : Seen
   pub under : Seen
   pub to : Seen
   pub turn : Turn Answer
-  pub look_before : Looked before from
+  pub look_before : Looked span.before from
   pub wishes : SetsWish wish from under
-  pub undone : IsUndone who.session old turn
-  pub session : Changes who.session (λ a b. StepsSession who under to a b (Ok turn)) old.sessions new.sessions
-  pub look_after : Looked to after
-  pub blind : new.blind ≡ old.blind
+  pub undone : IsUndone who.session span.old turn
+  pub session : Changes who.session (λ a b. StepsSession who under to a b (Ok turn)) span.old.sessions span.new.sessions
+  pub look_after : Looked to span.after
+  pub blind : span.new.blind ≡ span.old.blind
 
 -- memory ran out beside a step: before its call, or behind it
-abbrev pub FallsShort : Caller → Wish → Seen → Seen → World → World → Type 0
-FallsShort who wish before after old new = IsUncalled before after old new ⊎ IsUnlooked who wish before after old new
+abbrev pub FallsShort : Caller → Wish → Span → Type 0
+FallsShort who wish span = IsUncalled span ⊎ IsUnlooked who wish span
 
 -- and the session, which was at work, is broken off as that left it
-pub record RunsShort (who : Caller) (wish : Wish) (before after : Seen) (old new : World) : Type 0 where
-  pub works : IsAtWork who.session old.sessions
+pub record RunsShort (who : Caller) (wish : Wish) (span : Span) : Type 0 where
+  pub works : IsAtWork who.session span.old.sessions
   pub left : World
-  pub falls : FallsShort who wish before after old left
-  pub breaks : BreaksOff who.session left new
+  pub falls : FallsShort who wish (record span { new = left })
+  pub breaks : BreaksOff who.session left span.new
 
 -- a step is refused, or it is made; or memory ran out beside it
-abbrev pub MakesStep : ℕ → ℕ → Wish → Seen → Seen → World → World → Result Reply WorldFault → Type 0
-MakesStep n number wish before after old new result =
-    RefusesStep number before after old new result
-    ⊎ (StepsTo n number wish before after old new result ⊎ (FindsNoMemory result × RunsShort (record { session = number; event = n }) wish before after old new))
+abbrev pub MakesStep : Caller → Wish → Span → Result Reply WorldFault → Type 0
+MakesStep who wish span result =
+    RefusesStep who.session span result
+    ⊎ (StepsTo who wish span result ⊎ (FindsNoMemory result × RunsShort who wish span))
 
 -- the world went on by some plain steps, each one service call
 pub data Went (who : Caller) (before : Seen) (old : World) : Seen → World → Type 0 where
   start : Went who before old before old
-  further : (mid after : Seen) (world new : World) → Went who before old mid world → StepsLooked who Plain mid after world new More → Went who before old after new
+  further : (mid after : Seen) (world new : World) → Went who before old mid world → StepsLooked who Plain (span_of mid after world new) More → Went who before old after new
 
 -- memory ran out behind some plain steps
-pub record StopsShort (who : Caller) (before after : Seen) (old new : World) : Type 0 where
+pub record StopsShort (who : Caller) (span : Span) : Type 0 where
   pub mid : Seen
   pub world : World
-  pub went : Went who before old mid world
-  pub short : RunsShort who Plain mid after world new
+  pub went : Went who span.before span.old mid world
+  pub short : RunsShort who Plain (span_of mid span.after world span.new)
 
 -- plain steps up to the first answer
-pub record ComesTo (who : Caller) (before after : Seen) (old new : World) (answer : Answer) : Type 0 where
+pub record ComesTo (who : Caller) (span : Span) (answer : Answer) : Type 0 where
   pub mid : Seen
   pub world : World
-  pub went : Went who before old mid world
-  pub steps : StepsLooked who Plain mid after world new (Ended answer)
+  pub went : Went who span.before span.old mid world
+  pub steps : StepsLooked who Plain (span_of mid span.after world span.new) (Ended answer)
 
 -- the answer is the reply
-pub record RunsTold (n number : ℕ) (before after : Seen) (old new : World) (reply : Reply) : Type 0 where
+pub record RunsTold (who : Caller) (span : Span) (reply : Reply) : Type 0 where
   pub answer : Answer
-  pub comes : ComesTo (record { session = number; event = n }) before after old new answer
+  pub comes : ComesTo who span answer
   pub replies : RepliesTo answer comes.steps.session.after (Ok reply)
 
 -- or the reply found no memory: the session is broken off as the last step left it
-pub record RunsUntold (n number : ℕ) (before after : Seen) (old new : World) (why : WorldFault) : Type 0 where
+pub record RunsUntold (who : Caller) (span : Span) (why : WorldFault) : Type 0 where
   pub left : World
   pub answer : Answer
-  pub comes : ComesTo (record { session = number; event = n }) before after old left answer
+  pub comes : ComesTo who (record span { new = left }) answer
   pub replies : RepliesTo answer comes.steps.session.after (Err why)
-  pub breaks : BreaksOff number left new
+  pub breaks : BreaksOff who.session left span.new
 
-abbrev pub RunsTo : ℕ → ℕ → Seen → Seen → World → World → Result Reply WorldFault → Type 0
-RunsTo n number before after old new (Ok reply) = RunsTold n number before after old new reply
-RunsTo n number before after old new (Err why) = RunsUntold n number before after old new why
+abbrev pub RunsTo : Caller → Span → Result Reply WorldFault → Type 0
+RunsTo who span (Ok reply) = RunsTold who span reply
+RunsTo who span (Err why) = RunsUntold who span why
 
 -- a run is refused, or it comes to its answer; or memory ran out on the way
-abbrev pub Runs : ℕ → ℕ → Seen → Seen → World → World → Result Reply WorldFault → Type 0
-Runs n number before after old new result =
-    RefusesStep number before after old new result
-    ⊎ (RunsTo n number before after old new result ⊎ (FindsNoMemory result × StopsShort (record { session = number; event = n }) before after old new))
+abbrev pub Runs : Caller → Span → Result Reply WorldFault → Type 0
+Runs who span result =
+    RefusesStep who.session span result
+    ⊎ (RunsTo who span result ⊎ (FindsNoMemory result × StopsShort who span))
 
 -- ---- the settler: a settling or a sweep
 
 -- it makes plain steps up to its answer, which is the reply, and is closed then
-pub record SettlesTo (errand : Errand) (who : Caller) (before after : Seen) (old new : World) (result : Result Reply WorldFault) : Type 0 where
+pub record SettlesTo (errand : Errand) (who : Caller) (span : Span) (result : Result Reply WorldFault) : Type 0 where
   pub left : World
   pub answer : Answer
-  pub comes : ComesTo who before after old left answer
-  pub closes : Has who.session closed_session left new
-  pub notes : KeepsNotes left new
+  pub comes : ComesTo who (record span { new = left }) answer
+  pub closes : Has who.session closed_session left span.new
+  pub notes : KeepsNotes left span.new
   pub replies : RepliesFor errand answer result
 
 -- memory ran out on the way, and it is closed then
-pub record SettlesShort (who : Caller) (before after : Seen) (old new : World) : Type 0 where
+pub record SettlesShort (who : Caller) (span : Span) : Type 0 where
   pub left : World
-  pub stops : StopsShort who before after old left
-  pub closes : Has who.session closed_session left new
-  pub notes : KeepsNotes left new
+  pub stops : StopsShort who (record span { new = left })
+  pub closes : Has who.session closed_session left span.new
+  pub notes : KeepsNotes left span.new
 
-abbrev pub SettlesOn : Errand → Caller → Seen → Seen → World → World → Result Reply WorldFault → Type 0
-SettlesOn errand who before after old new result = SettlesTo errand who before after old new result ⊎ (FindsNoMemory result × SettlesShort who before after old new)
+abbrev pub SettlesOn : Errand → Caller → Span → Result Reply WorldFault → Type 0
+SettlesOn errand who span result = SettlesTo errand who span result ⊎ (FindsNoMemory result × SettlesShort who span)
 
 -- session 0 is the settler, and goes on its errand
-pub record SettlerSettles (errand : Errand) (n : ℕ) (before after : Seen) (old new : World) (result : Result Reply WorldFault) : Type 0 where
+pub record SettlerSettles (errand : Errand) (n : ℕ) (span : Span) (result : Result Reply WorldFault) : Type 0 where
   pub begun : World
-  pub begins : Has 0 (session_for errand) old begun
-  pub notes : KeepsNotes old begun
-  pub settles : SettlesOn errand (record { session = 0; event = n }) before after begun new result
+  pub begins : Has 0 (session_for errand) span.old begun
+  pub notes : KeepsNotes span.old begun
+  pub settles : SettlesOn errand (record { session = 0; event = n }) (record span { old = begun }) result
 
 -- nothing was done
-pub record DoesNothing (before after : Seen) (old new : World) : Type 0 where
-  pub seen : after ≡ before
-  pub world : new ≡ old
+pub record DoesNothing (span : Span) : Type 0 where
+  pub seen : span.after ≡ span.before
+  pub world : span.new ≡ span.old
 
 -- or there was no memory for a settler
-abbrev pub Settles : Errand → ℕ → Seen → Seen → World → World → Result Reply WorldFault → Type 0
-Settles errand n before after old new result = SettlerSettles errand n before after old new result ⊎ (FindsNoMemory result × DoesNothing before after old new)
+abbrev pub Settles : Errand → ℕ → Span → Result Reply WorldFault → Type 0
+Settles errand n span result = SettlerSettles errand n span result ⊎ (FindsNoMemory result × DoesNothing span)
 
 -- ---- the work of a session
 
@@ -375,10 +376,10 @@ pub record BeginsCheckpoint (number : ℕ) (queue : QueueName) (old new : World)
   pub notes : ChangesBook number (λ a b. b ≡ record a { queue = Some queue }) old.notes new.notes
 
 -- and comes to its answer
-pub record Checkpoints (who : Caller) (queue : QueueName) (before after : Seen) (old new : World) (answer : Answer) : Type 0 where
+pub record Checkpoints (who : Caller) (queue : QueueName) (span : Span) (answer : Answer) : Type 0 where
   pub begun : World
-  pub begins : BeginsCheckpoint who.session queue old begun
-  pub comes : ComesTo who before after begun new answer
+  pub begins : BeginsCheckpoint who.session queue span.old begun
+  pub comes : ComesTo who (record span { old = begun }) answer
 
 -- one, where it is so
 abbrev pub as_one : Bool → ℕ
@@ -400,9 +401,9 @@ passed_by (answer.Trouble t) = 1
 passed_by answer = 0
 
 -- a checkpoint of the queue was made, and done or passed over
-pub record MakesOne (who : Caller) (queue : QueueName) (done : Bool) (before after : Seen) (old new : World) : Type 0 where
+pub record MakesOne (who : Caller) (queue : QueueName) (done : Bool) (span : Span) : Type 0 where
   pub answer : Answer
-  pub makes : Checkpoints who queue before after old new answer
+  pub makes : Checkpoints who queue span answer
   pub passes : IsPassable answer
   pub kept : done_by answer ≡ as_one done
   pub passed : passed_by answer ≡ as_one (not done)
@@ -411,7 +412,7 @@ pub record MakesOne (who : Caller) (queue : QueueName) (done : Bool) (before aft
 pub data Works (who : Caller) (before : Seen) (old : World) : List QueueName → ℕ → ℕ → Seen → World → Type 0 where
   no_checkpoint : Works who before old [] 0 0 before old
   checkpoint_more : (queues : List QueueName) (done passed : ℕ) (mid : Seen) (world : World) (queue : QueueName) (answer : Answer) (after : Seen) (new : World)
-      → Works who before old queues done passed mid world → Checkpoints who queue mid after world new answer → IsPassable answer
+      → Works who before old queues done passed mid world → Checkpoints who queue (span_of mid after world new) answer → IsPassable answer
       → Works who before old (queues ++ queue ∷ []) (done + done_by answer) (passed + passed_by answer) after new
 
 -- a session of a number is open with nothing at work
@@ -428,130 +429,130 @@ pub record IsShut (number : ℕ) (sessions : List Acting) (rule : Refusal) : Typ
   pub shut : open_client session.work ≡ Err rule
 
 -- a line of a session that is not open, or has something at work, is refused
-pub record RefusesWork (number : ℕ) (before after : Seen) (old new : World) (result : Result Reply WorldFault) : Type 0 where
+pub record RefusesWork (number : ℕ) (span : Span) (result : Result Reply WorldFault) : Type 0 where
   pub rule : Refusal
-  pub shut : IsShut number old.sessions rule
-  pub declines : Declines (refused.Rule rule) before after old new result
+  pub shut : IsShut number span.old.sessions rule
+  pub declines : Declines (refused.Rule rule) span result
 
 -- these queues were gone through, and the reply counts
-pub record WorksOff (who : Caller) (queues : List QueueName) (before after : Seen) (old new : World) (r : Reply) : Type 0 where
+pub record WorksOff (who : Caller) (queues : List QueueName) (span : Span) (r : Reply) : Type 0 where
   pub done : ℕ
   pub passed : ℕ
-  pub works : Works who before old queues done passed after new
+  pub works : Works who span.before span.old queues done passed span.after span.new
   pub replies : r ≡ reply.Worked done passed
 
 -- a session that is open makes the checkpoints that are due to it
-pub record WorksDown (n number : ℕ) (before after : Seen) (old new : World) (result : Result Reply WorldFault) : Type 0 where
-  pub opened : IsOpen number old.sessions
+pub record WorksDown (who : Caller) (span : Span) (result : Result Reply WorldFault) : Type 0 where
+  pub opened : IsOpen who.session span.old.sessions
   pub queues : List QueueName
-  pub due : IsDueAt number old.notes queues
+  pub due : IsDueAt who.session span.old.notes queues
   pub done : ℕ
   pub passed : ℕ
-  pub works : Works (record { session = number; event = n }) before old queues done passed after new
+  pub works : Works who span.before span.old queues done passed span.after span.new
   pub replies : result ≡ Ok (reply.Worked done passed)
 
 -- memory ran out in a checkpoint: on the way, or it was the answer
-abbrev pub CheckpointFails : Caller → Seen → Seen → World → World → Type 0
-CheckpointFails who before after begun new =
-    StopsShort who before after begun new ⊎ ((left : World) × ComesTo who before after begun left (answer.Trouble trouble.Memory) × BreaksOff who.session left new)
+abbrev pub CheckpointFails : Caller → Span → Type 0
+CheckpointFails who span =
+    StopsShort who span ⊎ ((left : World) × ComesTo who (record span { new = left }) (answer.Trouble trouble.Memory) × BreaksOff who.session left span.new)
 
 -- the checkpoint of a queue began, and memory ran out in it
-pub record FailsAt (who : Caller) (before after : Seen) (old new : World) : Type 0 where
+pub record FailsAt (who : Caller) (span : Span) : Type 0 where
   pub queue : QueueName
   pub begun : World
-  pub begins : BeginsCheckpoint who.session queue old begun
-  pub fails : CheckpointFails who before after begun new
+  pub begins : BeginsCheckpoint who.session queue span.old begun
+  pub fails : CheckpointFails who (record span { old = begun })
 
 -- there was none to tell what is due
-pub record KnowsNoDue (number : ℕ) (before after : Seen) (old new : World) : Type 0 where
-  pub seen : after ≡ before
-  pub breaks : BreaksOff number old new
+pub record KnowsNoDue (number : ℕ) (span : Span) : Type 0 where
+  pub seen : span.after ≡ span.before
+  pub breaks : BreaksOff number span.old span.new
 
 -- memory ran out behind some checkpoints, or before the first
-pub record WorksShort (who : Caller) (before after : Seen) (old new : World) : Type 0 where
-  pub opened : IsOpen who.session old.sessions
+pub record WorksShort (who : Caller) (span : Span) : Type 0 where
+  pub opened : IsOpen who.session span.old.sessions
   pub queues : List QueueName
   pub done : ℕ
   pub passed : ℕ
   pub mid : Seen
   pub world : World
-  pub works : Works who before old queues done passed mid world
-  pub falls : KnowsNoDue who.session mid after world new ⊎ FailsAt who mid after world new
+  pub works : Works who span.before span.old queues done passed mid world
+  pub falls : KnowsNoDue who.session (span_of mid span.after world span.new) ⊎ FailsAt who (span_of mid span.after world span.new)
 
-abbrev pub WorksThrough : ℕ → ℕ → Seen → Seen → World → World → Result Reply WorldFault → Type 0
-WorksThrough n number before after old new result =
-    RefusesWork number before after old new result
-    ⊎ (WorksDown n number before after old new result ⊎ (FindsNoMemory result × WorksShort (record { session = number; event = n }) before after old new))
+abbrev pub WorksThrough : Caller → Span → Result Reply WorldFault → Type 0
+WorksThrough who span result =
+    RefusesWork who.session span result
+    ⊎ (WorksDown who span result ⊎ (FindsNoMemory result × WorksShort who span))
 
 -- ---- a session's ledger
 
 -- it has one of this role and number, without notes
-pub record GivesLedger (number : ℕ) (role : Role) (k : ℕ) (before after : Seen) (old new : World) (result : Result Reply WorldFault) : Type 0 where
+pub record GivesLedger (number : ℕ) (role : Role) (k : ℕ) (span : Span) (result : Result Reply WorldFault) : Type 0 where
   pub number_is : IsNumber k
-  pub opened : IsOpen number old.sessions
-  pub quiet : MakesNoCall before after old new
-  pub sessions : new.sessions ≡ old.sessions
-  pub notes : ChangesBook number (λ a b. b ≡ record a { ledger = Some (record { role = role; k = k; client = opened.client; counts = [] }) }) old.notes new.notes
+  pub opened : IsOpen number span.old.sessions
+  pub quiet : MakesNoCall span
+  pub sessions : span.new.sessions ≡ span.old.sessions
+  pub notes : ChangesBook number (λ a b. b ≡ record a { ledger = Some (record { role = role; k = k; client = opened.client; counts = [] }) }) span.old.notes span.new.notes
   pub replies : result ≡ Ok reply.Noted
 
 -- the number is none of a ledger's
-pub record RefusesNumber (k : ℕ) (before after : Seen) (old new : World) (result : Result Reply WorldFault) : Type 0 where
+pub record RefusesNumber (k : ℕ) (span : Span) (result : Result Reply WorldFault) : Type 0 where
   pub none : IsNumber k → ⊥
-  pub declines : Declines (refused.Rule rule.BadNumber) before after old new result
+  pub declines : Declines (refused.Rule rule.BadNumber) span result
 
-abbrev pub Policies : ℕ → Role → ℕ → Seen → Seen → World → World → Result Reply WorldFault → Type 0
-Policies number role k before after old new result =
-    RefusesNumber k before after old new result
-    ⊎ ((IsNumber k × RefusesWork number before after old new result) ⊎ GivesLedger number role k before after old new result)
+abbrev pub Policies : ℕ → Role → ℕ → Span → Result Reply WorldFault → Type 0
+Policies number role k span result =
+    RefusesNumber k span result
+    ⊎ ((IsNumber k × RefusesWork number span result) ⊎ GivesLedger number role k span result)
 
 -- ---- a session that dies
 
 -- it is closed, and no call is made
-pub record Dies (number : ℕ) (before after : Seen) (old new : World) (result : Result Reply WorldFault) : Type 0 where
-  pub quiet : MakesNoCall before after old new
-  pub closed : Changes number (λ a b. b ≡ closed_session) old.sessions new.sessions
-  pub notes : ClearsNotes number old new
+pub record Dies (number : ℕ) (span : Span) (result : Result Reply WorldFault) : Type 0 where
+  pub quiet : MakesNoCall span
+  pub closed : Changes number (λ a b. b ≡ closed_session) span.old.sessions span.new.sessions
+  pub notes : ClearsNotes number span.old span.new
   pub replies : result ≡ Ok reply.Crashed
 
 -- the call in hand is made plainly, and then it is closed, unanswered
-pub record DiesDone (n number : ℕ) (before after : Seen) (old new : World) (result : Result Reply WorldFault) : Type 0 where
+pub record DiesDone (who : Caller) (span : Span) (result : Result Reply WorldFault) : Type 0 where
   pub world : World
   pub turn : Turn Answer
-  pub steps : StepsLooked (record { session = number; event = n }) Plain before after old world turn
-  pub closes : Has number closed_session world new
-  pub notes : ClearsNotes number world new
+  pub steps : StepsLooked who Plain (record span { new = world }) turn
+  pub closes : Has who.session closed_session world span.new
+  pub notes : ClearsNotes who.session world span.new
   pub replies : result ≡ Ok reply.Crashed
 
 -- where it has no call in hand it dies at once
-pub record DiesIdle (number : ℕ) (before after : Seen) (old new : World) (result : Result Reply WorldFault) : Type 0 where
-  pub idle : IsNotWorking number old.sessions
-  pub dies : Dies number before after old new result
+pub record DiesIdle (number : ℕ) (span : Span) (result : Result Reply WorldFault) : Type 0 where
+  pub idle : IsNotWorking number span.old.sessions
+  pub dies : Dies number span result
 
 -- or memory ran out beside that call
-abbrev pub CrashesDone : Caller → Seen → Seen → World → World → Result Reply WorldFault → Type 0
-CrashesDone who before after old new result =
-    DiesDone who.event who.session before after old new result ⊎ (FindsNoMemory result × RunsShort who Plain before after old new)
+abbrev pub CrashesDone : Caller → Span → Result Reply WorldFault → Type 0
+CrashesDone who span result =
+    DiesDone who span result ⊎ (FindsNoMemory result × RunsShort who Plain span)
 
-abbrev pub Crashes : ℕ → ℕ → Bool → Seen → Seen → World → World → Result Reply WorldFault → Type 0
-Crashes n number false before after old new result = Dies number before after old new result
-Crashes n number true before after old new result =
-    DiesIdle number before after old new result ⊎ CrashesDone (record { session = number; event = n }) before after old new result
+abbrev pub Crashes : Caller → Bool → Span → Result Reply WorldFault → Type 0
+Crashes who false span result = Dies who.session span result
+Crashes who true span result =
+    DiesIdle who.session span result ⊎ CrashesDone who span result
 
 -- ---- what a session does that a line asks of it
 
-abbrev pub Does : ℕ → ℕ → Request → Seen → Seen → World → World → Result Reply WorldFault → Type 0
-Does n number (Begin op) before after old new result = MakesNoCall before after old new × Changes number (BeginsOp op result) old.sessions new.sessions × BeginsBook number op old new
-Does n number (Note noting) before after old new result = MakesNoCall before after old new × Changes number (NotesChange noting result) old.sessions new.sessions × KeepsNotes old new
-Does n number Abort before after old new result = MakesNoCall before after old new × Changes number (DropsChanges result) old.sessions new.sessions × KeepsNotes old new
-Does n number (Policy role k) before after old new result = Policies number role k before after old new result
-Does n number WorksDue before after old new result = WorksThrough n number before after old new result
-Does n number (Step wish) before after old new result = MakesStep n number wish before after old new result
-Does n number Run before after old new result = Runs n number before after old new result
-Does n number (Crash done) before after old new result = Crashes n number done before after old new result
+abbrev pub Does : Caller → Request → Span → Result Reply WorldFault → Type 0
+Does who (Begin op) span result = MakesNoCall span × Changes who.session (BeginsOp op result) span.old.sessions span.new.sessions × BeginsBook who.session op span.old span.new
+Does who (Note noting) span result = MakesNoCall span × Changes who.session (NotesChange noting result) span.old.sessions span.new.sessions × KeepsNotes span.old span.new
+Does who Abort span result = MakesNoCall span × Changes who.session (DropsChanges result) span.old.sessions span.new.sessions × KeepsNotes span.old span.new
+Does who (Policy role k) span result = Policies who.session role k span result
+Does who WorksDue span result = WorksThrough who span result
+Does who (Step wish) span result = MakesStep who wish span result
+Does who Run span result = Runs who span result
+Does who (Crash done) span result = Crashes who done span result
 
-abbrev pub Serves : ℕ → ℕ → Result Request Refused → Seen → Seen → World → World → Result Reply WorldFault → Type 0
-Serves n number (Ok request) before after old new result = Does n number request before after old new result
-Serves n number (Err why) before after old new result = Declines why before after old new result
+abbrev pub Serves : Caller → Result Request Refused → Span → Result Reply WorldFault → Type 0
+Serves who (Ok request) span result = Does who request span result
+Serves who (Err why) span result = Declines why span result
 
 -- ---- waits and reports
 
@@ -564,9 +565,9 @@ pub record WaitsFor (ticks : ℕ) (before after : Seen) (result : Result Reply W
   pub replies : result ≡ Ok reply.Waited
 
 -- a wait for too long is refused
-pub record WaitsTooLong (ticks : ℕ) (before after : Seen) (old new : World) (result : Result Reply WorldFault) : Type 0 where
+pub record WaitsTooLong (ticks : ℕ) (span : Span) (result : Result Reply WorldFault) : Type 0 where
   pub beyond : 1000000 < ticks
-  pub declines : Declines (refused.Rule rule.BadNumber) before after old new result
+  pub declines : Declines (refused.Rule rule.BadNumber) span result
 
 -- a report shows the tree's part of the audit, the records of its newest leaves, its open heads, and the messages that wait for it
 pub record Shows (tree : ℕ) (s : Option CloudState) (audit : Audited) (r : ReportShown) : Type 0 where
@@ -594,30 +595,30 @@ ReportReply tree before after world (Ok r) = ⊥
 ReportReply tree before after world (Err why) = Unit {0}
 
 -- a report looks alone, and leaves the world as it is
-pub record Reports (tree : ℕ) (before after : Seen) (old new : World) (result : Result Reply WorldFault) : Type 0 where
-  pub world : new ≡ old
-  pub looked : Looked before after
-  pub reply : ReportReply tree before after old result
+pub record Reports (tree : ℕ) (span : Span) (result : Result Reply WorldFault) : Type 0 where
+  pub world : span.new ≡ span.old
+  pub looked : Looked span.before span.after
+  pub reply : ReportReply tree span.before span.after span.old result
 
 -- ---- every line
 
 -- a number that is no session's is refused
-pub record IsNoSession (number : ℕ) (before after : Seen) (old new : World) (result : Result Reply WorldFault) : Type 0 where
+pub record IsNoSession (number : ℕ) (span : Span) (result : Result Reply WorldFault) : Type 0 where
   pub none : IsSession number → ⊥
-  pub declines : Declines (refused.Rule rule.BadNumber) before after old new result
+  pub declines : Declines (refused.Rule rule.BadNumber) span result
 
-abbrev pub Answers : ℕ → Asked → Seen → Seen → World → World → Result Reply WorldFault → Type 0
-Answers n (Session number request) before after old new result =
-    (IsSession number × Serves n number request before after old new result) ⊎ IsNoSession number before after old new result
-Answers n (Wait ticks) before after old new result = (WaitsFor ticks before after result × (new ≡ old)) ⊎ WaitsTooLong ticks before after old new result
-Answers n (Report tree) before after old new result = Reports tree before after old new result
-Answers n Settle before after old new result = Settles settles n before after old new result
-Answers n (Sweep (Ok tree)) before after old new result = IsTree tree × Settles (sweeps tree) n before after old new result
-Answers n (Sweep (Err why)) before after old new result = Declines why before after old new result
+abbrev pub Answers : ℕ → Asked → Span → Result Reply WorldFault → Type 0
+Answers n (Session number request) span result =
+    (IsSession number × Serves (record { session = number; event = n }) request span result) ⊎ IsNoSession number span result
+Answers n (Wait ticks) span result = (WaitsFor ticks span.before span.after result × (span.new ≡ span.old)) ⊎ WaitsTooLong ticks span result
+Answers n (Report tree) span result = Reports tree span result
+Answers n Settle span result = Settles settles n span result
+Answers n (Sweep (Ok tree)) span result = IsTree tree × Settles (sweeps tree) n span result
+Answers n (Sweep (Err why)) span result = Declines why span result
 
 -- what a line does; its reply has a text
-pub record Handled (n : ℕ) (event : Event) (before after : Seen) (old new : World) (result : Result Reply WorldFault) : Type 0 where
+pub record Handled (n : ℕ) (event : Event) (span : Span) (result : Result Reply WorldFault) : Type 0 where
   pub asked : Asked
   pub asks : Asks event asked
-  pub answers : Answers n asked before after old new result
+  pub answers : Answers n asked span result
   pub text : IfOk result ReplyHasText

@@ -19,6 +19,7 @@ pub mod Settled
 pub mod Added
 pub mod Opened
 pub mod World
+pub mod Span
 pub mod Writers
 pub mod Metered
 pub mod Passed

@@ -4,7 +4,6 @@ use Rattle.ckpt_policy.specs.declared.note.Note.{Note}
 use Rattle.ckpt_policy.specs.declared.place.Place.{Place}
 use Rattle.ckpt_policy.specs.declared.role.Role.TheVariants.{Writer}
 use Rattle.ckpt_policy.specs.Ledger.{Account, IsNumber, StandsFor as AccountStands, most_changes}
-use Rattle.cloud_trait.specs.Seen.{Seen}
 use Rattle.cloud_trait.specs.State.{CloudState}
 use Rattle.event_text.specs.declared.event.Event.{Event}
 use Rattle.replay_meaning.specs.Standing.{Line}
@@ -19,6 +18,7 @@ use Rattle.world_core.specs.Stands.{WorldStands}
 use Rattle.world_core.specs.World.{World}
 use Rattle.world_core.specs.Writers.{Stage, Unbound, Even, Owing, Astray, by_line, stage_of}
 use Rattle.world_core.specs.declared.world.WorldFault.{WorldFault}
+use Rattle.world_core.specs.Span.{Span}
 
 -- the ledger of a writer of k, that stands for these notes
 pub record IsWriters (k : ℕ) (notes : List Note) (book : Notebook) : Type 0 where
@@ -64,14 +64,14 @@ LeavesFewAt Astray k t = Unit {0}
 
 -- in a step's call no message and no lock was withheld, and it did not fail
 abbrev pub StepGoesThrough : StepFact
-StepGoesThrough who wish before after old new turn p = (p.to.counts.withheld ≡ p.under.counts.withheld) × (p.to.counts.faults ≡ p.under.counts.faults)
+StepGoesThrough who wish span turn p = (p.to.counts.withheld ≡ p.under.counts.withheld) × (p.to.counts.faults ≡ p.under.counts.faults)
 
 -- Whatever lines a world and a cloud stood for before a line, where each step of it went through: what a writer's notes meter behind these lines they meter
 -- behind this one too, as it then stands; and where it worked behind its last commit it left few.
-abbrev pub KeepsMeter : ℕ → Event → Seen → Seen → World → World → Result Reply WorldFault → Type 0
-KeepsMeter n event before after old new (Ok reply) =
-    (lines : List Line) (t u : CloudState) → length lines + 1 ≡ n → before.state ≡ Some t → after.state ≡ Some u → WorldStands lines old t
-    → (handled : Handled n event before after old new (Ok reply)) → EachStep StepGoesThrough n event before after old new (Ok reply) handled
-    → (session k : ℕ) → MetersAt (stage_of session k lines) session k old t
-    → MetersAt (by_line session k event reply (stage_of session k lines)) session k new u × LeavesFewAt (by_line session k event reply (stage_of session k lines)) k u
-KeepsMeter n event before after old new (Err fault) = Unit {0}
+abbrev pub KeepsMeter : ℕ → Event → Span → Result Reply WorldFault → Type 0
+KeepsMeter n event span (Ok reply) =
+    (lines : List Line) (t u : CloudState) → length lines + 1 ≡ n → span.before.state ≡ Some t → span.after.state ≡ Some u → WorldStands lines span.old t
+    → (handled : Handled n event span (Ok reply)) → EachStep StepGoesThrough n event span (Ok reply) handled
+    → (session k : ℕ) → MetersAt (stage_of session k lines) session k span.old t
+    → MetersAt (by_line session k event reply (stage_of session k lines)) session k span.new u × LeavesFewAt (by_line session k event reply (stage_of session k lines)) k u
+KeepsMeter n event span (Err fault) = Unit {0}

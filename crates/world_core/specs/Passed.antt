@@ -26,6 +26,7 @@ use Rattle.world_core.specs.declared.asked.Asked.TheVariants.{Session, Wait, Rep
 use Rattle.world_core.specs.declared.asked.Request.{Request}
 use Rattle.world_core.specs.declared.asked.Request.TheVariants.{Begin, Note, Abort, Policy, Work, Step, Run, Crash}
 use Rattle.world_core.specs.declared.world.WorldFault.{WorldFault}
+use Rattle.world_core.specs.Span.{Span}
 
 -- a counter of the tree is spent, as the cloud tells, or the page that was named is absent or no leaf, and no message was ever sent to its queue
 abbrev pub MayPass : QueueName → CloudState → Trouble → Type 0
@@ -45,40 +46,40 @@ EachPassed who before old queues done passed after new no_checkpoint = Unit {0}
 EachPassed who before old queues done passed after new (checkpoint_more others kept left mid world queue a _ _ works makes passes) =
     EachPassed who before old others kept left mid world works × PassesSo queue after a
 
-abbrev pub ThroughPassed : (n number : ℕ) (before after : Seen) (old new : World) (result : Result Reply WorldFault) → WorksThrough n number before after old new result → Type 0
-ThroughPassed n number before after old new result (inl refused) = Unit {0}
-ThroughPassed n number before after old new result (inr (inl work)) =
-    EachPassed (record { session = number; event = n }) before old work.queues work.done work.passed after new work.works
-ThroughPassed n number before after old new result (inr (inr memory)) = Unit {0}
+abbrev pub ThroughPassed : (who : Caller) (span : Span) (result : Result Reply WorldFault) → WorksThrough who span result → Type 0
+ThroughPassed who span result (inl refused) = Unit {0}
+ThroughPassed who span result (inr (inl work)) =
+    EachPassed who span.before span.old work.queues work.done work.passed span.after span.new work.works
+ThroughPassed who span result (inr (inr memory)) = Unit {0}
 
 -- of a line that works; of others nothing is said
-abbrev pub DonePassed : (n number : ℕ) (request : Request) (before after : Seen) (old new : World) (result : Result Reply WorldFault) → Does n number request before after old new result → Type 0
-DonePassed n number Work before after old new result does = ThroughPassed n number before after old new result does
-DonePassed n number (Step wish) before after old new result does = Unit {0}
-DonePassed n number Run before after old new result does = Unit {0}
-DonePassed n number (Crash done) before after old new result does = Unit {0}
-DonePassed n number (Policy role k) before after old new result does = Unit {0}
-DonePassed n number (Begin op) before after old new result does = Unit {0}
-DonePassed n number (Note noting) before after old new result does = Unit {0}
-DonePassed n number Abort before after old new result does = Unit {0}
+abbrev pub DonePassed : (who : Caller) (request : Request) (span : Span) (result : Result Reply WorldFault) → Does who request span result → Type 0
+DonePassed who Work span result does = ThroughPassed who span result does
+DonePassed who (Step wish) span result does = Unit {0}
+DonePassed who Run span result does = Unit {0}
+DonePassed who (Crash done) span result does = Unit {0}
+DonePassed who (Policy role k) span result does = Unit {0}
+DonePassed who (Begin op) span result does = Unit {0}
+DonePassed who (Note noting) span result does = Unit {0}
+DonePassed who Abort span result does = Unit {0}
 
-abbrev pub ServedPassed : (n number : ℕ) (request : Result Request Refused) (before after : Seen) (old new : World) (result : Result Reply WorldFault)
-    → Serves n number request before after old new result → Type 0
-ServedPassed n number (Ok request) before after old new result does = DonePassed n number request before after old new result does
-ServedPassed n number (Err why) before after old new result declines = Unit {0}
+abbrev pub ServedPassed : (who : Caller) (request : Result Request Refused) (span : Span) (result : Result Reply WorldFault)
+    → Serves who request span result → Type 0
+ServedPassed who (Ok request) span result does = DonePassed who request span result does
+ServedPassed who (Err why) span result declines = Unit {0}
 
-abbrev pub AskedPassed : (n : ℕ) (asked : Asked) (before after : Seen) (old new : World) (result : Result Reply WorldFault) → Answers n asked before after old new result → Type 0
-AskedPassed n (Session number request) before after old new result (inl served) = ServedPassed n number request before after old new result served.1
-AskedPassed n (Session number request) before after old new result (inr none) = Unit {0}
-AskedPassed n (Wait ticks) before after old new result answers = Unit {0}
-AskedPassed n (Report tree) before after old new result answers = Unit {0}
-AskedPassed n Settle before after old new result answers = Unit {0}
-AskedPassed n (Sweep tree) before after old new result answers = Unit {0}
+abbrev pub AskedPassed : (n : ℕ) (asked : Asked) (span : Span) (result : Result Reply WorldFault) → Answers n asked span result → Type 0
+AskedPassed n (Session number request) span result (inl served) = ServedPassed (record { session = number; event = n }) request span result served.1
+AskedPassed n (Session number request) span result (inr none) = Unit {0}
+AskedPassed n (Wait ticks) span result answers = Unit {0}
+AskedPassed n (Report tree) span result answers = Unit {0}
+AskedPassed n Settle span result answers = Unit {0}
+AskedPassed n (Sweep tree) span result answers = Unit {0}
 
 -- Whatever lines a world and a cloud stood for before a line, where each step of it was calm, however it was handled: it passes over no checkpoint but for
 -- a spent counter, or a page that it names and that is absent or no leaf, and to whose queue no message was ever sent.
-abbrev pub PassesWell : ℕ → Event → Seen → Seen → World → World → Result Reply WorldFault → Type 0
-PassesWell n event before after old new result =
-    (lines : List Line) (t : CloudState) → length lines + 1 ≡ n → before.state ≡ Some t → WorldStands lines old t
-    → (handled : Handled n event before after old new result) → EachStep StepIsCalm n event before after old new result handled
-    → AskedPassed n handled.asked before after old new result handled.answers
+abbrev pub PassesWell : ℕ → Event → Span → Result Reply WorldFault → Type 0
+PassesWell n event span result =
+    (lines : List Line) (t : CloudState) → length lines + 1 ≡ n → span.before.state ≡ Some t → WorldStands lines span.old t
+    → (handled : Handled n event span result) → EachStep StepIsCalm n event span result handled
+    → AskedPassed n handled.asked span result handled.answers

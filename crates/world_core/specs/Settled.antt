@@ -1,7 +1,7 @@
 -- What a settling leaves where nobody else acts, which is so within its line, and how many calls it makes at most: over whatever cloud runs left.
 use Rattle.std.specs.Prelude.{ℕ, ◌≡◌, ◌≢◌, ◌≤◌, List, [], Some, Result, Ok}
 use Rattle.cloud_trait.specs.Calm.{NamesLasting}
-use Rattle.client_work.specs.Session.{Acting, StepsSession, ask_of_work}
+use Rattle.client_work.specs.Session.{ask_of_work}
 use Rattle.client_work.specs.declared.answer.Answer.{Answer}
 use Rattle.cloud_trait.specs.Ask.{Ask}
 use Rattle.cloud_trait.specs.Caller.{Caller}
@@ -13,6 +13,7 @@ use Rattle.cloud_trait.specs.declared.turn.Turn.{Turn}
 use Rattle.db_base.specs.Ids.{IsClient, IsTree}
 use Rattle.db_base.specs.declared.names.Lock.{Lock}
 use Rattle.db_base.specs.declared.names.QueueName.TheVariants as queue
+use Rattle.db_base.specs.declared.wish.Wish.{Wish}
 use Rattle.event_text.specs.declared.event.Event.{Event}
 use Rattle.event_text.specs.declared.event.Event.TheVariants as event
 use Rattle.replay_meaning.specs.Standing.{Posture}
@@ -29,26 +30,23 @@ use Rattle.world_audit.specs.Counts.{heads_upto, AreWaiting}
 use Rattle.world_core.specs.Calm.{StepIsCalm, SettlesWell, work_at}
 use Rattle.world_core.specs.EachStep.{StepFact, EachStep}
 use Rattle.world_core.specs.Explained.{StepExplains}
-use Rattle.world_core.specs.Handled.{Handled}
-use Rattle.world_core.specs.World.{World}
+use Rattle.world_core.specs.Handled.{Handled, StepsLooked}
 use Rattle.world_core.specs.declared.world.WorldFault.{WorldFault}
+use Rattle.world_core.specs.Span.{Span}
 
 -- in a step's call no message and no lock was withheld
 abbrev pub StepDelivers : StepFact
-StepDelivers who wish before after old new turn p = p.to.counts.withheld ≡ p.under.counts.withheld
+StepDelivers who wish span turn p = p.to.counts.withheld ≡ p.under.counts.withheld
 
 -- A step went well but for the lock that it may take: its call found memory and no count rose in it, and the leases that it names lasted, also one that
 -- it gives back.
-pub record GoesWell (who : Caller) (before after : Seen) (old new : Acting) (turn : Turn Answer) (p : StepsSession who before after old new (Ok turn)) : Type 0 where
+pub record StepGoesWell (who : Caller) (wish : Wish) (span : Span) (turn : Turn Answer) (p : StepsLooked who wish span turn) : Type 0 where
   pub ask : Ask
-  pub hand : ask_of_work old.work ≡ Some ask
-  pub memory : reply_of who before after old new turn p ≢ Memory
-  pub counts : after.counts ≡ before.counts
-  pub lasting : (t : CloudState) → after.state ≡ Some t → NamesLasting ask t.now
-  pub returned : (t : CloudState) → after.state ≡ Some t → GivesBackLasting ask t.now
-
-abbrev pub StepGoesWell : StepFact
-StepGoesWell who wish before after old new turn p = GoesWell who p.under p.to p.session.before p.session.after turn p.session.does
+  pub hand : ask_of_work p.session.before.work ≡ Some ask
+  pub memory : reply_of who p.under p.to p.session.before p.session.after turn p.session.does ≢ Memory
+  pub counts : p.to.counts ≡ p.under.counts
+  pub lasting : (t : CloudState) → p.to.state ≡ Some t → NamesLasting ask t.now
+  pub returned : (t : CloudState) → p.to.state ≡ Some t → GivesBackLasting ask t.now
 
 -- no lock is held
 abbrev pub NoLockHeld : CloudState → Type 0
@@ -85,8 +83,8 @@ pub record SettledWithin (before : CloudState) (after : Seen) (calls : ℕ) : Ty
   pub within : SettlesWithin before state calls
 
 -- where in no step a message was withheld it left nothing, whatever calls failed
-abbrev pub SettledLeaves : (n calls : ℕ) (before after : Seen) (old new : World) → Handled n event.Settle before after old new (Ok (reply.Settled calls)) → Type 0
-SettledLeaves n calls before after old new handled = EachStep StepDelivers n event.Settle before after old new (Ok (reply.Settled calls)) handled → LeftNothing after
+abbrev pub SettledLeaves : (n calls : ℕ) (span : Span) → Handled n event.Settle span (Ok (reply.Settled calls)) → Type 0
+SettledLeaves n calls span handled = EachStep StepDelivers n event.Settle span (Ok (reply.Settled calls)) handled → LeftNothing span.after
 
 -- what it is answered where no lock was held at its begin and every step went well: that it settled, within the bound, unless the cloud that it left
 -- tells a counter as spent
@@ -96,27 +94,27 @@ AnswersSettled t after (reply.NotSettled k) = (u : CloudState) × (after.state �
 AnswersSettled t after r = ⊥
 
 -- It shows no trouble that only damage could cause, each of its steps explains what it brought, and where each was calm it comes to its end.
-pub record SettlesRightly (n : ℕ) (before after : Seen) (old new : World) (r : Reply) (handled : Handled n event.Settle before after old new (Ok r)) : Type 0 where
+pub record SettlesRightly (n : ℕ) (span : Span) (r : Reply) (handled : Handled n event.Settle span (Ok r)) : Type 0 where
   pub sound : (posture : Posture) → IsSoundReply posture r
-  pub explains : EachStep StepExplains n event.Settle before after old new (Ok r) handled
-  pub calm : EachStep StepIsCalm n event.Settle before after old new (Ok r) handled → (u : CloudState) → after.state ≡ Some u → IsUntroubled u (work_at new 0) × SettlesWell u r
+  pub explains : EachStep StepExplains n event.Settle span (Ok r) handled
+  pub calm : EachStep StepIsCalm n event.Settle span (Ok r) handled → (u : CloudState) → span.after.state ≡ Some u → IsUntroubled u (work_at span.new 0) × SettlesWell u r
 
 -- Whatever lines led to a world and a cloud for which some book stands before a settling, however it was handled: where in no step a message was
 -- withheld a settling that came to its end left nothing; where no lock was held and every step went well it came to its end so; and it was right.
-abbrev pub SettlingLeaves : ℕ → Event → Seen → Seen → World → World → Result Reply WorldFault → Type 0
-SettlingLeaves n event.Settle before after old new (Ok (reply.Settled calls)) =
-    (t : CloudState) → before.state ≡ Some t → SomeBookStands (session_at old.sessions) t
-    → (handled : Handled n event.Settle before after old new (Ok (reply.Settled calls))) → SettledLeaves n calls before after old new handled
-SettlingLeaves n event before after old new result = Unit {0}
+abbrev pub SettlingLeaves : ℕ → Event → Span → Result Reply WorldFault → Type 0
+SettlingLeaves n event.Settle span (Ok (reply.Settled calls)) =
+    (t : CloudState) → span.before.state ≡ Some t → SomeBookStands (session_at span.old.sessions) t
+    → (handled : Handled n event.Settle span (Ok (reply.Settled calls))) → SettledLeaves n calls span handled
+SettlingLeaves n event span result = Unit {0}
 
-abbrev pub SettlingEnds : ℕ → Event → Seen → Seen → World → World → Result Reply WorldFault → Type 0
-SettlingEnds n event.Settle before after old new (Ok r) =
-    (t : CloudState) → before.state ≡ Some t → SomeBookStands (session_at old.sessions) t → NoLockHeld t
-    → (handled : Handled n event.Settle before after old new (Ok r)) → EachStep StepGoesWell n event.Settle before after old new (Ok r) handled → AnswersSettled t after r
-SettlingEnds n event before after old new result = Unit {0}
+abbrev pub SettlingEnds : ℕ → Event → Span → Result Reply WorldFault → Type 0
+SettlingEnds n event.Settle span (Ok r) =
+    (t : CloudState) → span.before.state ≡ Some t → SomeBookStands (session_at span.old.sessions) t → NoLockHeld t
+    → (handled : Handled n event.Settle span (Ok r)) → EachStep StepGoesWell n event.Settle span (Ok r) handled → AnswersSettled t span.after r
+SettlingEnds n event span result = Unit {0}
 
-abbrev pub SettlingIsRight : ℕ → Event → Seen → Seen → World → World → Result Reply WorldFault → Type 0
-SettlingIsRight n event.Settle before after old new (Ok r) =
-    (t : CloudState) → before.state ≡ Some t → SomeBookStands (session_at old.sessions) t
-    → (handled : Handled n event.Settle before after old new (Ok r)) → SettlesRightly n before after old new r handled
-SettlingIsRight n event before after old new result = Unit {0}
+abbrev pub SettlingIsRight : ℕ → Event → Span → Result Reply WorldFault → Type 0
+SettlingIsRight n event.Settle span (Ok r) =
+    (t : CloudState) → span.before.state ≡ Some t → SomeBookStands (session_at span.old.sessions) t
+    → (handled : Handled n event.Settle span (Ok r)) → SettlesRightly n span r handled
+SettlingIsRight n event span result = Unit {0}

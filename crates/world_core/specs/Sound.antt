@@ -1,6 +1,5 @@
 -- No line is answered with a trouble that only damage could cause.
 use Rattle.std.specs.Prelude.{ℕ, ◌≡◌, ◌+◌, List, length, Some, Result, Ok, Err}
-use Rattle.cloud_trait.specs.Seen.{Seen}
 use Rattle.cloud_trait.specs.State.{CloudState}
 use Rattle.db_base.specs.declared.trouble.Trouble.TheVariants.{Failed}
 use Rattle.event_text.specs.declared.event.Event.{Event}
@@ -10,9 +9,9 @@ use Rattle.session_facts.specs.Lines.Answers.{IsSoundReply}
 use Rattle.session_facts.specs.Machines.Sweeps.Knows.{MayStopSweep}
 use Rattle.reply_text.specs.declared.reply.Reply.{Reply}
 use Rattle.reply_text.specs.declared.reply.Reply.TheVariants as reply
-use Rattle.world_core.specs.World.{World}
 use Rattle.world_core.specs.declared.world.WorldFault.{WorldFault}
 use Rattle.world_core.specs.Stands.{WorldStands}
+use Rattle.world_core.specs.Span.{Span}
 
 -- a report stops only where a look failed
 abbrev pub IsSoundReport : Reply → Type 0
@@ -31,8 +30,8 @@ IsSoundFor (event.Sweep tree) posture reply = IsSoundSweep reply
 IsSoundFor event posture reply = IsSoundReply posture reply
 
 -- whatever lines a world and a cloud stood for before a line, its reply is sound by how they say that its session stood
-abbrev pub AnswersSoundly : ℕ → Event → Seen → Seen → World → World → Result Reply WorldFault → Type 0
-AnswersSoundly n event before after old new (Ok reply) =
-    (lines : List Line) (t : CloudState) → length lines + 1 ≡ n → before.state ≡ Some t → WorldStands lines old t
+abbrev pub AnswersSoundly : ℕ → Event → Span → Result Reply WorldFault → Type 0
+AnswersSoundly n event span (Ok reply) =
+    (lines : List Line) (t : CloudState) → length lines + 1 ≡ n → span.before.state ≡ Some t → WorldStands lines span.old t
     → IsSoundFor event (standing lines (session_of event)).posture reply
-AnswersSoundly n event before after old new (Err fault) = Unit {0}
+AnswersSoundly n event span (Err fault) = Unit {0}

@@ -5,7 +5,6 @@ use Rattle.ckpt_policy.specs.declared.place.Place.{Place}
 use Rattle.ckpt_policy.specs.Ledger.{IsNumber}
 use Rattle.client_work.specs.declared.answer.Answer.TheVariants as answer
 use Rattle.cloud_trait.specs.declared.turn.Turn.TheVariants.{Ended}
-use Rattle.cloud_trait.specs.Seen.{Seen}
 use Rattle.cloud_trait.specs.State.{CloudState}
 use Rattle.db_base.specs.declared.names.QueueName.TheVariants.{PagePu}
 use Rattle.db_base.specs.declared.trouble.Counter.{Counter}
@@ -24,6 +23,7 @@ use Rattle.world_core.specs.Stands.{WorldStands}
 use Rattle.world_core.specs.World.{World}
 use Rattle.world_core.specs.Writers.{Stage, Unbound, Even, Owing, Astray, by_line, stage_of}
 use Rattle.world_core.specs.declared.world.WorldFault.{WorldFault}
+use Rattle.world_core.specs.Span.{Span}
 
 -- the queue of each page has a message to which notes say that one was sent since its last checkpoint
 abbrev pub HaveLanded : List Note → CloudState → Type 0
@@ -45,7 +45,7 @@ HasSentAt Astray session k world t = Unit {0}
 
 -- a step was not answered that a counter is spent
 abbrev pub StepSpendsNone : StepFact
-StepSpendsNone who wish before after old new turn p = (what : Counter) → turn ≢ Ended (answer.Trouble (trouble.Exhausted what))
+StepSpendsNone who wish span turn p = (what : Counter) → turn ≢ Ended (answer.Trouble (trouble.Exhausted what))
 
 -- a work passes no checkpoint over
 abbrev pub PassesNone : Event → Reply → Type 0
@@ -69,11 +69,11 @@ unpassed line = record { event = line.event; reply = none_passed line.reply }
 
 -- Whatever lines a world and a cloud stood for before a line that leaves a session alone, where each step of it was undisturbed and none was answered that a
 -- counter is spent: a writer that was alone, and of which all that its notes tell landed, passes no checkpoint over, and all landed behind the line too.
-abbrev pub SparesWriter : ℕ → Event → Seen → Seen → World → World → Result Reply WorldFault → Type 0
-SparesWriter n event before after old new (Ok reply) =
-    (lines : List Line) (t u : CloudState) → length lines + 1 ≡ n → before.state ≡ Some t → after.state ≡ Some u → WorldStands lines old t
-    → (handled : Handled n event before after old new (Ok reply)) → EachStep StepIsUndisturbed n event before after old new (Ok reply) handled
-    → EachStep StepSpendsNone n event before after old new (Ok reply) handled
-    → (session k : ℕ) → LeavesAlone session event → IsAloneIn session old t → HasSentAt (stage_of session k lines) session k old t
-    → PassesNoneAt (stage_of session k lines) event reply × HasSentAt (by_line session k event reply (stage_of session k lines)) session k new u
-SparesWriter n event before after old new (Err fault) = Unit {0}
+abbrev pub SparesWriter : ℕ → Event → Span → Result Reply WorldFault → Type 0
+SparesWriter n event span (Ok reply) =
+    (lines : List Line) (t u : CloudState) → length lines + 1 ≡ n → span.before.state ≡ Some t → span.after.state ≡ Some u → WorldStands lines span.old t
+    → (handled : Handled n event span (Ok reply)) → EachStep StepIsUndisturbed n event span (Ok reply) handled
+    → EachStep StepSpendsNone n event span (Ok reply) handled
+    → (session k : ℕ) → LeavesAlone session event → IsAloneIn session span.old t → HasSentAt (stage_of session k lines) session k span.old t
+    → PassesNoneAt (stage_of session k lines) event reply × HasSentAt (by_line session k event reply (stage_of session k lines)) session k span.new u
+SparesWriter n event span (Err fault) = Unit {0}

@@ -15,6 +15,7 @@ use Rattle.session_facts.specs.Lines.Counted.{calls_told, CountsAll}
 use Rattle.session_facts.specs.Lines.Facts.{session_at, Stands, SomeBookStands}
 use Rattle.world_core.specs.World.{World}
 use Rattle.world_core.specs.declared.world.WorldFault.{WorldFault}
+use Rattle.world_core.specs.Span.{Span}
 
 -- the two numbers of a report: the clients whose newest head is open with a committed entry of its tree, and the messages that wait for it
 pub record IsLeft (t : CloudState) (r : Report) : Type 0 where
@@ -39,18 +40,18 @@ pub record StandsFor (lines : List Line) (world : World) (seen : Seen) (reply : 
   pub left : LeftIsRight after reply
 
 -- whatever lines a world and a cloud stood for before a line, they stand for these and the line with its reply after it
-abbrev pub StandsOn : ℕ → Event → Seen → Seen → World → World → Result Reply WorldFault → Type 0
-StandsOn n event before after old new (Ok reply) =
-    (lines : List Line) (t : CloudState) → length lines + 1 ≡ n → before.state ≡ Some t → WorldStands lines old t
-    → StandsFor (lines ++ record { event = event; reply = reply } ∷ []) new after reply
-StandsOn n event before after old new (Err fault) = Unit {0}
+abbrev pub StandsOn : ℕ → Event → Span → Result Reply WorldFault → Type 0
+StandsOn n event span (Ok reply) =
+    (lines : List Line) (t : CloudState) → length lines + 1 ≡ n → span.before.state ≡ Some t → WorldStands lines span.old t
+    → StandsFor (lines ++ record { event = event; reply = reply } ∷ []) span.new span.after reply
+StandsOn n event span (Err fault) = Unit {0}
 
 -- whatever lines led to a world and a cloud for which some book stands, one does behind a line
-abbrev pub KeepsABook : Seen → Seen → World → World → Result Reply WorldFault → Type 0
-KeepsABook before after old new (Ok reply) =
-    (t : CloudState) → before.state ≡ Some t → SomeBookStands (session_at old.sessions) t
-    → (u : CloudState) × (after.state ≡ Some u) × SomeBookStands (session_at new.sessions) u
-KeepsABook before after old new (Err fault) = Unit {0}
+abbrev pub KeepsABook : Span → Result Reply WorldFault → Type 0
+KeepsABook span (Ok reply) =
+    (t : CloudState) → span.before.state ≡ Some t → SomeBookStands (session_at span.old.sessions) t
+    → (u : CloudState) × (span.after.state ≡ Some u) × SomeBookStands (session_at span.new.sessions) u
+KeepsABook span (Err fault) = Unit {0}
 
 -- up to every earlier line nothing has changed that the cloud tells; and where each version and message had its row in the trace, each has it still
 abbrev pub Grows : ℕ → Seen → Seen → Type 0

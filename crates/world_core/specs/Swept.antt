@@ -11,8 +11,8 @@ use Rattle.session_facts.specs.Lines.Facts.{session_at, SomeBookStands}
 use Rattle.session_facts.specs.Machines.Sweeps.Remains.{Remains, AreJustReached}
 use Rattle.session_facts.specs.Machines.Sweeps.Same.{TellsTheSame}
 use Rattle.world_core.specs.Handled.{Handled}
-use Rattle.world_core.specs.World.{World}
 use Rattle.world_core.specs.declared.world.WorldFault.{WorldFault}
+use Rattle.world_core.specs.Span.{Span}
 
 -- where it is answered that it swept, just the reached pages have bytes
 abbrev pub IsSweptTo : CloudState → CloudState → ℕ → Result Reply WorldFault → Type 0
@@ -29,8 +29,8 @@ pub record SweptFrom (s : CloudState) (after : Seen) (tree : ℕ) (result : Resu
 
 -- Whatever lines led to a world and a cloud for which some book stands before the sweep of a tree, however it was handled and whatever it answers, also
 -- for want of memory: it leaves all but pages that nothing reached, and where it swept, just the reached pages have bytes.
-abbrev pub SweepLeaves : ℕ → Event → Seen → Seen → World → World → Result Reply WorldFault → Type 0
-SweepLeaves n (event.Sweep tree) before after old new result =
-    (s : CloudState) → before.state ≡ Some s → SomeBookStands (session_at old.sessions) s → IsTree tree → Handled n (event.Sweep tree) before after old new result
-    → SweptFrom s after tree result
-SweepLeaves n event before after old new result = Unit {0}
+abbrev pub SweepLeaves : ℕ → Event → Span → Result Reply WorldFault → Type 0
+SweepLeaves n (event.Sweep tree) span result =
+    (s : CloudState) → span.before.state ≡ Some s → SomeBookStands (session_at span.old.sessions) s → IsTree tree → Handled n (event.Sweep tree) span result
+    → SweptFrom s span.after tree result
+SweepLeaves n event span result = Unit {0}

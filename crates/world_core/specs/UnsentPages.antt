@@ -33,14 +33,19 @@ RepliesUnsent tree page u w reply.Called = KeepsUnsent tree page u w
 RepliesUnsent tree page u w (reply.Trouble k) = IsOfUnsent tree page u k
 RepliesUnsent tree page u w reply = Unit {0}
 
+-- what a session has at work while the cloud tells this state
+pub record InHand : Type 0 where
+  pub cloud : CloudState
+  pub work : Work
+
 -- a session whose checkpoint of a page had this at work, and then that
-abbrev pub GoesOnUnsent : CloudState → CloudState → Posture → Work → Work → Reply → Type 0
-GoesOnUnsent t u (Working (Paging tree page)) old new reply = KeepsUnsent tree page t old → RepliesUnsent tree page u new reply
-GoesOnUnsent t u posture old new reply = Unit {0}
+abbrev pub GoesOnUnsent : Posture → InHand → InHand → Reply → Type 0
+GoesOnUnsent (Working (Paging tree page)) old new reply = KeepsUnsent tree page old.cloud old.work → RepliesUnsent tree page new.cloud new.work reply
+GoesOnUnsent posture old new reply = Unit {0}
 
 -- the line that begins the checkpoint of a page, and those that make its calls; other lines do not
-abbrev pub LeavesUnsent : CloudState → CloudState → Event → Posture → Work → Work → Reply → Type 0
-LeavesUnsent t u (event.Page session tree page) posture old new reply = RepliesUnsent tree page u new reply
-LeavesUnsent t u (event.Step session wish) posture old new reply = GoesOnUnsent t u posture old new reply
-LeavesUnsent t u (event.Run session) posture old new reply = GoesOnUnsent t u posture old new reply
-LeavesUnsent t u event posture old new reply = Unit {0}
+abbrev pub LeavesUnsent : Event → Posture → InHand → InHand → Reply → Type 0
+LeavesUnsent (event.Page session tree page) posture old new reply = RepliesUnsent tree page new.cloud new.work reply
+LeavesUnsent (event.Step session wish) posture old new reply = GoesOnUnsent posture old new reply
+LeavesUnsent (event.Run session) posture old new reply = GoesOnUnsent posture old new reply
+LeavesUnsent event posture old new reply = Unit {0}

@@ -2,6 +2,7 @@
 
 ghost use Rattle.std.specs.Prelude.{◌≡◌, slice_get, Some, OnErr, OnOk};
 ghost use Rattle.world_core.specs.Stands.{Grows};
+ghost use Rattle.world_core.specs.Span.{span_by};
 
 use crate::asked::Asked;
 use crate::quota::Quota;
@@ -31,7 +32,8 @@ impl<S: SessionCalls> World<S> {
         quota: &mut Quota,
         n: u64,
     ) -> Result<Reply, WorldFault>
-        ensures settles { Settles settles n (C.seen cloud.old) (C.seen cloud.new) self.old self.new result }
+        ensures settles { Settles settles n
+            (span_by C.seen cloud.old cloud.new self.old self.new) result }
         ensures grows { Grows n (C.seen cloud.old) (C.seen cloud.new) }
         ensures spends { SpendsQuota (C.seen cloud.old) (C.seen cloud.new) quota.old quota.new }
     {
@@ -60,7 +62,8 @@ impl<S: SessionCalls> World<S> {
         who: Who,
     ) -> Result<Reply, WorldFault>
         requires { slice_get self.old.sessions who.session ≡ Some settling_session }
-        ensures settles { SettlesOn settles who (C.seen cloud.old) (C.seen cloud.new) self.old self.new result }
+        ensures settles { SettlesOn settles who
+            (span_by C.seen cloud.old cloud.new self.old self.new) result }
         ensures grows { Grows who.event (C.seen cloud.old) (C.seen cloud.new) }
         ensures spends { SpendsQuota (C.seen cloud.old) (C.seen cloud.new) quota.old quota.new }
     {
@@ -82,7 +85,8 @@ impl<S: SessionCalls> World<S> {
         n: u64,
         tree: Result<TreeId, Refused>,
     ) -> Result<Reply, WorldFault>
-        ensures answers { Answers n (Asked.Sweep tree) (C.seen cloud.old) (C.seen cloud.new) self.old self.new result }
+        ensures answers { Answers n (Asked.Sweep tree)
+            (span_by C.seen cloud.old cloud.new self.old self.new) result }
         ensures grows { Grows n (C.seen cloud.old) (C.seen cloud.new) }
         ensures spends { SpendsQuota (C.seen cloud.old) (C.seen cloud.new) quota.old quota.new }
     {
@@ -103,7 +107,8 @@ impl<S: SessionCalls> World<S> {
         tree: TreeId,
     ) -> Result<Reply, WorldFault>
         ensures tree { IsTree tree }
-        ensures sweeps { Settles (sweeps tree) n (C.seen cloud.old) (C.seen cloud.new) self.old self.new result }
+        ensures sweeps { Settles (sweeps tree) n
+            (span_by C.seen cloud.old cloud.new self.old self.new) result }
         ensures grows { Grows n (C.seen cloud.old) (C.seen cloud.new) }
         ensures spends { SpendsQuota (C.seen cloud.old) (C.seen cloud.new) quota.old quota.new }
     {
@@ -135,7 +140,8 @@ impl<S: SessionCalls> World<S> {
         tree: TreeId,
     ) -> Result<Reply, WorldFault>
         requires { slice_get self.old.sessions who.session ≡ Some (sweeping_session tree) }
-        ensures sweeps { SettlesOn (sweeps tree) who (C.seen cloud.old) (C.seen cloud.new) self.old self.new result }
+        ensures sweeps { SettlesOn (sweeps tree) who
+            (span_by C.seen cloud.old cloud.new self.old self.new) result }
         ensures grows { Grows who.event (C.seen cloud.old) (C.seen cloud.new) }
         ensures spends { SpendsQuota (C.seen cloud.old) (C.seen cloud.new) quota.old quota.new }
     {

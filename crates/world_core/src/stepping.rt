@@ -3,6 +3,7 @@
 ghost use Rattle.std.specs.Prelude.{◌≡◌, ◌⊎◌, false, true, None, Some, IfOk, OnErr, OnOk};
 ghost use Rattle.world_core.specs.Put.{is_blind};
 ghost use Rattle.world_core.specs.Stands.{Grows};
+ghost use Rattle.world_core.specs.Span.{span_by};
 
 use crate::noting::{keep_landed, note_put};
 use crate::put::{Put, is_newest, put_in_hand};
@@ -36,8 +37,10 @@ impl<S: SessionCalls> World<S> {
         wish: Wish,
     ) -> Result<Turn<Answer>, WorldFault>
         requires works { IsAtWork who.session self.old.sessions }
-        ensures looked { IfOk result (λ turn. StepsLooked who wish (C.seen cloud.old) (C.seen cloud.new) self.old self.new turn) }
-        ensures short { OnErr result (RunsShort who wish (C.seen cloud.old) (C.seen cloud.new) self.old self.new) }
+        ensures looked { IfOk result (λ turn. StepsLooked who wish
+            (span_by C.seen cloud.old cloud.new self.old self.new) turn) }
+        ensures short { OnErr result (RunsShort who wish
+            (span_by C.seen cloud.old cloud.new self.old self.new)) }
         ensures grows { Grows who.event (C.seen cloud.old) (C.seen cloud.new) }
         ensures spends { SpendsQuota (C.seen cloud.old) (C.seen cloud.new) quota.old quota.new }
     {
@@ -61,8 +64,10 @@ impl<S: SessionCalls> World<S> {
         wish: Wish,
     ) -> Result<Turn<Answer>, WorldFault>
         requires works { IsAtWork who.session self.old.sessions }
-        ensures looked { IfOk result (λ turn. StepsLooked who wish (C.seen cloud.old) (C.seen cloud.new) self.old self.new turn) }
-        ensures short { OnErr result (FallsShort who wish (C.seen cloud.old) (C.seen cloud.new) self.old self.new) }
+        ensures looked { IfOk result (λ turn. StepsLooked who wish
+            (span_by C.seen cloud.old cloud.new self.old self.new) turn) }
+        ensures short { OnErr result (FallsShort who wish
+            (span_by C.seen cloud.old cloud.new self.old self.new)) }
         ensures grows { Grows who.event (C.seen cloud.old) (C.seen cloud.new) }
         ensures spends { SpendsQuota (C.seen cloud.old) (C.seen cloud.new) quota.old quota.new }
     {
@@ -81,8 +86,10 @@ impl<S: SessionCalls> World<S> {
         wish: Wish,
     ) -> Result<Turn<Answer>, WorldFault>
         requires works { IsAtWork who.session self.old.sessions }
-        ensures looked { IfOk result (λ turn. StepsLooked who wish (C.seen cloud.old) (C.seen cloud.new) self.old self.new turn) }
-        ensures short { OnErr result (FallsShort who wish (C.seen cloud.old) (C.seen cloud.new) self.old self.new) }
+        ensures looked { IfOk result (λ turn. StepsLooked who wish
+            (span_by C.seen cloud.old cloud.new self.old self.new) turn) }
+        ensures short { OnErr result (FallsShort who wish
+            (span_by C.seen cloud.old cloud.new self.old self.new)) }
         ensures grows { Grows who.event (C.seen cloud.old) (C.seen cloud.new) }
     {
         if self.blind {
@@ -105,8 +112,10 @@ impl<S: SessionCalls> World<S> {
     ) -> Result<Turn<Answer>, WorldFault>
         requires works { IsAtWork who.session self.old.sessions }
         requires unlooked { (self.old.blind ≡ true) ⊎ HasPut who.session self.old.sessions None }
-        ensures looked { IfOk result (λ turn. StepsLooked who wish (C.seen cloud.old) (C.seen cloud.new) self.old self.new turn) }
-        ensures short { OnErr result (FallsShort who wish (C.seen cloud.old) (C.seen cloud.new) self.old self.new) }
+        ensures looked { IfOk result (λ turn. StepsLooked who wish
+            (span_by C.seen cloud.old cloud.new self.old self.new) turn) }
+        ensures short { OnErr result (FallsShort who wish
+            (span_by C.seen cloud.old cloud.new self.old self.new)) }
         ensures grows { Grows who.event (C.seen cloud.old) (C.seen cloud.new) }
     {
         match self.note_call(who.session) {
@@ -155,8 +164,10 @@ impl<S: SessionCalls> World<S> {
     ) -> Result<Turn<Answer>, WorldFault>
         requires works { IsAtWork who.session self.old.sessions }
         requires puts { HasPut who.session self.old.sessions (Some put.now) }
-        ensures looked { IfOk result (λ turn. StepsLooked who wish (C.seen cloud.old) (C.seen cloud.new) self.old self.new turn) }
-        ensures short { OnErr result (FallsShort who wish (C.seen cloud.old) (C.seen cloud.new) self.old self.new) }
+        ensures looked { IfOk result (λ turn. StepsLooked who wish
+            (span_by C.seen cloud.old cloud.new self.old self.new) turn) }
+        ensures short { OnErr result (FallsShort who wish
+            (span_by C.seen cloud.old cloud.new self.old self.new)) }
         ensures grows { Grows who.event (C.seen cloud.old) (C.seen cloud.new) }
     {
         let before = is_newest(cloud, put)?;

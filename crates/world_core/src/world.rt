@@ -2,6 +2,7 @@ ghost use Rattle.std.specs.Prelude.{◌≡◌, ℕ, ◌≤◌, ◌<◌, true, fa
 ghost use Rattle.world_core.specs.Quota.{SpendsQuota};
 ghost use Rattle.world_core.specs.Stands.{Grows};
 ghost use Rattle.world_core.specs.Handled.{WaitsFor};
+ghost use Rattle.world_core.specs.Span.{span_of, span_by};
 ghost use Rattle.ckpt_policy.specs.Ledger.{IsNumber};
 ghost use Rattle.ckpt_policy.specs.Notes.{IsPending};
 ghost use Rattle.reply_text.specs.Reply.{HasText};
@@ -155,41 +156,62 @@ impl<S: SessionCalls> World<S> {
         n: u64,
         event: &Event,
     ) -> Result<Reply, WorldFault>
-        ensures handled { Handled n event.now (C.seen cloud.old) (C.seen cloud.new) self.old self.new result }
+        ensures handled { Handled n event.now
+            (span_by C.seen cloud.old cloud.new self.old self.new) result }
         ensures text { IfOk result ReplyHasText }
-        ensures stands { StandsOn n event.now (C.seen cloud.old) (C.seen cloud.new) self.old self.new result }
-        ensures sound { AnswersSoundly n event.now (C.seen cloud.old) (C.seen cloud.new) self.old self.new result }
-        ensures acknowledged { AnswersDurably n event.now (C.seen cloud.old) (C.seen cloud.new) self.old self.new result }
+        ensures stands { StandsOn n event.now
+            (span_by C.seen cloud.old cloud.new self.old self.new) result }
+        ensures sound { AnswersSoundly n event.now
+            (span_by C.seen cloud.old cloud.new self.old self.new) result }
+        ensures acknowledged { AnswersDurably n event.now
+            (span_by C.seen cloud.old cloud.new self.old self.new) result }
         // A commit that is answered as not committed left nothing among what was committed.
-        ensures left_nothing { LeavesNoCommit n event.now (C.seen cloud.old) (C.seen cloud.new) self.old self.new result }
-        ensures explained { ExplainsSteps n event.now (C.seen cloud.old) (C.seen cloud.new) self.old self.new result }
+        ensures left_nothing { LeavesNoCommit n event.now
+            (span_by C.seen cloud.old cloud.new self.old self.new) result }
+        ensures explained { ExplainsSteps n event.now
+            (span_by C.seen cloud.old cloud.new self.old self.new) result }
         // Over any cloud, why each step came to what it came to.
-        ensures caused { CausesSteps n event.now (C.seen cloud.old) (C.seen cloud.new) self.old self.new result }
-        ensures shown { ShowsSteps n event.now (C.seen cloud.old) (C.seen cloud.new) self.old self.new result }
+        ensures caused { CausesSteps n event.now
+            (span_by C.seen cloud.old cloud.new self.old self.new) result }
+        ensures shown { ShowsSteps n event.now
+            (span_by C.seen cloud.old cloud.new self.old self.new) result }
         // What it shows is by what the lines say of its client.
-        ensures shown_by_lines { ShowsStepsBy n event.now (C.seen cloud.old) (C.seen cloud.new) self.old self.new result }
+        ensures shown_by_lines { ShowsStepsBy n event.now
+            (span_by C.seen cloud.old cloud.new self.old self.new) result }
         // A look-up finds all records with the attribute, where all is applied and nothing that it got was old.
-        ensures tagged { ShowsTagged n event.now (C.seen cloud.old) (C.seen cloud.new) self.old self.new result }
-        ensures calm { AnswersWell n event.now (C.seen cloud.old) (C.seen cloud.new) self.old self.new result }
+        ensures tagged { ShowsTagged n event.now
+            (span_by C.seen cloud.old cloud.new self.old self.new) result }
+        ensures calm { AnswersWell n event.now
+            (span_by C.seen cloud.old cloud.new self.old self.new) result }
         // A session that is alone finds its locks free.
-        ensures alone { KeepsAlone n event.now (C.seen cloud.old) (C.seen cloud.new) self.old self.new result }
-        ensures bounded { MakesFewCalls n event.now (C.seen cloud.old) (C.seen cloud.new) self.old self.new result }
+        ensures alone { KeepsAlone n event.now
+            (span_by C.seen cloud.old cloud.new self.old self.new) result }
+        ensures bounded { MakesFewCalls n event.now
+            (span_by C.seen cloud.old cloud.new self.old self.new) result }
         // A tree checkpoint that is done finds each new piece named by the level above.
-        ensures named { NamesSteps n event.now (C.seen cloud.old) (C.seen cloud.new) self.old self.new result }
+        ensures named { NamesSteps n event.now
+            (span_by C.seen cloud.old cloud.new self.old self.new) result }
         // A writer that works behind each of its commits leaves few messages.
-        ensures metered { KeepsMeter n event.now (C.seen cloud.old) (C.seen cloud.new) self.old self.new result }
+        ensures metered { KeepsMeter n event.now
+            (span_by C.seen cloud.old cloud.new self.old self.new) result }
         // A work whose calls are all calm passes a checkpoint over for a spent counter alone, or a page to which no message was ever sent.
-        ensures passed { PassesWell n event.now (C.seen cloud.old) (C.seen cloud.new) self.old self.new result }
+        ensures passed { PassesWell n event.now
+            (span_by C.seen cloud.old cloud.new self.old self.new) result }
         // A writer that is alone passes none over.
-        ensures spared { SparesWriter n event.now (C.seen cloud.old) (C.seen cloud.new) self.old self.new result }
-        ensures settled { SettlingLeaves n event.now (C.seen cloud.old) (C.seen cloud.new) self.old self.new result }
-        ensures settles { SettlingEnds n event.now (C.seen cloud.old) (C.seen cloud.new) self.old self.new result }
-        ensures settling { SettlingIsRight n event.now (C.seen cloud.old) (C.seen cloud.new) self.old self.new result }
+        ensures spared { SparesWriter n event.now
+            (span_by C.seen cloud.old cloud.new self.old self.new) result }
+        ensures settled { SettlingLeaves n event.now
+            (span_by C.seen cloud.old cloud.new self.old self.new) result }
+        ensures settles { SettlingEnds n event.now
+            (span_by C.seen cloud.old cloud.new self.old self.new) result }
+        ensures settling { SettlingIsRight n event.now
+            (span_by C.seen cloud.old cloud.new self.old self.new) result }
         // A sweep of a tree leaves all but pages that nothing reached, and where it swept just the reached pages have bytes.
-        ensures swept { SweepLeaves n event.now (C.seen cloud.old) (C.seen cloud.new) self.old self.new result }
+        ensures swept { SweepLeaves n event.now
+            (span_by C.seen cloud.old cloud.new self.old self.new) result }
         // Where memory ran out, the session that it worked on is broken off.
         ensures short { LeavesShort event.now self.old self.new result }
-        ensures keeps { KeepsABook (C.seen cloud.old) (C.seen cloud.new) self.old self.new result }
+        ensures keeps { KeepsABook (span_by C.seen cloud.old cloud.new self.old self.new) result }
         ensures grows { Grows n (C.seen cloud.old) (C.seen cloud.new) }
         // No more lands than is taken of the quota.
         ensures spends { SpendsQuota (C.seen cloud.old) (C.seen cloud.new) quota.old quota.new }
@@ -206,7 +228,8 @@ impl<S: SessionCalls> World<S> {
         n: u64,
         event: &Event,
     ) -> Result<Reply, WorldFault>
-        ensures handled { Handled n event.now (C.seen cloud.old) (C.seen cloud.new) self.old self.new result }
+        ensures handled { Handled n event.now
+            (span_by C.seen cloud.old cloud.new self.old self.new) result }
         ensures grows { Grows n (C.seen cloud.old) (C.seen cloud.new) }
         ensures spends { SpendsQuota (C.seen cloud.old) (C.seen cloud.new) quota.old quota.new }
     {
@@ -230,7 +253,8 @@ impl<S: SessionCalls> World<S> {
         number: u64,
         request: Result<Request, Refused>,
     ) -> Result<Reply, WorldFault>
-        ensures answers { Answers n (Asked.Session number request) (C.seen cloud.old) (C.seen cloud.new) self.old self.new result }
+        ensures answers { Answers n (Asked.Session number request)
+            (span_by C.seen cloud.old cloud.new self.old self.new) result }
         ensures grows { Grows n (C.seen cloud.old) (C.seen cloud.new) }
         ensures spends { SpendsQuota (C.seen cloud.old) (C.seen cloud.new) quota.old quota.new }
     {
@@ -253,7 +277,8 @@ impl<S: SessionCalls> World<S> {
         who: Who,
         request: Request,
     ) -> Result<Reply, WorldFault>
-        ensures does { Does who.event who.session request (C.seen cloud.old) (C.seen cloud.new) self.old self.new result }
+        ensures does { Does who request
+            (span_by C.seen cloud.old cloud.new self.old self.new) result }
         ensures grows { Grows who.event (C.seen cloud.old) (C.seen cloud.new) }
         ensures spends { SpendsQuota (C.seen cloud.old) (C.seen cloud.new) quota.old quota.new }
     {
@@ -384,7 +409,8 @@ impl<S: SessionCalls> World<S> {
         who: Who,
         wish: Wish,
     ) -> Result<Reply, WorldFault>
-        ensures steps { MakesStep who.event who.session wish (C.seen cloud.old) (C.seen cloud.new) self.old self.new result }
+        ensures steps { MakesStep who wish
+            (span_by C.seen cloud.old cloud.new self.old self.new) result }
         ensures grows { Grows who.event (C.seen cloud.old) (C.seen cloud.new) }
         ensures spends { SpendsQuota (C.seen cloud.old) (C.seen cloud.new) quota.old quota.new }
     {
@@ -409,7 +435,7 @@ impl<S: SessionCalls> World<S> {
         quota: &mut Quota,
         who: Who,
     ) -> Result<Reply, WorldFault>
-        ensures runs { Runs who.event who.session (C.seen cloud.old) (C.seen cloud.new) self.old self.new result }
+        ensures runs { Runs who (span_by C.seen cloud.old cloud.new self.old self.new) result }
         ensures grows { Grows who.event (C.seen cloud.old) (C.seen cloud.new) }
         ensures spends { SpendsQuota (C.seen cloud.old) (C.seen cloud.new) quota.old quota.new }
     {
@@ -434,8 +460,10 @@ impl<S: SessionCalls> World<S> {
         who: Who,
     ) -> Result<Answer, WorldFault>
         requires { IsAtWork who.session self.old.sessions }
-        ensures comes { IfOk result (λ answer. ComesTo who (C.seen cloud.old) (C.seen cloud.new) self.old self.new answer) }
-        ensures short { OnErr result (StopsShort who (C.seen cloud.old) (C.seen cloud.new) self.old self.new) }
+        ensures comes { IfOk result (λ answer. ComesTo who
+            (span_by C.seen cloud.old cloud.new self.old self.new) answer) }
+        ensures short { OnErr result (StopsShort who
+            (span_by C.seen cloud.old cloud.new self.old self.new)) }
         ensures grows { Grows who.event (C.seen cloud.old) (C.seen cloud.new) }
         ensures spends { SpendsQuota (C.seen cloud.old) (C.seen cloud.new) quota.old quota.new }
     {
@@ -458,7 +486,7 @@ impl<S: SessionCalls> World<S> {
         k: u64,
     ) -> Result<Reply, WorldFault>
         // Whatever the cloud is seen to be, no call is made.
-        ensures { (seen : Seen) → Policies number role k seen seen self.old self.new result }
+        ensures { (seen : Seen) → Policies number role k (span_of seen seen self.old self.new) result }
     {
         if !is_number(k) {
             return Ok(Reply::Refused(Refusal::BadNumber));
@@ -503,7 +531,8 @@ impl<S: SessionCalls> World<S> {
         quota: &mut Quota,
         who: Who,
     ) -> Result<Reply, WorldFault>
-        ensures works { WorksThrough who.event who.session (C.seen cloud.old) (C.seen cloud.new) self.old self.new result }
+        ensures works { WorksThrough who
+            (span_by C.seen cloud.old cloud.new self.old self.new) result }
         ensures grows { Grows who.event (C.seen cloud.old) (C.seen cloud.new) }
         ensures spends { SpendsQuota (C.seen cloud.old) (C.seen cloud.new) quota.old quota.new }
     {
@@ -523,7 +552,8 @@ impl<S: SessionCalls> World<S> {
         who: Who,
     ) -> Result<Reply, WorldFault>
         requires { IsOpen who.session self.old.sessions }
-        ensures works { WorksThrough who.event who.session (C.seen cloud.old) (C.seen cloud.new) self.old self.new result }
+        ensures works { WorksThrough who
+            (span_by C.seen cloud.old cloud.new self.old self.new) result }
         ensures grows { Grows who.event (C.seen cloud.old) (C.seen cloud.new) }
         ensures spends { SpendsQuota (C.seen cloud.old) (C.seen cloud.new) quota.old quota.new }
     {
@@ -547,8 +577,10 @@ impl<S: SessionCalls> World<S> {
     ) -> Result<Reply, WorldFault>
         requires opened { IsOpen who.session self.old.sessions }
         requires pending { All IsPending queues.now }
-        ensures ok { IfOk result (λ reply. WorksOff who queues.now (C.seen cloud.old) (C.seen cloud.new) self.old self.new reply) }
-        ensures short { OnErr result (WorksShort who (C.seen cloud.old) (C.seen cloud.new) self.old self.new) }
+        ensures ok { IfOk result (λ reply. WorksOff who queues.now
+            (span_by C.seen cloud.old cloud.new self.old self.new) reply) }
+        ensures short { OnErr result (WorksShort who
+            (span_by C.seen cloud.old cloud.new self.old self.new)) }
         ensures grows { Grows who.event (C.seen cloud.old) (C.seen cloud.new) }
         ensures spends { SpendsQuota (C.seen cloud.old) (C.seen cloud.new) quota.old quota.new }
     {
@@ -578,8 +610,10 @@ impl<S: SessionCalls> World<S> {
     ) -> Result<bool, WorldFault>
         requires opened { IsOpen who.session self.old.sessions }
         requires pending { IsPending queue }
-        ensures ok { IfOk result (λ done. MakesOne who queue done (C.seen cloud.old) (C.seen cloud.new) self.old self.new) }
-        ensures short { OnErr result (FailsAt who (C.seen cloud.old) (C.seen cloud.new) self.old self.new) }
+        ensures ok { IfOk result (λ done. MakesOne who queue done
+            (span_by C.seen cloud.old cloud.new self.old self.new)) }
+        ensures short { OnErr result (FailsAt who
+            (span_by C.seen cloud.old cloud.new self.old self.new)) }
         ensures grows { Grows who.event (C.seen cloud.old) (C.seen cloud.new) }
         ensures spends { SpendsQuota (C.seen cloud.old) (C.seen cloud.new) quota.old quota.new }
     {
@@ -641,7 +675,8 @@ impl<S: SessionCalls> World<S> {
         who: Who,
         done: bool,
     ) -> Result<Reply, WorldFault>
-        ensures crashes { Crashes who.event who.session done (C.seen cloud.old) (C.seen cloud.new) self.old self.new result }
+        ensures crashes { Crashes who done
+            (span_by C.seen cloud.old cloud.new self.old self.new) result }
         ensures grows { Grows who.event (C.seen cloud.old) (C.seen cloud.new) }
         ensures spends { SpendsQuota (C.seen cloud.old) (C.seen cloud.new) quota.old quota.new }
     {
@@ -661,7 +696,8 @@ impl<S: SessionCalls> World<S> {
         who: Who,
     ) -> Result<Reply, WorldFault>
         requires works { IsAtWork who.session self.old.sessions }
-        ensures dies { CrashesDone who (C.seen cloud.old) (C.seen cloud.new) self.old self.new result }
+        ensures dies { CrashesDone who
+            (span_by C.seen cloud.old cloud.new self.old self.new) result }
         ensures grows { Grows who.event (C.seen cloud.old) (C.seen cloud.new) }
         ensures spends { SpendsQuota (C.seen cloud.old) (C.seen cloud.new) quota.old quota.new }
     {
@@ -673,7 +709,7 @@ impl<S: SessionCalls> World<S> {
 
     /// Reports on a tree. Where an earlier look failed it answers that it failed.
     fn report<C: Bench>(&self, alloc: Global, cloud: &mut C, tree: u64) -> Result<Reply, WorldFault>
-        ensures { Reports tree (C.seen cloud.old) (C.seen cloud.new) self.now self.now result }
+        ensures { Reports tree (span_by C.seen cloud.old cloud.new self.now self.now) result }
     {
         let tree = match TreeId::new(tree) {
             Ok(tree) => tree,

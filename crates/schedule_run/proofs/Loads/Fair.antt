@@ -38,6 +38,7 @@ use Rattle.world_core.specs.declared.asked.Asked.{Asked}
 use Rattle.world_core.specs.declared.asked.Asked.TheVariants.{Session, Wait, Report, Settle, Sweep}
 use Rattle.world_core.specs.declared.asked.Request.TheVariants.{Begin, Note, Abort, Policy, Work as WorksDue, Step, Run, Crash}
 use Rattle.world_core.specs.declared.world.WorldFault.{WorldFault}
+use Rattle.world_core.specs.Span.{span_of}
 
 -- a refusal is none of these
 pub declined_not : (r q : Reply) (why : Refused) → (let own : Result Reply WorldFault = Ok r in own ≡ declined why) → ((rule : Refusal) → q ≡ reply.Refused rule → ⊥) → r ≡ q → ⊥
@@ -52,7 +53,7 @@ module _ (n : ℕ) (before after : Seen) (old new : World) (r : Reply) where
   opens_not client epoch a b (Ok (Answered x)) never e is = never
   opens_not client epoch a b (Err why) begins e is = declined_not r (reply.Opened epoch) why e (λ rule same. cc) is
 
-  open_fair : (session client : ℕ) (asked : Asked) → Asks (event.Open session client) asked → Answers n asked before after old new (Ok r) → (epoch : ℕ) → r ≡ reply.Opened epoch → ⊥
+  open_fair : (session client : ℕ) (asked : Asked) → Asks (event.Open session client) asked → Answers n asked (span_of before after old new) (Ok r) → (epoch : ℕ) → r ≡ reply.Opened epoch → ⊥
   open_fair session client (Session k (Ok request)) asks (inl p) epoch is =
       let d = does_own n k request (Begin (op.Open client)) before after old new r asks.1.1 p.1 in
       let c = d.1 in
@@ -71,7 +72,7 @@ module _ (n : ℕ) (before after : Seen) (old new : World) (r : Reply) where
   notes_not (Err why) e is = declined_not r reply.Begun why e (λ rule same. cc) is
 
   insert_fair : (session tree : ℕ) (key payload : List ℕ) (attr : Option (List ℕ)) (asked : Asked) → Asks (event.Insert session tree key payload attr) asked
-      → Answers n asked before after old new (Ok r) → r ≡ reply.Begun → ⊥
+      → Answers n asked (span_of before after old new) (Ok r) → r ≡ reply.Begun → ⊥
   insert_fair session tree key payload attr (Session k (Ok (Note noting))) asks (inl p) is = let c = p.1.1 in notes_not c.does.noted c.does.replies is
   insert_fair session tree key payload attr (Session k (Ok (Begin o))) asks (inl p) is = asks.1
   insert_fair session tree key payload attr (Session k (Ok Abort)) asks (inl p) is = asks.1
@@ -113,7 +114,7 @@ module _ (n : ℕ) (before after : Seen) (old new : World) (r : Reply) where
   begun_not txn a b (Ok begun) some begins e is = commits_not txn begins.0 a.buffer a.cache b begun some begins.2.1 e is
   begun_not txn a b (Err why) some begins e is = declined_not r (reply.Commit (Committed txn)) why e (λ rule same. cc) is
 
-  commit_fair : (session : ℕ) (s : Standing) (asked : Asked) → ActsAs (session_at old.sessions 1) s → Asks (event.Commit session) asked → Answers n asked before after old new (Ok r)
+  commit_fair : (session : ℕ) (s : Standing) (asked : Asked) → ActsAs (session_at old.sessions 1) s → Asks (event.Commit session) asked → Answers n asked (span_of before after old new) (Ok r)
       → session ≡ 1 → 1 ≤ length s.buffer → (txn : ℕ) → r ≡ reply.Commit (Committed txn) → ⊥
   commit_fair session s (Session k (Ok request)) acts asks (inl p) one some txn is =
       let d = does_own n k request (Begin op.Commit) before after old new r (asked_is request (Begin op.Commit) asks.1) p.1 in
@@ -139,11 +140,11 @@ module _ (n : ℕ) (before after : Seen) (old new : World) (r : Reply) where
   settled_not (answer.Trouble t) e is = unsettled_not t e is
   settled_not a never is = never
 
-  settles_on_not : (begun : World) → SettlesOn settles (record { session = 0; event = n }) before after begun new (Ok r) → r ≡ reply.Begun → ⊥
+  settles_on_not : (begun : World) → SettlesOn settles (record { session = 0; event = n }) (span_of before after begun new) (Ok r) → r ≡ reply.Begun → ⊥
   settles_on_not begun (inl s) is = settled_not s.answer s.replies is
   settles_on_not begun (inr memory) is = absurd (no_memory r memory.0)
 
-  settle_fair : (asked : Asked) → Asks event.Settle asked → Answers n asked before after old new (Ok r) → r ≡ reply.Begun → ⊥
+  settle_fair : (asked : Asked) → Asks event.Settle asked → Answers n asked (span_of before after old new) (Ok r) → r ≡ reply.Begun → ⊥
   settle_fair Settle asks (inl s) is = settles_on_not s.begun s.settles is
   settle_fair Settle asks (inr memory) is = absurd (no_memory r memory.0)
   settle_fair (Session k request) asks p is = absurd (cc)
@@ -153,7 +154,7 @@ module _ (n : ℕ) (before after : Seen) (old new : World) (r : Reply) where
 
   -- ---- every line
 
-  pub handled_fair : (e : Event) (s : Standing) → ActsAs (session_at old.sessions 1) s → Handled n e before after old new (Ok r) → IsFair e s.buffer r
+  pub handled_fair : (e : Event) (s : Standing) → ActsAs (session_at old.sessions 1) s → Handled n e (span_of before after old new) (Ok r) → IsFair e s.buffer r
   handled_fair (event.Open session client) s acts h = open_fair session client h.asked h.asks h.answers
   handled_fair (event.Insert session tree key payload attr) s acts h = insert_fair session tree key payload attr h.asked h.asks h.answers
   handled_fair (event.Commit session) s acts h = commit_fair session s h.asked acts h.asks h.answers

@@ -50,6 +50,7 @@ use Rattle.world_core.specs.declared.asked.Asked.TheVariants.{Session, Wait, Rep
 use Rattle.world_core.specs.declared.asked.Noting.{Noting}
 use Rattle.world_core.specs.declared.asked.Request.{Request}
 use Rattle.world_core.specs.declared.asked.Request.TheVariants.{Begin, Note, Abort, Policy, Work as WorksDue, Step, Run, Crash}
+use Rattle.world_core.specs.Span.{span_of}
 use Rattle.schedule_run.proofs.Loads.Fair.{declined_not}
 use Rattle.schedule_run.proofs.Loads.Lines.{LoadLine, number_by}
 
@@ -203,7 +204,7 @@ changes_other : (k : ℕ) (Does : Acting → Acting → Type 0) (old new : World
 changes_other k Does old new other c =
     ap (λ (a : Acting). a.work) (changed_at k Does old.sessions new.sessions c 1 ∙ at_other k c.after (session_at old.sessions) 1 other)
 
-looked_numbered : (n : ℕ) (who : Caller) (wish : Wish) (before after : Seen) (old new : World) (turn : Turn Answer) → who.session ≡ 1 → StepsLooked who wish before after old new turn
+looked_numbered : (n : ℕ) (who : Caller) (wish : Wish) (before after : Seen) (old new : World) (turn : Turn Answer) → who.session ≡ 1 → StepsLooked who wish (span_of before after old new) turn
     → Numbered n (own_work old) → Numbered n (own_work new)
 looked_numbered n who wish before after old new turn own p h = on who.session own p.session
   where
@@ -219,7 +220,7 @@ went_numbered n who before old after new own start h = h
 went_numbered n who before old after new own (further mid _ world _ went step) h =
     looked_numbered n who _ mid after world new _ own step (went_numbered n who before old mid world own went h)
 
-other_looked : (who : Caller) (wish : Wish) (before after : Seen) (old new : World) (turn : Turn Answer) → 1 ≢ who.session → StepsLooked who wish before after old new turn → own_work new ≡ own_work old
+other_looked : (who : Caller) (wish : Wish) (before after : Seen) (old new : World) (turn : Turn Answer) → 1 ≢ who.session → StepsLooked who wish (span_of before after old new) turn → own_work new ≡ own_work old
 other_looked who wish before after old new turn other p = changes_other who.session _ old new other p.session
 
 other_went : (who : Caller) (before : Seen) (old : World) (after : Seen) (new : World) → 1 ≢ who.session → Went who before old after new → own_work new ≡ own_work old
@@ -233,7 +234,7 @@ module _ (m n : ℕ) (before after : Seen) (old new : World) (r : Reply) (h : Nu
   same is = subst (λ (w : World). Numbered n (own_work w)) (sym is) h
 
   -- an operation that begins, of which each begin leaves it so
-  begins_so : (next : ℕ) (o : Op) → Does m 1 (Begin o) before after old new (Ok r)
+  begins_so : (next : ℕ) (o : Op) → Does (record { session = 1; event = m }) (Begin o) (span_of before after old new) (Ok r)
       → ((a b : Acting) (begun : Result Begun Refused) → Begins o a b begun → RepliesBegun begun b (Ok r) → Numbered n a.work → Numbered next b.work) → Numbered next (own_work new)
   begins_so next o does law =
       let c = does.1 in
@@ -272,19 +273,19 @@ module _ (m n : ℕ) (before after : Seen) (old new : World) (r : Reply) (h : Nu
   commits_so is a b (Err refused.Memory) begins e k = absurd (cc)
 
   -- a request of session 1
-  of_one : (k : ℕ) (request own : Request) → k ≡ 1 → request ≡ own → Does m k request before after old new (Ok r) → Does m 1 own before after old new (Ok r)
-  of_one k request own one is p = subst (λ j. Does m j own before after old new (Ok r)) one (does_own m k request own before after old new r is p)
+  of_one : (k : ℕ) (request own : Request) → k ≡ 1 → request ≡ own → Does (record { session = k; event = m }) request (span_of before after old new) (Ok r) → Does (record { session = 1; event = m }) own (span_of before after old new) (Ok r)
+  of_one k request own one is p = subst (λ j. Does (record { session = j; event = m }) own (span_of before after old new) (Ok r)) one (does_own m k request own before after old new r is p)
 
-  declined_stays : (why : Refused) → Declines why before after old new (Ok r) → Numbered n (own_work new)
+  declined_stays : (why : Refused) → Declines why (span_of before after old new) (Ok r) → Numbered n (own_work new)
   declined_stays why h = same h.world
 
-  declined_never : (why : Refused) → r ≡ reply.Begun → Declines why before after old new (Ok r) → ⊥
+  declined_never : (why : Refused) → r ≡ reply.Begun → Declines why (span_of before after old new) (Ok r) → ⊥
   declined_never why is h = declined_not r reply.Begun why h.reply (λ rule e. cc) is
 
   -- a line by which no transaction begins
   keeps_so : (session : ℕ) (o : Op) (asked : Asked) → session ≡ 1
       → ((a b : Acting) (begun : Result Begun Refused) → Begins o a b begun → Numbered n a.work → Numbered n b.work)
-      → OfSession session (λ request. request ≡ Ok (Begin o)) asked → Answers m asked before after old new (Ok r) → Numbered n (own_work new)
+      → OfSession session (λ request. request ≡ Ok (Begin o)) asked → Answers m asked (span_of before after old new) (Ok r) → Numbered n (own_work new)
   keeps_so session o (Session k (Ok request)) one law asks (inl p) =
       begins_so n o (of_one k request (Begin o) (asks.0 ∙ one) (asked_is request (Begin o) asks.1) p.1) (λ a b begun begins e k. law a b begun begins k)
   keeps_so session o (Session k (Err why)) one law asks (inl p) = declined_stays why p.1
@@ -294,7 +295,7 @@ module _ (m n : ℕ) (before after : Seen) (old new : World) (r : Reply) (h : Nu
   keeps_so session o Settle one law asks p = absurd asks
   keeps_so session o (Sweep t) one law asks p = absurd asks
 
-  folds_so : (session tree : ℕ) (asked : Asked) → session ≡ 1 → Asks (event.Tree session tree) asked → Answers m asked before after old new (Ok r) → Numbered n (own_work new)
+  folds_so : (session tree : ℕ) (asked : Asked) → session ≡ 1 → Asks (event.Tree session tree) asked → Answers m asked (span_of before after old new) (Ok r) → Numbered n (own_work new)
   folds_so session tree (Session k (Ok request)) one asks (inl p) =
       begins_so n (op.Tree tree) (of_one k request (Begin (op.Tree tree)) (asks.0 ∙ one) asks.1.1 p.1) (λ a b begun begins e k. in_hand _ (λ home is. is) a b begun begins k)
   folds_so session tree (Session k (Err why)) one asks (inl p) = declined_stays why p.1
@@ -304,7 +305,7 @@ module _ (m n : ℕ) (before after : Seen) (old new : World) (r : Reply) (h : Nu
   folds_so session tree Settle one asks p = absurd asks
   folds_so session tree (Sweep t) one asks p = absurd asks
 
-  opening_so : (session client : ℕ) (asked : Asked) → session ≡ 1 → r ≡ reply.Begun → Asks (event.Open session client) asked → Answers m asked before after old new (Ok r)
+  opening_so : (session client : ℕ) (asked : Asked) → session ≡ 1 → r ≡ reply.Begun → Asks (event.Open session client) asked → Answers m asked (span_of before after old new) (Ok r)
       → Numbered 0 (own_work new)
   opening_so session client (Session k (Ok request)) one is asks (inl p) =
       begins_so 0 (op.Open client) (of_one k request (Begin (op.Open client)) (asks.0 ∙ one) asks.1.1 p.1) (λ a b begun begins e k. opens_so client is a b begun begins e)
@@ -315,7 +316,7 @@ module _ (m n : ℕ) (before after : Seen) (old new : World) (r : Reply) (h : Nu
   opening_so session client Settle one is asks p = absurd asks
   opening_so session client (Sweep t) one is asks p = absurd asks
 
-  committing_so : (session : ℕ) (asked : Asked) → session ≡ 1 → r ≡ reply.Begun → Asks (event.Commit session) asked → Answers m asked before after old new (Ok r)
+  committing_so : (session : ℕ) (asked : Asked) → session ≡ 1 → r ≡ reply.Begun → Asks (event.Commit session) asked → Answers m asked (span_of before after old new) (Ok r)
       → Numbered (n + 1) (own_work new)
   committing_so session (Session k (Ok request)) one is asks (inl p) =
       begins_so (n + 1) op.Commit (of_one k request (Begin op.Commit) (asks.0 ∙ one) (asked_is request (Begin op.Commit) asks.1) p.1) (commits_so is)
@@ -333,7 +334,7 @@ module _ (m n : ℕ) (before after : Seen) (old new : World) (r : Reply) (h : Nu
   opens_else client never a b (Err (refused.Rule rule)) begins e k = subst (Numbered n) (sym (ap (λ (z : Acting). z.work) begins.1)) k
   opens_else client never a b (Err refused.Memory) begins e k = absurd begins
 
-  opening_else : (session client : ℕ) (asked : Asked) → session ≡ 1 → (r ≡ reply.Begun → ⊥) → Asks (event.Open session client) asked → Answers m asked before after old new (Ok r)
+  opening_else : (session client : ℕ) (asked : Asked) → session ≡ 1 → (r ≡ reply.Begun → ⊥) → Asks (event.Open session client) asked → Answers m asked (span_of before after old new) (Ok r)
       → Numbered n (own_work new)
   opening_else session client (Session k (Ok request)) one never asks (inl p) =
       begins_so n (op.Open client) (of_one k request (Begin (op.Open client)) (asks.0 ∙ one) asks.1.1 p.1) (opens_else client never)
@@ -360,7 +361,7 @@ module _ (m n : ℕ) (before after : Seen) (old new : World) (r : Reply) (h : Nu
   commits_else never a b (Err (refused.Rule rule)) begins e k = (n, omega arith, subst (Numbered n) (sym (ap (λ (z : Acting). z.work) begins.1)) k)
   commits_else never a b (Err refused.Memory) begins e k = absurd begins
 
-  committing_else : (session : ℕ) (asked : Asked) → session ≡ 1 → (r ≡ reply.Begun → ⊥) → Asks (event.Commit session) asked → Answers m asked before after old new (Ok r) → AtMost (n + 1) (own_work new)
+  committing_else : (session : ℕ) (asked : Asked) → session ≡ 1 → (r ≡ reply.Begun → ⊥) → Asks (event.Commit session) asked → Answers m asked (span_of before after old new) (Ok r) → AtMost (n + 1) (own_work new)
   committing_else session (Session k (Ok request)) one never asks (inl p) =
       let d = of_one k request (Begin op.Commit) (asks.0 ∙ one) (asked_is request (Begin op.Commit) asks.1) p.1 in
       let c = d.1 in
@@ -374,7 +375,7 @@ module _ (m n : ℕ) (before after : Seen) (old new : World) (r : Reply) (h : Nu
   committing_else session (Sweep t) one never asks p = absurd asks
 
   -- a note
-  noted_so : (noting : Noting) → Does m 1 (Note noting) before after old new (Ok r) → Numbered n (own_work new)
+  noted_so : (noting : Noting) → Does (record { session = 1; event = m }) (Note noting) (span_of before after old new) (Ok r) → Numbered n (own_work new)
   noted_so noting does =
       let c = does.1 in
       let w = changes_work _ old new c in
@@ -385,7 +386,7 @@ module _ (m n : ℕ) (before after : Seen) (old new : World) (r : Reply) (h : Nu
       by_note (Err why) k = ap (λ (z : Acting). z.work) k.0
 
   insert_so : (session tree : ℕ) (key payload : List ℕ) (attr : Option (List ℕ)) (asked : Asked) → session ≡ 1 → Asks (event.Insert session tree key payload attr) asked
-      → Answers m asked before after old new (Ok r) → Numbered n (own_work new)
+      → Answers m asked (span_of before after old new) (Ok r) → Numbered n (own_work new)
   insert_so session tree key payload attr (Session k (Ok (Note noting))) one asks (inl p) = noted_so noting (of_one k (Note noting) (Note noting) (asks.0 ∙ one) refl p.1)
   insert_so session tree key payload attr (Session k (Ok (Begin o))) one asks (inl p) = absurd asks.1
   insert_so session tree key payload attr (Session k (Ok Abort)) one asks (inl p) = absurd asks.1
@@ -402,14 +403,14 @@ module _ (m n : ℕ) (before after : Seen) (old new : World) (r : Reply) (h : Nu
   insert_so session tree key payload attr (Sweep t) one asks p = absurd asks
 
   -- a run
-  runs_on : Runs m 1 before after old new (Ok r) → Numbered n (own_work new)
+  runs_on : Runs (record { session = 1; event = m }) (span_of before after old new) (Ok r) → Numbered n (own_work new)
   runs_on (inl refuses) = same refuses.declines.world
   runs_on (inr (inl run)) =
       let who : Caller = record { session = 1; event = m } in
       looked_numbered n who _ run.comes.mid after run.comes.world new _ refl run.comes.steps (went_numbered n who before old run.comes.mid run.comes.world refl run.comes.went h)
   runs_on (inr (inr memory)) = absurd (no_memory r memory.0)
 
-  run_so : (session : ℕ) (asked : Asked) → session ≡ 1 → Asks (event.Run session) asked → Answers m asked before after old new (Ok r) → Numbered n (own_work new)
+  run_so : (session : ℕ) (asked : Asked) → session ≡ 1 → Asks (event.Run session) asked → Answers m asked (span_of before after old new) (Ok r) → Numbered n (own_work new)
   run_so session (Session k (Ok request)) one asks (inl p) = runs_on (of_one k request Run (asks.0 ∙ one) (asked_is request Run asks.1) p.1)
   run_so session (Session k (Err why)) one asks (inl p) = declined_stays why p.1
   run_so session (Session k request) one asks (inr none) = declined_stays _ none.declines
@@ -422,7 +423,7 @@ module _ (m n : ℕ) (before after : Seen) (old new : World) (r : Reply) (h : Nu
   has_work : (k : ℕ) (a : Acting) (world then : World) → 1 ≢ k → Has k a world then → own_work then ≡ own_work world
   has_work k a world then other has = ap (λ (z : Acting). z.work) (has_at k a world then has 1 ∙ at_other k a (session_at world.sessions) 1 other)
 
-  settles_on : (begun : World) → own_work begun ≡ own_work old → SettlesOn settles (record { session = 0; event = m }) before after begun new (Ok r) → Numbered n (own_work new)
+  settles_on : (begun : World) → own_work begun ≡ own_work old → SettlesOn settles (record { session = 0; event = m }) (span_of before after begun new) (Ok r) → Numbered n (own_work new)
   settles_on begun is (inl s) =
       let who : Caller = record { session = 0; event = m } in
       let other : 1 ≢ 0 = λ e. absurd (omega (arith, e)) in
@@ -431,7 +432,7 @@ module _ (m n : ℕ) (before after : Seen) (old new : World) (r : Reply) (h : Nu
       subst (Numbered n) (sym (has_work 0 _ s.left new other s.closes ∙ came ∙ is)) h
   settles_on begun is (inr memory) = absurd (no_memory r memory.0)
 
-  settle_so : (asked : Asked) → Asks event.Settle asked → Answers m asked before after old new (Ok r) → Numbered n (own_work new)
+  settle_so : (asked : Asked) → Asks event.Settle asked → Answers m asked (span_of before after old new) (Ok r) → Numbered n (own_work new)
   settle_so Settle asks (inl s) = settles_on s.begun (has_work 0 _ old s.begun (λ e. absurd (omega (arith, e))) s.begins) s.settles
   settle_so Settle asks (inr memory) = absurd (no_memory r memory.0)
   settle_so (Session k request) asks p = absurd (cc)
@@ -439,7 +440,7 @@ module _ (m n : ℕ) (before after : Seen) (old new : World) (r : Reply) (h : Nu
   settle_so (Report tree) asks p = absurd (cc)
   settle_so (Sweep tree) asks p = absurd (cc)
 
-  line_so : (e : Event) → LoadLine e r → (asked : Asked) → Asks e asked → Answers m asked before after old new (Ok r) → Numbered (number_by e r n) (own_work new)
+  line_so : (e : Event) → LoadLine e r → (asked : Asked) → Asks e asked → Answers m asked (span_of before after old new) (Ok r) → Numbered (number_by e r n) (own_work new)
   line_so (event.Open session client) l asked asks p =
       subst (λ q. Numbered (number_by (event.Open session client) q n) (own_work new)) (sym l.1) (opening_so session client asked l.0 l.1 asks p)
   line_so (event.Commit session) l asked asks p =
@@ -453,7 +454,7 @@ module _ (m n : ℕ) (before after : Seen) (old new : World) (r : Reply) (h : Nu
   line_so e l asked asks p = absurd l
 
 -- of a line of a load that was handled
-pub line_numbered : (m n : ℕ) (e : Event) (before after : Seen) (old new : World) (r : Reply) → LoadLine e r → Handled m e before after old new (Ok r) → Numbered n (own_work old)
+pub line_numbered : (m n : ℕ) (e : Event) (before after : Seen) (old new : World) (r : Reply) → LoadLine e r → Handled m e (span_of before after old new) (Ok r) → Numbered n (own_work old)
     → Numbered (number_by e r n) (own_work new)
 line_numbered m n e before after old new r l handled h = line_so m n before after old new r h e l handled.asked handled.asks handled.answers
 
@@ -471,13 +472,13 @@ is_begun r = inr (λ e. absurd (cc))
 
 -- it begins one transaction at most
 module _ (m n : ℕ) (before after : Seen) (old new : World) (r : Reply) (k : ℕ) (within : k ≤ n) (h : Numbered k (own_work old)) where
-  of_load : (e : Event) → Handled m e before after old new (Ok r) → LoadLine e r → number_by e r k ≤ k + 1 → AtMost (n + 1) (own_work new)
+  of_load : (e : Event) → Handled m e (span_of before after old new) (Ok r) → LoadLine e r → number_by e r k ≤ k + 1 → AtMost (n + 1) (own_work new)
   of_load e handled line few = (number_by e r k, omega (arith, within, few), line_numbered m k e before after old new r line handled h)
 
   more : AtMost (k + 1) (own_work new) → AtMost (n + 1) (own_work new)
   more x = let few = x.1 in (x.0, omega (arith, within, few), x.2)
 
-  line_by : (e : Event) → IsLoadEvent e → Handled m e before after old new (Ok r) → AtMost (n + 1) (own_work new)
+  line_by : (e : Event) → IsLoadEvent e → Handled m e (span_of before after old new) (Ok r) → AtMost (n + 1) (own_work new)
   line_by (event.Open session client) is handled = on (is_begun r)
     where
       on : (r ≡ reply.Begun) ⊎ (r ≡ reply.Begun → ⊥) → AtMost (n + 1) (own_work new)
@@ -496,6 +497,6 @@ module _ (m n : ℕ) (before after : Seen) (old new : World) (r : Reply) (k : �
   line_by event.Settle is handled = of_load event.Settle handled is (omega arith)
   line_by e is handled = absurd is
 
-pub line_at_most : (m n : ℕ) (e : Event) (before after : Seen) (old new : World) (r : Reply) → IsLoadEvent e → Handled m e before after old new (Ok r) → AtMost n (own_work old)
+pub line_at_most : (m n : ℕ) (e : Event) (before after : Seen) (old new : World) (r : Reply) → IsLoadEvent e → Handled m e (span_of before after old new) (Ok r) → AtMost n (own_work old)
     → AtMost (n + 1) (own_work new)
 line_at_most m n e before after old new r is handled (k, within, h) = line_by m n before after old new r k within h e is handled

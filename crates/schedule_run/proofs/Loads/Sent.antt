@@ -47,6 +47,7 @@ use Rattle.world_core.proofs.StandsLemmas.{IsUnderWay, told_under, call, steps_o
 use Rattle.world_core.specs.Handled.{StepsLooked, Handled}
 use Rattle.world_core.specs.Stands.{WorldStands}
 use Rattle.world_core.specs.World.{World}
+use Rattle.world_core.specs.Span.{span_of}
 use Rattle.schedule_run.proofs.Loads.Messages.{IsSent}
 use Rattle.schedule_run.proofs.Loads.Numbered.{Numbered}
 use Rattle.schedule_run.proofs.Loads.Records.{InLog, HasRecords, HasFor, session_records}
@@ -109,7 +110,7 @@ left_numbered who before after r new txn (sound, c, d, p) =
     (home_of p.0, p.2, end.1 ∙ sym end.2)
 
 module _ (lines : List Line) (line : Line) (who : Caller) (wish : Wish) (before after : Seen) (old new : World) (u : CloudState) (txn : ℕ) (number : who.event ≡ length lines + 1)
-    (way : IsUnderWay lines old before) (told : after.state ≡ Some u) (p : StepsLooked who wish before after old new (Ended (answer.Commit (Committed txn)))) where
+    (way : IsUnderWay lines old before) (told : after.state ≡ Some u) (p : StepsLooked who wish (span_of before after old new) (Ended (answer.Commit (Committed txn)))) where
   abbrev s : CloudState
   s = record way.after { wish = wish }
 
@@ -216,7 +217,7 @@ module _ (lines : List Line) (line : Line) (who : Caller) (wish : Wish) (before 
 -- ---- every line
 
 step_any : (lines : List Line) (line : Line) (who : Caller) (wish : Wish) (before after : Seen) (old new : World) (u : CloudState) (c : CommitAnswer) → who.event ≡ length lines + 1
-    → IsUnderWay lines old before → after.state ≡ Some u → StepsLooked who wish before after old new (Ended (answer.Commit c))
+    → IsUnderWay lines old before → after.state ≡ Some u → StepsLooked who wish (span_of before after old new) (Ended (answer.Commit c))
     → SentAt u (committed (lines ++ line ∷ []) u) (standing lines who.session).client (standing lines who.session).posture (session_at new.sessions who.session).work c
 step_any lines line who wish before after old new u (Committed txn) number way told p = step_sends lines line who wish before after old new u txn number way told p
 step_any lines line who wish before after old new u (NotCommitted t) number way told p = nothing (standing lines who.session).posture
@@ -239,7 +240,7 @@ says_nothing : (u : CloudState) (entries : List Entry) (client : ℕ) → SaysNo
 says_nothing u entries client = record { closed = λ left a. tt; idle = λ left a. tt; broken = λ left a. tt }
 
 pub line_sends : (lines : List Line) (e : Event) (before after : Seen) (old new : World) (txn : ℕ) (t u : CloudState) → before.state ≡ Some t → after.state ≡ Some u → WorldStands lines old t
-    → Handled (length lines + 1) e before after old new (Ok (reply.Commit (Committed txn)))
+    → Handled (length lines + 1) e (span_of before after old new) (Ok (reply.Commit (Committed txn)))
     → SentAt u (committed (lines ++ line_of e (reply.Commit (Committed txn)) ∷ []) u) (standing lines (session_of e)).client (standing lines (session_of e)).posture
     (session_at new.sessions (session_of e)).work (Committed txn)
 line_sends lines e before after old new txn t u told seen stands h =

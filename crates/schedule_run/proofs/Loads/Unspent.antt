@@ -40,6 +40,7 @@ use Rattle.world_core.specs.declared.world.WorldFault.{WorldFault}
 use Rattle.world_core.specs.declared.asked.Asked.{Asked}
 use Rattle.world_core.specs.declared.asked.Asked.TheVariants.{Session, Wait, Report, Settle, Sweep}
 use Rattle.world_core.specs.declared.asked.Request.TheVariants.{Begin, Run}
+use Rattle.world_core.specs.Span.{span_of}
 use Rattle.schedule_run.proofs.Loads.Fair.{declined_not}
 use Rattle.schedule_run.proofs.Loads.Numbered.{AtMost, own_work, changes_work}
 
@@ -80,7 +81,7 @@ module _ (y : CommitAnswer) (is : y ≡ NotCommitted no_attempt) where
   step_unspent who before after (Looking home m) new (buffer, c, d, shown, never) = absurd never
   step_unspent who before after w new p = absurd p
 
-  turn_unspent : (who : Caller) (wish : Wish) (before after : Seen) (old new : World) (x : Answer) (r : Reply) → (p : StepsLooked who wish before after old new (Ended x))
+  turn_unspent : (who : Caller) (wish : Wish) (before after : Seen) (old new : World) (x : Answer) (r : Reply) → (p : StepsLooked who wish (span_of before after old new) (Ended x))
       → RepliesTo x p.session.after (Ok r) → r ≡ reply.Commit y → ⊥
   turn_unspent who wish before after old new x r p replies told =
       step_unspent who p.under p.to p.session.before.work p.session.after.work
@@ -92,12 +93,12 @@ module _ (y : CommitAnswer) (is : y ≡ NotCommitted no_attempt) where
   declined_no r why e told = declined_not r (reply.Commit y) why e (λ rule same. cc) told
 
   module _ (m : ℕ) (before after : Seen) (old new : World) (r : Reply) (told : r ≡ reply.Commit y) where
-    runs : (k : ℕ) → Runs m k before after old new (Ok r) → ⊥
+    runs : (k : ℕ) → Runs (record { session = k; event = m }) (span_of before after old new) (Ok r) → ⊥
     runs k (inl refuses) = declined_no r (refused.Rule NotWorking) refuses.declines.reply told
     runs k (inr (inl run)) = turn_unspent _ _ run.comes.mid after run.comes.world new run.answer r run.comes.steps run.replies told
     runs k (inr (inr memory)) = absurd (no_memory r memory.0)
 
-    run_asked : (session : ℕ) (asked : Asked) → Asks (event.Run session) asked → Answers m asked before after old new (Ok r) → ⊥
+    run_asked : (session : ℕ) (asked : Asked) → Asks (event.Run session) asked → Answers m asked (span_of before after old new) (Ok r) → ⊥
     run_asked session (Session k (Ok request)) asks (inl p) = runs k (does_own m k request Run before after old new r (asked_is request Run asks.1) p.1)
     run_asked session (Session k (Err why)) asks (inl p) = declined_no r why p.1.reply told
     run_asked session (Session k request) asks (inr none) = declined_no r (refused.Rule BadNumber) none.declines.reply told
@@ -107,7 +108,7 @@ module _ (y : CommitAnswer) (is : y ≡ NotCommitted no_attempt) where
     run_asked session (Sweep t) asks p = absurd asks
 
     -- a run never tells it
-    pub run_unspent : (session : ℕ) → Handled m (event.Run session) before after old new (Ok r) → ⊥
+    pub run_unspent : (session : ℕ) → Handled m (event.Run session) (span_of before after old new) (Ok r) → ⊥
     run_unspent session handled = run_asked session handled.asked handled.asks handled.answers
 
     -- a commit at once, of a home whose last attempt is the greatest
@@ -128,9 +129,9 @@ module _ (y : CommitAnswer) (is : y ≡ NotCommitted no_attempt) where
         omega (arith, last, within, number)
     begins n a b (Err why) does e few = absurd (declined_no r why e told)
 
-    commit_asked : (n session : ℕ) (asked : Asked) → session ≡ 1 → AtMost n (own_work old) → Asks (event.Commit session) asked → Answers m asked before after old new (Ok r) → 2 ^ 64 - 1 ≤ n
+    commit_asked : (n session : ℕ) (asked : Asked) → session ≡ 1 → AtMost n (own_work old) → Asks (event.Commit session) asked → Answers m asked (span_of before after old new) (Ok r) → 2 ^ 64 - 1 ≤ n
     commit_asked n session (Session k (Ok request)) one few asks (inl p) =
-        let d = subst (λ j. Does m j (Begin op.Commit) before after old new (Ok r)) (asks.0 ∙ one) (does_own m k request (Begin op.Commit) before after old new r (asked_is request (Begin op.Commit) asks.1) p.1) in
+        let d = subst (λ j. Does (record { session = j; event = m }) (Begin op.Commit) (span_of before after old new) (Ok r)) (asks.0 ∙ one) (does_own m k request (Begin op.Commit) before after old new r (asked_is request (Begin op.Commit) asks.1) p.1) in
         let c = d.1 in
         let w = changes_work _ old new c in
         begins n c.before c.after c.does.begun c.does.begins c.does.replies (subst (AtMost n) w.0 few)
@@ -142,5 +143,5 @@ module _ (y : CommitAnswer) (is : y ≡ NotCommitted no_attempt) where
     commit_asked n session (Sweep t) one few asks p = absurd asks
 
     -- a commit of session 1 tells it only behind so many that were begun
-    pub commit_spent : (n session : ℕ) → session ≡ 1 → AtMost n (own_work old) → Handled m (event.Commit session) before after old new (Ok r) → 2 ^ 64 - 1 ≤ n
+    pub commit_spent : (n session : ℕ) → session ≡ 1 → AtMost n (own_work old) → Handled m (event.Commit session) (span_of before after old new) (Ok r) → 2 ^ 64 - 1 ≤ n
     commit_spent n session one few handled = commit_asked n session handled.asked one few handled.asks handled.answers

@@ -24,6 +24,7 @@ use Rattle.world_core.specs.declared.asked.Asked.{Asked}
 use Rattle.world_core.specs.declared.asked.Asked.TheVariants.{Session, Wait, Report, Settle, Sweep}
 use Rattle.world_core.specs.declared.asked.Request.{Request}
 use Rattle.world_core.specs.declared.asked.Request.TheVariants.{Begin, Note, Abort, Policy, Work as WorksDue, Step, Run, Crash}
+use Rattle.world_core.specs.Span.{span_of}
 
 -- no fewer messages and locks were withheld
 abbrev pub Withholds : Seen → Seen → Type 0
@@ -43,7 +44,7 @@ record StepWithholds (before under to after : Seen) : Type 0 where
   called : under.counts.withheld ≤ to.counts.withheld
   last : after.counts.withheld ≡ to.counts.withheld
 
-step_withholds : (who : Caller) (wish : Wish) (before after : Seen) (old new : World) (turn : Turn Answer) → (p : StepsLooked who wish before after old new turn)
+step_withholds : (who : Caller) (wish : Wish) (before after : Seen) (old new : World) (turn : Turn Answer) → (p : StepsLooked who wish (span_of before after old new) turn)
     → StepWithholds before p.under p.to after
 step_withholds who wish before after old new turn p = record {
   first = ap (λ (c : Counts). c.withheld) p.wishes.no_call.counts ∙ p.look_before.withheld;
@@ -51,14 +52,14 @@ step_withholds who wish before after old new turn p = record {
   last = p.look_after.withheld;
 }
 
-stepped : (who : Caller) (wish : Wish) (before after : Seen) (old new : World) (turn : Turn Answer) → StepsLooked who wish before after old new turn → Withholds before after
+stepped : (who : Caller) (wish : Wish) (before after : Seen) (old new : World) (turn : Turn Answer) → StepsLooked who wish (span_of before after old new) turn → Withholds before after
 stepped who wish before after old new turn p =
     let s = step_withholds who wish before after old new turn p in
     let a = s.first in let b = s.called in let c = s.last in
     omega (arith, a, b, c)
 
-delivers : (who : Caller) (wish : Wish) (before after : Seen) (old new : World) (turn : Turn Answer) → (p : StepsLooked who wish before after old new turn)
-    → after.counts.withheld ≤ before.counts.withheld → StepDelivers who wish before after old new turn p
+delivers : (who : Caller) (wish : Wish) (before after : Seen) (old new : World) (turn : Turn Answer) → (p : StepsLooked who wish (span_of before after old new) turn)
+    → after.counts.withheld ≤ before.counts.withheld → StepDelivers who wish (span_of before after old new) turn p
 delivers who wish before after old new turn p still =
     let s = step_withholds who wish before after old new turn p in
     let a = s.first in let b = s.called in let c = s.last in
@@ -80,12 +81,12 @@ went_delivers who before old after new (further mid _ world _ w step) still =
       delivers who _ mid after world new _ step (omega (arith, first, still)),
     )
 
-comes : (who : Caller) (before after : Seen) (old new : World) (answer : Answer) → ComesTo who before after old new answer → Withholds before after
+comes : (who : Caller) (before after : Seen) (old new : World) (answer : Answer) → ComesTo who (span_of before after old new) answer → Withholds before after
 comes who before after old new answer c =
     withholds_on before c.mid after (went who before old c.mid c.world c.went) (stepped who _ c.mid after c.world new _ c.steps)
 
-comes_delivers : (who : Caller) (before after : Seen) (old new : World) (answer : Answer) → (c : ComesTo who before after old new answer) → after.counts.withheld ≤ before.counts.withheld
-    → EachCome StepDelivers who before after old new answer c
+comes_delivers : (who : Caller) (before after : Seen) (old new : World) (answer : Answer) → (c : ComesTo who (span_of before after old new) answer) → after.counts.withheld ≤ before.counts.withheld
+    → EachCome StepDelivers who (span_of before after old new) answer c
 comes_delivers who before after old new answer c still =
     let first = went who before old c.mid c.world c.went in
     let second = stepped who _ c.mid after c.world new _ c.steps in (
@@ -102,36 +103,36 @@ works who before old queues done passed after new (checkpoint_more others kept l
 -- ---- a line
 
 module _ (n : ℕ) (before after : Seen) (old new : World) (r : Reply) where
-  declines : (why : Refused) → Declines why before after old new (Ok r) → Withholds before after
+  declines : (why : Refused) → Declines why (span_of before after old new) (Ok r) → Withholds before after
   declines why h = withholds_same before after h.seen
 
-  policy : (k : ℕ) (role : Role) (number : ℕ) → Policies k role number before after old new (Ok r) → Withholds before after
+  policy : (k : ℕ) (role : Role) (number : ℕ) → Policies k role number (span_of before after old new) (Ok r) → Withholds before after
   policy k role number (inl refuses) = declines _ refuses.declines
   policy k role number (inr (inl refuses)) = declines _ refuses.1.declines
   policy k role number (inr (inr gives)) = withholds_same before after gives.quiet.seen
 
-  through : (k : ℕ) → WorksThrough n k before after old new (Ok r) → Withholds before after
+  through : (k : ℕ) → WorksThrough (record { session = k; event = n }) (span_of before after old new) (Ok r) → Withholds before after
   through k (inl refuses) = declines _ refuses.declines
   through k (inr (inl down)) = works _ before old down.queues down.done down.passed after new down.works
   through k (inr (inr memory)) = absurd (no_memory r memory.0)
 
-  made : (k : ℕ) (wish : Wish) → MakesStep n k wish before after old new (Ok r) → Withholds before after
+  made : (k : ℕ) (wish : Wish) → MakesStep (record { session = k; event = n }) wish (span_of before after old new) (Ok r) → Withholds before after
   made k wish (inl refuses) = declines _ refuses.declines
   made k wish (inr (inl step)) = stepped _ wish before after old new step.turn step.steps
   made k wish (inr (inr memory)) = absurd (no_memory r memory.0)
 
-  run : (k : ℕ) → Runs n k before after old new (Ok r) → Withholds before after
+  run : (k : ℕ) → Runs (record { session = k; event = n }) (span_of before after old new) (Ok r) → Withholds before after
   run k (inl refuses) = declines _ refuses.declines
   run k (inr (inl ran)) = comes _ before after old new ran.answer ran.comes
   run k (inr (inr memory)) = absurd (no_memory r memory.0)
 
-  crash : (k : ℕ) (done : Bool) → Crashes n k done before after old new (Ok r) → Withholds before after
+  crash : (k : ℕ) (done : Bool) → Crashes (record { session = k; event = n }) done (span_of before after old new) (Ok r) → Withholds before after
   crash k false h = withholds_same before after h.quiet.seen
   crash k true (inl idle) = withholds_same before after idle.dies.quiet.seen
   crash k true (inr (inl h)) = stepped _ _ before after old h.world h.turn h.steps
   crash k true (inr (inr memory)) = absurd (no_memory r memory.0)
 
-  does : (k : ℕ) (request : Request) → Does n k request before after old new (Ok r) → Withholds before after
+  does : (k : ℕ) (request : Request) → Does (record { session = k; event = n }) request (span_of before after old new) (Ok r) → Withholds before after
   does k (Begin op) h = withholds_same before after h.0.seen
   does k (Note noting) h = withholds_same before after h.0.seen
   does k Abort h = withholds_same before after h.0.seen
@@ -141,11 +142,11 @@ module _ (n : ℕ) (before after : Seen) (old new : World) (r : Reply) where
   does k Run h = run k h
   does k (Crash done) h = crash k done h
 
-  settling : (errand : Errand) (who : Caller) (begun : World) → SettlesOn errand who before after begun new (Ok r) → Withholds before after
+  settling : (errand : Errand) (who : Caller) (begun : World) → SettlesOn errand who (span_of before after begun new) (Ok r) → Withholds before after
   settling errand who begun (inl s) = comes who before after begun s.left s.answer s.comes
   settling errand who begun (inr memory) = absurd (no_memory r memory.0)
 
-  asked : (a : Asked) → Answers n a before after old new (Ok r) → Withholds before after
+  asked : (a : Asked) → Answers n a (span_of before after old new) (Ok r) → Withholds before after
   asked (Session k (Ok request)) (inl h) = does k request h.1
   asked (Session k (Err why)) (inl h) = declines why h.1
   asked (Session k request) (inr none) = declines _ none.declines
@@ -159,17 +160,17 @@ module _ (n : ℕ) (before after : Seen) (old new : World) (r : Reply) where
   asked (Sweep (Err why)) h = declines why h
 
   -- a settling in which the count did not rise delivered in each step
-  settling_delivers : (begun : World) → (s : SettlesOn settles (record { session = 0; event = n }) before after begun new (Ok r)) → after.counts.withheld ≤ before.counts.withheld
-      → EachSettlingOn StepDelivers settles (record { session = 0; event = n }) before after begun new (Ok r) s
+  settling_delivers : (begun : World) → (s : SettlesOn settles (record { session = 0; event = n }) (span_of before after begun new) (Ok r)) → after.counts.withheld ≤ before.counts.withheld
+      → EachSettlingOn StepDelivers settles (record { session = 0; event = n }) (span_of before after begun new) (Ok r) s
   settling_delivers begun (inl s) still = comes_delivers _ before after begun s.left s.answer s.comes still
   settling_delivers begun (inr memory) still = tt
 
-  settles_deliver : (s : Settles settles n before after old new (Ok r)) → after.counts.withheld ≤ before.counts.withheld → EachSettling StepDelivers settles n before after old new (Ok r) s
+  settles_deliver : (s : Settles settles n (span_of before after old new) (Ok r)) → after.counts.withheld ≤ before.counts.withheld → EachSettling StepDelivers settles n (span_of before after old new) (Ok r) s
   settles_deliver (inl h) still = settling_delivers h.begun h.settles still
   settles_deliver (inr memory) still = tt
 
-  asked_delivers : (a : Asked) → Asks event.Settle a → (h : Answers n a before after old new (Ok r)) → after.counts.withheld ≤ before.counts.withheld
-      → EachAsked StepDelivers n a before after old new (Ok r) h
+  asked_delivers : (a : Asked) → Asks event.Settle a → (h : Answers n a (span_of before after old new) (Ok r)) → after.counts.withheld ≤ before.counts.withheld
+      → EachAsked StepDelivers n a (span_of before after old new) (Ok r) h
   asked_delivers Settle asks h still = settles_deliver h still
   asked_delivers (Session k request) asks h still = absurd (cc)
   asked_delivers (Wait ticks) asks h still = absurd (cc)
@@ -177,9 +178,9 @@ module _ (n : ℕ) (before after : Seen) (old new : World) (r : Reply) where
   asked_delivers (Sweep tree) asks h still = absurd (cc)
 
 -- the count does not fall in a line that was handled
-pub handled_withholds : (n : ℕ) (e : Event) (before after : Seen) (old new : World) (r : Reply) → Handled n e before after old new (Ok r) → Withholds before after
+pub handled_withholds : (n : ℕ) (e : Event) (before after : Seen) (old new : World) (r : Reply) → Handled n e (span_of before after old new) (Ok r) → Withholds before after
 handled_withholds n e before after old new r h = asked n before after old new r h.asked h.answers
 
-pub settle_delivers : (n : ℕ) (before after : Seen) (old new : World) (r : Reply) → (h : Handled n event.Settle before after old new (Ok r)) → after.counts.withheld ≤ before.counts.withheld
-    → EachStep StepDelivers n event.Settle before after old new (Ok r) h
+pub settle_delivers : (n : ℕ) (before after : Seen) (old new : World) (r : Reply) → (h : Handled n event.Settle (span_of before after old new) (Ok r)) → after.counts.withheld ≤ before.counts.withheld
+    → EachStep StepDelivers n event.Settle (span_of before after old new) (Ok r) h
 settle_delivers n before after old new r h still = asked_delivers n before after old new r h.asked h.asks h.answers still

@@ -1,4 +1,5 @@
 use Rattle.world_core.specs.Handled.{start, StepsLooked}
+use Rattle.world_core.specs.Span.{span_of}
 use Rattle.world_core.proofs.Going.{went_further, works_further, less_further}
 use Rattle.world_core.proofs.GrowthLemmas.{grows_same, grows_on}
 use Rattle.world_core.proofs.QuotaLemmas.{spends_not, spends_on}
@@ -48,5 +49,5 @@ returns-in-Ended-clause-comes g c = record {
   mid = g.C.Cloud.seen c.steps.cloud;
   world = c.steps.self;
   went = c.steps.invariant.went;
-  steps = subst (λ t. StepsLooked c.args.who Plain (g.C.Cloud.seen c.steps.cloud) (g.C.Cloud.seen c.step_under.new.cloud) c.steps.self c.step_under.new.self t) c.in-Ended.is c.in_ok-turn.ensures.looked;
+  steps = subst (λ t. StepsLooked c.args.who Plain (span_of (g.C.Cloud.seen c.steps.cloud) (g.C.Cloud.seen c.step_under.new.cloud) c.steps.self c.step_under.new.self) t) c.in-Ended.is c.in_ok-turn.ensures.looked;
 }

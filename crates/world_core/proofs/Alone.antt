@@ -104,8 +104,8 @@ step_alone n lines who wish before after old new turn x holds p under h undistur
 -- ---- steps
 
 module _ (who : Caller) where
-  went_alone : (before : Seen) (old : World) (after : Seen) (new : World) → (went : Went who before old after new) → EachWent StepGoesAlone who before old after new went
-      → EachWent StepIsUndisturbed who before old after new went → IsAloneSeen who.session old before → EachWent StepIsCalm who before old after new went × IsAloneSeen who.session new after
+  went_alone : (before : Seen) (old : World) (after : Seen) (new : World) → (went : Went who before old after new) → EachWent StepGoesAlone went
+      → EachWent StepIsUndisturbed went → IsAloneSeen who.session old before → EachWent StepIsCalm went × IsAloneSeen who.session new after
   went_alone before old after new start goes undisturbed h = (tt, h)
   went_alone before old after new (further mid _ world _ went step) goes undisturbed h =
       let first = went_alone before old mid world went goes.0 undisturbed.0 h in
@@ -132,8 +132,8 @@ module _ (who : Caller) where
   }
 
   works_alone : (before : Seen) (old : World) (queues : List QueueName) (done passed : ℕ) (after : Seen) (new : World) → (works : Works who before old queues done passed after new)
-      → EachWork StepGoesAlone who before old queues done passed after new works → EachWork StepIsUndisturbed who before old queues done passed after new works
-      → IsAloneSeen who.session old before → EachWork StepIsCalm who before old queues done passed after new works × IsAloneSeen who.session new after
+      → EachWork StepGoesAlone works → EachWork StepIsUndisturbed works
+      → IsAloneSeen who.session old before → EachWork StepIsCalm works × IsAloneSeen who.session new after
   works_alone before old queues done passed after new no_checkpoint goes undisturbed h = (tt, h)
   works_alone before old queues done passed after new (checkpoint_more others kept left mid world queue a _ _ works makes passes) goes undisturbed h =
       let first = works_alone before old others kept left mid world works goes.0 undisturbed.0 h in

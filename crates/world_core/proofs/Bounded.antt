@@ -68,10 +68,10 @@ module _ (lines : List Line) (n : ℕ) (before after : Seen) (old new : World) (
     came_soon : (left : World) (answer : Answer) (c : ComesTo who (span_of before after old left) answer) → CameSoon lines (record { session = k; event = n }) (span_of before after old left) answer c
     came_soon left answer c = λ last seen.
         let gone = went_on lines who before old c.mid c.world (sym number) way c.went in
-        let sum : (calls_told lines k + steps_of who before old c.mid c.world c.went) + 1 ≡ calls_told lines k + (steps_of who before old c.mid c.world c.went + 1) = omega arith in
+        let sum : (calls_told lines k + steps_of c.went) + 1 ≡ calls_told lines k + (steps_of c.went + 1) = omega arith in
         subst (λ (calls : ℕ). FewFor calls last c.steps.session.before.work) sum
         (few_of lines who (sym number) (calls_told lines) Plain c.mid after c.world left (Ended answer) gone c.steps
-        (calls_told lines k + steps_of who before old c.mid c.world c.went)
+        (calls_told lines k + steps_of c.went)
         (went_counts lines who (sym number) (calls_told lines) before old c.mid c.world way all_way c.went gone.after gone.told) last seen)
 
     ran_soon : (r : Result Reply WorldFault) (h : RunsTo (record { session = k; event = n }) (span_of before after old new) r) → RanSoon lines (record { session = k; event = n }) (span_of before after old new) r h
@@ -102,12 +102,12 @@ module _ (lines : List Line) (n : ℕ) (before after : Seen) (old new : World) (
           (begun_none (calls_told lines) k mine home queue h.state world c.begun w.works c.begins counts) in
           let gone = holds_went n k all_lines home row first from c.begun c.comes.mid c.comes.world begun held c.comes.went in
           worker_few n k all_lines home row first (calls_told lines) c.comes.mid to c.comes.world left (Ended a)
-          (within_went (worker k n) home first from c.begun c.comes.mid c.comes.world begun c.comes.went) gone c.comes.steps (steps_of (worker k n) from c.begun c.comes.mid c.comes.world c.comes.went)
+          (within_went (worker k n) home first from c.begun c.comes.mid c.comes.world begun c.comes.went) gone c.comes.steps (steps_of c.comes.went)
           (worker_went n k all_lines home row first (calls_told lines) from c.begun c.comes.mid c.comes.world begun held none c.comes.went gone.state gone.told) last seen
 
       each_soon : (from : Seen) (world : World) (queues : List QueueName) (done passed : ℕ) (to : Seen) (left : World) → IsBetween k home first world → (h : HoldsWithin n all_lines world from)
           → (mine : ℕ) → CountsAll (at k mine (calls_told lines)) h.state (session_at world.sessions) → (works : Works (worker k n) from world queues done passed to left)
-          → EachSoon (worker k n) from world queues done passed to left works
+          → EachSoon works
       each_soon from world queues done passed to left w h mine counts no_checkpoint = tt
       each_soon from world queues done passed to left w h mine counts (checkpoint_more others kept passes_by mid prior queue a _ _ works makes passes) =
           let gone = holds_works n k all_lines home row first from world others kept passes_by mid prior w h works in

@@ -122,8 +122,8 @@ goes_calmly who wish before after old new p calm explains well =
     untroubled_after who wish before after old new More p calm
     (step_untroubled who p.under p.to p.session.before p.session.after p.session.does calm explains (untroubled_before who wish before after old new More p calm well))
 
-pub went_calmly : (who : Caller) (before : Seen) (old : World) (after : Seen) (new : World) (went : Went who before old after new) → EachWent StepIsCalm who before old after new went
-    → EachWent StepExplains who before old after new went → GoesWellAt who.session before old → GoesWellAt who.session after new
+pub went_calmly : (who : Caller) (before : Seen) (old : World) (after : Seen) (new : World) (went : Went who before old after new) → EachWent StepIsCalm went
+    → EachWent StepExplains went → GoesWellAt who.session before old → GoesWellAt who.session after new
 went_calmly who before old after new start calm explains well = well
 went_calmly who before old after new (further mid _ world _ went step) calm explains well =
     goes_calmly who Plain mid after world new step calm.1 explains.1 (went_calmly who before old mid world went calm.0 explains.0 well)

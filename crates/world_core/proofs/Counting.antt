@@ -354,7 +354,7 @@ module _ (lines : List Line) (who : Caller) (number : who.event ≡ length lines
 
   -- behind some steps
   pub went_counts : (before : Seen) (old : World) (after : Seen) (new : World) → (way : IsUnderWay lines old before) → CountsAll calls way.after (session_at old.sessions)
-      → (went : Went who before old after new) (s : CloudState) → after.state ≡ Some s → Own (calls who.session + steps_of who before old after new went) s new
+      → (went : Went who before old after new) (s : CloudState) → after.state ≡ Some s → Own (calls who.session + steps_of went) s new
   went_counts before old after new way all start s seen =
       subst (λ (z : CloudState). Own (calls who.session + 0) z old) (same_Some way.after s (sym way.told ∙ seen))
       (counts_like calls (at who.session (calls who.session + 0) calls) way.after (session_at old.sessions) (session_at old.sessions)
@@ -365,8 +365,8 @@ module _ (lines : List Line) (who : Caller) (number : who.event ≡ length lines
   went_counts before old after new way all (further mid _ world _ went step) s seen =
       let gone = went_on lines who before old mid world number way went in
       let was = went_counts before old mid world way all went gone.after gone.told in
-      let one = more_of Plain mid after world new More gone step (calls who.session + steps_of who before old mid world went) was s seen refl in
-      let sum : (calls who.session + steps_of who before old mid world went) + 1 ≡ calls who.session + (steps_of who before old mid world went + 1) = omega arith in
+      let one = more_of Plain mid after world new More gone step (calls who.session + steps_of went) was s seen refl in
+      let sum : (calls who.session + steps_of went) + 1 ≡ calls who.session + (steps_of went + 1) = omega arith in
       subst (λ (k : ℕ). Own k s new) sum one
 
 -- behind these lines, with as many calls of a session as they tell
@@ -443,11 +443,11 @@ module _ (n k : ℕ) (lines : List Line) (home : Home) (row : IsWorkersRow lines
 
   -- behind some steps_in of a checkpoint
   pub worker_went : (before : Seen) (old : World) (after : Seen) (new : World) → IsInside k home first old → (h : HoldsWithin n lines old before) → Mine 0 h.state old
-      → (went : Went (worker k n) before old after new) (s : CloudState) → after.state ≡ Some s → Mine (steps_of (worker k n) before old after new went) s new
+      → (went : Went (worker k n) before old after new) (s : CloudState) → after.state ≡ Some s → Mine (steps_of went) s new
   worker_went before old after new w h all start s seen = subst (λ (z : CloudState). Mine 0 z old) (same_Some h.state s (sym h.told ∙ seen)) all
   worker_went before old after new w h all (further mid _ world _ went step) s seen =
       let gone = holds_went n k lines home row first before old mid world w h went in
-      worker_more mid after world new More (within_went (worker k n) home first before old mid world w went) gone step (steps_of (worker k n) before old mid world went)
+      worker_more mid after world new More (within_went (worker k n) home first before old mid world w went) gone step (steps_of went)
       (worker_went before old mid world w h all went gone.state gone.told) s seen refl
 
   -- behind one that begins
@@ -459,7 +459,7 @@ module _ (n k : ℕ) (lines : List Line) (home : Home) (row : IsWorkersRow lines
       let none = subst (λ (z : CloudState). Mine 0 z c.begun) (same_Some h.state held_in.state (sym h.told ∙ held_in.told)) (begun_none calls k mine home queue h.state old c.begun w.works c.begins all) in
       let gone = holds_went n k lines home row first before c.begun c.comes.mid c.comes.world begun held_in c.comes.went in
       worker_end c.comes.mid after c.comes.world new (Ended a) (within_went (worker k n) home first before c.begun c.comes.mid c.comes.world begun c.comes.went) gone c.comes.steps
-      (steps_of (worker k n) before c.begun c.comes.mid c.comes.world c.comes.went)
+      (steps_of c.comes.went)
       (worker_went before c.begun c.comes.mid c.comes.world begun held_in none c.comes.went gone.state gone.told) s seen a 0 refl
 
   pub works_none : (before : Seen) (old : World) (queues : List QueueName) (done passed : ℕ) (after : Seen) (new : World) → IsBetween k home first old → (h : HoldsWithin n lines old before)
@@ -592,7 +592,7 @@ module _ (lines : List Line) (n : ℕ) (number : length lines + 1 ≡ n) (before
         let gone = went_on lines who before old c.mid c.world (sym number) way c.went in
         told_own (counted r (calls_told lines k)) refl
         (end_of lines who (sym number) (calls_told lines) Plain c.mid after c.world new (Ended run.answer) gone c.steps
-        (calls_told lines k + steps_of who before old c.mid c.world c.went)
+        (calls_told lines k + steps_of c.went)
         (went_counts lines who (sym number) (calls_told lines) before old c.mid c.world way all_way c.went gone.after gone.told) u seen run.answer (counted r (calls_told lines k)) refl)
     runs (inr (inr memory)) = absurd (no_memory r memory.0)
 

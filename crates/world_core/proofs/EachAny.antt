@@ -22,7 +22,7 @@ use Rattle.world_core.specs.Span.{span_of}
 module _ (Holds : StepFact)
     (own : (who : Caller) (wish : Wish) (before after : Seen) (old new : World) (turn : Turn Answer) (p : StepsLooked who wish (span_of before after old new) turn)
     → Holds who wish (span_of before after old new) turn p) where
-  went_each : (who : Caller) (before : Seen) (old : World) (after : Seen) (new : World) (went : Went who before old after new) → EachWent Holds who before old after new went
+  went_each : (who : Caller) (before : Seen) (old : World) (after : Seen) (new : World) (went : Went who before old after new) → EachWent Holds went
   went_each who before old after new start = tt
   went_each who before old after new (further mid _ world _ went step) = (went_each who before old mid world went, own who _ mid after world new _ step)
 
@@ -32,7 +32,7 @@ module _ (Holds : StepFact)
       (went_each who before old comes.mid comes.world comes.went, own who _ comes.mid after comes.world new _ comes.steps)
 
   works_each : (who : Caller) (before : Seen) (old : World) (queues : List QueueName) (done passed : ℕ) (after : Seen) (new : World) (works : Works who before old queues done passed after new)
-      → EachWork Holds who before old queues done passed after new works
+      → EachWork Holds works
   works_each who before old queues done passed after new no_checkpoint = tt
   works_each who before old queues done passed after new (checkpoint_more others kept left mid world queue a _ _ works makes passes) =
       (works_each who before old others kept left mid world works, comes_each who mid after makes.begun new a makes.comes)

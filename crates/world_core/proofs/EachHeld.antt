@@ -49,7 +49,7 @@ module _ (Holds : StepFact)
         holds_step n lines (worker k n) Plain before after old new turn h.state h.holds p (p.wishes.set h.state (p.look_before.stays h.state h.told))
 
     checkpoint_each : (before : Seen) (old : World) (after : Seen) (new : World) → IsInside k home first old → HoldsWithin n lines old before → (went : Went (worker k n) before old after new)
-        → EachWent Holds (worker k n) before old after new went
+        → EachWent Holds went
     checkpoint_each before old after new w h start = tt
     checkpoint_each before old after new w h (further mid _ world _ went step) = (
       checkpoint_each before old mid world w h went,
@@ -66,7 +66,7 @@ module _ (Holds : StepFact)
         )
 
     works_each : (before : Seen) (old : World) (queues : List QueueName) (done passed : ℕ) (after : Seen) (new : World) → IsBetween k home first old → HoldsWithin n lines old before
-        → (works : Works (worker k n) before old queues done passed after new) → EachWork Holds (worker k n) before old queues done passed after new works
+        → (works : Works (worker k n) before old queues done passed after new) → EachWork Holds works
     works_each before old queues done passed after new w h no_checkpoint = tt
     works_each before old queues done passed after new w h (checkpoint_more others kept left mid world queue a _ _ works makes passes) = (
       works_each before old others kept left mid world w h works,
@@ -83,7 +83,7 @@ module _ (Holds : StepFact)
         holds_step (length lines + 1) lines who wish before after old new turn way.after way.goes.holds p (told_under lines who wish before after old new turn number way p)
 
     went_each : (who : Caller) (before : Seen) (old : World) (after : Seen) (new : World) → who.event ≡ length lines + 1 → IsUnderWay lines old before
-        → (went : Went who before old after new) → EachWent Holds who before old after new went
+        → (went : Went who before old after new) → EachWent Holds went
     went_each who before old after new number way start = tt
     went_each who before old after new number way (further mid _ world _ went step) = (
       went_each who before old mid world number way went,
@@ -163,7 +163,7 @@ module _ (Holds : StepFact)
         holds_step n lines (settler n) Plain before after old new turn goes.state goes.holds p (p.wishes.set goes.state (p.look_before.stays goes.state goes.told))
 
     settled_each : (before : Seen) (old : World) (after : Seen) (new : World) → SettlerGoes errand n lines first old before → (went : Went (settler n) before old after new)
-        → EachWent Holds (settler n) before old after new went
+        → EachWent Holds went
     settled_each before old after new goes start = tt
     settled_each before old after new goes (further mid _ world _ went step) = (
       settled_each before old mid world goes went,

@@ -32,7 +32,7 @@ module _ (Holds : StepFact) (lines : List Line)
     (works : (n k : ℕ) (before after : Seen) (old new : World) (result : Result Reply WorldFault) (h : WorksThrough (record { session = k; event = n }) (span_of before after old new) result)
     → EachThrough Holds (record { session = k; event = n }) (span_of before after old new) result h) where
   went_each : (who : Caller) (before : Seen) (old : World) (after : Seen) (new : World) → who.event ≡ length lines + 1 → IsUnderWay lines old before
-      → (went : Went who before old after new) → EachWent Holds who before old after new went
+      → (went : Went who before old after new) → EachWent Holds went
   went_each who before old after new number way start = tt
   went_each who before old after new number way (further mid _ world _ went step) = (
     went_each who before old mid world number way went,

@@ -22,8 +22,8 @@ use Rattle.world_core.specs.Span.{span_of}
 module _ (First Then : StepFact)
     (own : (who : Caller) (wish : Wish) (before after : Seen) (old new : World) (turn : Turn Answer) (p : StepsLooked who wish (span_of before after old new) turn)
     → First who wish (span_of before after old new) turn p → Then who wish (span_of before after old new) turn p) where
-  went_where : (who : Caller) (before : Seen) (old : World) (after : Seen) (new : World) (went : Went who before old after new) → EachWent First who before old after new went
-      → EachWent Then who before old after new went
+  went_where : (who : Caller) (before : Seen) (old : World) (after : Seen) (new : World) (went : Went who before old after new) → EachWent First went
+      → EachWent Then went
   went_where who before old after new start each = tt
   went_where who before old after new (further mid _ world _ went step) each =
       (went_where who before old mid world went each.0, own who _ mid after world new _ step each.1)
@@ -34,7 +34,7 @@ module _ (First Then : StepFact)
       (went_where who before old comes.mid comes.world comes.went each.0, own who _ comes.mid after comes.world new _ comes.steps each.1)
 
   works_where : (who : Caller) (before : Seen) (old : World) (queues : List QueueName) (done passed : ℕ) (after : Seen) (new : World) (works : Works who before old queues done passed after new)
-      → EachWork First who before old queues done passed after new works → EachWork Then who before old queues done passed after new works
+      → EachWork First works → EachWork Then works
   works_where who before old queues done passed after new no_checkpoint each = tt
   works_where who before old queues done passed after new (checkpoint_more others kept left mid world queue a _ _ works makes passes) each =
       (works_where who before old others kept left mid world works each.0, comes_where who mid after makes.begun new a makes.comes each.1)

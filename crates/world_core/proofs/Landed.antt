@@ -214,7 +214,7 @@ module _ (who : Caller) (wish : Wish) (before after : Seen) (old new : World) (t
 -- ---- steps
 
 module _ (who : Caller) (k : ℕ) where
-  went_sent : (before : Seen) (old : World) (after : Seen) (new : World) → (went : Went who before old after new) → EachWent StepIsUndisturbed who before old after new went
+  went_sent : (before : Seen) (old : World) (after : Seen) (new : World) → (went : Went who before old after new) → EachWent StepIsUndisturbed went
       → HasSentSeen who.session k old before → HasSentSeen who.session k new after
   went_sent before old after new start undisturbed h = h
   went_sent before old after new (further mid _ world _ went step) undisturbed h =
@@ -243,7 +243,7 @@ module _ (who : Caller) (k : ℕ) where
   }
 
   pub works_sent : (before : Seen) (old : World) (queues : List QueueName) (done passed : ℕ) (after : Seen) (new : World) → (works : Works who before old queues done passed after new)
-      → EachWork StepIsUndisturbed who before old queues done passed after new works → HasSentSeen who.session k old before → HasSentSeen who.session k new after
+      → EachWork StepIsUndisturbed works → HasSentSeen who.session k old before → HasSentSeen who.session k new after
   works_sent before old queues done passed after new no_checkpoint undisturbed h = h
   works_sent before old queues done passed after new (checkpoint_more others kept left mid world queue a _ _ works makes passes) undisturbed h =
       comes_sent mid after makes.begun new a makes.comes undisturbed.1 (begun_sent queue mid world makes.begun makes.begins (works_sent before old others kept left mid world works undisturbed.0 h))

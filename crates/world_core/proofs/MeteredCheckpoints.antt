@@ -249,7 +249,7 @@ module _ {M : Type 0} (ask : M → Ask) (leads : M → Answer → Next M CkptAns
           }
 
   pub goes_through : (before : Seen) (old : World) (after : Seen) (new : World) → On old before → (went : Went who before old after new)
-      → EachWent StepGoesThrough who before old after new went → On new after
+      → EachWent StepGoesThrough went → On new after
   goes_through before old after new on start each = on
   goes_through before old after new on (further mid _ world _ went step) each =
       goes_on mid after world new (goes_through before old mid world on went each.0) step each.1

@@ -240,7 +240,7 @@ module _ (n k session : ℕ) (lines : List Line) where
     none_last left own none = omega (arith, none)
 
     pub works_off : (queues : List QueueName) (done passed : ℕ) (after : Seen) (new : World) (works : Works who before old queues done passed after new) → passed ≡ 0
-        → EachWork StepGoesThrough who before old queues done passed after new works → HasWorked queues earlier new after
+        → EachWork StepGoesThrough works → HasWorked queues earlier new after
     works_off queues done passed after new no_checkpoint none each =
         record { notes = earlier; kept = λ place. omega arith; ledger = ledger; state = h.state; told = h.told; metered = metered }
     works_off queues done passed after new (checkpoint_more others kept left mid world queue a _ _ works makes passes) none each =
@@ -259,7 +259,7 @@ due_to k notes book queues is due_so =
 module _ (n k session bound : ℕ) (lines : List Line) (row : IsWorkersRow lines (worker session n)) (before after : Seen) (old new : World) (d_done d_passed : ℕ)
     (h : HoldsWithin n lines old before) (m : Meters session k bound old h.state) (limit : bound ≤ k - 1 + most_changes) where
   pub works_down_few : (home : Home) → IsBetween session home (session_at old.sessions) old → (queues : List QueueName) → ((book : Notebook) → slice_get old.notes session ≡ Some book → IsDue book queues)
-      → (works : Works (worker session n) before old queues d_done d_passed after new) → d_passed ≡ 0 → EachWork StepGoesThrough (worker session n) before old queues d_done d_passed after new works
+      → (works : Works (worker session n) before old queues d_done d_passed after new) → d_passed ≡ 0 → EachWork StepGoesThrough works
       → MetersSeen session k (k - 1) new after
   works_down_few home rest queues due_so works none each = record {
     state = w.state;

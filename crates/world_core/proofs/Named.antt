@@ -43,7 +43,7 @@ use Rattle.std.proofs.lemmas.Option.{same_Some}
 more_names : (who : Caller) (wish : Wish) (before after : Seen) (old new : World) (p : StepsLooked who wish (span_of before after old new) More) → StepNames who wish (span_of before after old new) More p
 more_names who wish before after old new p s told home m done works ends = absurd (cc (ends))
 
-went_names : (who : Caller) (before : Seen) (old : World) (after : Seen) (new : World) (went : Went who before old after new) → EachWent StepNames who before old after new went
+went_names : (who : Caller) (before : Seen) (old : World) (after : Seen) (new : World) (went : Went who before old after new) → EachWent StepNames went
 went_names who before old after new start = tt
 went_names who before old after new (further mid _ world _ went step) = (went_names who before old mid world went, more_names who Plain mid after world new step)
 
@@ -79,7 +79,7 @@ module _ (lines : List Line) (n : ℕ) (before after : Seen) (old new : World) (
         let gone = went_on lines who before old c.mid c.world (sym number) way c.went in (
           went_names who before old c.mid c.world c.went,
           names_of lines who (sym number) (calls_told lines) Plain c.mid after c.world world (Ended answer) gone c.steps
-              (calls_told lines k + steps_of who before old c.mid c.world c.went)
+              (calls_told lines k + steps_of c.went)
               (went_counts lines who (sym number) (calls_told lines) before old c.mid c.world way all_way c.went gone.after gone.told),
         )
 
@@ -114,13 +114,13 @@ module _ (lines : List Line) (n : ℕ) (before after : Seen) (old new : World) (
           let end = holds_step n k all_lines home row first c.comes.mid to c.comes.world left (Ended a) goes gone c.comes.steps in (
             went_names (worker k n) from c.begun c.comes.mid c.comes.world c.comes.went,
             worker_names n k all_lines home row first (calls_told lines) c.comes.mid to c.comes.world left (Ended a) goes gone c.comes.steps
-                (steps_of (worker k n) from c.begun c.comes.mid c.comes.world c.comes.went)
+                (steps_of c.comes.went)
                 (worker_went n k all_lines home row first (calls_told lines) from c.begun c.comes.mid c.comes.world begun held none c.comes.went gone.state gone.told) end.state end.told,
           )
 
       each_names : (from : Seen) (world : World) (queues : List QueueName) (done passed : ℕ) (to : Seen) (left : World) → IsBetween k home first world → (h : HoldsWithin n all_lines world from)
           → (mine : ℕ) → CountsAll (at k mine (calls_told lines)) h.state (session_at world.sessions) → (works : Works (worker k n) from world queues done passed to left)
-          → EachWork StepNames (worker k n) from world queues done passed to left works
+          → EachWork StepNames works
       each_names from world queues done passed to left w h mine counts no_checkpoint = tt
       each_names from world queues done passed to left w h mine counts (checkpoint_more others kept passes_by mid prior queue a _ _ works makes passes) =
           let gone = holds_works n k all_lines home row first from world others kept passes_by mid prior w h works in

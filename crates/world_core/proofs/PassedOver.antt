@@ -182,8 +182,8 @@ module _ (n session : ℕ) (lines : List Line) (home : Home) (row : IsWorkersRow
   one_so queue before after old new a passes w h c calm explains = tt
 
   each_passed : (before : Seen) (old : World) (queues : List QueueName) (done passed : ℕ) (after : Seen) (new : World) → IsBetween session home first old → HoldsWithin n lines old before
-      → (works : Works who before old queues done passed after new) → EachWork StepIsCalm who before old queues done passed after new works
-      → EachWork StepExplains who before old queues done passed after new works → EachPassed who before old queues done passed after new works
+      → (works : Works who before old queues done passed after new) → EachWork StepIsCalm works
+      → EachWork StepExplains works → EachPassed works
   each_passed before old queues done passed after new w h no_checkpoint calm explains = tt
   each_passed before old queues done passed after new w h (checkpoint_more others kept left mid world queue a _ _ works makes passes) calm explains = (
     each_passed before old others kept left mid world w h works calm.0 explains.0,

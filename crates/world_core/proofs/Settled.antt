@@ -117,7 +117,7 @@ module _ (Holds : StepFact) (B : Settling → Moment → Type 0) (E : Settling �
       record { settling = ends.settling; now = ends.now; told = p.look_after.stays ends.now.state ends.told; holds = ends.holds }
 
   world_went : (before : Seen) (old : World) (after : Seen) (new : World) → WorldOnWay B P old before → (went : Went (settler n) before old after new)
-      → EachWent Holds (settler n) before old after new went → WorldOnWay B P new after
+      → EachWent Holds went → WorldOnWay B P new after
   world_went before old after new at_way start each = at_way
   world_went before old after new at_way (further mid _ world _ went step) each =
       world_more mid after world new (world_went before old mid world at_way went each.0) step each.1
@@ -252,7 +252,7 @@ module _ (n : ℕ) where
       }
 
   went_calm : (before : Seen) (old : World) (after : Seen) (new : World) → WorldAlone old before → (went : Went (settler n) before old after new)
-      → EachWent StepGoesWell (settler n) before old after new went → EachWent StepIsCalm (settler n) before old after new went × WorldAlone new after
+      → EachWent StepGoesWell went → EachWent StepIsCalm went × WorldAlone new after
   went_calm before old after new here start each = (tt, here)
   went_calm before old after new here (further mid _ world _ went step) each =
       let before_it = went_calm before old mid world here went each.0 in
@@ -341,7 +341,7 @@ module _ (n : ℕ) where
       left = made.made.state s told
 
   went_explains : (before : Seen) (old : World) (after : Seen) (new : World) → SettlerOnWay old before → (went : Went (settler n) before old after new)
-      → EachWent StepExplains (settler n) before old after new went × SettlerOnWay new after
+      → EachWent StepExplains went × SettlerOnWay new after
   went_explains before old after new way start = (tt, way)
   went_explains before old after new way (further mid _ world _ went step) =
       let before_it = went_explains before old mid world way went in

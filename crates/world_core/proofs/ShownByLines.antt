@@ -76,7 +76,7 @@ module _ (lines : List Line) (n : ℕ) where
   went_goes before old after new settles (further mid _ world _ went step) = step_goes mid after world new (went_goes before old mid world settles went) step
 
   went_shows : (before : Seen) (old : World) (after : Seen) (new : World) → IsSettler (session_at old.sessions 0).work → (went : Went (settler n) before old after new)
-      → EachWent (StepShowsBy lines) (settler n) before old after new went
+      → EachWent (StepShowsBy lines) went
   went_shows before old after new settles start = tt
   went_shows before old after new settles (further mid _ world _ went step) = (
     went_shows before old mid world settles went,
@@ -113,7 +113,7 @@ module _ (lines : List Line) (who : Caller) (home : Home) (first : Sessions) whe
       (subst (λ (a : Acting). HasCheckpoint home a.work) (changed_was who.session _ old.sessions new.sessions p.session) w.works) p.session.does
 
   checkpoints_show : (before : Seen) (old : World) (after : Seen) (new : World) → IsInside who.session home first old → (went : Went who before old after new)
-      → EachWent (StepShowsBy lines) who before old after new went
+      → EachWent (StepShowsBy lines) went
   checkpoints_show before old after new w start = tt
   checkpoints_show before old after new w (further mid _ world _ went step) = (
     checkpoints_show before old mid world w went,
@@ -121,7 +121,7 @@ module _ (lines : List Line) (who : Caller) (home : Home) (first : Sessions) whe
   )
 
   works_show : (before : Seen) (old : World) (queues : List QueueName) (done passed : ℕ) (after : Seen) (new : World) → IsBetween who.session home first old
-      → (works : Works who before old queues done passed after new) → EachWork (StepShowsBy lines) who before old queues done passed after new works
+      → (works : Works who before old queues done passed after new) → EachWork (StepShowsBy lines) works
   works_show before old queues done passed after new w no_checkpoint = tt
   works_show before old queues done passed after new w (checkpoint_more others kept left mid world queue a _ _ works c passes) =
       let begun = within_begun who.session home first queue world c.begun (within_works who home first before old others kept left mid world w works) c.begins in (

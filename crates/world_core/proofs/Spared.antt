@@ -158,7 +158,7 @@ one_spared who queue mid after begun new a comes each passes so sent = absurd pa
 -- ---- all of them
 
 each_spared : (who : Caller) (before : Seen) (old : World) (queues : List QueueName) (done passed : ℕ) (after : Seen) (new : World) → (works : Works who before old queues done passed after new)
-    → EachWork StepSpendsNone who before old queues done passed after new works → EachPassed who before old queues done passed after new works
+    → EachWork StepSpendsNone works → EachPassed works
     → ((tree page : ℕ) → IsIn queues (PagePu tree page) → IsSentSeen (PagePu tree page) before) → passed ≡ 0
 each_spared who before old queues done passed after new no_checkpoint each so sent = refl
 each_spared who before old queues done passed after new (checkpoint_more others kept left mid world queue a _ _ works makes passes) each so sent =

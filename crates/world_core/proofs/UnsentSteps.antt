@@ -163,7 +163,7 @@ paging_went who tree page before old after new (further mid _ world _ went step)
 -- and so does what it waits to answer
 pub went_unsent : (n : ℕ) (lines : List Line) (who : Caller) (tree page : ℕ) (before : Seen) (old : World)
     → ((mid : Seen) (world : World) → Went who before old mid world → HoldsWithin n lines world mid) → IsPagingOf tree page (work_at old who.session) → UnsentAt tree page who.session before old
-    → (after : Seen) (new : World) (went : Went who before old after new) → EachWent StepIsCalm who before old after new went → UnsentAt tree page who.session after new
+    → (after : Seen) (new : World) (went : Went who before old after new) → EachWent StepIsCalm went → UnsentAt tree page who.session after new
 went_unsent n lines who tree page before old each at kept after new start calm = kept
 went_unsent n lines who tree page before old each at kept after new (further mid _ world _ went step) calm =
     step_unsent n lines who Plain mid after world new (each mid world went) tree page (paging_went who tree page before old mid world went at)

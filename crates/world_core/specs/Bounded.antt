@@ -28,13 +28,13 @@ use Rattle.world_core.specs.Span.{Span, span_of}
 -- ---- how many calls
 
 -- the steps by which a world went on, each one service call
-abbrev pub steps_of : (who : Caller) (before : Seen) (old : World) (after : Seen) (new : World) → Went who before old after new → ℕ
-steps_of who before old after new start = 0
-steps_of who before old after new (further mid _ world _ went step) = steps_of who before old mid world went + 1
+abbrev pub steps_of : {who : Caller} {before : Seen} {old : World} {after : Seen} {new : World} → Went who before old after new → ℕ
+steps_of start = 0
+steps_of (further mid _ world _ went step) = steps_of went + 1
 
 -- with the one that was answered
 abbrev pub calls_of : (who : Caller) (span : Span) (answer : Answer) → ComesTo who span answer → ℕ
-calls_of who span answer comes = steps_of who span.before span.old comes.mid comes.world comes.went + 1
+calls_of who span answer comes = steps_of comes.went + 1
 
 -- ---- a line
 
@@ -71,17 +71,17 @@ RunsSoon lines who span result (inr (inl run)) = RanSoon lines who span result r
 RunsSoon lines who span result (inr (inr memory)) = Unit {0}
 
 -- each checkpoint that is due makes its own
-abbrev pub EachSoon : (who : Caller) (before : Seen) (old : World) (queues : List QueueName) (done passed : ℕ) (after : Seen) (new : World)
+abbrev pub EachSoon : {who : Caller} {before : Seen} {old : World} {queues : List QueueName} {done passed : ℕ} {after : Seen} {new : World}
     → Works who before old queues done passed after new → Type 0
-EachSoon who before old queues done passed after new no_checkpoint = Unit {0}
-EachSoon who before old queues done passed after new (checkpoint_more others kept left mid world queue answer _ _ works makes passes) =
-    EachSoon who before old others kept left mid world works
-    × WereFew (calls_of who (span_of mid after makes.begun new) answer makes.comes) who Plain (span_of makes.comes.mid after makes.comes.world new) (Ended answer) makes.comes.steps
+EachSoon no_checkpoint = Unit {0}
+EachSoon (checkpoint_more others kept left mid world queue answer after new works makes passes) =
+    EachSoon works
+    × WereFew (calls_of _ (span_of mid after makes.begun new) answer makes.comes) _ Plain (span_of makes.comes.mid after makes.comes.world new) (Ended answer) makes.comes.steps
 
 abbrev pub WorksSoon : (who : Caller) (span : Span) (result : Result Reply WorldFault) → WorksThrough who span result → Type 0
 WorksSoon who span result (inl refused) = Unit {0}
 WorksSoon who span result (inr (inl work)) =
-    EachSoon who span.before span.old work.queues work.done work.passed span.after span.new work.works
+    EachSoon work.works
 WorksSoon who span result (inr (inr memory)) = Unit {0}
 
 -- a session that dies with its call in hand made one more

@@ -27,14 +27,14 @@ abbrev pub StepFact : Type 1
 StepFact = (who : Caller) (wish : Wish) (span : Span) (turn : Turn Answer) → StepsLooked who wish span turn → Type 0
 
 -- it holds of each step by which a world went on
-abbrev pub EachWent : StepFact → (who : Caller) (before : Seen) (old : World) (after : Seen) (new : World) → Went who before old after new → Type 0
-EachWent Holds who before old after new start = Unit {0}
-EachWent Holds who before old after new (further mid _ world _ went step) = EachWent Holds who before old mid world went × Holds who Plain (span_of mid after world new) More step
+abbrev pub EachWent : StepFact → {who : Caller} {before : Seen} {old : World} {after : Seen} {new : World} → Went who before old after new → Type 0
+EachWent Holds start = Unit {0}
+EachWent Holds (further mid after world new went step) = EachWent Holds went × Holds _ Plain (span_of mid after world new) More step
 
 -- of each up to an answer
 abbrev pub EachCome : StepFact → (who : Caller) (span : Span) (answer : Answer) → ComesTo who span answer → Type 0
 EachCome Holds who span answer comes =
-    EachWent Holds who span.before span.old comes.mid comes.world comes.went × Holds who Plain (span_of comes.mid span.after comes.world span.new) (Ended answer) comes.steps
+    EachWent Holds comes.went × Holds who Plain (span_of comes.mid span.after comes.world span.new) (Ended answer) comes.steps
 
 -- of a step that was made, whether its reply found memory or not
 abbrev pub EachTold : StepFact → (who : Caller) (wish : Wish) (span : Span) (result : Result Reply WorldFault) → StepsTo who wish span result → Type 0
@@ -77,16 +77,16 @@ EachSettling Holds errand n span result (inl goes) = EachSettlingOn Holds errand
 EachSettling Holds errand n span result (inr memory) = Unit {0}
 
 -- of each step of the checkpoints that a session made
-abbrev pub EachWork : StepFact → (who : Caller) (before : Seen) (old : World) (queues : List QueueName) (done passed : ℕ) (after : Seen) (new : World)
+abbrev pub EachWork : StepFact → {who : Caller} {before : Seen} {old : World} {queues : List QueueName} {done passed : ℕ} {after : Seen} {new : World}
     → Works who before old queues done passed after new → Type 0
-EachWork Holds who before old queues done passed after new no_checkpoint = Unit {0}
-EachWork Holds who before old queues done passed after new (checkpoint_more others kept left mid world queue answer _ _ works makes passes) =
-    EachWork Holds who before old others kept left mid world works × EachCome Holds who (span_of mid after makes.begun new) answer makes.comes
+EachWork Holds no_checkpoint = Unit {0}
+EachWork Holds (checkpoint_more others kept left mid world queue answer after new works makes passes) =
+    EachWork Holds works × EachCome Holds _ (span_of mid after makes.begun new) answer makes.comes
 
 abbrev pub EachThrough : StepFact → (who : Caller) (span : Span) (result : Result Reply WorldFault) → WorksThrough who span result → Type 0
 EachThrough Holds who span result (inl refused) = Unit {0}
 EachThrough Holds who span result (inr (inl work)) =
-    EachWork Holds who span.before span.old work.queues work.done work.passed span.after span.new work.works
+    EachWork Holds work.works
 EachThrough Holds who span result (inr (inr memory)) = Unit {0}
 
 -- of each step that a request made

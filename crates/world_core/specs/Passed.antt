@@ -40,16 +40,16 @@ PassesSo queue after (answer.Trouble k) = (u : CloudState) × (after.state ≡ S
 PassesSo queue after a = Unit {0}
 
 -- and so was each that was passed over
-abbrev pub EachPassed : (who : Caller) (before : Seen) (old : World) (queues : List QueueName) (done passed : ℕ) (after : Seen) (new : World)
+abbrev pub EachPassed : {who : Caller} {before : Seen} {old : World} {queues : List QueueName} {done passed : ℕ} {after : Seen} {new : World}
     → Works who before old queues done passed after new → Type 0
-EachPassed who before old queues done passed after new no_checkpoint = Unit {0}
-EachPassed who before old queues done passed after new (checkpoint_more others kept left mid world queue a _ _ works makes passes) =
-    EachPassed who before old others kept left mid world works × PassesSo queue after a
+EachPassed no_checkpoint = Unit {0}
+EachPassed (checkpoint_more others kept left mid world queue a after new works makes passes) =
+    EachPassed works × PassesSo queue after a
 
 abbrev pub ThroughPassed : (who : Caller) (span : Span) (result : Result Reply WorldFault) → WorksThrough who span result → Type 0
 ThroughPassed who span result (inl refused) = Unit {0}
 ThroughPassed who span result (inr (inl work)) =
-    EachPassed who span.before span.old work.queues work.done work.passed span.after span.new work.works
+    EachPassed work.works
 ThroughPassed who span result (inr (inr memory)) = Unit {0}
 
 -- of a line that works; of others nothing is said

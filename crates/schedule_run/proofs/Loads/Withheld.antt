@@ -72,7 +72,7 @@ went who before old after new start = withholds_same before before refl
 went who before old after new (further mid _ world _ w step) = withholds_on before mid after (went who before old mid world w) (stepped who _ mid after world new _ step)
 
 went_delivers : (who : Caller) (before : Seen) (old : World) (after : Seen) (new : World) → (w : Went who before old after new) → after.counts.withheld ≤ before.counts.withheld
-    → EachWent StepDelivers who before old after new w
+    → EachWent StepDelivers w
 went_delivers who before old after new start still = tt
 went_delivers who before old after new (further mid _ world _ w step) still =
     let first = went who before old mid world w in

@@ -3,6 +3,7 @@ use Rattle.std.specs.Prelude.{ℕ, ◌≡◌, ◌≤◌, ◌<◌, List, [], ◌�
 use Rattle.db_base.specs.Ids.{IsClient, IsTree, IsPage}
 use Rattle.db_base.specs.Key.{IsAttr, IsKey, IsPayload}
 use Rattle.db_base.specs.Change.{IsChange}
+use Rattle.db_base.specs.declared.key.TheConstants.{MAX_KEY, MAX_PAYLOAD}
 use Rattle.db_base.specs.declared.change.Change.{Change}
 use Rattle.db_base.specs.declared.change.Change.TheVariants.{Insert, Update, Delete, Add}
 use Rattle.db_base.specs.declared.refusal.Refusal.{Refusal}
@@ -29,7 +30,7 @@ IsOpening client (Err why) = (IsClient client → ⊥) × (why ≡ refused.Rule 
 -- the rule that refuses a key, where it does
 abbrev pub KeyRefused : List ℕ → Refusal → Type 0
 KeyRefused key rule.EmptyKey = length key ≡ 0
-KeyRefused key rule.LongKey = 64 < length key
+KeyRefused key rule.LongKey = MAX_KEY < length key
 KeyRefused key r = ⊥
 
 -- why a key is refused: a rule does, or there is no memory for a copy of it
@@ -49,17 +50,17 @@ bound_of (byte ∷ bytes) = Some (byte ∷ bytes)
 
 -- the bound of a scan, or its key is too long; or there is no memory for a copy of it
 abbrev pub IsBound : List ℕ → Result (Option (List ℕ)) Refused → Type 0
-IsBound bytes (Ok bound) = (bound ≡ bound_of bytes) × (length bytes ≤ 64)
-IsBound bytes (Err (refused.Rule r)) = (r ≡ rule.LongKey) × (64 < length bytes)
+IsBound bytes (Ok bound) = (bound ≡ bound_of bytes) × (length bytes ≤ MAX_KEY)
+IsBound bytes (Err (refused.Rule r)) = (r ≡ rule.LongKey) × (MAX_KEY < length bytes)
 IsBound bytes (Err refused.Memory) = Unit {0}
 
 -- why the bounds of a scan are refused: for the lower one first
 abbrev pub AreNoBounds : List ℕ → List ℕ → Refused → Type 0
-AreNoBounds from to why = IsBound from (Err why) ⊎ ((length from ≤ 64) × IsBound to (Err why))
+AreNoBounds from to why = IsBound from (Err why) ⊎ ((length from ≤ MAX_KEY) × IsBound to (Err why))
 
 -- the scan of a tree between two bounds, or its number is no tree's, or else a bound is refused
 abbrev pub IsScanning : ℕ → List ℕ → List ℕ → Result Request Refused → Type 0
-IsScanning tree from to (Ok request) = IsTree tree × (length from ≤ 64) × (length to ≤ 64) × (request ≡ Begin (op.Scan tree (bound_of from) (bound_of to)))
+IsScanning tree from to (Ok request) = IsTree tree × (length from ≤ MAX_KEY) × (length to ≤ MAX_KEY) × (request ≡ Begin (op.Scan tree (bound_of from) (bound_of to)))
 IsScanning tree from to (Err why) = ((why ≡ refused.Rule rule.BadNumber) × (IsTree tree → ⊥)) ⊎ (IsTree tree × AreNoBounds from to why)
 
 -- a tree that has an index by attribute
@@ -94,8 +95,8 @@ IsFolding tree (Err why) = (IsTree tree → ⊥) × (why ≡ refused.Rule rule.B
 -- the rule that refuses a key and a payload, where it does: the key's length, then the payload's
 abbrev pub RecordRefused : List ℕ → List ℕ → Refusal → Type 0
 RecordRefused key payload rule.EmptyKey = length key ≡ 0
-RecordRefused key payload rule.LongKey = 64 < length key
-RecordRefused key payload rule.LongPayload = IsKey key × (1024 < length payload)
+RecordRefused key payload rule.LongKey = MAX_KEY < length key
+RecordRefused key payload rule.LongPayload = IsKey key × (MAX_PAYLOAD < length payload)
 RecordRefused key payload r = ⊥
 
 -- there is an attribute, and its bytes are none

@@ -53,7 +53,8 @@ use Rattle.world_core.specs.declared.asked.Request.{Request}
 use Rattle.world_core.specs.declared.asked.Request.TheVariants.{Begin, Note, Abort, Policy, Work as WorksDue, Step, Run, Crash}
 use Rattle.world_core.specs.declared.asked.Asked.{Asked}
 use Rattle.world_core.specs.declared.asked.Asked.TheVariants.{Session, Wait, Report, Settle, Sweep}
-use Rattle.world_core.specs.World.{World}
+use Rattle.world_core.specs.World.{World, last_client}
+use Rattle.world_core.specs.declared.world.TheConstants.{MAX_WAIT}
 use Rattle.world_core.specs.declared.world.WorldFault.{WorldFault}
 use Rattle.world_core.specs.declared.world.WorldFault.TheVariants as fault
 use Rattle.world_core.specs.Asked.{Asks}
@@ -486,13 +487,17 @@ WorksThrough who span result =
 
 -- ---- a session's ledger
 
--- it has one of this role and number, without notes
+-- it is given to a client, without notes
+abbrev pub IsGiven : Role → ℕ → ℕ → Notebook → Notebook → Type 0
+IsGiven role k client old new = new ≡ record old { ledger = Some (record { role = role; k = k; client = client; counts = [] }) }
+
+-- the session has one of this role and number
 pub record GivesLedger (number : ℕ) (role : Role) (k : ℕ) (span : Span) (result : Result Reply WorldFault) : Type 0 where
   pub number_is : IsNumber k
   pub opened : IsOpen number span.old.sessions
   pub quiet : MakesNoCall span
   pub sessions : span.new.sessions ≡ span.old.sessions
-  pub notes : ChangesBook number (λ a b. b ≡ record a { ledger = Some (record { role = role; k = k; client = opened.client; counts = [] }) }) span.old.notes span.new.notes
+  pub notes : ChangesBook number (IsGiven role k opened.client) span.old.notes span.new.notes
   pub replies : result ≡ Ok reply.Noted
 
 -- the number is none of a ledger's
@@ -558,7 +563,7 @@ Serves who (Err why) span result = Declines why span result
 
 -- the clock goes on, once more
 pub record WaitsFor (ticks : ℕ) (before after : Seen) (result : Result Reply WorldFault) : Type 0 where
-  pub within : ticks ≤ 1000000
+  pub within : ticks ≤ MAX_WAIT
   pub clock : (s : CloudState) → before.state ≡ Some s → s.now ≤ greatest
   pub no_call : IsNoCall before after
   pub waited : (s : CloudState) → before.state ≡ Some s → Waits ticks s after.state
@@ -566,7 +571,7 @@ pub record WaitsFor (ticks : ℕ) (before after : Seen) (result : Result Reply W
 
 -- a wait for too long is refused
 pub record WaitsTooLong (ticks : ℕ) (span : Span) (result : Result Reply WorldFault) : Type 0 where
-  pub beyond : 1000000 < ticks
+  pub beyond : MAX_WAIT < ticks
   pub declines : Declines (refused.Rule rule.BadNumber) span result
 
 -- a report shows the tree's part of the audit, the records of its newest leaves, its open heads, and the messages that wait for it
@@ -575,7 +580,7 @@ pub record Shows (tree : ℕ) (s : Option CloudState) (audit : Audited) (r : Rep
   pub committed : r.committed ≡ of_tree tree audit.committed
   pub order : r.order ≡ of_tree tree audit.order
   pub contents : (x : CloudState) → s ≡ Some x → Walked x tree 0 r.contents
-  pub heads : (x : CloudState) → s ≡ Some x → r.heads ≡ heads_upto x tree (of_tree tree audit.committed) 64
+  pub heads : (x : CloudState) → s ≡ Some x → r.heads ≡ heads_upto x tree (of_tree tree audit.committed) last_client
   pub messages : (x : CloudState) → s ≡ Some x → AreWaiting x tree r.messages
 
 -- why a tree has no report: a trouble stopped it, which is a failure only where a look failed in it or an earlier one blinded the audit, and

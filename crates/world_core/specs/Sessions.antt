@@ -1,6 +1,7 @@
 -- Sessions of which one changes.
 use Rattle.std.specs.Prelude.{ℕ, ◌≡◌, ◌≤◌, [], List, length, slice_get, slice_set, Option, Some, None, Result, Ok, Err}
 use Rattle.db_base.specs.declared.refusal.Refused.{Refused}
+use Rattle.txn_buffer.specs.declared.buffer.TheConstants.{MAX_CHANGES}
 use Rattle.txn_buffer.specs.Noted.{Noted, noted_in, put_in}
 use Rattle.client_work.specs.Session.{Acting, rule_of, MayIndex, NoteRefused, PutRefused, AbortRefused, ask_of_work}
 use Rattle.cloud_trait.specs.Ask.{Ask}
@@ -37,7 +38,7 @@ JoinRefused s (Indexed tree key payload attr) why = PutRefused s tree key payloa
 -- it is noted in an open session; a refusal changes nothing
 abbrev pub NotesIn : Noting → Acting → Acting → Result (Unit {0}) Refused → Type 0
 NotesIn noting before after (Ok done) =
-    (after ≡ record before { buffer = joined noting before.buffer }) × (rule_of before.work ≡ None) × (length after.buffer ≤ 200) × MayJoin noting
+    (after ≡ record before { buffer = joined noting before.buffer }) × (rule_of before.work ≡ None) × (length after.buffer ≤ MAX_CHANGES) × MayJoin noting
 NotesIn noting before after (Err why) = (after ≡ before) × JoinRefused before noting why
 
 -- the changes of an open session are dropped; a refusal changes nothing

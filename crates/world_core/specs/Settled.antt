@@ -33,6 +33,7 @@ use Rattle.world_core.specs.Explained.{StepExplains}
 use Rattle.world_core.specs.Handled.{Handled, StepsLooked}
 use Rattle.world_core.specs.declared.world.WorldFault.{WorldFault}
 use Rattle.world_core.specs.Span.{Span}
+use Rattle.world_core.specs.World.{last_client}
 
 -- in a step's call no message and no lock was withheld
 abbrev pub StepDelivers : StepFact
@@ -56,7 +57,7 @@ NoLockHeld s = (l : Lock) → (s.locks l).until ≤ s.now
 
 -- the two numbers that a report of a tree shows are 0: no head is open with an entry of it, whatever was committed, and no message waits for it
 pub record LeavesTree (s : CloudState) (tree : ℕ) : Type 0 where
-  pub heads : (committed : List Entry) → heads_upto s tree committed 64 ≡ 0
+  pub heads : (committed : List Entry) → heads_upto s tree committed last_client ≡ 0
   pub messages : AreWaiting s tree 0
 
 abbrev pub LeavesNothing : CloudState → Type 0

@@ -13,13 +13,13 @@ use Rattle.replay_meaning.specs.Standing.{Line}
 use Rattle.replay_meaning.specs.Right.{ReportIsRight}
 use Rattle.session_facts.specs.Lines.Counted.{calls_told, CountsAll}
 use Rattle.session_facts.specs.Lines.Facts.{session_at, Stands, SomeBookStands}
-use Rattle.world_core.specs.World.{World}
+use Rattle.world_core.specs.World.{World, last_client}
 use Rattle.world_core.specs.declared.world.WorldFault.{WorldFault}
 use Rattle.world_core.specs.Span.{Span}
 
 -- the two numbers of a report: the clients whose newest head is open with a committed entry of its tree, and the messages that wait for it
 pub record IsLeft (t : CloudState) (r : Report) : Type 0 where
-  pub heads : r.heads ≡ heads_upto t r.tree r.committed 64
+  pub heads : r.heads ≡ heads_upto t r.tree r.committed last_client
   pub messages : AreWaiting t r.tree r.messages
 
 abbrev pub LeftIsRight : CloudState → Reply → Type 0

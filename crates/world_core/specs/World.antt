@@ -1,8 +1,12 @@
 -- How a world stands.
-use Rattle.std.specs.Prelude.{List, Bool}
+use Rattle.std.specs.Prelude.{ℕ, List, Bool}
 use Rattle.client_work.specs.Session.{Acting}
 use Rattle.history.specs.Audited.{Audited}
 use Rattle.session_notes.specs.declared.notebook.Notebook.{Notebook}
+
+-- clients are 1 to this number
+abbrev pub last_client : ℕ
+last_client = 64
 
 -- its sessions by their numbers, what was seen to commit and to be applied, whether a look failed, and what is kept of each session for the choice
 -- of its checkpoints

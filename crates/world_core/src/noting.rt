@@ -51,7 +51,8 @@ fn note_head<S: SessionCalls>(
     session: &S,
     client: ClientId,
 ) -> Result<(), Refused>
-    ensures { OnOk result (audit.new ≡ noted_head client (opens_of (S.acting session.now).work) (committing_of (S.acting session.now).work) audit.old) }
+    ensures { OnOk result (audit.new
+        ≡ noted_head client (opens_of (S.acting session.now).work) (committing_of (S.acting session.now).work) audit.old) }
 {
     match session.opens() {
         Some(head) => match session.committing() {

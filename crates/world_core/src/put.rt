@@ -69,8 +69,10 @@ pub(crate) fn put_in_hand<S: SessionCalls>(
 /// Whether the newest version of the put's object has its bytes; none where the look failed.
 pub(crate) fn is_newest<C: Bench>(cloud: &mut C, put: &Put) -> Result<Option<bool>, WorldFault>
     ensures looked { Looked (C.seen cloud.old) (C.seen cloud.new) }
-    ensures dark { result ≡ Ok None → Rose (C.seen cloud.old).counts.dark (C.seen cloud.new).counts.dark }
-    ensures newest { (s : CloudState) → (C.seen cloud.old).state ≡ Some s → IfOk result (SeesNewest (newest s) put.now) }
+    ensures dark { result ≡ Ok None
+        → Rose (C.seen cloud.old).counts.dark (C.seen cloud.new).counts.dark }
+    ensures newest { (s : CloudState) → (C.seen cloud.old).state ≡ Some s
+        → IfOk result (SeesNewest (newest s) put.now) }
 {
     match cloud.has(put.name, put.bytes.as_slice()) {
         Ok(is) => Ok(Some(is)),

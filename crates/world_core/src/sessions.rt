@@ -137,7 +137,8 @@ impl<S: SessionCalls> Sessions<S> {
     /// Makes a step of the session of a number, which has a call in hand.
     pub(crate) fn step<C: Cloud>(&mut self, alloc: Global, cloud: &mut C, who: Who) -> Turn<Answer>
         requires { IsAtWork who.session self.old }
-        ensures { Changes who.session (λ a b. StepsSession who (C.seen cloud.old) (C.seen cloud.new) a b (Ok result)) self.old self.new }
+        ensures { Changes who.session (λ a b. StepsSession who (C.seen cloud.old) (C.seen cloud.new) a b
+            (Ok result)) self.old self.new }
     {
         match self.list[place_of(who.session)].step(alloc, cloud, who) {
             Ok(turn) => turn,

@@ -197,7 +197,8 @@ impl<S: SessionCalls> World<S> {
     /// Makes the call in hand of the session.
     fn call<C: Bench>(&mut self, alloc: Global, cloud: &mut C, who: Who) -> Turn<Answer>
         requires { IsAtWork who.session self.old.sessions }
-        ensures session { Changes who.session (λ a b. StepsSession who (C.seen cloud.old) (C.seen cloud.new) a b (Ok result)) self.old.sessions self.new.sessions }
+        ensures session { Changes who.session (λ a b. StepsSession who (C.seen cloud.old) (C.seen cloud.new) a b
+            (Ok result)) self.old.sessions self.new.sessions }
         ensures audit { self.new.audit ≡ self.old.audit }
         ensures blind { self.new.blind ≡ self.old.blind }
         ensures notes { KeepsNotes self.old self.new }
@@ -208,7 +209,8 @@ impl<S: SessionCalls> World<S> {
 
 /// Whether a look failed, in earlier steps or before or after the put of this one.
 fn is_blinded(blind: bool, before: Option<bool>, after: Option<bool>) -> bool
-    ensures saw { result ≡ false → (blind ≡ false) × (is_blind before ≡ false) × (is_blind after ≡ false) }
+    ensures saw { result ≡ false
+        → (blind ≡ false) × (is_blind before ≡ false) × (is_blind after ≡ false) }
     ensures blinded { result ≡ true → (blind ≡ true) ⊎ ((before ≡ None) ⊎ (after ≡ None)) }
 {
     blind || before.is_none() || after.is_none()

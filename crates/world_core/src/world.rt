@@ -100,7 +100,7 @@ impl<S: SessionCalls> World<S> {
     ghost use Rattle.world_core.specs.Swept.{SweepLeaves};
     ghost use Rattle.world_core.specs.Stands.{KeepsABook, WorldStands, StandsOn};
     ghost use Rattle.world_core.specs.Sessions.{Changes, IsNotWorking, IsAtWork};
-    ghost use Rattle.world_core.specs.Handled.{BeginsBook, BeginsCheckpoint, ClearsNotes, FailsAt, IsOpen, KeepsNotes, MakesOne, Policies, WorksOff, WorksShort, WorksThrough, Handled, Answers, Does, BeginsOp, NotesChange, DropsChanges, MakesStep, ComesTo, Runs, Has, Crashes, CrashesDone, StopsShort, Reports, BreaksOff, LeavesReplied};
+    ghost use Rattle.world_core.specs.Handled.{BeginsBook, BeginsCheckpoint, IsGiven, ClearsNotes, FailsAt, IsOpen, KeepsNotes, MakesOne, Policies, WorksOff, WorksShort, WorksThrough, Handled, Answers, Does, BeginsOp, NotesChange, DropsChanges, MakesStep, ComesTo, Runs, Has, Crashes, CrashesDone, StopsShort, Reports, BreaksOff, LeavesReplied};
 
     /// A world whose sessions are closed, and that saw nothing: over an empty cloud it stands for no lines. Refused for memory
     /// alone.
@@ -511,7 +511,7 @@ impl<S: SessionCalls> World<S> {
         ensures sessions { self.new.sessions ≡ self.old.sessions }
         ensures audit { self.new.audit ≡ self.old.audit }
         ensures blind { self.new.blind ≡ self.old.blind }
-        ensures notes { ChangesBook number (λ a b. b ≡ record a { ledger = Some (record { role = role; k = k; client = client; counts = [] }) }) self.old.notes self.new.notes }
+        ensures notes { ChangesBook number (IsGiven role k client) self.old.notes self.new.notes }
     {
         match Ledger::new(alloc, role, k, client) {
             Ok(ledger) => {
@@ -731,8 +731,9 @@ fn unanswered(_turn: Turn<Answer>) {}
 /// Lets the clock go on.
 #[tactic(auto, using(crate::proofs::GrowthLemmas::grows_not, crate::proofs::GrowthLemmas::grows_wait, crate::proofs::QuotaLemmas::spends_not))]
 fn wait<C: Bench>(cloud: &mut C, ticks: u64) -> Result<Reply, WorldFault>
-    ensures within { ticks ≤ 1000000 → WaitsFor ticks (C.seen cloud.old) (C.seen cloud.new) result }
-    ensures beyond { 1000000 < ticks → (result ≡ Ok (Reply.Refused Refusal.BadNumber)) × (C.seen cloud.new ≡ C.seen cloud.old) }
+    ensures within { ticks ≤ MAX_WAIT → WaitsFor ticks (C.seen cloud.old) (C.seen cloud.new) result }
+    ensures beyond { MAX_WAIT < ticks
+        → (result ≡ Ok (Reply.Refused Refusal.BadNumber)) × (C.seen cloud.new ≡ C.seen cloud.old) }
     ensures grows { (n : ℕ) → Grows n (C.seen cloud.old) (C.seen cloud.new) }
     ensures spends { (quota : ℕ) → SpendsQuota (C.seen cloud.old) (C.seen cloud.new) quota quota }
 {

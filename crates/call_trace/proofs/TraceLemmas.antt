@@ -7,6 +7,7 @@ use Rattle.db_io.specs.Content.{Told}
 use Rattle.db_io.specs.Writes.{Written}
 use Rattle.db_io.specs.Output.{WasWritten}
 use Rattle.db_io.specs.declared.output.OutputFault.{OutputFault}
+use Rattle.schedule_run.specs.Outside.{outside}
 use Rattle.schedule_run.specs.Run.{Ran, Replays}
 use Rattle.schedule_run.specs.declared.status.Status.{Status}
 use Rattle.traced_cloud.specs.declared.form.Form.{Form}
@@ -27,8 +28,8 @@ writes_so form replies others notes status written now_written text bytes ended 
 -- the words of a replay ran as one
 pub replays_so : (words : List (List ℕ)) (status : Status) (left rest : Told) (before replies : List (List ℕ)) (start now : Seen)
     → words ≡ codes "replay" ∷ [] → before ≡ []
-    → Ran (shape_of words) status left rest (told_of before) (told_of replies) start now
-    → Replays status left rest (told_of []) (told_of replies) start now
+    → Ran (shape_of words) status (outside left (told_of before) start) (outside rest (told_of replies) now)
+    → Replays status (outside left (told_of []) start) (outside rest (told_of replies) now)
 replays_so words status left rest before replies start now e f r =
-    subst (λ z. Replays status left rest (told_of z) (told_of replies) start now) f
-    (subst (λ z. Ran (shape_of z) status left rest (told_of before) (told_of replies) start now) e r)
+    subst (λ z. Replays status (outside left (told_of z) start) (outside rest (told_of replies) now)) f
+    (subst (λ z. Ran (shape_of z) status (outside left (told_of before) start) (outside rest (told_of replies) now)) e r)

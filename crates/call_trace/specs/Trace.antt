@@ -5,6 +5,7 @@ use Rattle.db_io.specs.Content.{Told}
 use Rattle.db_io.specs.Writes.{Written}
 use Rattle.db_io.specs.Output.{WasWritten}
 use Rattle.db_io.specs.declared.output.OutputFault.{OutputFault}
+use Rattle.schedule_run.specs.Outside.{outside}
 use Rattle.schedule_run.specs.Run.{Replays}
 use Rattle.schedule_run.specs.Status.{status_of_output}
 use Rattle.schedule_run.specs.declared.status.Status.{Status}
@@ -30,6 +31,6 @@ pub data Writes (form : Form) (replies : List (List ℕ)) (notes : List Note) (s
 -- out, and nothing was written
 pub data Traces (form : Form) (result : Status) (left rest : Told) (written now_written : Written) (noted : Notes) (start now : Seen) : Type 0 where
   traces_all : (status : Status) (replies : List (List ℕ)) → noted.short ≡ false
-      → Replays status left rest (told_of []) (told_of replies) start now
+      → Replays status (outside left (told_of []) start) (outside rest (told_of replies) now)
       → Writes form replies noted.made status result written now_written → Traces form result left rest written now_written noted start now
   traces_none : result ≡ Memory → now_written ≡ written → Traces form result left rest written now_written noted start now

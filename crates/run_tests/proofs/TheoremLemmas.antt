@@ -9,6 +9,7 @@ use Rattle.db_io.specs.Content.{Told}
 use Rattle.db_io.specs.Writes.{Written}
 use Rattle.db_io.specs.declared.input.InputFault.{InputFault}
 use Rattle.db_io.specs.declared.input.InputFault.TheVariants as input
+use Rattle.schedule_run.specs.Outside.{effects, outside}
 use Rattle.schedule_run.specs.Written.{replies}
 use Rattle.schedule_run.specs.Replayed.{AreSpelled, WentThrough}
 use Rattle.schedule_run.specs.Run.{Ran, Replays, replay_unread, replay_went}
@@ -32,7 +33,7 @@ fault_never line.Memory e = absurd (cc)
 
 module _ (text : List ℕ) (written : List (List ℕ)) (left rest : Told) (w u : Written) (start now : Seen) (s : CloudState) (content : left.content ≡ Some text)
     (empty : w.writes ≡ Some []) (is : u.writes ≡ Some written) (told : start.state ≡ Some s) (fresh : IsEmptyCloud s) where
-  went_whole : WentThrough text (Ok tt) w u start now → IsReplayOf text written
+  went_whole : WentThrough text (Ok tt) (effects w start) (effects u now) → IsReplayOf text written
   went_whole h =
       let keeps = h.theorem s told fresh in
       record {
@@ -47,10 +48,10 @@ module _ (text : List ℕ) (written : List (List ℕ)) (left rest : Told) (w u :
         traced = keeps.6;
       }
 
-  replays_whole : Replays Done left rest w u start now → IsReplayOf text written
+  replays_whole : Replays Done (outside left w start) (outside rest u now) → IsReplayOf text written
   replays_whole (replay_unread fault e nothing) = absurd (unread_never fault e)
   replays_whole (replay_went read (Err fault) e went) = absurd (fault_never fault e)
-  replays_whole (replay_went read (Ok done) e went) = went_whole (subst (λ bytes. WentThrough bytes (Ok tt) w u start now) (sym (read.all text content)) went)
+  replays_whole (replay_went read (Ok done) e went) = went_whole (subst (λ bytes. WentThrough bytes (Ok tt) (effects w start) (effects u now)) (sym (read.all text content)) went)
 
-  pub is_replay : (words : List (List ℕ)) → words ≡ codes "replay" ∷ [] → Ran (shape_of words) Done left rest w u start now → IsReplayOf text written
-  is_replay words e ran = replays_whole (subst (λ ws. Ran (shape_of ws) Done left rest w u start now) e ran)
+  pub is_replay : (words : List (List ℕ)) → words ≡ codes "replay" ∷ [] → Ran (shape_of words) Done (outside left w start) (outside rest u now) → IsReplayOf text written
+  is_replay words e ran = replays_whole (subst (λ ws. Ran (shape_of ws) Done (outside left w start) (outside rest u now)) e ran)

@@ -12,6 +12,7 @@ use Rattle.db_io.specs.declared.input.InputFault.{InputFault}
 use Rattle.db_io.specs.declared.input.InputFault.TheVariants as input
 use Rattle.db_io.specs.Lines.{lines_of}
 use Rattle.replay_meaning.specs.Standing.{Line}
+use Rattle.schedule_run.specs.Outside.{effects, outside}
 use Rattle.schedule_run.specs.declared.replay.LineFault.{LineFault}
 use Rattle.schedule_run.specs.declared.replay.LineFault.TheVariants as line
 use Rattle.schedule_run.specs.declared.dumping.DumpingFault.{DumpingFault}
@@ -72,7 +73,7 @@ unread_not_done input.TooLong e = absurd (cc)
 unread_not_done input.Memory e = absurd (cc)
 
 replay_lines_good : (ended : Result (Unit {0}) LineFault) (text : List ℕ) (w u : Written) (s t : Seen) → status.Done ≡ ended_as status_of_line ended
-    → ReplayWent ended text w u s t → HasBadLine text → ⊥
+    → ReplayWent ended text (effects w s) (effects u t) → HasBadLine text → ⊥
 replay_lines_good (Ok done) text w u s t e went bad =
     let all = all_of (lines_of text) went.earlier went.later bad.earlier bad.later bad.line went.at went.so.0 bad.at in
     let event = spelled_at bad.earlier bad.later bad.line went.lines (subst (λ l. AreSpelled l went.lines) all went.spelled) in
@@ -82,7 +83,7 @@ replay_lines_good (Err line.WriteFault) text w u s t e went bad = absurd (cc)
 replay_lines_good (Err line.Memory) text w u s t e went bad = absurd (cc)
 
 shell_lines_good : (client : ℕ) (ended : Result (Unit {0}) ShellFault) (text : List ℕ) (w u : Written) (s t : Seen) → status.Done ≡ ended_as status_of_shell ended
-    → ShellWent client text ended w u s t → HasBadShellLine text → ⊥
+    → ShellWent client text ended (effects w s) (effects u t) → HasBadShellLine text → ⊥
 shell_lines_good client (Ok done) text w u s t e went bad =
     let all = all_of (lines_of text) went.earlier went.later bad.earlier bad.later bad.line went.at went.so.0 bad.at in
     let event = shell_at bad.earlier bad.later bad.line went.events (subst (λ l. AreShellLines l went.events) all went.spelled) in
@@ -92,19 +93,19 @@ shell_lines_good client (Err shell.BadLine) text w u s t e went bad = absurd (cc
 shell_lines_good client (Err shell.WriteFault) text w u s t e went bad = absurd (cc)
 shell_lines_good client (Err shell.Memory) text w u s t e went bad = absurd (cc)
 
-replay_good : (left rest : Told) (w u : Written) (s t : Seen) → IsKnown left → Replays status.Done left rest w u s t → WasBad HasBadLine left rest → ⊥
+replay_good : (left rest : Told) (w u : Written) (s t : Seen) → IsKnown left → Replays status.Done (outside left w s) (outside rest u t) → WasBad HasBadLine left rest → ⊥
 replay_good left rest w u s t known (replay_unread fault e nothing) bad = unread_not_done fault e
 replay_good left rest w u s t known (replay_went read ended e went) bad =
     replay_lines_good ended read.bytes w u s t e went (subst HasBadLine (same_bytes left rest read.bytes bad.bytes known read.taken bad.taken) bad.bad)
 
-shell_good : (client : ℕ) (left rest : Told) (w u : Written) (s t : Seen) → IsKnown left → RunsShell client status.Done left rest w u s t → WasBad HasBadShellLine left rest → ⊥
+shell_good : (client : ℕ) (left rest : Told) (w u : Written) (s t : Seen) → IsKnown left → RunsShell client status.Done (outside left w s) (outside rest u t) → WasBad HasBadShellLine left rest → ⊥
 shell_good client left rest w u s t known (shell_unread fault e nothing) bad = unread_not_done fault e
 shell_good client left rest w u s t known (shell_went read ended e went) bad =
     shell_lines_good client ended read.bytes w u s t e went (subst HasBadShellLine (same_bytes left rest read.bytes bad.bytes known read.taken bad.taken) bad.bad)
 
 -- a text that spells a dump is not bad
 fill_good : (ended : Result (Unit {0}) LoadingFault) (text : List ℕ) (w u : Written) (s t : Seen) → status.Done ≡ ended_as status_of_load ended
-    → FillEnded text ended w u s t → SpellsNoDump text → ⊥
+    → FillEnded text ended (effects w s) (effects u t) → SpellsNoDump text → ⊥
 fill_good (Ok done) text w u s t e (fill_went trees spelled went) bad = bad trees spelled
 fill_good (Ok done) text w u s t e (fill_bad number is told still) bad = let clash = told.0 in absurd (cc)
 fill_good (Ok done) text w u s t e (fill_unread out nothing) bad = absurd (cc)
@@ -117,12 +118,12 @@ fill_good (Err load.NotSettled) text w u s t e went bad = absurd (cc)
 fill_good (Err load.WriteFault) text w u s t e went bad = absurd (cc)
 fill_good (Err load.Memory) text w u s t e went bad = absurd (cc)
 
-load_good : (left rest : Told) (w u : Written) (s t : Seen) → IsKnown left → RunsLoad status.Done left rest w u s t → WasBad SpellsNoDump left rest → ⊥
+load_good : (left rest : Told) (w u : Written) (s t : Seen) → IsKnown left → RunsLoad status.Done (outside left w s) (outside rest u t) → WasBad SpellsNoDump left rest → ⊥
 load_good left rest w u s t known (load_unread fault e nothing) bad = unread_not_done fault e
 load_good left rest w u s t known (load_went read ended e went) bad =
     fill_good ended read.bytes w u s t e went (subst SpellsNoDump (same_bytes left rest read.bytes bad.bytes known read.taken bad.taken) bad.bad)
 
-all_good : (shape : Shape) (left rest : Told) (w u : Written) (s t : Seen) → IsKnown left → Ran (Some shape) status.Done left rest w u s t → ReadBadLine (Some shape) left rest → ⊥
+all_good : (shape : Shape) (left rest : Told) (w u : Written) (s t : Seen) → IsKnown left → Ran (Some shape) status.Done (outside left w s) (outside rest u t) → ReadBadLine (Some shape) left rest → ⊥
 all_good Replay left rest w u s t known ran bad = replay_good left rest w u s t known ran bad
 all_good (Gen number count) left rest w u s t known ran bad = bad.bad
 all_good (Shell client dir) left rest w u s t known ran bad = shell_good client left rest w u s t known ran bad
@@ -141,7 +142,7 @@ pub record Caused (asked : Option Shape) (result : Status) (left rest : Told) (w
   pub write_fault : result ≡ status.WriteFault → written.faults < now_written.faults
 
 -- this status is one of those with which it may end
-is_one : (wanted : Status) (shape : Shape) (result : Status) (w u : Written) (s t : Seen) → result ≡ wanted → EndsWith wanted (Some shape) result w u s t
+is_one : (wanted : Status) (shape : Shape) (result : Status) (w u : Written) (s t : Seen) → result ≡ wanted → EndsWith wanted (Some shape) result (effects w s) (effects u t)
 is_one wanted Replay result w u s t e = inl e
 is_one wanted (Gen number count) result w u s t e = inl e
 is_one wanted (Shell client dir) result w u s t e = inl (inl e)
@@ -150,7 +151,7 @@ is_one wanted (Dump dir) result w u s t e = inl (inl e)
 is_one wanted (Load dir) result w u s t e = inl (inl e)
 
 -- so is want of memory
-pub out_of_memory : (wanted : Status) (asked : Option Shape) (w u : Written) (s t : Seen) → EndsWith wanted asked status.Memory w u s t
+pub out_of_memory : (wanted : Status) (asked : Option Shape) (w u : Written) (s t : Seen) → EndsWith wanted asked status.Memory (effects w s) (effects u t)
 out_of_memory wanted (Some Replay) w u s t = inr refl
 out_of_memory wanted (Some (Gen number count)) w u s t = inr refl
 out_of_memory wanted (Some (Shell client dir)) w u s t = inl (inr refl)
@@ -165,10 +166,10 @@ Fit wanted shape left rest = (wanted ≡ status.Done) ⊎ (IsKnown left × ReadB
 
 -- a load that ended so stopped, and what it read is not bad
 load_stops : (wanted result : Status) (dir : List ℕ) (left rest : Told) (w u : Written) (s t : Seen) → Falls result → Fit wanted (Load dir) left rest
-    → RunsLoad result left rest w u s t → EndsWith wanted (Some (Load dir)) result w u s t
+    → RunsLoad result (outside left w s) (outside rest u t) → EndsWith wanted (Some (Load dir)) result (effects w s) (effects u t)
 load_stops wanted result dir left rest w u s t f fit ran = on (fallen result left rest w u s t f ran) fit
   where
-    on : Fallen result left rest w u s t → Fit wanted (Load dir) left rest → EndsWith wanted (Some (Load dir)) result w u s t
+    on : Fallen result left rest w u s t → Fit wanted (Load dir) left rest → EndsWith wanted (Some (Load dir)) result (effects w s) (effects u t)
     on it (inl e) = inr (e, it.stopped)
     on it (inr both) =
         let read = it.input in
@@ -177,14 +178,14 @@ load_stops wanted result dir left rest w u s t f fit ran = on (fallen result lef
 
 -- a settling that ended so stopped
 stopped : (ended : Result (Unit {0}) SettleFault) (w u : Written) (s t : Seen) → status.NotSettled ≡ ended_as status_of_settle ended
-    → SettleEnded ended w u s t → SettleEnded (Err settle.NotSettled) w u s t
+    → SettleEnded ended (effects w s) (effects u t) → SettleEnded (Err settle.NotSettled) (effects w s) (effects u t)
 stopped (Ok done) w u s t e so = absurd (cc)
 stopped (Err settle.NotSettled) w u s t e so = so
 stopped (Err settle.WriteFault) w u s t e so = absurd (cc)
 stopped (Err settle.Memory) w u s t e so = absurd (cc)
 
-unsettled : (wanted : Status) (shape : Shape) (left rest : Told) (w u : Written) (s t : Seen) → Fit wanted shape left rest → IsOfShape (Some shape) status.NotSettled → Ran (Some shape) status.NotSettled left rest w u s t
-    → EndsWith wanted (Some shape) status.NotSettled w u s t
+unsettled : (wanted : Status) (shape : Shape) (left rest : Told) (w u : Written) (s t : Seen) → Fit wanted shape left rest → IsOfShape (Some shape) status.NotSettled → Ran (Some shape) status.NotSettled (outside left w s) (outside rest u t)
+    → EndsWith wanted (Some shape) status.NotSettled (effects w s) (effects u t)
 unsettled wanted Replay left rest w u s t fit asks ran = absurd asks
 unsettled wanted (Gen number count) left rest w u s t fit asks ran = absurd asks
 unsettled wanted (Shell client dir) left rest w u s t fit asks ran = absurd asks
@@ -199,19 +200,19 @@ unread_not_opened input.TooLong e = absurd (cc)
 unread_not_opened input.Memory e = absurd (cc)
 
 closed : (client : ℕ) (ended : Result (Unit {0}) ShellFault) (text : List ℕ) (w u : Written) (s t : Seen) → status.NotOpened ≡ ended_as status_of_shell ended
-    → ShellWent client text ended w u s t → WasNotOpened client w u s t
+    → ShellWent client text ended (effects w s) (effects u t) → WasNotOpened client (effects w s) (effects u t)
 closed client (Ok done) text w u s t e went = absurd (cc)
 closed client (Err shell.NotOpened) text w u s t e went = went.so
 closed client (Err shell.BadLine) text w u s t e went = absurd (cc)
 closed client (Err shell.WriteFault) text w u s t e went = absurd (cc)
 closed client (Err shell.Memory) text w u s t e went = absurd (cc)
 
-not_opened : (client : ℕ) (left rest : Told) (w u : Written) (s t : Seen) → RunsShell client status.NotOpened left rest w u s t → WasNotOpened client w u s t
+not_opened : (client : ℕ) (left rest : Told) (w u : Written) (s t : Seen) → RunsShell client status.NotOpened (outside left w s) (outside rest u t) → WasNotOpened client (effects w s) (effects u t)
 not_opened client left rest w u s t (shell_unread fault e nothing) = absurd (unread_not_opened fault e)
 not_opened client left rest w u s t (shell_went read ended e went) = closed client ended read.bytes w u s t e went
 
-unopened : (wanted : Status) (shape : Shape) (left rest : Told) (w u : Written) (s t : Seen) → Fit wanted shape left rest → IsOfShape (Some shape) status.NotOpened → Ran (Some shape) status.NotOpened left rest w u s t
-    → EndsWith wanted (Some shape) status.NotOpened w u s t
+unopened : (wanted : Status) (shape : Shape) (left rest : Told) (w u : Written) (s t : Seen) → Fit wanted shape left rest → IsOfShape (Some shape) status.NotOpened → Ran (Some shape) status.NotOpened (outside left w s) (outside rest u t)
+    → EndsWith wanted (Some shape) status.NotOpened (effects w s) (effects u t)
 unopened wanted Replay left rest w u s t fit asks ran = absurd asks
 unopened wanted (Gen number count) left rest w u s t fit asks ran = absurd asks
 unopened wanted (Shell client dir) left rest w u s t fit asks ran = inr (refl, not_opened client left rest w u s t ran)
@@ -220,32 +221,32 @@ unopened wanted (Load dir) left rest w u s t fit asks ran = load_stops wanted st
 unopened wanted (Settle dir) left rest w u s t fit asks ran = absurd asks
 
 -- a dump that ended so was not quiet, or stopped
-not_quiet : (ended : Result (Unit {0}) DumpingFault) (w u : Written) (s t : Seen) → status.NotQuiet ≡ ended_as status_of_dump ended → DumpEnded ended w u s t
-    → DumpEnded (Err dump.NotQuiet) w u s t
+not_quiet : (ended : Result (Unit {0}) DumpingFault) (w u : Written) (s t : Seen) → status.NotQuiet ≡ ended_as status_of_dump ended → DumpEnded ended (effects w s) (effects u t)
+    → DumpEnded (Err dump.NotQuiet) (effects w s) (effects u t)
 not_quiet (Ok done) w u s t e so = absurd (cc)
 not_quiet (Err dump.NotQuiet) w u s t e so = so
 not_quiet (Err dump.Stopped) w u s t e so = absurd (cc)
 not_quiet (Err dump.WriteFault) w u s t e so = absurd (cc)
 not_quiet (Err dump.Memory) w u s t e so = absurd (cc)
 
-looks_stopped : (ended : Result (Unit {0}) DumpingFault) (w u : Written) (s t : Seen) → status.Stopped ≡ ended_as status_of_dump ended → DumpEnded ended w u s t
-    → DumpEnded (Err dump.Stopped) w u s t
+looks_stopped : (ended : Result (Unit {0}) DumpingFault) (w u : Written) (s t : Seen) → status.Stopped ≡ ended_as status_of_dump ended → DumpEnded ended (effects w s) (effects u t)
+    → DumpEnded (Err dump.Stopped) (effects w s) (effects u t)
 looks_stopped (Ok done) w u s t e so = absurd (cc)
 looks_stopped (Err dump.NotQuiet) w u s t e so = absurd (cc)
 looks_stopped (Err dump.Stopped) w u s t e so = so
 looks_stopped (Err dump.WriteFault) w u s t e so = absurd (cc)
 looks_stopped (Err dump.Memory) w u s t e so = absurd (cc)
 
-dump_not_quiet : (w u : Written) (s t : Seen) → RunsDump status.NotQuiet w u s t → DumpEnded (Err dump.NotQuiet) w u s t
+dump_not_quiet : (w u : Written) (s t : Seen) → RunsDump status.NotQuiet (effects w s) (effects u t) → DumpEnded (Err dump.NotQuiet) (effects w s) (effects u t)
 dump_not_quiet w u s t (dump_unasked e nothing) = absurd (cc)
 dump_not_quiet w u s t (dump_went ended e went) = not_quiet ended w u s t e went
 
-dump_stopped : (w u : Written) (s t : Seen) → RunsDump status.Stopped w u s t → DumpEnded (Err dump.Stopped) w u s t
+dump_stopped : (w u : Written) (s t : Seen) → RunsDump status.Stopped (effects w s) (effects u t) → DumpEnded (Err dump.Stopped) (effects w s) (effects u t)
 dump_stopped w u s t (dump_unasked e nothing) = absurd (cc)
 dump_stopped w u s t (dump_went ended e went) = looks_stopped ended w u s t e went
 
-unquiet : (wanted : Status) (shape : Shape) (left rest : Told) (w u : Written) (s t : Seen) → IsOfShape (Some shape) status.NotQuiet → Ran (Some shape) status.NotQuiet left rest w u s t
-    → EndsWith wanted (Some shape) status.NotQuiet w u s t
+unquiet : (wanted : Status) (shape : Shape) (left rest : Told) (w u : Written) (s t : Seen) → IsOfShape (Some shape) status.NotQuiet → Ran (Some shape) status.NotQuiet (outside left w s) (outside rest u t)
+    → EndsWith wanted (Some shape) status.NotQuiet (effects w s) (effects u t)
 unquiet wanted Replay left rest w u s t asks ran = absurd asks
 unquiet wanted (Gen number count) left rest w u s t asks ran = absurd asks
 unquiet wanted (Shell client dir) left rest w u s t asks ran = absurd asks
@@ -253,8 +254,8 @@ unquiet wanted (Settle dir) left rest w u s t asks ran = absurd asks
 unquiet wanted (Dump dir) left rest w u s t asks ran = inr (inl (refl, dump_not_quiet w u s t ran.1))
 unquiet wanted (Load dir) left rest w u s t asks ran = absurd asks
 
-looked : (wanted : Status) (shape : Shape) (left rest : Told) (w u : Written) (s t : Seen) → Fit wanted shape left rest → IsOfShape (Some shape) status.Stopped → Ran (Some shape) status.Stopped left rest w u s t
-    → EndsWith wanted (Some shape) status.Stopped w u s t
+looked : (wanted : Status) (shape : Shape) (left rest : Told) (w u : Written) (s t : Seen) → Fit wanted shape left rest → IsOfShape (Some shape) status.Stopped → Ran (Some shape) status.Stopped (outside left w s) (outside rest u t)
+    → EndsWith wanted (Some shape) status.Stopped (effects w s) (effects u t)
 looked wanted Replay left rest w u s t fit asks ran = absurd asks
 looked wanted (Gen number count) left rest w u s t fit asks ran = absurd asks
 looked wanted (Shell client dir) left rest w u s t fit asks ran = absurd asks
@@ -284,7 +285,7 @@ commit_loads (Load dir) is = tt
 
 -- a load whose cloud was not empty, or that did not commit
 unloaded : (wanted result : Status) (shape : Shape) (left rest : Told) (w u : Written) (s t : Seen) → Falls result → Fit wanted shape left rest
-    → IsLoad shape → Ran (Some shape) result left rest w u s t → EndsWith wanted (Some shape) result w u s t
+    → IsLoad shape → Ran (Some shape) result (outside left w s) (outside rest u t) → EndsWith wanted (Some shape) result (effects w s) (effects u t)
 unloaded wanted result Replay left rest w u s t f fit asks ran = absurd asks
 unloaded wanted result (Gen number count) left rest w u s t f fit asks ran = absurd asks
 unloaded wanted result (Shell client dir) left rest w u s t f fit asks ran = absurd asks
@@ -312,8 +313,8 @@ memory_of None = tt
 
 -- where all went in order, a run is done or ended by a bad line, unless it ends as it may
 in_order : (wanted : Status) (shape : Shape) (result : Status) (left rest : Told) (w u : Written) (s t : Seen) → Caused (Some shape) result left rest w u
-    → Ran (Some shape) result left rest w u s t → WentInOrder (Some shape) left rest w u → Fit wanted shape left rest → (result ≡ status.Done → EndsWith wanted (Some shape) result w u s t)
-    → (result ≡ status.BadLine → EndsWith wanted (Some shape) result w u s t) → EndsWith wanted (Some shape) result w u s t
+    → Ran (Some shape) result (outside left w s) (outside rest u t) → WentInOrder (Some shape) (outside left w s) (outside rest u t) → Fit wanted shape left rest → (result ≡ status.Done → EndsWith wanted (Some shape) result (effects w s) (effects u t))
+    → (result ≡ status.BadLine → EndsWith wanted (Some shape) result (effects w s) (effects u t)) → EndsWith wanted (Some shape) result (effects w s) (effects u t)
 in_order wanted shape status.Done left rest w u s t c ran order fit done bad = done refl
 in_order wanted shape status.BadLine left rest w u s t c ran order fit done bad = bad refl
 in_order wanted shape status.BadWords left rest w u s t c ran order fit done bad = absurd (of_words shape c.only)
@@ -333,13 +334,13 @@ in_order wanted shape status.NotLoaded left rest w u s t c ran order fit done ba
 in_order wanted shape status.Stopped left rest w u s t c ran order fit done bad = looked wanted shape left rest w u s t fit c.only ran
 
 pub completes : (shape : Shape) (result : Status) (left rest : Told) (w u : Written) (s t : Seen) → Caused (Some shape) result left rest w u
-    → Ran (Some shape) result left rest w u s t → IsComplete (Some shape) result left rest w u s t
+    → Ran (Some shape) result (outside left w s) (outside rest u t) → IsComplete (Some shape) result (outside left w s) (outside rest u t)
 completes shape result left rest w u s t c ran order good =
     in_order status.Done shape result left rest w u s t c ran order (inl refl) (is_one status.Done shape result w u s t) (λ e. absurd (good (c.bad_line e)))
 
 pub stops_at_bad_line : (shape : Shape) (result : Status) (left rest : Told) (w u : Written) (s t : Seen) → Caused (Some shape) result left rest w u
-    → Ran (Some shape) result left rest w u s t → StopsAtBadLine (Some shape) result left rest w u s t
+    → Ran (Some shape) result (outside left w s) (outside rest u t) → StopsAtBadLine (Some shape) result (outside left w s) (outside rest u t)
 stops_at_bad_line shape result left rest w u s t c ran order known bad =
     in_order status.BadLine shape result left rest w u s t c ran order (inr (known, bad))
-    (λ e. absurd (all_good shape left rest w u s t known (subst (λ r. Ran (Some shape) r left rest w u s t) e ran) bad))
+    (λ e. absurd (all_good shape left rest w u s t known (subst (λ r. Ran (Some shape) r (outside left w s) (outside rest u t)) e ran) bad))
     (is_one status.BadLine shape result w u s t)

@@ -14,6 +14,7 @@ use Rattle.db_io.specs.declared.output.OutputFault.{OutputFault}
 use Rattle.db_io.specs.declared.output.OutputFault.TheVariants as output
 use Rattle.db_io.specs.Output.{WasWritten}
 use Rattle.reply_text.specs.declared.reply.Reply.TheVariants as reply
+use Rattle.schedule_run.specs.Outside.{effects}
 use Rattle.schedule_run.specs.Written.{name_line, plain_line}
 use Rattle.schedule_run.specs.declared.dumping.DumpingFault.{DumpingFault}
 use Rattle.schedule_run.specs.declared.dumping.DumpingFault.TheVariants.{NotQuiet, Stopped, WriteFault, Memory}
@@ -67,5 +68,5 @@ tells_trouble trouble (Err output.Memory) w u other p = p.0
 
 -- a dump that was taken, and told so, ends so
 pub dump_ended : (taken : Result Dump DumpStop) (ended : Result (Unit {0}) DumpingFault) (w u : Written) (s t : Seen) → Takes s taken → Looked s t → StopsDark taken s t
-    → IsTold taken ended w u → DumpEnded ended w u s t
+    → IsTold taken ended w u → DumpEnded ended (effects w s) (effects u t)
 dump_ended taken ended w u s t takes looked failed told = record { taken = taken; takes = takes; looked = looked; failed = failed; told = told }

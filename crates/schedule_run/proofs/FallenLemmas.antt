@@ -8,6 +8,7 @@ use Rattle.dump_text.specs.Text.{IsDump}
 use Rattle.db_io.specs.declared.input.InputFault.{InputFault}
 use Rattle.db_io.specs.declared.input.InputFault.TheVariants as input
 use Rattle.db_io.specs.declared.input.TheConstants.{MAX_DUMP}
+use Rattle.schedule_run.specs.Outside.{effects, outside}
 use Rattle.schedule_run.specs.declared.load.Loaded.{Loaded}
 use Rattle.schedule_run.specs.declared.load.LoadStop.{LoadStop}
 use Rattle.schedule_run.specs.declared.loading.LoadingFault.{LoadingFault}
@@ -35,13 +36,13 @@ Spells text = (trees : List DumpedTree) × IsDump text trees
 
 -- what a load came to by which it ends so
 came : (trees : List DumpedTree) (loaded : Result Loaded LoadStop) (fault : LoadingFault) (w u : Written) (s t : Seen) → load_end loaded ≡ Err fault
-    → LoadEnded loaded trees s t → AddsOne w u (load_text loaded) → LoadStopped (status_of_load fault) w u s t
+    → LoadEnded loaded trees s t → AddsOne w u (load_text loaded) → LoadStopped (status_of_load fault) (effects w s) (effects u t)
 came trees (Ok loaded) fault w u s t e went one = absurd (cc)
 came trees (Err stop) fault w u s t e went one = record { trees = trees; stop = stop; went = went; leads = sym (ap (ended_as status_of_load) e); told = one }
 
 -- a load of a text that stopped was one of a dump
-fell : (fault : LoadingFault) (text : List ℕ) (w u : Written) (s t : Seen) → Falls (status_of_load fault) → FillEnded text (Err fault) w u s t
-    → Spells text × LoadStopped (status_of_load fault) w u s t
+fell : (fault : LoadingFault) (text : List ℕ) (w u : Written) (s t : Seen) → Falls (status_of_load fault) → FillEnded text (Err fault) (effects w s) (effects u t)
+    → Spells text × LoadStopped (status_of_load fault) (effects w s) (effects u t)
 fell load.NotSettled text w u s t f (fill_went trees spelled went) = ((trees, spelled), came trees went.loaded load.NotSettled w u s t went.told.0 went.went went.told.1)
 fell load.NotSettled text w u s t f (fill_bad number is told still) = let e = told.0 in absurd (cc)
 fell load.NotSettled text w u s t f (fill_unread e nothing) = absurd (cc)
@@ -65,16 +66,16 @@ fell load.Memory text w u s t f went = absurd f
 pub record Fallen (result : Status) (left rest : Told) (written now_written : Written) (start now : Seen) : Type 0 where
   pub input : ReadWhole MAX_DUMP left rest
   pub spells : Spells input.bytes
-  pub stopped : LoadStopped result written now_written start now
+  pub stopped : LoadStopped result (effects written start) (effects now_written now)
 
 unread : (fault : InputFault) → Falls (status_of_input fault) → ⊥
 unread input.ReadFault f = f
 unread input.TooLong f = f
 unread input.Memory f = f
 
-pub fallen : (result : Status) (left rest : Told) (w u : Written) (s t : Seen) → Falls result → RunsLoad result left rest w u s t → Fallen result left rest w u s t
+pub fallen : (result : Status) (left rest : Told) (w u : Written) (s t : Seen) → Falls result → RunsLoad result (outside left w s) (outside rest u t) → Fallen result left rest w u s t
 fallen result left rest w u s t f (load_unread fault e nothing) = absurd (unread fault (subst Falls e f))
 fallen result left rest w u s t f (load_went read (Ok done) e went) = absurd (subst Falls e f)
 fallen result left rest w u s t f (load_went read (Err fault) e went) =
     let both = fell fault read.bytes w u s t (subst Falls e f) went in
-    record { input = read; spells = both.0; stopped = subst (λ r. LoadStopped r w u s t) (sym e) both.1 }
+    record { input = read; spells = both.0; stopped = subst (λ r. LoadStopped r (effects w s) (effects u t)) (sym e) both.1 }

@@ -12,6 +12,7 @@ use Rattle.db_io.specs.declared.output.OutputFault.{OutputFault}
 use Rattle.db_io.specs.declared.output.OutputFault.TheVariants.{WriteFault, Memory}
 use Rattle.reply_text.specs.declared.reply.Reply.{Reply}
 use Rattle.replay_meaning.specs.Standing.{Line}
+use Rattle.schedule_run.specs.Outside.{effects}
 use Rattle.schedule_run.specs.InPlay.{Play}
 use Rattle.schedule_run.specs.Play.{IsFresh, IsNext, RanOut}
 use Rattle.schedule_run.specs.Answered.{events_of, OpensNoneTwice}
@@ -105,7 +106,7 @@ handles_all events last settling report s t y z old mid new h next shown = recor
 
 -- what is written of them
 gen_ended : (events : List Event) (settling report : Reply) (w u : Written) (s t : Seen) (result : Result (Unit {0}) OutputFault)
-    → HandlesAll events settling report s t → WasWritten w u (summary (length events) settling report) result → GenEnded events result w u s t
+    → HandlesAll events settling report s t → WasWritten w u (summary (length events) settling report) result → GenEnded events result (effects w s) (effects u t)
 gen_ended events settling report w u s t (Ok done) all written = record { settling = settling; report = report; handled = all; wrote = written.0 }
 gen_ended events settling report w u s t (Err WriteFault) all written = record { settling = settling; report = report; handled = all; wrote = written.0 }
 gen_ended events settling report w u s t (Err Memory) all written =
@@ -113,7 +114,7 @@ gen_ended events settling report w u s t (Err Memory) all written =
 
 pub gen_written : (earlier : List Event) (last : Event) (settling report : Reply) (w u : Written) (s t : Seen) (result : Result (Unit {0}) OutputFault)
     → HandlesAll (earlier ++ last ∷ []) settling report s t → WasWritten w u (summary (length earlier + 1) settling report) result
-    → GenEnded (earlier ++ last ∷ []) result w u s t
+    → GenEnded (earlier ++ last ∷ []) result (effects w s) (effects u t)
 gen_written earlier last settling report w u s t result all written =
     let count : length earlier + 1 ≡ length (earlier ++ last ∷ []) = omega (arith, length-append earlier (last ∷ [])) in
     gen_ended (earlier ++ last ∷ []) settling report w u s t result all (subst (λ n. WasWritten w u (summary n settling report) result) count written)
@@ -138,7 +139,7 @@ among_once events s t once stop =
     subst OpenEachOnce (stop.asked ∙ sym (append_assoc (events_of stop.lines) (stop.event ∷ []) stop.later)) once in
     stopped_once stop.event stop.lines s t stop.stopped (once_before (events_of stop.lines ++ stop.event ∷ []) stop.later all)
 
-gen_once : (events : List Event) (result : Result (Unit {0}) OutputFault) (w u : Written) (s t : Seen) → OpenEachOnce (events ++ Report 1 ∷ []) → GenEnded events result w u s t → OpensNoneTwice s t
+gen_once : (events : List Event) (result : Result (Unit {0}) OutputFault) (w u : Written) (s t : Seen) → OpenEachOnce (events ++ Report 1 ∷ []) → GenEnded events result (effects w s) (effects u t) → OpensNoneTwice s t
 gen_once events (Ok done) w u s t once h = all_once events h.settling h.report s t once h.handled
 gen_once events (Err WriteFault) w u s t once h = all_once events h.settling h.report s t once h.handled
 gen_once events (Err Memory) w u s t once (out_before nothing) = once_nothing s t nothing.seen
@@ -247,8 +248,8 @@ schedule_once number count =
     (none_more middle last (rounds_none count 1 number) (none_more closings (Report 1 ∷ []) closings_none (one_none (Report 1) (λ client h. h)))))
 
 -- a generated schedule, by how it ended
-pub gen_ran : (number count : ℕ) (ended : Result (Unit {0}) OutputFault) (w u : Written) (s t : Seen) → GenEnded (schedule number count) ended w u s t
-    → Generates number count (ended_as status_of_output ended) w u s t
+pub gen_ran : (number count : ℕ) (ended : Result (Unit {0}) OutputFault) (w u : Written) (s t : Seen) → GenEnded (schedule number count) ended (effects w s) (effects u t)
+    → Generates number count (ended_as status_of_output ended) (effects w s) (effects u t)
 gen_ran number count ended w u s t went = record {
   ended = ended;
   leads = refl;

@@ -31,6 +31,7 @@ use Rattle.world_core.specs.Stands.{WorldStands, StandsOn, Grows}
 use Rattle.world_core.specs.Span.{span_of}
 use Rattle.world_core.proofs.StartLemmas.{new_stands}
 use Rattle.world_core.proofs.Caused.{caused}
+use Rattle.schedule_run.specs.Outside.{effects}
 use Rattle.schedule_run.specs.declared.replay.LineFault.{LineFault}
 use Rattle.schedule_run.specs.declared.replay.LineFault.TheVariants.{BadLine, WriteFault, Memory}
 use Rattle.schedule_run.specs.Answered.{IsNew, WentOn, start, further, AreAnswered, AreExplained, AreMetered, ReportsAreRight, RepliesAreSound, ActsByTheLines, AcknowledgedStay, KeepsTheTheorem, ReportsCome}
@@ -124,8 +125,8 @@ stands_more lines line n t z old new k on grows u told stands so traced =
 
 -- the lines that were handled, with one more
 lines_more : (texts : List (List ℕ)) (text : List ℕ) (n : ℕ) (w v u : Written) (s t z : Seen) (first old new : World) (line : Line)
-    → n ≡ length texts + 1 → Handles texts w v s t first old → IsEvent text line.event → IsAnswered n line.event t z old new line.reply → Grows n t z
-    → AddsOne v u (reply_line n line.reply) → Handles (texts ++ text ∷ []) w u s z first new
+    → n ≡ length texts + 1 → Handles texts (effects w s) (effects v t) first old → IsEvent text line.event → IsAnswered n line.event t z old new line.reply → Grows n t z
+    → AddsOne v u (reply_line n line.reply) → Handles (texts ++ text ∷ []) (effects w s) (effects u z) first new
 lines_more texts text n w v u s t z first old new line count h spells a grows adds =
     let m : length h.lines ≡ length texts = spelled_length texts h.lines h.spelled in
     let k : n ≡ 1 + length h.lines = omega arith in
@@ -174,7 +175,7 @@ acknowledged_stay lines s t first world x u went fresh told empty seen = went_st
 
 -- ---- the lines of a text
 
-pub at_start : (text : List ℕ) (w : Written) (s : Seen) (world : World) → IsNew false world → HasHandledLines text text 0 w w s s world world
+pub at_start : (text : List ℕ) (w : Written) (s : Seen) (world : World) → IsNew false world → HasHandledLines text text 0 (effects w s, world) (effects w s, world)
 at_start text w s world fresh = record {
   earlier = [];
   at = refl;
@@ -195,8 +196,8 @@ at_start text w s world fresh = record {
 }
 
 pub at_more : (text rest behind line : List ℕ) (n m : ℕ) (w v u : Written) (s t z : Seen) (first old new : World)
-    → HasHandledLines text rest n w v s t first old → lines_of rest ≡ line ∷ lines_of behind → m ≡ n + 1 → LineWent (Ok tt) m line v u t z old new → Grows m t z
-    → HasHandledLines text behind m w u s z first new
+    → HasHandledLines text rest n (effects w s, first) (effects v t, old) → lines_of rest ≡ line ∷ lines_of behind → m ≡ n + 1 → LineWent (Ok tt) m line (effects v t, old) (effects u z, new) → Grows m t z
+    → HasHandledLines text behind m (effects w s, first) (effects u z, new)
 at_more text rest behind line n m w v u s t z first old new is split next (event_handled event spells p) grows =
     let c : length is.earlier ≡ n = is.count in
     record {
@@ -223,7 +224,7 @@ keeps_now lines s t first world went fresh stands x told empty =
     )
 
 abbrev answered : (texts : List (List ℕ)) (w v : Written) (s t : Seen) (first world : World) → IsNew false first
-    → (h : Handles texts w v s t first world) → AreAnswered false h.lines s t
+    → (h : Handles texts (effects w s) (effects v t) first world) → AreAnswered false h.lines s t
 answered texts w v s t first world fresh h = record {
   first = first;
   fresh = fresh;
@@ -240,7 +241,7 @@ answered texts w v s t first world fresh h = record {
 }
 
 pub at_end : (text rest : List ℕ) (n : ℕ) (w v : Written) (s t : Seen) (first world : World) → IsNew false first
-    → HasHandledLines text rest n w v s t first world → length rest ≡ 0 → WentThrough text (Ok tt) w v s t
+    → HasHandledLines text rest n (effects w s, first) (effects v t, world) → length rest ≡ 0 → WentThrough text (Ok tt) (effects w s) (effects v t)
 at_end text rest n w v s t first world fresh is none = record {
   lines = is.handles.lines;
   earlier = is.earlier;
@@ -253,7 +254,7 @@ at_end text rest n w v s t first world fresh is none = record {
 
 -- where a run stops between two lines for want of memory
 pub at_stop : (text rest : List ℕ) (n : ℕ) (w v : Written) (s t : Seen) (first world : World) → IsNew false first
-    → HasHandledLines text rest n w v s t first world → WentThrough text (Err Memory) w v s t
+    → HasHandledLines text rest n (effects w s, first) (effects v t, world) → WentThrough text (Err Memory) (effects w s) (effects v t)
 at_stop text rest n w v s t first world fresh is = record {
   lines = is.handles.lines;
   earlier = is.earlier;
@@ -269,7 +270,7 @@ at_stop text rest n w v s t first world fresh is = record {
 -- a text of the lines was met, and calls were made at it
 pub record IsMet (text rest behind line : List ℕ) (n m : ℕ) (w v : Written) (s t z : Seen) (first old : World) : Type 0 where
   pub fresh : IsNew false first
-  pub is : HasHandledLines text rest n w v s t first old
+  pub is : HasHandledLines text rest n (effects w s, first) (effects v t, old)
   pub split : lines_of rest ≡ line ∷ lines_of behind
   pub next : m ≡ n + 1
   pub grows : Grows m t z
@@ -305,7 +306,7 @@ keeps {text} {rest} {behind} {line} {n} {m} {w} {v} {s} {t} {z} {first} {old} me
 -- the run ends before a text that has no reply
 ends_before : {text rest behind line : List ℕ} {n m : ℕ} {w v : Written} {s t z : Seen} {first old : World}
     → (ended : Result (Unit {0}) LineFault) (u : Written) → (met : IsMet text rest behind line n m w v s t z first old)
-    → Ended ended met.is.handles.lines (line ∷ lines_of behind) w u s z → WentThrough text ended w u s z
+    → Ended ended met.is.handles.lines (line ∷ lines_of behind) (effects w s) (effects u z) → WentThrough text ended (effects w s) (effects u z)
 ends_before {text} {rest} {behind} {line} ended u met so = record {
   lines = met.is.handles.lines;
   earlier = met.is.earlier;
@@ -347,7 +348,7 @@ with_answer {text} {rest} {behind} {line} {n} {m} {w} {v} {s} {t} {z} {first} {o
 ends_behind : {text rest behind line : List ℕ} {n m : ℕ} {w v : Written} {s t z : Seen} {first old : World}
     → (ended : Result (Unit {0}) LineFault) (u : Written) (new : World) (one : Line) → (met : IsMet text rest behind line n m w v s t z first old)
     → IsEvent line one.event → IsAnswered m one.event t z old new one.reply
-    → Ended ended (met.is.handles.lines ++ one ∷ []) (lines_of behind) w u s z → WentThrough text ended w u s z
+    → Ended ended (met.is.handles.lines ++ one ∷ []) (lines_of behind) (effects w s) (effects u z) → WentThrough text ended (effects w s) (effects u z)
 ends_behind {text} {rest} {behind} {line} {n} {m} {w} {v} {s} {t} {z} {first} {old} ended u new one met spells a so =
     let h = met.is.handles in
     let count : m ≡ length h.lines + 1 = met_count met in
@@ -373,7 +374,7 @@ before_unmoved {text} {rest} {behind} {line} {n} {m} {w} {v} {s} {t} {z} {first}
 -- the event of the text has no reply
 no_answer : {text rest behind line : List ℕ} {n m : ℕ} {w v : Written} {s t z : Seen} {first old : World}
     → (met : IsMet text rest behind line n m w v s t z first old) (u : Written) (new : World) (event : Event) (fault : WorldFault) → IsEvent line event
-    → Handled m event (span_of t z old new) (Err fault) → u ≡ v → EndedBy fault met.is.handles.lines (line ∷ lines_of behind) w u s z
+    → Handled m event (span_of t z old new) (Err fault) → u ≡ v → EndedBy fault met.is.handles.lines (line ∷ lines_of behind) (effects w s) (effects u z)
 no_answer {text} {rest} {behind} {line} {n} {m} {w} {v} {s} {t} {z} {first} {old} met u new event fault spells handled same =
     let h = met.is.handles in
     let own : Handled (length h.lines + 1) event (span_of t z old new) (Err fault) = subst (λ j. Handled j event (span_of t z old new) (Err fault)) (met_count met) handled in
@@ -412,7 +413,7 @@ cut_refusal {text} {rest} {behind} {line} {n} {m} {w} {v} met u bad front =
 
 by_fault : {text rest behind line : List ℕ} {n m : ℕ} {w v : Written} {s t z : Seen} {first old : World}
     → (u : Written) (new : World) (fault : LineFault) → IsMet text rest behind line n m w v s t z first old
-    → LineWent (Err fault) m line v u t z old new → WentThrough text (Err fault) w u s z
+    → LineWent (Err fault) m line (effects v t, old) (effects u z, new) → WentThrough text (Err fault) (effects w s) (effects u z)
 by_fault {text} {rest} {behind} {line} {n} {m} {w} {v} {s} {t} {z} {first} {old} u new BadLine met (event_handled event spells p) = absurd p
 by_fault {text} {rest} {behind} {line} {n} {m} {w} {v} {s} {t} {z} {first} {old} u new BadLine met (refused bad e adds) =
     let h = met.is.handles in
@@ -434,8 +435,8 @@ by_fault {text} {rest} {behind} {line} {n} {m} {w} {v} {s} {t} {z} {first} {old}
     ends_before (Err Memory) u met (between (before_unmoved met f) (subst (λ x. AddsEach w x (replies h.lines)) (sym same) h.wrote))
 
 pub at_fault : (text rest behind line : List ℕ) (n m : ℕ) (w v u : Written) (s t z : Seen) (first old new : World) (fault : LineFault)
-    → IsNew false first → HasHandledLines text rest n w v s t first old → lines_of rest ≡ line ∷ lines_of behind → m ≡ n + 1
-    → LineWent (Err fault) m line v u t z old new → Grows m t z → WentThrough text (Err fault) w u s z
+    → IsNew false first → HasHandledLines text rest n (effects w s, first) (effects v t, old) → lines_of rest ≡ line ∷ lines_of behind → m ≡ n + 1
+    → LineWent (Err fault) m line (effects v t, old) (effects u z, new) → Grows m t z → WentThrough text (Err fault) (effects w s) (effects u z)
 at_fault text rest behind line n m w v u s t z first old new fault fresh is split next went grows =
     let met : IsMet text rest behind line n m w v s t z first old = record { fresh = fresh; is = is; split = split; next = next; grows = grows } in
     by_fault u new fault met went

@@ -10,6 +10,7 @@ use Rattle.db_io.specs.Writes.{Written}
 use Rattle.dump_text.specs.declared.dump.DumpedTree.{DumpedTree}
 use Rattle.load_plan.specs.FirstLook.{first_names, LooksEnded}
 use Rattle.load_plan.specs.declared.first_look.LookStop.TheVariants as look
+use Rattle.schedule_run.specs.Outside.{effects, outside}
 use Rattle.schedule_run.specs.Complete.{IsOrMemory, IsComplete, LoadStopped, StopsUnwell, LoadCompletes}
 use Rattle.schedule_run.specs.Load.{LoadEnded}
 use Rattle.schedule_run.specs.LoadComplete.{Completes}
@@ -46,16 +47,16 @@ completes_so (Err Memory) trees start now went = record { went = went; well = λ
 
 -- ---- of a run
 
-stops_unwell : (result : Status) (w u : Written) (s t : Seen) → LoadStopped result w u s t → StopsUnwell result s t
+stops_unwell : (result : Status) (w u : Written) (s t : Seen) → LoadStopped result (effects w s) (effects u t) → StopsUnwell result s t
 stops_unwell result w u s t it = record { trees = it.trees; stop = it.stop; leads = it.leads; completes = completes_so (Err it.stop) it.trees s t it.went }
 
-ends_so : (result : Status) (w u : Written) (s t : Seen) → IsOrMemory status.Done result ⊎ ((status.Done ≡ status.Done) × LoadStopped result w u s t)
+ends_so : (result : Status) (w u : Written) (s t : Seen) → IsOrMemory status.Done result ⊎ ((status.Done ≡ status.Done) × LoadStopped result (effects w s) (effects u t))
     → IsOrMemory status.Done result ⊎ StopsUnwell result s t
 ends_so result w u s t (inl done) = inl done
 ends_so result w u s t (inr stopped) = inr (stops_unwell result w u s t stopped.1)
 
-pub load_completes : (shape : Shape) (result : Status) (left rest : Told) (w u : Written) (s t : Seen) → IsComplete (Some shape) result left rest w u s t
-    → LoadCompletes (Some shape) result left rest w u s t
+pub load_completes : (shape : Shape) (result : Status) (left rest : Told) (w u : Written) (s t : Seen) → IsComplete (Some shape) result (outside left w s) (outside rest u t)
+    → LoadCompletes (Some shape) result (outside left w s) (outside rest u t)
 load_completes (Load dir) result left rest w u s t complete = λ order good. ends_so result w u s t (complete order good)
 load_completes Replay result left rest w u s t complete = tt
 load_completes (Gen number count) result left rest w u s t complete = tt
@@ -64,7 +65,7 @@ load_completes (Settle dir) result left rest w u s t complete = tt
 load_completes (Dump dir) result left rest w u s t complete = tt
 
 -- so does one for which memory ran out before its words were read
-pub load_out_of_memory : (asked : Option Shape) (left rest : Told) (w u : Written) (s t : Seen) → LoadCompletes asked status.Memory left rest w u s t
+pub load_out_of_memory : (asked : Option Shape) (left rest : Told) (w u : Written) (s t : Seen) → LoadCompletes asked status.Memory (outside left w s) (outside rest u t)
 load_out_of_memory (Some (Load dir)) left rest w u s t = λ order good. inl (inr refl)
 load_out_of_memory (Some Replay) left rest w u s t = tt
 load_out_of_memory (Some (Gen number count)) left rest w u s t = tt

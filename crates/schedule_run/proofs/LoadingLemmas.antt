@@ -8,6 +8,7 @@ use Rattle.dump_text.specs.declared.dump.DumpedTree.{DumpedTree}
 use Rattle.db_io.specs.declared.output.OutputFault.{OutputFault}
 use Rattle.db_io.specs.declared.output.OutputFault.TheVariants as output
 use Rattle.db_io.specs.Output.{WasWritten}
+use Rattle.schedule_run.specs.Outside.{effects}
 use Rattle.schedule_run.specs.declared.load.Loaded.{Loaded}
 use Rattle.schedule_run.specs.declared.load.LoadStop.{LoadStop}
 use Rattle.schedule_run.specs.declared.load.LoadStop.TheVariants as load
@@ -60,7 +61,7 @@ load_writes (Err output.Memory) end text w u p = inr p.1
 
 -- a load that ended, and told so
 pub load_went : (trees : List DumpedTree) (loaded : Result Loaded LoadStop) (result : Result (Unit {0}) LoadingFault) (w u : Written) (s t : Seen) → LoadEnded loaded trees s t
-    → CallsPlainly s t → IfOk loaded (λ l. LeavesLoaded trees s t) → TellsLoad (load_text loaded) (load_end loaded) result w u → FillWent trees result w u s t
+    → CallsPlainly s t → IfOk loaded (λ l. LeavesLoaded trees s t) → TellsLoad (load_text loaded) (load_end loaded) result w u → FillWent trees result (effects w s) (effects u t)
 load_went trees loaded result w u s t went calls leaves told = record { loaded = loaded; went = went; calls = calls; leaves = leaves; told = told }
 
 -- it does not end by a bad line

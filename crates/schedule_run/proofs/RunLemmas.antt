@@ -11,6 +11,7 @@ use Rattle.db_io.specs.declared.input.InputFault.{InputFault}
 use Rattle.db_io.specs.declared.input.InputFault.TheVariants as input
 use Rattle.db_io.specs.declared.input.TheConstants.{MAX_LINES, MAX_DUMP}
 use Rattle.db_io.specs.declared.output.OutputFault.TheVariants as output
+use Rattle.schedule_run.specs.Outside.{effects, outside}
 use Rattle.schedule_run.specs.declared.replay.LineFault.{LineFault}
 use Rattle.schedule_run.specs.declared.settling.SettleFault.TheVariants as settle
 use Rattle.schedule_run.specs.declared.shell.ShellFault.{ShellFault}
@@ -50,32 +51,32 @@ whole limit before after input read =
 -- ---- the commands
 
 pub replay_ran : (left rest : Told) (w u : Written) (s t : Seen) (text input : List ℕ) (ended : Result (Unit {0}) LineFault) → WasRead MAX_LINES left rest (Ok input)
-    → text ≡ input → ReplayWent ended text w u s t → Replays (ended_as status_of_line ended) left rest w u s t
+    → text ≡ input → ReplayWent ended text (effects w s) (effects u t) → Replays (ended_as status_of_line ended) (outside left w s) (outside rest u t)
 replay_ran left rest w u s t text input ended read same went =
-    replay_went (whole MAX_LINES left rest input read) ended refl (subst (λ b. ReplayWent ended b w u s t) same went)
+    replay_went (whole MAX_LINES left rest input read) ended refl (subst (λ b. ReplayWent ended b (effects w s) (effects u t)) same went)
 
 pub shell_ran : (client : ℕ) (left rest : Told) (w u : Written) (s t : Seen) (text input : List ℕ) (ended : Result (Unit {0}) ShellFault) → WasRead MAX_LINES left rest (Ok input)
-    → text ≡ input → ShellWent client text ended w u s t → RunsShell client (ended_as status_of_shell ended) left rest w u s t
+    → text ≡ input → ShellWent client text ended (effects w s) (effects u t) → RunsShell client (ended_as status_of_shell ended) (outside left w s) (outside rest u t)
 shell_ran client left rest w u s t text input ended read same went =
-    shell_went (whole MAX_LINES left rest input read) ended refl (subst (λ b. ShellWent client b ended w u s t) same went)
+    shell_went (whole MAX_LINES left rest input read) ended refl (subst (λ b. ShellWent client b ended (effects w s) (effects u t)) same went)
 
 pub load_ran : (left rest : Told) (w u : Written) (s t : Seen) (text input : List ℕ) (ended : Result (Unit {0}) LoadingFault) → WasRead MAX_DUMP left rest (Ok input)
-    → text ≡ input → FillEnded text ended w u s t → RunsLoad (ended_as status_of_load ended) left rest w u s t
+    → text ≡ input → FillEnded text ended (effects w s) (effects u t) → RunsLoad (ended_as status_of_load ended) (outside left w s) (outside rest u t)
 load_ran left rest w u s t text input ended read same went =
-    load_went (whole MAX_DUMP left rest input read) ended refl (subst (λ b. FillEnded b ended w u s t) same went)
+    load_went (whole MAX_DUMP left rest input read) ended refl (subst (λ b. FillEnded b ended (effects w s) (effects u t)) same went)
 
 -- where the input was not read, nothing ran
-pub replay_not_read : (left rest : Told) (w : Written) (s : Seen) (fault : InputFault) → Replays (status_of_input fault) left rest w w s s
+pub replay_not_read : (left rest : Told) (w : Written) (s : Seen) (fault : InputFault) → Replays (status_of_input fault) (outside left w s) (outside rest w s)
 replay_not_read left rest w s fault = replay_unread fault refl (record { output = refl; seen = refl })
 
-pub shell_not_read : (client : ℕ) (left rest : Told) (w : Written) (s : Seen) (fault : InputFault) → RunsShell client (status_of_input fault) left rest w w s s
+pub shell_not_read : (client : ℕ) (left rest : Told) (w : Written) (s : Seen) (fault : InputFault) → RunsShell client (status_of_input fault) (outside left w s) (outside rest w s)
 shell_not_read client left rest w s fault = shell_unread fault refl (record { output = refl; seen = refl })
 
-pub load_not_read : (left rest : Told) (w : Written) (s : Seen) (fault : InputFault) → RunsLoad (status_of_input fault) left rest w w s s
+pub load_not_read : (left rest : Told) (w : Written) (s : Seen) (fault : InputFault) → RunsLoad (status_of_input fault) (outside left w s) (outside rest w s)
 load_not_read left rest w s fault = load_unread fault refl (record { output = refl; seen = refl })
 
 -- where there was no memory for the words, nothing ran, whatever they ask for
-pub not_asked : (asked : Option Shape) (left : Told) (w : Written) (s : Seen) → Ran asked status.Memory left left w w s s
+pub not_asked : (asked : Option Shape) (left : Told) (w : Written) (s : Seen) → Ran asked status.Memory (outside left w s) (outside left w s)
 not_asked None left w s = record { ends = inr refl; unread = refl; nothing = record { output = refl; seen = refl } }
 not_asked (Some Replay) left w s = replay_not_read left left w s input.Memory
 not_asked (Some (Gen number count)) left w s =
@@ -86,7 +87,7 @@ not_asked (Some (Settle dir)) left w s =
 not_asked (Some (Dump dir)) left w s = (refl, dump_unasked refl (record { output = refl; seen = refl }))
 not_asked (Some (Load dir)) left w s = load_not_read left left w s input.Memory
 
-pub dump_ran : (ended : Result (Unit {0}) DumpingFault) (w u : Written) (s t : Seen) → DumpEnded ended w u s t → RunsDump (ended_as status_of_dump ended) w u s t
+pub dump_ran : (ended : Result (Unit {0}) DumpingFault) (w u : Written) (s t : Seen) → DumpEnded ended (effects w s) (effects u t) → RunsDump (ended_as status_of_dump ended) (effects w s) (effects u t)
 dump_ran ended w u s t went = dump_went ended refl went
 
 -- ---- the words

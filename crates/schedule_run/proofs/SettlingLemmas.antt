@@ -19,6 +19,7 @@ use Rattle.session_facts.specs.Rows.Added.{AddsKinds, AddsTo}
 use Rattle.session_facts.proofs.Rows.Once.{at_place}
 use Rattle.reply_text.specs.declared.reply.Reply.{Reply}
 use Rattle.schedule_run.proofs.BehindLemmas.{new_on_book, settles_so}
+use Rattle.schedule_run.specs.Outside.{effects}
 use Rattle.schedule_run.specs.InPlay.{Play}
 use Rattle.schedule_run.specs.declared.settling.SettleFault.TheVariants.{NotSettled}
 use Rattle.schedule_run.specs.Play.{IsFresh, IsNext, RanOut, Played, StoppedAt}
@@ -92,9 +93,9 @@ was_settled reply s t old new fresh next =
     }
 
 -- a settling ends as its reply says
-pub settle_end : (reply : Reply) (w u : Written) (s t : Seen) → ShowsSettling reply w u s t → SettleEnded (settled_by reply) w u s t
+pub settle_end : (reply : Reply) (w u : Written) (s t : Seen) → ShowsSettling reply (effects w s) (effects u t) → SettleEnded (settled_by reply) (effects w s) (effects u t)
 settle_end reply w u s t shows = on (is_settled reply) refl where
-  on : (b : Bool) → is_settled reply ≡ b → SettleEnded (if b then Ok tt else Err NotSettled) w u s t
+  on : (b : Bool) → is_settled reply ≡ b → SettleEnded (if b then Ok tt else Err NotSettled) (effects w s) (effects u t)
   on true is = (reply, is, shows)
   on false is = (reply, is, shows)
 
@@ -103,7 +104,7 @@ settle_stopped s t old new fresh out = stopped_at [] Settle s s t old new (playe
 
 -- a settling whose reply was written, or a part of it, ends so
 pub settle_shown : (reply : Reply) (w u : Written) (s t : Seen) (old new : Play) (written : Result (Unit {0}) OutputFault) → IsFresh true old → IsNext Settle reply s t old new
-    → WasWritten w u (reply_line 1 reply) written → SettleEnded (settle_end_of written reply) w u s t
+    → WasWritten w u (reply_line 1 reply) written → SettleEnded (settle_end_of written reply) (effects w s) (effects u t)
 settle_shown reply w u s t old new (Ok done) fresh next p = settle_end reply w u s t (record { handled = was_settled reply s t old new fresh next; wrote = p.0 })
 settle_shown reply w u s t old new (Err output.WriteFault) fresh next p = record { reply = reply; handled = was_settled reply s t old new fresh next; wrote = p.0 }
 settle_shown reply w u s t old new (Err output.Memory) fresh next p =

@@ -15,6 +15,7 @@ use Rattle.reply_text.specs.declared.reply.Reply.TheVariants.{Begun}
 use Rattle.replay_meaning.specs.Standing.{Line}
 use Rattle.words.specs.Word.{IsReadTo}
 use Rattle.words.specs.declared.fault.TextFault.TheVariants.{NotInGrammar}
+use Rattle.schedule_run.specs.Outside.{effects}
 use Rattle.schedule_run.specs.InPlay.{Play}
 use Rattle.schedule_run.specs.declared.shell.ShellFault.{ShellFault}
 use Rattle.schedule_run.specs.declared.shell.ShellFault.TheVariants.{NotOpened, BadLine, WriteFault, Memory}
@@ -140,14 +141,14 @@ module _ (client : ℕ) (events : List Event) (s z : Seen) (shells : OpenNone ev
   stop_once later replies event none stop =
       stopped_in_once (Open 1 client ∷ later) stop.lines replies event s z stop.whole stop.stopped (shell_once client (later ++ event ∷ []) none)
 
-  cut_once : (later : List (List ℕ)) (w u : Written) → WasCut client events later w u s z → OpensNoneTwice s z
+  cut_once : (later : List (List ℕ)) (w u : Written) → WasCut client events later (effects w s) (effects u z) → OpensNoneTwice s z
   cut_once later w u (cut_opening reply play none run front) = run_once [] (reply ∷ []) play (λ other h. h) run
   cut_once later w u (cut_line replies reply play run opens front) = run_once events (replies ++ reply ∷ []) play shells run
   cut_once later w u (cut_closing replies reply play none run opens front) = run_once (events ++ Close 1 ∷ []) (replies ++ reply ∷ []) play closed_behind run
   cut_once later w u (cut_refusal replies play bad run opens front) = run_once events replies play shells run
 
   -- where memory ran out
-  out_once : (later : List (List ℕ)) (w u : Written) → ShellRanOut client events later w u s z → OpensNoneTwice s z
+  out_once : (later : List (List ℕ)) (w u : Written) → ShellRanOut client events later (effects w s) (effects u z) → OpensNoneTwice s z
   out_once later w u (out_before nothing) = once_nothing s z nothing.seen
   out_once later w u (out_writing cut) = cut_once later w u cut
   out_once later w u (out_between replies play run opens wrote) = run_once events replies play shells run
@@ -155,7 +156,7 @@ module _ (client : ℕ) (events : List Event) (s z : Seen) (shells : OpenNone ev
   out_once later w u (out_next replies event next stopped opens wrote) =
       stop_once events replies event (none_more events (event ∷ []) shells (one_none event (next_shells later event next))) stopped
 
-  ended_once : (result : Result (Unit {0}) ShellFault) (later : List (List ℕ)) (w u : Written) → ShellEnded result client events later w u s z → OpensNoneTwice s z
+  ended_once : (result : Result (Unit {0}) ShellFault) (later : List (List ℕ)) (w u : Written) → ShellEnded result client events later (effects w s) (effects u z) → OpensNoneTwice s z
   ended_once (Ok done) later w u so = run_once (events ++ Close 1 ∷ []) so.1.replies so.1.play closed_behind so.1.run
   ended_once (Err NotOpened) later w u so = run_once [] (so.reply ∷ []) so.play (λ other h. h) so.run
   ended_once (Err BadLine) later w u so = run_once events so.1.replies so.1.play shells so.1.run
@@ -164,7 +165,7 @@ module _ (client : ℕ) (events : List Event) (s z : Seen) (shells : OpenNone ev
 
 -- how it went, by how it ended
 shell_went : {client : ℕ} {text : List ℕ} {result : Result (Unit {0}) ShellFault} {w u : Written} {s z : Seen} → (events : List Event) (earlier later : List (List ℕ))
-    → lines_of text ≡ earlier ++ later → AreShellLines earlier events → ShellEnded result client events later w u s z → ShellWent client text result w u s z
+    → lines_of text ≡ earlier ++ later → AreShellLines earlier events → ShellEnded result client events later (effects w s) (effects u z) → ShellWent client text result (effects w s) (effects u z)
 shell_went {client} {text} {result} {w} {u} {s} {z} events earlier later at spelled so = record {
   events = events;
   earlier = earlier;
@@ -179,23 +180,23 @@ shell_went {client} {text} {result} {w} {u} {s} {z} events earlier later at spel
 
 -- an event that was run, and whose last reply was written, or a part of it
 pub event_shown : (event : Event) (n : ℕ) (reply : Reply) (w u : Written) (s t : Seen) (old new : Play) (written : Result (Unit {0}) OutputFault) → IsRun event reply s t old new
-    → WasWritten w u (reply_line n reply) written → EventRan (shown_by written reply) n event w u s t old new
+    → WasWritten w u (reply_line n reply) written → EventRan (shown_by written reply) n event (effects w s, old) (effects u t, new)
 event_shown event n reply w u s t old new (Ok done) run p = (run, p.0)
 event_shown event n reply w u s t old new (Err output.WriteFault) run p = (reply, run, p.0)
 event_shown event n reply w u s t old new (Err output.Memory) run p = out_reply reply run p.0
 
 -- an opening whose reply was written ends as the reply says
-pub opening_shown : (client : ℕ) (reply : Reply) (w u : Written) (s t : Seen) (old new : Play) → EventRan (Ok reply) 0 (Open 1 client) w u s t old new
-    → OpeningRan (opened_by reply) client w u s t old new
+pub opening_shown : (client : ℕ) (reply : Reply) (w u : Written) (s t : Seen) (old new : Play) → EventRan (Ok reply) 0 (Open 1 client) (effects w s, old) (effects u t, new)
+    → OpeningRan (opened_by reply) client (effects w s, old) (effects u t, new)
 opening_shown client reply w u s t old new ran = on (is_opened reply) refl where
-  on : (b : Bool) → is_opened reply ≡ b → OpeningRan (if b then Ok tt else Err NotOpened) client w u s t old new
+  on : (b : Bool) → is_opened reply ≡ b → OpeningRan (if b then Ok tt else Err NotOpened) client (effects w s, old) (effects u t, new)
   on true is = (reply, is, ran)
   on false is = (reply, is, ran)
 
 -- ---- the opening
 
 pub at_open : (client : ℕ) (text : List ℕ) (w u : Written) (s t : Seen) (old new : Play) → IsFresh true old
-    → OpeningRan (Ok tt) client w u s t old new → HasRunLines client text text 0 w u s t new
+    → OpeningRan (Ok tt) client (effects w s, old) (effects u t, new) → HasRunLines client text text 0 (effects w s) (effects u t, new)
 at_open client text w u s t old new fresh p = record {
   events = [];
   earlier = [];
@@ -209,14 +210,14 @@ at_open client text w u s t old new fresh p = record {
 }
 
 open_out : (client : ℕ) (text : List ℕ) (w u : Written) (s t : Seen) (old new : Play) → IsFresh true old
-    → RanOutAt 0 (Open 1 client) w u s t old new → ShellEnded (Err Memory) client [] (lines_of text) w u s t
+    → RanOutAt 0 (Open 1 client) (effects w s) (effects u t) old new → ShellEnded (Err Memory) client [] (lines_of text) (effects w s) (effects u t)
 open_out client text w u s t old new fresh (out_reply reply ran front) =
     out_writing (cut_opening reply new refl (run_more [] [] (Open 1 client) reply s s t old new (run_nothing s old fresh) (no_report_opens client) ran) front)
 open_out client text w u s t old new fresh (out_event stops same) =
     out_opening (run_stopped [] [] (Open 1 client) s s t old new (run_nothing s old fresh) (no_report_opens client) stops) same
 
 open_ended : (client : ℕ) (text : List ℕ) (w u : Written) (s t : Seen) (old new : Play) (fault : ShellFault) → IsFresh true old
-    → OpeningRan (Err fault) client w u s t old new → ShellEnded (Err fault) client [] (lines_of text) w u s t
+    → OpeningRan (Err fault) client (effects w s, old) (effects u t, new) → ShellEnded (Err fault) client [] (lines_of text) (effects w s) (effects u t)
 open_ended client text w u s t old new NotOpened fresh p = record {
   reply = p.0;
   play = new;
@@ -230,27 +231,27 @@ open_ended client text w u s t old new WriteFault fresh p =
 open_ended client text w u s t old new Memory fresh p = open_out client text w u s t old new fresh p
 
 pub open_fault : (client : ℕ) (text : List ℕ) (w u : Written) (s t : Seen) (old new : Play) (fault : ShellFault) → IsFresh true old
-    → OpeningRan (Err fault) client w u s t old new → ShellWent client text (Err fault) w u s t
+    → OpeningRan (Err fault) client (effects w s, old) (effects u t, new) → ShellWent client text (Err fault) (effects w s) (effects u t)
 open_fault client text w u s t old new fault fresh p = shell_went [] [] (lines_of text) refl tt
     (open_ended client text w u s t old new fault fresh p)
 
 -- where there is no memory for a world
-pub out_first : (client : ℕ) (text : List ℕ) (w u : Written) (s t : Seen) → NothingRan w u s t → ShellWent client text (Err Memory) w u s t
+pub out_first : (client : ℕ) (text : List ℕ) (w u : Written) (s t : Seen) → NothingRan (effects w s) (effects u t) → ShellWent client text (Err Memory) (effects w s) (effects u t)
 out_first client text w u s t nothing = shell_went [] [] (lines_of text) refl tt
     (out_before nothing)
 
 -- ---- one line more
 
 replies_count : (client : ℕ) (text rest : List ℕ) (n m : ℕ) (w v : Written) (s t : Seen) (play : Play)
-    → (is : HasRunLines client text rest n w v s t play) → m ≡ n + 1 → m ≡ length is.replies
+    → (is : HasRunLines client text rest n (effects w s) (effects v t, play)) → m ≡ n + 1 → m ≡ length is.replies
 replies_count client text rest n m w v s t play is next =
     let c : length is.events ≡ n = is.count in
     let d : length is.replies ≡ length (Open 1 client ∷ is.events) = is.run.count in
     omega arith
 
 pub at_more : (client : ℕ) (text rest behind line : List ℕ) (n m : ℕ) (w v u : Written) (s t z : Seen) (old new : Play)
-    → HasRunLines client text rest n w v s t old → lines_of rest ≡ line ∷ lines_of behind → m ≡ n + 1 → LineRan (Ok tt) m line v u t z old new
-    → HasRunLines client text behind m w u s z new
+    → HasRunLines client text rest n (effects w s) (effects v t, old) → lines_of rest ≡ line ∷ lines_of behind → m ≡ n + 1 → LineRan (Ok tt) m line (effects v t, old) (effects u z, new)
+    → HasRunLines client text behind m (effects w s) (effects u z, new)
 at_more client text rest behind line n m w v u s t z old new is split next (event_run event (Ok reply) spells e ran) = record {
   events = is.events ++ event ∷ [];
   earlier = is.earlier ++ line ∷ [];
@@ -268,14 +269,14 @@ at_more client text rest behind line n m w v u s t z old new is split next (unre
 
 -- where a shell stops between two lines for want of memory
 pub at_stop : (client : ℕ) (text rest : List ℕ) (n : ℕ) (w v : Written) (s t : Seen) (play : Play)
-    → HasRunLines client text rest n w v s t play → ShellWent client text (Err Memory) w v s t
+    → HasRunLines client text rest n (effects w s) (effects v t, play) → ShellWent client text (Err Memory) (effects w s) (effects v t)
 at_stop client text rest n w v s t play is = shell_went is.events is.earlier (lines_of rest) is.at is.spelled
     (out_between is.replies play is.run is.opened is.wrote)
 
 -- ---- the end
 
 close_out : (client : ℕ) (text rest : List ℕ) (n m : ℕ) (w v u : Written) (s t z : Seen) (old new : Play)
-    → (is : HasRunLines client text rest n w v s t old) → m ≡ n + 1 → RanOutAt m (Close 1) v u t z old new → ShellEnded (Err Memory) client is.events [] w u s z
+    → (is : HasRunLines client text rest n (effects w s) (effects v t, old)) → m ≡ n + 1 → RanOutAt m (Close 1) (effects v t) (effects u z) old new → ShellEnded (Err Memory) client is.events [] (effects w s) (effects u z)
 close_out client text rest n m w v u s t z old new is next (out_reply reply ran front) =
     out_writing
     (cut_closing is.replies reply new refl (run_more (Open 1 client ∷ is.events) is.replies (Close 1) reply s t z old new is.run no_report_closes ran) is.opened
@@ -285,8 +286,8 @@ close_out client text rest n m w v u s t z old new is next (out_event stops same
     (subst (λ x. AddsEach w x (shown_from 0 is.replies)) (sym same) is.wrote)
 
 close_ended : (client : ℕ) (text rest : List ℕ) (n m : ℕ) (w v u : Written) (s t z : Seen) (old new : Play)
-    → (is : HasRunLines client text rest n w v s t old) → m ≡ n + 1 → (answer : Result Reply ShellFault) → EventRan answer m (Close 1) v u t z old new
-    → ShellEnded (ended answer) client is.events [] w u s z
+    → (is : HasRunLines client text rest n (effects w s) (effects v t, old)) → m ≡ n + 1 → (answer : Result Reply ShellFault) → EventRan answer m (Close 1) (effects v t, old) (effects u z, new)
+    → ShellEnded (ended answer) client is.events [] (effects w s) (effects u z)
 close_ended client text rest n m w v u s t z old new is next (Ok reply) ran = (
   refl,
   record {
@@ -305,15 +306,15 @@ close_ended client text rest n m w v u s t z old new is next (Err WriteFault) ra
 close_ended client text rest n m w v u s t z old new is next (Err Memory) ran = close_out client text rest n m w v u s t z old new is next ran
 
 pub at_end : (client : ℕ) (text rest : List ℕ) (n m : ℕ) (w v u : Written) (s t z : Seen) (old new : Play) (result : Result (Unit {0}) ShellFault)
-    → HasRunLines client text rest n w v s t old → rest ≡ [] → m ≡ n + 1 → ClosingRan result m v u t z old new → ShellWent client text result w u s z
+    → HasRunLines client text rest n (effects w s) (effects v t, old) → rest ≡ [] → m ≡ n + 1 → ClosingRan result m (effects v t) (effects u z) old new → ShellWent client text result (effects w s) (effects u z)
 at_end client text rest n m w v u s t z old new result is none next closing = shell_went is.events is.earlier [] (is.at ∙ ap (λ r. is.earlier ++ lines_of r) none) is.spelled
-    (subst (λ r. ShellEnded r client is.events [] w u s z) (sym closing.ends) (close_ended client text rest n m w v u s t z old new is next closing.answer closing.ran))
+    (subst (λ r. ShellEnded r client is.events [] (effects w s) (effects u z)) (sym closing.ends) (close_ended client text rest n m w v u s t z old new is next closing.answer closing.ran))
 
 -- ---- a line that ends the shell
 
 -- a line was met
 pub record IsMet (client : ℕ) (text rest behind line : List ℕ) (n m : ℕ) (w v : Written) (s t : Seen) (old : Play) : Type 0 where
-  pub is : HasRunLines client text rest n w v s t old
+  pub is : HasRunLines client text rest n (effects w s) (effects v t, old)
   pub split : lines_of rest ≡ line ∷ lines_of behind
   pub next : m ≡ n + 1
 
@@ -324,7 +325,7 @@ met_count {client} {text} {rest} {behind} {line} {n} {m} {w} {v} {s} {t} {old} m
 -- the shell ends before it
 ends_before : {client : ℕ} {text rest behind line : List ℕ} {n m : ℕ} {w v : Written} {s t : Seen} {old : Play}
     → (result : Result (Unit {0}) ShellFault) (u : Written) (z : Seen) → (met : IsMet client text rest behind line n m w v s t old)
-    → ShellEnded result client met.is.events (line ∷ lines_of behind) w u s z → ShellWent client text result w u s z
+    → ShellEnded result client met.is.events (line ∷ lines_of behind) (effects w s) (effects u z) → ShellWent client text result (effects w s) (effects u z)
 ends_before {client} {text} {rest} {behind} {line} {n} {m} {w} {v} {s} {t} {old} result u z met so = shell_went met.is.events met.is.earlier (line ∷ lines_of behind) (met.is.at ∙ ap (λ ls. met.is.earlier ++ ls) met.split) met.is.spelled
     so
 
@@ -332,7 +333,7 @@ ends_before {client} {text} {rest} {behind} {line} {n} {m} {w} {v} {s} {t} {old}
 ends_cut : {client : ℕ} {text rest behind line : List ℕ} {n m : ℕ} {w v : Written} {s t : Seen} {old : Play}
     → (met : IsMet client text rest behind line n m w v s t old) (event : Event) (reply : Reply) (u : Written) (z : Seen) (new : Play)
     → IsShellLine line event → IsRun event reply t z old new → AddsPart v u (reply_line m reply)
-    → ShellWent client text (Err WriteFault) w u s z × ShellWent client text (Err Memory) w u s z
+    → ShellWent client text (Err WriteFault) (effects w s) (effects u z) × ShellWent client text (Err Memory) (effects w s) (effects u z)
 ends_cut {client} {text} {rest} {behind} {line} {n} {m} {w} {v} {s} {t} {old} met event reply u z new spells ran front =
     let is = met.is in
     let at : lines_of text ≡ (is.earlier ++ line ∷ []) ++ lines_of behind =
@@ -349,7 +350,7 @@ ends_cut {client} {text} {rest} {behind} {line} {n} {m} {w} {v} {s} {t} {old} me
 
 event_out : {client : ℕ} {text rest behind line : List ℕ} {n m : ℕ} {w v : Written} {s t : Seen} {old : Play}
     → (met : IsMet client text rest behind line n m w v s t old) (event : Event) (u : Written) (z : Seen) (new : Play) → IsShellLine line event
-    → RanOutAt m event v u t z old new → ShellWent client text (Err Memory) w u s z
+    → RanOutAt m event (effects v t) (effects u z) old new → ShellWent client text (Err Memory) (effects w s) (effects u z)
 event_out {client} {text} {rest} {behind} {line} {n} {m} {w} {v} {s} {t} {old} met event u z new spells (out_reply reply ran front) =
     (ends_cut met event reply u z new spells ran front).1
 event_out {client} {text} {rest} {behind} {line} {n} {m} {w} {v} {s} {t} {old} met event u z new spells (out_event stops same) =
@@ -360,7 +361,7 @@ event_out {client} {text} {rest} {behind} {line} {n} {m} {w} {v} {s} {t} {old} m
 
 event_fault : {client : ℕ} {text rest behind line : List ℕ} {n m : ℕ} {w v : Written} {s t : Seen} {old : Play}
     → (met : IsMet client text rest behind line n m w v s t old) (event : Event) (u : Written) (z : Seen) (new : Play) (fault : ShellFault)
-    → IsShellLine line event → EventRan (Err fault) m event v u t z old new → ShellWent client text (Err fault) w u s z
+    → IsShellLine line event → EventRan (Err fault) m event (effects v t, old) (effects u z, new) → ShellWent client text (Err fault) (effects w s) (effects u z)
 event_fault met event u z new NotOpened spells ran = absurd ran
 event_fault met event u z new BadLine spells ran = absurd ran
 event_fault met event u z new WriteFault spells ran = (ends_cut met event ran.0 u z new spells ran.1 ran.2).0
@@ -369,7 +370,7 @@ event_fault met event u z new Memory spells ran = event_out met event u z new sp
 -- its refusal is written, or a part of it
 line_refused : {client : ℕ} {text rest behind line : List ℕ} {n m : ℕ} {w v : Written} {s t : Seen} {old : Play}
     → (met : IsMet client text rest behind line n m w v s t old) (u : Written) (z : Seen) (fault : ShellFault)
-    → IsBad line → z ≡ t → LineRefused (Err fault) m v u → ShellEnded (Err fault) client met.is.events (line ∷ lines_of behind) w u s z
+    → IsBad line → z ≡ t → LineRefused (Err fault) m v u → ShellEnded (Err fault) client met.is.events (line ∷ lines_of behind) (effects w s) (effects u z)
 line_refused {client} {text} {rest} {behind} {line} {n} {m} {w} {v} {s} {t} {old} met u z NotOpened bad same p = absurd p
 line_refused {client} {text} {rest} {behind} {line} {n} {m} {w} {v} {s} {t} {old} met u z BadLine bad same p =
     let is = met.is in (
@@ -396,7 +397,7 @@ line_refused {client} {text} {rest} {behind} {line} {n} {m} {w} {v} {s} {t} {old
 -- it was not read for want of memory
 line_unread : {client : ℕ} {text rest behind line : List ℕ} {n m : ℕ} {w v : Written} {s t : Seen} {old : Play}
     → (met : IsMet client text rest behind line n m w v s t old) (u : Written) (z : Seen) → z ≡ t → u ≡ v
-    → ShellWent client text (Err Memory) w u s z
+    → ShellWent client text (Err Memory) (effects w s) (effects u z)
 line_unread {client} {text} {rest} {behind} {line} {n} {m} {w} {v} {s} {t} {old} met u z same told =
     let is = met.is in
     ends_before (Err Memory) u z met
@@ -405,17 +406,17 @@ line_unread {client} {text} {rest} {behind} {line} {n} {m} {w} {v} {s} {t} {old}
 
 by_fault : {client : ℕ} {text rest behind line : List ℕ} {n m : ℕ} {w v : Written} {s t : Seen} {old : Play}
     → (met : IsMet client text rest behind line n m w v s t old) (u : Written) (z : Seen) (new : Play) (fault : ShellFault)
-    → LineRan (Err fault) m line v u t z old new → ShellWent client text (Err fault) w u s z
+    → LineRan (Err fault) m line (effects v t, old) (effects u z, new) → ShellWent client text (Err fault) (effects w s) (effects u z)
 by_fault met u z new fault (event_run event (Ok reply) spells e ran) = absurd (cc)
 by_fault {client} {text} {rest} {behind} {line} {n} {m} {w} {v} {s} {t} {old} met u z new fault (event_run event (Err why) spells e ran) =
-    subst (λ r. ShellWent client text r w u s z) (sym e) (event_fault met event u z new why spells ran)
+    subst (λ r. ShellWent client text r (effects w s) (effects u z)) (sym e) (event_fault met event u z new why spells ran)
 by_fault met u z new fault (refused bad same p) = ends_before (Err fault) u z met (line_refused met u z fault bad same p)
 by_fault {client} {text} {rest} {behind} {line} {n} {m} {w} {v} {s} {t} {old} met u z new fault (unread e same told) =
-    subst (λ r. ShellWent client text r w u s z) (sym e) (line_unread met u z same told)
+    subst (λ r. ShellWent client text r (effects w s) (effects u z)) (sym e) (line_unread met u z same told)
 
 pub at_fault : (client : ℕ) (text rest behind line : List ℕ) (n m : ℕ) (w v u : Written) (s t z : Seen) (old new : Play) (fault : ShellFault)
-    → HasRunLines client text rest n w v s t old → lines_of rest ≡ line ∷ lines_of behind → m ≡ n + 1 → LineRan (Err fault) m line v u t z old new
-    → ShellWent client text (Err fault) w u s z
+    → HasRunLines client text rest n (effects w s) (effects v t, old) → lines_of rest ≡ line ∷ lines_of behind → m ≡ n + 1 → LineRan (Err fault) m line (effects v t, old) (effects u z, new)
+    → ShellWent client text (Err fault) (effects w s) (effects u z)
 at_fault client text rest behind line n m w v u s t z old new fault is split next ran =
     let met : IsMet client text rest behind line n m w v s t old = record { is = is; split = split; next = next } in
     by_fault met u z new fault ran

@@ -4,8 +4,9 @@ use Rattle.cloud_trait.specs.Seen.{Seen}
 use Rattle.command_words.specs.declared.shape.Shape.{Shape}
 use Rattle.command_words.specs.declared.shape.Shape.TheVariants.{Replay, Gen, Shell, Settle, Dump, Load}
 use Rattle.db_io.specs.Content.{Told}
-use Rattle.db_io.specs.Writes.{Written, AddsOne}
+use Rattle.db_io.specs.Writes.{AddsOne}
 use Rattle.dump_text.specs.declared.dump.DumpedTree.{DumpedTree}
+use Rattle.schedule_run.specs.Outside.{Effects, Outside, effects_of}
 use Rattle.schedule_run.specs.declared.dumping.DumpingFault.TheVariants as dump
 use Rattle.schedule_run.specs.declared.settling.SettleFault.TheVariants as settle
 use Rattle.schedule_run.specs.declared.load.LoadStop.{LoadStop}
@@ -21,10 +22,10 @@ use Rattle.schedule_run.specs.declared.status.Status.TheVariants.{Done, BadLine,
 use Rattle.schedule_run.specs.Run.{HasBad, WasBad, WasTooLong, limit_of}
 
 -- neither the source's nor the sink's count rose, and no more than an input of this shape may have was read
-pub record WentInOrder (asked : Option Shape) (left rest : Told) (written now_written : Written) : Type 0 where
-  pub reads : rest.faults ≤ left.faults
-  pub writes : now_written.faults ≤ written.faults
-  pub within : WasTooLong (limit_of asked) left rest → ⊥
+pub record WentInOrder (asked : Option Shape) (before after : Outside) : Type 0 where
+  pub reads : after.input.faults ≤ before.input.faults
+  pub writes : after.output.faults ≤ before.output.faults
+  pub within : WasTooLong (limit_of asked) before.input after.input → ⊥
 
 -- a line of what was read is none that the command reads
 abbrev pub ReadBadLine : Option Shape → Told → Told → Type 0
@@ -39,39 +40,39 @@ abbrev pub IsOrMemory : Status → Status → Type 0
 IsOrMemory wanted result = (result ≡ wanted) ⊎ (result ≡ Memory)
 
 -- a load of a dump stopped, and that was told
-pub record LoadStopped (result : Status) (written now_written : Written) (start now : Seen) : Type 0 where
+pub record LoadStopped (result : Status) (before after : Effects) : Type 0 where
   pub trees : List DumpedTree
   pub stop : LoadStop
-  pub went : LoadEnded (Err stop) trees start now
+  pub went : LoadEnded (Err stop) trees before.cloud after.cloud
   pub leads : result ≡ ended_as status_of_load (load_end (Err stop))
-  pub told : AddsOne written now_written (load_text (Err stop))
+  pub told : AddsOne before.output after.output (load_text (Err stop))
 
 -- a run of words of a shape ends so, unless it is a shell whose opening did not open its session, a settling that stopped, a dump of what
 -- is not quiet, or at which a look stopped, or a load of a dump that stopped
-abbrev pub EndsWith : Status → Option Shape → Status → Written → Written → Seen → Seen → Type 0
-EndsWith wanted (Some Replay) result written now_written start now = IsOrMemory wanted result
-EndsWith wanted (Some (Gen number count)) result written now_written start now = IsOrMemory wanted result
-EndsWith wanted (Some (Shell client dir)) result written now_written start now =
-    IsOrMemory wanted result ⊎ ((result ≡ NotOpened) × WasNotOpened client written now_written start now)
-EndsWith wanted (Some (Settle dir)) result written now_written start now =
-    IsOrMemory wanted result ⊎ ((result ≡ NotSettled) × SettleEnded (Err settle.NotSettled) written now_written start now)
-EndsWith wanted (Some (Dump dir)) result written now_written start now =
+abbrev pub EndsWith : Status → Option Shape → Status → Effects → Effects → Type 0
+EndsWith wanted (Some Replay) result before after = IsOrMemory wanted result
+EndsWith wanted (Some (Gen number count)) result before after = IsOrMemory wanted result
+EndsWith wanted (Some (Shell client dir)) result before after =
+    IsOrMemory wanted result ⊎ ((result ≡ NotOpened) × WasNotOpened client before after)
+EndsWith wanted (Some (Settle dir)) result before after =
+    IsOrMemory wanted result ⊎ ((result ≡ NotSettled) × SettleEnded (Err settle.NotSettled) before after)
+EndsWith wanted (Some (Dump dir)) result before after =
     IsOrMemory wanted result
-    ⊎ (((result ≡ NotQuiet) × DumpEnded (Err dump.NotQuiet) written now_written start now)
-    ⊎ ((result ≡ Stopped) × DumpEnded (Err dump.Stopped) written now_written start now))
-EndsWith wanted (Some (Load dir)) result written now_written start now =
-    IsOrMemory wanted result ⊎ ((wanted ≡ Done) × LoadStopped result written now_written start now)
-EndsWith wanted None result written now_written start now = Unit {0}
+    ⊎ (((result ≡ NotQuiet) × DumpEnded (Err dump.NotQuiet) before after)
+    ⊎ ((result ≡ Stopped) × DumpEnded (Err dump.Stopped) before after))
+EndsWith wanted (Some (Load dir)) result before after =
+    IsOrMemory wanted result ⊎ ((wanted ≡ Done) × LoadStopped result before after)
+EndsWith wanted None result before after = Unit {0}
 
 -- where all went in order and no line is bad, the run is done
-abbrev pub IsComplete : Option Shape → Status → Told → Told → Written → Written → Seen → Seen → Type 0
-IsComplete asked result left rest written now_written start now =
-    WentInOrder asked left rest written now_written → (ReadBadLine asked left rest → ⊥) → EndsWith Done asked result written now_written start now
+abbrev pub IsComplete : Option Shape → Status → Outside → Outside → Type 0
+IsComplete asked result before after =
+    WentInOrder asked before after → (ReadBadLine asked before.input after.input → ⊥) → EndsWith Done asked result (effects_of before) (effects_of after)
 
 -- where all went in order and a line is bad, the run ends by it
-abbrev pub StopsAtBadLine : Option Shape → Status → Told → Told → Written → Written → Seen → Seen → Type 0
-StopsAtBadLine asked result left rest written now_written start now =
-    WentInOrder asked left rest written now_written → IsKnown left → ReadBadLine asked left rest → EndsWith BadLine asked result written now_written start now
+abbrev pub StopsAtBadLine : Option Shape → Status → Outside → Outside → Type 0
+StopsAtBadLine asked result before after =
+    WentInOrder asked before after → IsKnown before.input → ReadBadLine asked before.input after.input → EndsWith BadLine asked result (effects_of before) (effects_of after)
 
 -- ---- of a load
 
@@ -83,13 +84,13 @@ pub record StopsUnwell (result : Status) (start now : Seen) : Type 0 where
   pub completes : Completes (Err stop) trees start now
 
 -- where all went in order and the text spells a dump, a load is done, or memory ran out, or it stopped so
-abbrev pub LoadCompletes : Option Shape → Status → Told → Told → Written → Written → Seen → Seen → Type 0
-LoadCompletes (Some (Load dir)) result left rest written now_written start now =
-    WentInOrder (Some (Load dir)) left rest written now_written → (ReadBadLine (Some (Load dir)) left rest → ⊥)
-    → IsOrMemory Done result ⊎ StopsUnwell result start now
-LoadCompletes (Some Replay) result left rest written now_written start now = Unit {0}
-LoadCompletes (Some (Gen number count)) result left rest written now_written start now = Unit {0}
-LoadCompletes (Some (Shell client dir)) result left rest written now_written start now = Unit {0}
-LoadCompletes (Some (Settle dir)) result left rest written now_written start now = Unit {0}
-LoadCompletes (Some (Dump dir)) result left rest written now_written start now = Unit {0}
-LoadCompletes None result left rest written now_written start now = Unit {0}
+abbrev pub LoadCompletes : Option Shape → Status → Outside → Outside → Type 0
+LoadCompletes (Some (Load dir)) result before after =
+    WentInOrder (Some (Load dir)) before after → (ReadBadLine (Some (Load dir)) before.input after.input → ⊥)
+    → IsOrMemory Done result ⊎ StopsUnwell result before.cloud after.cloud
+LoadCompletes (Some Replay) result before after = Unit {0}
+LoadCompletes (Some (Gen number count)) result before after = Unit {0}
+LoadCompletes (Some (Shell client dir)) result before after = Unit {0}
+LoadCompletes (Some (Settle dir)) result before after = Unit {0}
+LoadCompletes (Some (Dump dir)) result before after = Unit {0}
+LoadCompletes None result before after = Unit {0}

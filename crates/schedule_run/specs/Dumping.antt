@@ -1,6 +1,5 @@
 -- What a dump writes and leaves.
 use Rattle.std.specs.Prelude.{ℕ, ◌≡◌, Bool, true, false, List, Result, Ok, Err, codes}
-use Rattle.cloud_trait.specs.Seen.{Seen}
 use Rattle.db_base.specs.declared.trouble.Trouble.{Trouble}
 use Rattle.db_base.specs.declared.trouble.Trouble.TheVariants as trouble
 use Rattle.db_io.specs.Writes.{Written, AddsOne, AddsPart}
@@ -13,6 +12,7 @@ use Rattle.dump_text.specs.Text.{dump_text}
 use Rattle.db_io.specs.declared.output.OutputFault.{OutputFault}
 use Rattle.db_io.specs.declared.output.OutputFault.TheVariants as output
 use Rattle.reply_text.specs.declared.reply.Reply.TheVariants as reply
+use Rattle.schedule_run.specs.Outside.{Effects}
 use Rattle.schedule_run.specs.Written.{name_line, plain_line}
 use Rattle.schedule_run.specs.declared.dumping.DumpingFault.{DumpingFault}
 use Rattle.schedule_run.specs.declared.dumping.DumpingFault.TheVariants.{NotQuiet, Stopped, WriteFault, Memory}
@@ -45,12 +45,12 @@ IsTold taken (Err Memory) written now_written = AddsPart written now_written (ta
 
 -- a dump was taken by looks alone, or they stopped, and that was told. So where the cloud tells its state, a dump that ended well wrote the text of the
 -- contents of all trees of a quiet database (`IsTaken`), and the state is as before
-pub record DumpEnded (result : Result (Unit {0}) DumpingFault) (written now_written : Written) (start now : Seen) : Type 0 where
+pub record DumpEnded (result : Result (Unit {0}) DumpingFault) (before after : Effects) : Type 0 where
   pub taken : Result Dump DumpStop
-  pub takes : Takes start taken
-  pub looked : Looked start now
-  pub failed : StopsDark taken start now
-  pub told : IsTold taken result written now_written
+  pub takes : Takes before.cloud taken
+  pub looked : Looked before.cloud after.cloud
+  pub failed : StopsDark taken before.cloud after.cloud
+  pub told : IsTold taken result before.output after.output
 
 -- the end of a dump whose text was written so
 abbrev pub end_of : Result (Unit {0}) OutputFault → Result (Unit {0}) DumpingFault → Result (Unit {0}) DumpingFault

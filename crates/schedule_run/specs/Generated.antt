@@ -1,7 +1,7 @@
 -- What a run of made events writes and leaves.
 use Rattle.std.specs.Prelude.{◌≡◌, false, List, [], ◌∷◌, ◌++◌, length, Result, Ok, Err}
 use Rattle.cloud_trait.specs.Seen.{Seen}
-use Rattle.db_io.specs.Writes.{Written, AddsOne, AddsPart}
+use Rattle.db_io.specs.Writes.{AddsOne, AddsPart}
 use Rattle.event_text.specs.declared.event.Event.{Event}
 use Rattle.event_text.specs.declared.event.Event.TheVariants.{Report}
 use Rattle.db_io.specs.declared.output.OutputFault.{OutputFault}
@@ -9,6 +9,7 @@ use Rattle.db_io.specs.declared.output.OutputFault.TheVariants.{WriteFault, Memo
 use Rattle.reply_text.specs.declared.reply.Reply.{Reply}
 use Rattle.replay_meaning.specs.Standing.{Line}
 use Rattle.world_core.specs.declared.world.WorldFault.{WorldFault}
+use Rattle.schedule_run.specs.Outside.{Effects}
 use Rattle.schedule_run.specs.Answered.{events_of}
 use Rattle.schedule_run.specs.InPlay.{Play}
 use Rattle.schedule_run.specs.Play.{Played, StoppedAt}
@@ -53,27 +54,27 @@ TakesAll events (Ok replies) start now = HandlesAll events replies.0 replies.1 s
 TakesAll events (Err fault) start now = StopsAmong (events ++ Report 1 ∷ []) start now
 
 -- all were handled, and the summary is written
-pub record Summed (events : List Event) (written now_written : Written) (start now : Seen) : Type 0 where
+pub record Summed (events : List Event) (before after : Effects) : Type 0 where
   pub settling : Reply
   pub report : Reply
-  pub handled : HandlesAll events settling report start now
-  pub wrote : AddsOne written now_written (summary (length events) settling report)
+  pub handled : HandlesAll events settling report before.cloud after.cloud
+  pub wrote : AddsOne before.output after.output (summary (length events) settling report)
 
 -- the first part of it is
-pub record CutSum (events : List Event) (written now_written : Written) (start now : Seen) : Type 0 where
+pub record CutSum (events : List Event) (before after : Effects) : Type 0 where
   pub settling : Reply
   pub report : Reply
-  pub handled : HandlesAll events settling report start now
-  pub wrote : AddsPart written now_written (summary (length events) settling report)
+  pub handled : HandlesAll events settling report before.cloud after.cloud
+  pub wrote : AddsPart before.output after.output (summary (length events) settling report)
 
 -- where memory ran out: before anything, while an event was handled, or while the summary was written
-pub data GenRanOut (events : List Event) (written now_written : Written) (start now : Seen) : Type 0 where
-  out_before : NothingRan written now_written start now → GenRanOut events written now_written start now
-  out_handling : StopsAmong (events ++ Report 1 ∷ []) start now → now_written ≡ written → GenRanOut events written now_written start now
-  out_writing : CutSum events written now_written start now → GenRanOut events written now_written start now
+pub data GenRanOut (events : List Event) (before after : Effects) : Type 0 where
+  out_before : NothingRan before after → GenRanOut events before after
+  out_handling : StopsAmong (events ++ Report 1 ∷ []) before.cloud after.cloud → after.output ≡ before.output → GenRanOut events before after
+  out_writing : CutSum events before after → GenRanOut events before after
 
 -- how a run of events ended
-abbrev pub GenEnded : List Event → Result (Unit {0}) OutputFault → Written → Written → Seen → Seen → Type 0
-GenEnded events (Ok done) written now_written start now = Summed events written now_written start now
-GenEnded events (Err WriteFault) written now_written start now = CutSum events written now_written start now
-GenEnded events (Err Memory) written now_written start now = GenRanOut events written now_written start now
+abbrev pub GenEnded : List Event → Result (Unit {0}) OutputFault → Effects → Effects → Type 0
+GenEnded events (Ok done) before after = Summed events before after
+GenEnded events (Err WriteFault) before after = CutSum events before after
+GenEnded events (Err Memory) before after = GenRanOut events before after

@@ -1,4 +1,5 @@
 pub mod Summary
+pub mod Outside
 pub mod Written
 pub mod Answered
 pub mod Replayed

@@ -6,6 +6,7 @@ use Rattle.db_io.specs.Writes.{Written, AddsOne}
 use Rattle.dump_take.specs.Taken.{AreDumped}
 use Rattle.dump_text.specs.Text.{dump_text}
 use Rattle.dump_text.specs.declared.dump.DumpedTree.{DumpedTree}
+use Rattle.schedule_run.specs.Outside.{effects}
 use Rattle.schedule_run.specs.Loads.Loaded.{HasContents, AreLogged, commits_in}
 use Rattle.load_plan.specs.Events.{records_of, transactions, load_events}
 use Rattle.schedule_run.specs.Dumping.{DumpEnded}
@@ -13,7 +14,7 @@ use Rattle.world_core.specs.Settled.{LeavesNothing}
 
 -- a dump that begins here and is done writes this text
 abbrev pub DumpsAs : List ℕ → Seen → Type 0
-DumpsAs text now = (written now_written : Written) (later : Seen) → DumpEnded (Ok tt) written now_written now later → AddsOne written now_written text
+DumpsAs text now = (written now_written : Written) (later : Seen) → DumpEnded (Ok tt) (effects written now) (effects now_written later) → AddsOne written now_written text
 
 -- A transaction takes 200 records, the last one what is left. Whatever call failed and whatever lease ended, the ATOMIC messages of transactions that
 -- were opened are the inserts of the dump's records in order; and where no message was withheld each tree has the records of the dump, and nothing is

@@ -1,7 +1,6 @@
 -- What the load of a text writes and leaves.
 use Rattle.std.specs.Prelude.{ℕ, ◌≡◌, List, [], ◌∷◌, ◌++◌, Result, Ok, Err, IfOk, codes}
 use Rattle.std.specs.Fmt.{decimal}
-use Rattle.cloud_trait.specs.Seen.{Seen}
 use Rattle.db_io.specs.Writes.{Written, AddsOne, AddsPart}
 use Rattle.dump_text.specs.BadLine.{IsBadLine}
 use Rattle.dump_text.specs.declared.dump.DumpedTree.{DumpedTree}
@@ -9,6 +8,7 @@ use Rattle.dump_text.specs.Text.{IsDump}
 use Rattle.db_io.specs.declared.output.OutputFault.{OutputFault}
 use Rattle.db_io.specs.declared.output.OutputFault.TheVariants as output
 use Rattle.reply_text.specs.declared.reply.Reply.TheVariants as reply
+use Rattle.schedule_run.specs.Outside.{Effects}
 use Rattle.schedule_run.specs.Written.{NothingRan, bad_line, count_line, name_line, plain_line}
 use Rattle.schedule_run.specs.Load.{LoadEnded}
 use Rattle.schedule_run.specs.LoadLeft.{LeavesLoaded}
@@ -53,21 +53,21 @@ TellsLoad text end (Err fault) written now_written = (end ≡ Err fault) × Adds
 
 -- a load of these trees ended, by plain calls of its session and its settling alone, and that was told; where it was done, over a cloud that was empty and
 -- told its state, that has what these trees hold
-pub record FillWent (trees : List DumpedTree) (result : Result (Unit {0}) LoadingFault) (written now_written : Written) (start now : Seen) : Type 0 where
+pub record FillWent (trees : List DumpedTree) (result : Result (Unit {0}) LoadingFault) (before after : Effects) : Type 0 where
   pub loaded : Result Loaded LoadStop
-  pub went : LoadEnded loaded trees start now
-  pub calls : CallsPlainly start now
-  pub leaves : IfOk loaded (λ l. LeavesLoaded trees start now)
-  pub told : TellsLoad (load_text loaded) (load_end loaded) result written now_written
+  pub went : LoadEnded loaded trees before.cloud after.cloud
+  pub calls : CallsPlainly before.cloud after.cloud
+  pub leaves : IfOk loaded (λ l. LeavesLoaded trees before.cloud after.cloud)
+  pub told : TellsLoad (load_text loaded) (load_end loaded) result before.output after.output
 
 -- the text spells a dump, which was loaded up to this end; or it spells none, and its first bad line was told; or there was no memory to read it.
 -- A call was made only in the first case
-pub data FillEnded (text : List ℕ) (result : Result (Unit {0}) LoadingFault) (written now_written : Written) (start now : Seen) : Type 0 where
-  fill_went : (trees : List DumpedTree) → IsDump text trees → FillWent trees result written now_written start now
-      → FillEnded text result written now_written start now
-  fill_bad : (number : ℕ) → IsBadLine text number → TellsLoad (bad_line number) (Err BadLine) result written now_written → now ≡ start
-      → FillEnded text result written now_written start now
-  fill_unread : result ≡ Err Memory → NothingRan written now_written start now → FillEnded text result written now_written start now
+pub data FillEnded (text : List ℕ) (result : Result (Unit {0}) LoadingFault) (before after : Effects) : Type 0 where
+  fill_went : (trees : List DumpedTree) → IsDump text trees → FillWent trees result before after
+      → FillEnded text result before after
+  fill_bad : (number : ℕ) → IsBadLine text number → TellsLoad (bad_line number) (Err BadLine) result before.output after.output → after.cloud ≡ before.cloud
+      → FillEnded text result before after
+  fill_unread : result ≡ Err Memory → NothingRan before after → FillEnded text result before after
 
 -- the end of a load whose text was written so
 abbrev pub end_of : Result (Unit {0}) OutputFault → Result (Unit {0}) LoadingFault → Result (Unit {0}) LoadingFault

@@ -1,15 +1,14 @@
 -- What a run says of its words, its input and its output.
 use Rattle.std.specs.Prelude.{ℕ, ◌≡◌, ◌<◌, ◌≤◌, ◌⊎◌, List, length, Option, Some, None, Result}
-use Rattle.cloud_trait.specs.Seen.{Seen}
 use Rattle.command_words.specs.declared.shape.Shape.{Shape}
 use Rattle.command_words.specs.declared.shape.Shape.TheVariants.{Replay, Gen, Shell, Settle, Dump, Load}
 use Rattle.db_io.specs.Content.{Told, Takes}
-use Rattle.db_io.specs.Writes.{Written}
 use Rattle.db_io.specs.Input.{AreAll}
 use Rattle.db_io.specs.declared.input.InputFault.{InputFault}
 use Rattle.db_io.specs.declared.input.TheConstants.{MAX_LINES, MAX_DUMP}
 use Rattle.db_io.specs.declared.output.OutputFault.{OutputFault}
 use Rattle.sched_gen.specs.Schedule.{schedule}
+use Rattle.schedule_run.specs.Outside.{Effects, Outside, effects_of}
 use Rattle.schedule_run.specs.declared.dumping.DumpingFault.{DumpingFault}
 use Rattle.schedule_run.specs.declared.loading.LoadingFault.{LoadingFault}
 use Rattle.schedule_run.specs.declared.replay.LineFault.{LineFault}
@@ -155,57 +154,57 @@ IsOfShape None = IsOfNone
 -- ---- what each command reads, writes and leaves
 
 -- a replay: the input was read whole and its lines were handled up to this end, or it was not, and nothing ran
-pub data Replays (result : Status) (left rest : Told) (written now_written : Written) (start now : Seen) : Type 0 where
-  replay_unread : (fault : InputFault) → result ≡ status_of_input fault → NothingRan written now_written start now
-      → Replays result left rest written now_written start now
-  replay_went : (input : ReadWhole MAX_LINES left rest) (ended : Result (Unit {0}) LineFault) → result ≡ ended_as status_of_line ended
-      → ReplayWent ended input.bytes written now_written start now → Replays result left rest written now_written start now
+pub data Replays (result : Status) (before after : Outside) : Type 0 where
+  replay_unread : (fault : InputFault) → result ≡ status_of_input fault → NothingRan (effects_of before) (effects_of after)
+      → Replays result before after
+  replay_went : (input : ReadWhole MAX_LINES before.input after.input) (ended : Result (Unit {0}) LineFault) → result ≡ ended_as status_of_line ended
+      → ReplayWent ended input.bytes (effects_of before) (effects_of after) → Replays result before after
 
 -- a shell of a client: in the same way
-pub data RunsShell (client : ℕ) (result : Status) (left rest : Told) (written now_written : Written) (start now : Seen) : Type 0 where
-  shell_unread : (fault : InputFault) → result ≡ status_of_input fault → NothingRan written now_written start now
-      → RunsShell client result left rest written now_written start now
-  shell_went : (input : ReadWhole MAX_LINES left rest) (ended : Result (Unit {0}) ShellFault) → result ≡ ended_as status_of_shell ended
-      → ShellWent client input.bytes ended written now_written start now → RunsShell client result left rest written now_written start now
+pub data RunsShell (client : ℕ) (result : Status) (before after : Outside) : Type 0 where
+  shell_unread : (fault : InputFault) → result ≡ status_of_input fault → NothingRan (effects_of before) (effects_of after)
+      → RunsShell client result before after
+  shell_went : (input : ReadWhole MAX_LINES before.input after.input) (ended : Result (Unit {0}) ShellFault) → result ≡ ended_as status_of_shell ended
+      → ShellWent client input.bytes ended (effects_of before) (effects_of after) → RunsShell client result before after
 
 -- a generated schedule: its events were handled up to this end, and opened no transaction twice, whatever was in the cloud before
-pub record Generates (number count : ℕ) (result : Status) (written now_written : Written) (start now : Seen) : Type 0 where
+pub record Generates (number count : ℕ) (result : Status) (before after : Effects) : Type 0 where
   pub ended : Result (Unit {0}) OutputFault
   pub leads : result ≡ ended_as status_of_output ended
-  pub went : GenEnded (schedule number count) ended written now_written start now
-  pub opens_once : OpensNoneTwice start now
+  pub went : GenEnded (schedule number count) ended before after
+  pub opens_once : OpensNoneTwice before.cloud after.cloud
 
 -- a settling: the line `settle` was handled up to this end
-pub record RunsSettling (result : Status) (written now_written : Written) (start now : Seen) : Type 0 where
+pub record RunsSettling (result : Status) (before after : Effects) : Type 0 where
   pub ended : Result (Unit {0}) SettleFault
   pub leads : result ≡ ended_as status_of_settle ended
-  pub went : SettleEnded ended written now_written start now
+  pub went : SettleEnded ended before after
 
 -- a dump: what looks showed was written up to this end, or there was no memory to begin, and nothing ran
-pub data RunsDump (result : Status) (written now_written : Written) (start now : Seen) : Type 0 where
-  dump_unasked : result ≡ status.Memory → NothingRan written now_written start now → RunsDump result written now_written start now
-  dump_went : (ended : Result (Unit {0}) DumpingFault) → result ≡ ended_as status_of_dump ended → DumpEnded ended written now_written start now
-      → RunsDump result written now_written start now
+pub data RunsDump (result : Status) (before after : Effects) : Type 0 where
+  dump_unasked : result ≡ status.Memory → NothingRan before after → RunsDump result before after
+  dump_went : (ended : Result (Unit {0}) DumpingFault) → result ≡ ended_as status_of_dump ended → DumpEnded ended before after
+      → RunsDump result before after
 
 -- a load: the input was read whole, and what its text spells was loaded up to this end; or it was not, and nothing ran
-pub data RunsLoad (result : Status) (left rest : Told) (written now_written : Written) (start now : Seen) : Type 0 where
-  load_unread : (fault : InputFault) → result ≡ status_of_input fault → NothingRan written now_written start now
-      → RunsLoad result left rest written now_written start now
-  load_went : (input : ReadWhole MAX_DUMP left rest) (ended : Result (Unit {0}) LoadingFault) → result ≡ ended_as status_of_load ended
-      → FillEnded input.bytes ended written now_written start now → RunsLoad result left rest written now_written start now
+pub data RunsLoad (result : Status) (before after : Outside) : Type 0 where
+  load_unread : (fault : InputFault) → result ≡ status_of_input fault → NothingRan (effects_of before) (effects_of after)
+      → RunsLoad result before after
+  load_went : (input : ReadWhole MAX_DUMP before.input after.input) (ended : Result (Unit {0}) LoadingFault) → result ≡ ended_as status_of_load ended
+      → FillEnded input.bytes ended (effects_of before) (effects_of after) → RunsLoad result before after
 
 -- words of no shape, or no memory to read them: nothing is read, and nothing ran
-pub record IsUnasked (result : Status) (left rest : Told) (written now_written : Written) (start now : Seen) : Type 0 where
+pub record IsUnasked (result : Status) (before after : Outside) : Type 0 where
   pub ends : (result ≡ status.BadWords) ⊎ (result ≡ status.Memory)
-  pub unread : rest ≡ left
-  pub nothing : NothingRan written now_written start now
+  pub unread : after.input ≡ before.input
+  pub nothing : NothingRan (effects_of before) (effects_of after)
 
 -- what a run of words of this shape read, wrote and left
-abbrev pub Ran : Option Shape → Status → Told → Told → Written → Written → Seen → Seen → Type 0
-Ran (Some Replay) result left rest written now_written start now = Replays result left rest written now_written start now
-Ran (Some (Gen number count)) result left rest written now_written start now = (rest ≡ left) × Generates number count result written now_written start now
-Ran (Some (Shell client dir)) result left rest written now_written start now = RunsShell client result left rest written now_written start now
-Ran (Some (Settle dir)) result left rest written now_written start now = (rest ≡ left) × RunsSettling result written now_written start now
-Ran (Some (Dump dir)) result left rest written now_written start now = (rest ≡ left) × RunsDump result written now_written start now
-Ran (Some (Load dir)) result left rest written now_written start now = RunsLoad result left rest written now_written start now
-Ran None result left rest written now_written start now = IsUnasked result left rest written now_written start now
+abbrev pub Ran : Option Shape → Status → Outside → Outside → Type 0
+Ran (Some Replay) result before after = Replays result before after
+Ran (Some (Gen number count)) result before after = (after.input ≡ before.input) × Generates number count result (effects_of before) (effects_of after)
+Ran (Some (Shell client dir)) result before after = RunsShell client result before after
+Ran (Some (Settle dir)) result before after = (after.input ≡ before.input) × RunsSettling result (effects_of before) (effects_of after)
+Ran (Some (Dump dir)) result before after = (after.input ≡ before.input) × RunsDump result (effects_of before) (effects_of after)
+Ran (Some (Load dir)) result before after = RunsLoad result before after
+Ran None result before after = IsUnasked result before after

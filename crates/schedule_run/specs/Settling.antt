@@ -3,7 +3,7 @@ use Rattle.std.specs.Prelude.{ℕ, ◌≡◌, Bool, true, false, if◌then◌els
 use Rattle.cloud_trait.specs.Seen.{Seen}
 use Rattle.cloud_trait.specs.State.{CloudState}
 use Rattle.cloud_trait.specs.declared.state.Landing.{Landing}
-use Rattle.db_io.specs.Writes.{Written, AddsOne, AddsPart}
+use Rattle.db_io.specs.Writes.{AddsOne, AddsPart}
 use Rattle.event_text.specs.declared.event.Event.TheVariants.{Settle}
 use Rattle.head_codec.specs.declared.head.Head.{Head}
 use Rattle.db_io.specs.declared.output.OutputFault.{OutputFault}
@@ -11,6 +11,7 @@ use Rattle.db_io.specs.declared.output.OutputFault.TheVariants as output
 use Rattle.replay_meaning.specs.Kinds.{LandsOpen}
 use Rattle.reply_text.specs.declared.reply.Reply.{Reply}
 use Rattle.reply_text.specs.declared.reply.Reply.TheVariants.{Settled}
+use Rattle.schedule_run.specs.Outside.{Effects}
 use Rattle.schedule_run.specs.Answered.{IsNew, IsOfRuns, SettlesSo}
 use Rattle.schedule_run.specs.InPlay.{Play}
 use Rattle.schedule_run.specs.declared.settling.SettleFault.{SettleFault}
@@ -43,28 +44,28 @@ pub record WasSettled (reply : Reply) (start now : Seen) : Type 0 where
   pub opens : OpensNothing start now
 
 -- it is written under number 1
-pub record ShowsSettling (reply : Reply) (written now_written : Written) (start now : Seen) : Type 0 where
-  pub handled : WasSettled reply start now
-  pub wrote : AddsOne written now_written (reply_line 1 reply)
+pub record ShowsSettling (reply : Reply) (before after : Effects) : Type 0 where
+  pub handled : WasSettled reply before.cloud after.cloud
+  pub wrote : AddsOne before.output after.output (reply_line 1 reply)
 
 -- the first part of it is
-pub record CutsSettling (written now_written : Written) (start now : Seen) : Type 0 where
+pub record CutsSettling (before after : Effects) : Type 0 where
   pub reply : Reply
-  pub handled : WasSettled reply start now
-  pub wrote : AddsPart written now_written (reply_line 1 reply)
+  pub handled : WasSettled reply before.cloud after.cloud
+  pub wrote : AddsPart before.output after.output (reply_line 1 reply)
 
 -- where memory ran out: before anything, while the line was handled, or while its reply was written
-pub data SettlingRanOut (written now_written : Written) (start now : Seen) : Type 0 where
-  out_before : NothingRan written now_written start now → SettlingRanOut written now_written start now
-  out_handling : StoppedAt true Settle [] start now → now_written ≡ written → SettlingRanOut written now_written start now
-  out_writing : CutsSettling written now_written start now → SettlingRanOut written now_written start now
+pub data SettlingRanOut (before after : Effects) : Type 0 where
+  out_before : NothingRan before after → SettlingRanOut before after
+  out_handling : StoppedAt true Settle [] before.cloud after.cloud → after.output ≡ before.output → SettlingRanOut before after
+  out_writing : CutsSettling before after → SettlingRanOut before after
 
 -- how a settling ended: well exactly where its reply says that it is done
-abbrev pub SettleEnded : Result (Unit {0}) SettleFault → Written → Written → Seen → Seen → Type 0
-SettleEnded (Ok done) written now_written start now = (reply : Reply) × (is_settled reply ≡ true) × ShowsSettling reply written now_written start now
-SettleEnded (Err NotSettled) written now_written start now = (reply : Reply) × (is_settled reply ≡ false) × ShowsSettling reply written now_written start now
-SettleEnded (Err WriteFault) written now_written start now = CutsSettling written now_written start now
-SettleEnded (Err Memory) written now_written start now = SettlingRanOut written now_written start now
+abbrev pub SettleEnded : Result (Unit {0}) SettleFault → Effects → Effects → Type 0
+SettleEnded (Ok done) before after = (reply : Reply) × (is_settled reply ≡ true) × ShowsSettling reply before after
+SettleEnded (Err NotSettled) before after = (reply : Reply) × (is_settled reply ≡ false) × ShowsSettling reply before after
+SettleEnded (Err WriteFault) before after = CutsSettling before after
+SettleEnded (Err Memory) before after = SettlingRanOut before after
 
 -- the end that a reply leads to
 abbrev pub settled_by : Reply → Result (Unit {0}) SettleFault

@@ -11,6 +11,7 @@ use Rattle.db_io.specs.declared.output.OutputFault.TheVariants as output
 use Rattle.reply_text.specs.declared.reply.Reply.{Reply}
 use Rattle.reply_text.specs.declared.reply.Reply.TheVariants.{Begun, Opened}
 use Rattle.replay_meaning.specs.Standing.{Line}
+use Rattle.schedule_run.specs.Outside.{Effects}
 use Rattle.schedule_run.specs.Answered.{OpensNoneTwice}
 use Rattle.schedule_run.specs.InPlay.{Play}
 use Rattle.schedule_run.specs.declared.shell.ShellFault.{ShellFault}
@@ -88,41 +89,41 @@ OpensFirst [] = ⊥
 OpensFirst (reply ∷ replies) = is_opened reply ≡ true
 
 -- these events were run, the first of them opened the session, and the last replies are written, the first under 0
-pub record Showed (events : List Event) (written now_written : Written) (start now : Seen) : Type 0 where
+pub record Showed (events : List Event) (before after : Effects) : Type 0 where
   pub replies : List Reply
   pub play : Play
-  pub run : WereRun events replies start now play
+  pub run : WereRun events replies before.cloud after.cloud play
   pub opened : OpensFirst replies
-  pub wrote : AddsEach written now_written (shown_from 0 replies)
+  pub wrote : AddsEach before.output after.output (shown_from 0 replies)
 
 -- the opening was run and did not open the session, and its reply is written
-pub record WasNotOpened (client : ℕ) (written now_written : Written) (start now : Seen) : Type 0 where
+pub record WasNotOpened (client : ℕ) (before after : Effects) : Type 0 where
   pub reply : Reply
   pub play : Play
-  pub run : WereRun (Open 1 client ∷ []) (reply ∷ []) start now play
+  pub run : WereRun (Open 1 client ∷ []) (reply ∷ []) before.cloud after.cloud play
   pub closed : is_opened reply ≡ false
-  pub wrote : AddsOne written now_written (reply_line 0 reply)
+  pub wrote : AddsOne before.output after.output (reply_line 0 reply)
 
 -- these events were run, and behind their replies the number of a bad line is written: that of the line behind theirs
-pub record ShowedBadLine (events : List Event) (written now_written : Written) (start now : Seen) : Type 0 where
+pub record ShowedBadLine (events : List Event) (before after : Effects) : Type 0 where
   pub replies : List Reply
   pub play : Play
-  pub run : WereRun events replies start now play
+  pub run : WereRun events replies before.cloud after.cloud play
   pub opened : OpensFirst replies
-  pub wrote : AddsEach written now_written (shown_from 0 replies ++ bad_line (length replies) ∷ [])
+  pub wrote : AddsEach before.output after.output (shown_from 0 replies ++ bad_line (length replies) ∷ [])
 
 -- a text was cut short, the last: the opening's reply, that of the last of these lines, that of the closing behind them all, or the refusal of the
 -- next line; all before it is written
-pub data WasCut (client : ℕ) (events : List Event) (later : List (List ℕ)) (written now_written : Written) (start now : Seen) : Type 0 where
-  cut_opening : (reply : Reply) (play : Play) → events ≡ [] → WereRun (Open 1 client ∷ []) (reply ∷ []) start now play
-      → AddsPart written now_written (reply_line 0 reply) → WasCut client events later written now_written start now
-  cut_line : (replies : List Reply) (reply : Reply) (play : Play) → WereRun (Open 1 client ∷ events) (replies ++ reply ∷ []) start now play → OpensFirst replies
-      → AddsFront written now_written (shown_from 0 replies) (reply_line (length replies) reply) → WasCut client events later written now_written start now
+pub data WasCut (client : ℕ) (events : List Event) (later : List (List ℕ)) (before after : Effects) : Type 0 where
+  cut_opening : (reply : Reply) (play : Play) → events ≡ [] → WereRun (Open 1 client ∷ []) (reply ∷ []) before.cloud after.cloud play
+      → AddsPart before.output after.output (reply_line 0 reply) → WasCut client events later before after
+  cut_line : (replies : List Reply) (reply : Reply) (play : Play) → WereRun (Open 1 client ∷ events) (replies ++ reply ∷ []) before.cloud after.cloud play → OpensFirst replies
+      → AddsFront before.output after.output (shown_from 0 replies) (reply_line (length replies) reply) → WasCut client events later before after
   cut_closing : (replies : List Reply) (reply : Reply) (play : Play) → later ≡ []
-      → WereRun (Open 1 client ∷ (events ++ Close 1 ∷ [])) (replies ++ reply ∷ []) start now play → OpensFirst replies
-      → AddsFront written now_written (shown_from 0 replies) (reply_line (length replies) reply) → WasCut client events later written now_written start now
-  cut_refusal : (replies : List Reply) (play : Play) → BeginsBad later → WereRun (Open 1 client ∷ events) replies start now play → OpensFirst replies
-      → AddsFront written now_written (shown_from 0 replies) (bad_line (length replies)) → WasCut client events later written now_written start now
+      → WereRun (Open 1 client ∷ (events ++ Close 1 ∷ [])) (replies ++ reply ∷ []) before.cloud after.cloud play → OpensFirst replies
+      → AddsFront before.output after.output (shown_from 0 replies) (reply_line (length replies) reply) → WasCut client events later before after
+  cut_refusal : (replies : List Reply) (play : Play) → BeginsBad later → WereRun (Open 1 client ∷ events) replies before.cloud after.cloud play → OpensFirst replies
+      → AddsFront before.output after.output (shown_from 0 replies) (bad_line (length replies)) → WasCut client events later before after
 
 -- what a shell runs next, before these lines: the event of the first or, before none, the closing
 abbrev pub IsNextOf : List (List ℕ) → Event → Type 0
@@ -130,66 +131,66 @@ IsNextOf [] event = event ≡ Close 1
 IsNextOf (text ∷ texts) event = IsShellLine text event
 
 -- where memory ran out: before anything, while a text was written, between two lines, at the opening, or at the next event
-pub data ShellRanOut (client : ℕ) (events : List Event) (later : List (List ℕ)) (written now_written : Written) (start now : Seen) : Type 0 where
-  out_before : NothingRan written now_written start now → ShellRanOut client events later written now_written start now
-  out_writing : WasCut client events later written now_written start now → ShellRanOut client events later written now_written start now
-  out_between : (replies : List Reply) (play : Play) → WereRun (Open 1 client ∷ events) replies start now play → OpensFirst replies
-      → AddsEach written now_written (shown_from 0 replies) → ShellRanOut client events later written now_written start now
-  out_opening : WereStopped [] [] (Open 1 client) start now → now_written ≡ written → ShellRanOut client events later written now_written start now
-  out_next : (replies : List Reply) (event : Event) → IsNextOf later event → WereStopped (Open 1 client ∷ events) replies event start now → OpensFirst replies
-      → AddsEach written now_written (shown_from 0 replies) → ShellRanOut client events later written now_written start now
+pub data ShellRanOut (client : ℕ) (events : List Event) (later : List (List ℕ)) (before after : Effects) : Type 0 where
+  out_before : NothingRan before after → ShellRanOut client events later before after
+  out_writing : WasCut client events later before after → ShellRanOut client events later before after
+  out_between : (replies : List Reply) (play : Play) → WereRun (Open 1 client ∷ events) replies before.cloud after.cloud play → OpensFirst replies
+      → AddsEach before.output after.output (shown_from 0 replies) → ShellRanOut client events later before after
+  out_opening : WereStopped [] [] (Open 1 client) before.cloud after.cloud → after.output ≡ before.output → ShellRanOut client events later before after
+  out_next : (replies : List Reply) (event : Event) → IsNextOf later event → WereStopped (Open 1 client ∷ events) replies event before.cloud after.cloud → OpensFirst replies
+      → AddsEach before.output after.output (shown_from 0 replies) → ShellRanOut client events later before after
 
 -- how a shell ended behind these lines and before those
-abbrev pub ShellEnded : Result (Unit {0}) ShellFault → ℕ → List Event → List (List ℕ) → Written → Written → Seen → Seen → Type 0
-ShellEnded (Ok done) client events later written now_written start now =
-    (later ≡ []) × Showed (Open 1 client ∷ (events ++ Close 1 ∷ [])) written now_written start now
-ShellEnded (Err NotOpened) client events later written now_written start now = WasNotOpened client written now_written start now
-ShellEnded (Err BadLine) client events later written now_written start now =
-    BeginsBad later × ShowedBadLine (Open 1 client ∷ events) written now_written start now
-ShellEnded (Err WriteFault) client events later written now_written start now = WasCut client events later written now_written start now
-ShellEnded (Err Memory) client events later written now_written start now = ShellRanOut client events later written now_written start now
+abbrev pub ShellEnded : Result (Unit {0}) ShellFault → ℕ → List Event → List (List ℕ) → Effects → Effects → Type 0
+ShellEnded (Ok done) client events later before after =
+    (later ≡ []) × Showed (Open 1 client ∷ (events ++ Close 1 ∷ [])) before after
+ShellEnded (Err NotOpened) client events later before after = WasNotOpened client before after
+ShellEnded (Err BadLine) client events later before after =
+    BeginsBad later × ShowedBadLine (Open 1 client ∷ events) before after
+ShellEnded (Err WriteFault) client events later before after = WasCut client events later before after
+ShellEnded (Err Memory) client events later before after = ShellRanOut client events later before after
 
 -- the lines of a text were run up to this end; no two of the rows that they added to the trace of a cloud put open heads that agree in client, epoch and
 -- transaction, whatever was in the cloud before
-pub record ShellWent (client : ℕ) (text : List ℕ) (ended : Result (Unit {0}) ShellFault) (written now_written : Written) (start now : Seen) : Type 0 where
+pub record ShellWent (client : ℕ) (text : List ℕ) (ended : Result (Unit {0}) ShellFault) (before after : Effects) : Type 0 where
   pub events : List Event
   pub earlier : List (List ℕ)
   pub later : List (List ℕ)
   pub at : lines_of text ≡ earlier ++ later
   pub spelled : AreShellLines earlier events
-  pub so : ShellEnded ended client events later written now_written start now
-  pub opens_once : OpensNoneTwice start now
+  pub so : ShellEnded ended client events later before after
+  pub opens_once : OpensNoneTwice before.cloud after.cloud
 
 -- ---- between two lines
 
 -- so many lines of the text stand before the rest, and were run behind the opening
-pub record HasRunLines (client : ℕ) (text rest : List ℕ) (n : ℕ) (written now_written : Written) (start now : Seen) (play : Play) : Type 0 where
+pub record HasRunLines (client : ℕ) (text rest : List ℕ) (n : ℕ) (before : Effects) (after : Effects × Play) : Type 0 where
   pub events : List Event
   pub earlier : List (List ℕ)
   pub at : lines_of text ≡ earlier ++ lines_of rest
   pub spelled : AreShellLines earlier events
   pub count : length events ≡ n
   pub replies : List Reply
-  pub run : WereRun (Open 1 client ∷ events) replies start now play
+  pub run : WereRun (Open 1 client ∷ events) replies before.cloud after.0.cloud after.1
   pub opened : OpensFirst replies
-  pub wrote : AddsEach written now_written (shown_from 0 replies)
+  pub wrote : AddsEach before.output after.0.output (shown_from 0 replies)
 
 -- ---- one event
 
 -- memory ran out while the last reply of an event was written, or at the event
-pub data RanOutAt (n : ℕ) (event : Event) (written now_written : Written) (start now : Seen) (old new : Play) : Type 0 where
-  out_reply : (reply : Reply) → IsRun event reply start now old new → AddsPart written now_written (reply_line n reply)
-      → RanOutAt n event written now_written start now old new
-  out_event : StopsRun event start now old new → now_written ≡ written → RanOutAt n event written now_written start now old new
+pub data RanOutAt (n : ℕ) (event : Event) (before after : Effects) (old new : Play) : Type 0 where
+  out_reply : (reply : Reply) → IsRun event reply before.cloud after.cloud old new → AddsPart before.output after.output (reply_line n reply)
+      → RanOutAt n event before after old new
+  out_event : StopsRun event before.cloud after.cloud old new → after.output ≡ before.output → RanOutAt n event before after old new
 
 -- an event was run, and its last reply is written under the number, or a part of it; or memory ran out
-abbrev pub EventRan : Result Reply ShellFault → ℕ → Event → Written → Written → Seen → Seen → Play → Play → Type 0
-EventRan (Ok reply) n event written now_written start now old new = IsRun event reply start now old new × AddsOne written now_written (reply_line n reply)
-EventRan (Err NotOpened) n event written now_written start now old new = ⊥
-EventRan (Err BadLine) n event written now_written start now old new = ⊥
-EventRan (Err WriteFault) n event written now_written start now old new =
-    (reply : Reply) × IsRun event reply start now old new × AddsPart written now_written (reply_line n reply)
-EventRan (Err Memory) n event written now_written start now old new = RanOutAt n event written now_written start now old new
+abbrev pub EventRan : Result Reply ShellFault → ℕ → Event → Effects × Play → Effects × Play → Type 0
+EventRan (Ok reply) n event (before, old) (after, new) = IsRun event reply before.cloud after.cloud old new × AddsOne before.output after.output (reply_line n reply)
+EventRan (Err NotOpened) n event (before, old) (after, new) = ⊥
+EventRan (Err BadLine) n event (before, old) (after, new) = ⊥
+EventRan (Err WriteFault) n event (before, old) (after, new) =
+    (reply : Reply) × IsRun event reply before.cloud after.cloud old new × AddsPart before.output after.output (reply_line n reply)
+EventRan (Err Memory) n event (before, old) (after, new) = RanOutAt n event before after old new
 
 -- the last reply of an event that was run, by how it was written
 abbrev pub shown_by : Result (Unit {0}) OutputFault → Reply → Result Reply ShellFault
@@ -207,20 +208,20 @@ abbrev pub opened_by : Reply → Result (Unit {0}) ShellFault
 opened_by reply = if is_opened reply then Ok tt else Err NotOpened
 
 -- the opening was run, and its reply is written under 0: it ends well exactly where it opened the session
-abbrev pub OpeningRan : Result (Unit {0}) ShellFault → ℕ → Written → Written → Seen → Seen → Play → Play → Type 0
-OpeningRan (Ok done) client written now_written start now old new =
-    (reply : Reply) × (is_opened reply ≡ true) × EventRan (Ok reply) 0 (Open 1 client) written now_written start now old new
-OpeningRan (Err NotOpened) client written now_written start now old new =
-    (reply : Reply) × (is_opened reply ≡ false) × EventRan (Ok reply) 0 (Open 1 client) written now_written start now old new
-OpeningRan (Err BadLine) client written now_written start now old new = ⊥
-OpeningRan (Err WriteFault) client written now_written start now old new = EventRan (Err WriteFault) 0 (Open 1 client) written now_written start now old new
-OpeningRan (Err Memory) client written now_written start now old new = EventRan (Err Memory) 0 (Open 1 client) written now_written start now old new
+abbrev pub OpeningRan : Result (Unit {0}) ShellFault → ℕ → Effects × Play → Effects × Play → Type 0
+OpeningRan (Ok done) client before after =
+    (reply : Reply) × (is_opened reply ≡ true) × EventRan (Ok reply) 0 (Open 1 client) before after
+OpeningRan (Err NotOpened) client before after =
+    (reply : Reply) × (is_opened reply ≡ false) × EventRan (Ok reply) 0 (Open 1 client) before after
+OpeningRan (Err BadLine) client before after = ⊥
+OpeningRan (Err WriteFault) client before after = EventRan (Err WriteFault) 0 (Open 1 client) before after
+OpeningRan (Err Memory) client before after = EventRan (Err Memory) 0 (Open 1 client) before after
 
 -- the closing was run, whatever its last reply, which is written under the number
-pub record ClosingRan (result : Result (Unit {0}) ShellFault) (n : ℕ) (written now_written : Written) (start now : Seen) (old new : Play) : Type 0 where
+pub record ClosingRan (result : Result (Unit {0}) ShellFault) (n : ℕ) (before after : Effects) (old new : Play) : Type 0 where
   pub answer : Result Reply ShellFault
   pub ends : result ≡ ended answer
-  pub ran : EventRan answer n (Close 1) written now_written start now old new
+  pub ran : EventRan answer n (Close 1) (before, old) (after, new)
 
 -- what a line did whose text is no shell's line: nothing of it was run, and its refusal is written, or a part of it
 abbrev pub LineRefused : Result (Unit {0}) ShellFault → ℕ → Written → Written → Type 0
@@ -231,8 +232,8 @@ LineRefused (Err WriteFault) n written now_written = AddsPart written now_writte
 LineRefused (Err Memory) n written now_written = AddsPart written now_written (bad_line n)
 
 -- what a line did: its event was run, or it is no shell's line, or memory ran out before
-pub data LineRan (result : Result (Unit {0}) ShellFault) (n : ℕ) (text : List ℕ) (written now_written : Written) (start now : Seen) (old new : Play) : Type 0 where
+pub data LineRan (result : Result (Unit {0}) ShellFault) (n : ℕ) (text : List ℕ) (before after : Effects × Play) : Type 0 where
   event_run : (event : Event) (answer : Result Reply ShellFault) → IsShellLine text event → result ≡ ended answer
-      → EventRan answer n event written now_written start now old new → LineRan result n text written now_written start now old new
-  refused : IsBad text → now ≡ start → LineRefused result n written now_written → LineRan result n text written now_written start now old new
-  unread : result ≡ Err Memory → now ≡ start → now_written ≡ written → LineRan result n text written now_written start now old new
+      → EventRan answer n event before after → LineRan result n text before after
+  refused : IsBad text → after.0.cloud ≡ before.0.cloud → LineRefused result n before.0.output after.0.output → LineRan result n text before after
+  unread : result ≡ Err Memory → after.0.cloud ≡ before.0.cloud → after.0.output ≡ before.0.output → LineRan result n text before after

@@ -1,11 +1,11 @@
 -- What is written of replies.
 use Rattle.std.specs.Prelude.{ℕ, ◌≡◌, ◌+◌, List, [], ◌∷◌, ◌++◌}
 use Rattle.std.specs.Fmt.{decimal}
-use Rattle.cloud_trait.specs.Seen.{Seen}
 use Rattle.db_io.specs.Writes.{Written, AddsEach, AddsPart}
 use Rattle.reply_text.specs.declared.reply.Reply.{Reply}
 use Rattle.reply_text.specs.Reply.{reply_text}
 use Rattle.replay_meaning.specs.Standing.{Line}
+use Rattle.schedule_run.specs.Outside.{Effects}
 
 -- a reply as it is written: a number, a space, its text, a line feed
 abbrev pub reply_line : ℕ → Reply → List ℕ
@@ -47,6 +47,6 @@ pub record AddsFront (written now_written : Written) (texts : List (List ℕ)) (
   pub front : AddsPart between now_written text
 
 -- nothing was written, and no call was made
-pub record NothingRan (written now_written : Written) (start now : Seen) : Type 0 where
-  pub output : now_written ≡ written
-  pub seen : now ≡ start
+pub record NothingRan (before after : Effects) : Type 0 where
+  pub output : after.output ≡ before.output
+  pub seen : after.cloud ≡ before.cloud

@@ -1,6 +1,7 @@
 ghost use Rattle.std.specs.Prelude.{◌≡◌, ◌<◌, ◌⊎◌, Ok, Err};
 ghost use Rattle.dump_take.specs.declared.stop.DumpStop.TheVariants as stop;
 ghost use Rattle.dump_text.specs.Dump.{IsDumpable};
+ghost use Rattle.schedule_run.specs.Outside.{effects};
 ghost use Rattle.schedule_run.specs.Dumping.{DumpEnded, IsTold, end_of, is_memory};
 
 use crate::writing::{let_go, write_name, write_plain};
@@ -37,7 +38,8 @@ pub fn dump<O: Sink, C: Bench>(
         → (O.told sink.old).faults < (O.told sink.new).faults }
     ensures writes { (result ≡ Err DumpingFault.WriteFault)
         ⊎ ((O.told sink.new).faults ≡ (O.told sink.old).faults) }
-    ensures went { DumpEnded result (O.told sink.old) (O.told sink.new) (C.seen cloud.old) (C.seen cloud.new) }
+    ensures went { DumpEnded result (effects (O.told sink.old) (C.seen cloud.old))
+        (effects (O.told sink.new) (C.seen cloud.new)) }
 {
     match take_dump(alloc, cloud) {
         Ok(dump) => write_dump(alloc, sink, &dump),

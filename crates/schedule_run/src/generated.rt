@@ -1,5 +1,6 @@
 ghost use Rattle.std.specs.Prelude.{◌≡◌, ◌≤◌, ◌<◌, ◌+◌, ◌⊎◌, false, [], ◌∷◌, ◌++◌, Err};
 ghost use Rattle.db_io.specs.Output.{WasWritten};
+ghost use Rattle.schedule_run.specs.Outside.{effects};
 ghost use Rattle.schedule_run.specs.Play.{IsFresh};
 ghost use Rattle.schedule_run.specs.Summary.{summary};
 ghost use Rattle.sched_gen.specs.Schedule.{schedule};
@@ -33,8 +34,9 @@ pub fn generate<O: Sink, C: Bench>(
         → (O.told sink.old).faults < (O.told sink.new).faults }
     ensures writes { (result ≡ Err OutputFault.WriteFault)
         ⊎ ((O.told sink.new).faults ≡ (O.told sink.old).faults) }
-    ensures went { GenEnded (schedule number count) result (O.told sink.old) (O.told sink.new)
-        (C.seen cloud.old) (C.seen cloud.new) }
+    ensures went { GenEnded (schedule number count) result
+        (effects (O.told sink.old) (C.seen cloud.old))
+        (effects (O.told sink.new) (C.seen cloud.new)) }
 {
     let Ok(events) = make(alloc, number, count) else {
         return Err(OutputFault::Memory);
@@ -62,8 +64,9 @@ fn generate_in<S: SessionCalls, O: Sink, C: Bench>(
         → (O.told sink.old).faults < (O.told sink.new).faults }
     ensures writes { (result ≡ Err OutputFault.WriteFault)
         ⊎ ((O.told sink.new).faults ≡ (O.told sink.old).faults) }
-    ensures went { GenEnded (earlier.now ++ last.now ∷ []) result (O.told sink.old) (O.told sink.new)
-        (C.seen cloud.old) (C.seen cloud.new) }
+    ensures went { GenEnded (earlier.now ++ last.now ∷ []) result
+        (effects (O.told sink.old) (C.seen cloud.old))
+        (effects (O.told sink.new) (C.seen cloud.new)) }
 {
     match take_all(alloc, play, earlier, last, cloud) {
         Ok((settling, report)) => {
@@ -136,7 +139,8 @@ fn write_summary<O: Sink>(
     settling: &Reply,
     report: &Reply,
 ) -> Result<(), OutputFault>
-    ensures { WasWritten (O.told sink.old) (O.told sink.new) (summary (earlier + 1) settling.now report.now) result }
+    ensures { WasWritten
+        (O.told sink.old) (O.told sink.new) (summary (earlier + 1) settling.now report.now) result }
 {
     let Some(count) = earlier.checked_add(1) else {
         return Err(OutputFault::Memory);

@@ -72,7 +72,8 @@ pub fn load<C: Bench>(
     // Over a cloud that was empty, where no count rose and each step was calm: it is done, or memory ran out.
     ensures complete { Completes result dump.now.trees (C.seen cloud.old) (C.seen cloud.new) }
     // Done, over a cloud that was empty: what is logged, what each tree has, and that a dump of it writes the same text.
-    ensures leaves { IfOk result (λ loaded. LeavesLoaded dump.now.trees (C.seen cloud.old) (C.seen cloud.new)) }
+    ensures leaves { IfOk result (λ loaded. LeavesLoaded dump.now.trees
+        (C.seen cloud.old) (C.seen cloud.new)) }
     // Whatever it answers: its calls are plain steps of its session and of its settling.
     ensures calls { CallsPlainly (C.seen cloud.old) (C.seen cloud.new) }
 {
@@ -114,7 +115,8 @@ fn commit_all<S: SessionCalls, C: Bench>(
     records: u64,
 ) -> Result<(), LoadStop>
     requires { records ≡ length (records_of dump.now.trees) }
-    ensures { GoesThrough (commit_events (parts_of dump.now.trees)) result (C.seen cloud.old) (C.seen cloud.new) play.old play.new }
+    ensures { GoesThrough (commit_events (parts_of dump.now.trees)) result
+        (C.seen cloud.old) (C.seen cloud.new) play.old play.new }
 {
     let Some(sum) = records.checked_add(PART - 1) else {
         return Err(LoadStop::Memory);
@@ -136,7 +138,8 @@ fn commit_later<S: SessionCalls, C: Bench>(
     left: &mut Remaining<'_>,
     transactions: u64,
 ) -> Result<(), LoadStop>
-    ensures { GoesThrough (later_events (parts transactions left.old)) result (C.seen cloud.old) (C.seen cloud.new) play.old play.new }
+    ensures { GoesThrough (later_events (parts transactions left.old)) result
+        (C.seen cloud.old) (C.seen cloud.new) play.old play.new }
 {
     for made in 0..transactions {
         pass_over(alloc, play, cloud, Event::Renew { session: 1 })?;
@@ -152,7 +155,8 @@ fn commit_part<S: SessionCalls, C: Bench>(
     cloud: &mut C,
     left: &mut Remaining<'_>,
 ) -> Result<(), LoadStop>
-    ensures went { GoesThrough (part_events (take 200 left.old)) result (C.seen cloud.old) (C.seen cloud.new) play.old play.new }
+    ensures went { GoesThrough (part_events (take 200 left.old)) result
+        (C.seen cloud.old) (C.seen cloud.new) play.old play.new }
     ensures left { OnOk result (left.new ≡ drop 200 left.old) }
 {
     let part = left.again();
@@ -168,7 +172,8 @@ fn note_part<S: SessionCalls, C: Bench>(
     cloud: &mut C,
     left: &mut Remaining<'_>,
 ) -> Result<(), LoadStop>
-    ensures went { GoesThrough (map insert_of (take 200 left.old)) result (C.seen cloud.old) (C.seen cloud.new) play.old play.new }
+    ensures went { GoesThrough (map insert_of (take 200 left.old)) result
+        (C.seen cloud.old) (C.seen cloud.new) play.old play.new }
     ensures left { OnOk result (left.new ≡ drop 200 left.old) }
 {
     for noted in 0..PART {
@@ -187,7 +192,8 @@ fn checkpoint_part<S: SessionCalls, C: Bench>(
     cloud: &mut C,
     part: Remaining<'_>,
 ) -> Result<(), LoadStop>
-    ensures { GoesThrough (checkpoints_of (take 200 part.entry)) result (C.seen cloud.old) (C.seen cloud.new) play.old play.new }
+    ensures { GoesThrough (checkpoints_of (take 200 part.entry)) result
+        (C.seen cloud.old) (C.seen cloud.new) play.old play.new }
 {
     let mut left = part;
     let mut last = 0;
@@ -209,7 +215,8 @@ fn checkpoint_at<S: SessionCalls, C: Bench>(
     last: u64,
     tree: u64,
 ) -> Result<(), LoadStop>
-    ensures { GoesThrough (checkpoint_at last tree) result (C.seen cloud.old) (C.seen cloud.new) play.old play.new }
+    ensures { GoesThrough (checkpoint_at last tree) result
+        (C.seen cloud.old) (C.seen cloud.new) play.old play.new }
 {
     if tree == last {
         return Ok(());
@@ -223,7 +230,8 @@ fn open<S: SessionCalls, C: Bench>(
     play: &mut Play<S>,
     cloud: &mut C,
 ) -> Result<(), LoadStop>
-    ensures { GoesThrough (Open 1 1 ∷ []) result (C.seen cloud.old) (C.seen cloud.new) play.old play.new }
+    ensures { GoesThrough (Open 1 1 ∷ []) result
+        (C.seen cloud.old) (C.seen cloud.new) play.old play.new }
 {
     let event = Event::Open {
         session: 1,
@@ -240,7 +248,8 @@ fn note<S: SessionCalls, C: Bench>(
     tree: u64,
     stored: &Stored,
 ) -> Result<(), LoadStop>
-    ensures { GoesThrough (insert_of (record { tree = tree; stored = stored.now }) ∷ []) result (C.seen cloud.old) (C.seen cloud.new) play.old play.new }
+    ensures { GoesThrough (insert_of (record { tree = tree; stored = stored.now }) ∷ []) result
+        (C.seen cloud.old) (C.seen cloud.new) play.old play.new }
 {
     match insert_of(alloc, tree, stored) {
         Ok(event) => noted(run(alloc, play, cloud, event)?),
@@ -254,7 +263,8 @@ fn commit<S: SessionCalls, C: Bench>(
     play: &mut Play<S>,
     cloud: &mut C,
 ) -> Result<(), LoadStop>
-    ensures { GoesThrough (Commit 1 ∷ []) result (C.seen cloud.old) (C.seen cloud.new) play.old play.new }
+    ensures { GoesThrough (Commit 1 ∷ []) result
+        (C.seen cloud.old) (C.seen cloud.new) play.old play.new }
 {
     committed(run(alloc, play, cloud, Event::Commit { session: 1 })?)
 }

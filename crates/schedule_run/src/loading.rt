@@ -1,6 +1,7 @@
 ghost use Rattle.std.specs.Prelude.{◌≡◌, ◌<◌, ◌⊎◌, Ok, Err};
 ghost use Rattle.dump_text.specs.Dump.{IsDumpable};
 ghost use Rattle.db_io.specs.Output.{WasWritten};
+ghost use Rattle.schedule_run.specs.Outside.{effects};
 ghost use Rattle.schedule_run.specs.Written.{bad_line, plain_line};
 ghost use Rattle.schedule_run.specs.Loading.{FillEnded, FillWent, SpellsNoDump, TellsLoad, end_of, load_end, load_text};
 
@@ -48,7 +49,8 @@ pub fn fill<O: Sink, C: Bench>(
     ensures writes { (result ≡ Err LoadingFault.WriteFault)
         ⊎ ((O.told sink.new).faults ≡ (O.told sink.old).faults) }
     ensures bad_line { result ≡ Err LoadingFault.BadLine → SpellsNoDump text.now }
-    ensures went { FillEnded text.now result (O.told sink.old) (O.told sink.new) (C.seen cloud.old) (C.seen cloud.new) }
+    ensures went { FillEnded text.now result (effects (O.told sink.old) (C.seen cloud.old))
+        (effects (O.told sink.new) (C.seen cloud.new)) }
 {
     match Dump::read(alloc, text) {
         Ok(dump) => fill_from(alloc, &dump, sink, cloud),
@@ -77,7 +79,8 @@ fn write_bad_line<O: Sink>(alloc: Global, sink: &mut O, number: u64) -> Result<(
         → (O.told sink.old).faults < (O.told sink.new).faults }
     ensures writes { (result ≡ Err LoadingFault.WriteFault)
         ⊎ ((O.told sink.new).faults ≡ (O.told sink.old).faults) }
-    ensures told { TellsLoad (bad_line number) (Err LoadingFault.BadLine) result (O.told sink.old) (O.told sink.new) }
+    ensures told { TellsLoad (bad_line number) (Err LoadingFault.BadLine) result
+        (O.told sink.old) (O.told sink.new) }
 {
     end_of(refuse(alloc, sink, number), Err(LoadingFault::BadLine))
 }
@@ -95,7 +98,8 @@ fn fill_from<O: Sink, C: Bench>(
     ensures writes { (result ≡ Err LoadingFault.WriteFault)
         ⊎ ((O.told sink.new).faults ≡ (O.told sink.old).faults) }
     ensures good { result ≡ Err LoadingFault.BadLine → ⊥ }
-    ensures went { FillWent dump.now.trees result (O.told sink.old) (O.told sink.new) (C.seen cloud.old) (C.seen cloud.new) }
+    ensures went { FillWent dump.now.trees result (effects (O.told sink.old) (C.seen cloud.old))
+        (effects (O.told sink.new) (C.seen cloud.new)) }
 {
     match load(alloc, cloud, dump, MOST_CALLS) {
         Ok(loaded) => write_loaded(alloc, sink, loaded),
@@ -109,7 +113,8 @@ fn write_loaded<O: Sink>(alloc: Global, sink: &mut O, loaded: Loaded) -> Result<
         → (O.told sink.old).faults < (O.told sink.new).faults }
     ensures writes { (result ≡ Err LoadingFault.WriteFault)
         ⊎ ((O.told sink.new).faults ≡ (O.told sink.old).faults) }
-    ensures told { TellsLoad (load_text (Ok loaded)) (Ok tt) result (O.told sink.old) (O.told sink.new) }
+    ensures told { TellsLoad (load_text (Ok loaded)) (Ok tt) result
+        (O.told sink.old) (O.told sink.new) }
 {
     let records = loaded.records;
     let calls = loaded.calls;
@@ -125,7 +130,8 @@ fn write_stop<O: Sink>(alloc: Global, sink: &mut O, stop: LoadStop) -> Result<()
         → (O.told sink.old).faults < (O.told sink.new).faults }
     ensures writes { (result ≡ Err LoadingFault.WriteFault)
         ⊎ ((O.told sink.new).faults ≡ (O.told sink.old).faults) }
-    ensures told { TellsLoad (load_text (Err stop)) (load_end (Err stop)) result (O.told sink.old) (O.told sink.new) }
+    ensures told { TellsLoad (load_text (Err stop)) (load_end (Err stop)) result
+        (O.told sink.old) (O.told sink.new) }
 {
     match stop {
         LoadStop::NotEmpty(name) => end_of(

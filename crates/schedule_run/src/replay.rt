@@ -2,6 +2,7 @@ ghost use Rattle.std.specs.Prelude.{◌≡◌, ◌<◌, ◌⊎◌, false, Err};
 ghost use Rattle.event_text.specs.declared.event.Event.{Event};
 ghost use Rattle.event_text.specs.Event.{IsEvent};
 ghost use Rattle.world_core.specs.Stands.{Grows};
+ghost use Rattle.schedule_run.specs.Outside.{effects};
 ghost use Rattle.schedule_run.specs.Answered.{IsNew};
 ghost use Rattle.schedule_run.specs.Replayed.{HasBadLine, LineWent, LineHandled, ReplayWent, WentThrough};
 
@@ -42,8 +43,8 @@ pub fn replay_lines<O: Sink, C: Bench>(
         → (O.told sink.old).faults < (O.told sink.new).faults }
     ensures writes { (result ≡ Err LineFault.WriteFault)
         ⊎ ((O.told sink.new).faults ≡ (O.told sink.old).faults) }
-    ensures went { ReplayWent result input.now (O.told sink.old) (O.told sink.new)
-        (C.seen cloud.old) (C.seen cloud.new) }
+    ensures went { ReplayWent result input.now (effects (O.told sink.old) (C.seen cloud.old))
+        (effects (O.told sink.new) (C.seen cloud.new)) }
 {
     match World::<Session>::new(alloc) {
         Ok(mut world) => go_on(alloc, &mut world, input, sink, cloud),
@@ -60,8 +61,8 @@ fn go_on<S: SessionCalls, O: Sink, C: Bench>(
     cloud: &mut C,
 ) -> Result<(), LineFault>
     requires fresh { IsNew false world.old }
-    ensures went { WentThrough input.now result (O.told sink.old) (O.told sink.new)
-        (C.seen cloud.old) (C.seen cloud.new) }
+    ensures went { WentThrough input.now result (effects (O.told sink.old) (C.seen cloud.old))
+        (effects (O.told sink.new) (C.seen cloud.new)) }
     ensures bad_line { result ≡ Err LineFault.BadLine → HasBadLine input.now }
     ensures write_fault { result ≡ Err LineFault.WriteFault
         → (O.told sink.old).faults < (O.told sink.new).faults }
@@ -93,9 +94,8 @@ fn replay_line<S: SessionCalls, O: Sink, C: Bench>(
     n: u64,
     line: &[u8],
 ) -> Result<(), LineFault>
-    ensures went { LineWent result n line.now (O.told sink.old) (O.told sink.new)
-        (C.seen cloud.old) (C.seen cloud.new)
-        world.old world.new }
+    ensures went { LineWent result n line.now (effects (O.told sink.old) (C.seen cloud.old), world.old)
+        (effects (O.told sink.new) (C.seen cloud.new), world.new) }
     ensures grows { Grows n (C.seen cloud.old) (C.seen cloud.new) }
     ensures bad_line { result ≡ Err LineFault.BadLine → (event : Event) → IsEvent line.now event → ⊥ }
     ensures write_fault { result ≡ Err LineFault.WriteFault
@@ -127,9 +127,9 @@ fn handle<S: SessionCalls, O: Sink, C: Bench>(
     n: u64,
     event: &Event,
 ) -> Result<(), LineFault>
-    ensures handled { LineHandled result n event.now (O.told sink.old) (O.told sink.new)
-        (C.seen cloud.old) (C.seen cloud.new)
-        world.old world.new }
+    ensures handled { LineHandled result n event.now
+        (effects (O.told sink.old) (C.seen cloud.old), world.old)
+        (effects (O.told sink.new) (C.seen cloud.new), world.new) }
     ensures grows { Grows n (C.seen cloud.old) (C.seen cloud.new) }
     ensures write_fault { result ≡ Err LineFault.WriteFault
         → (O.told sink.old).faults < (O.told sink.new).faults }

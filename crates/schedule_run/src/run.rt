@@ -1,6 +1,7 @@
 ghost use Rattle.std.specs.Prelude.{◌≡◌, ◌<◌, ◌≤◌, ◌⊎◌, Some, None, map, string_bytes};
 ghost use Rattle.command_words.specs.Words.{shape_of};
 ghost use Rattle.db_io.specs.declared.input.TheConstants.{MAX_DUMP, MAX_LINES};
+ghost use Rattle.schedule_run.specs.Outside.{effects, outside};
 ghost use Rattle.schedule_run.specs.Loading.{SpellsNoDump};
 ghost use Rattle.schedule_run.specs.Replayed.{HasBadLine};
 ghost use Rattle.schedule_run.specs.Shell.{HasBadShellLine};
@@ -40,10 +41,10 @@ pub fn run<I: Source, O: Sink, C: Bench>(
         → (I.told source.old).faults < (I.told source.new).faults }
     ensures reads { (result ≡ Status.ReadFault)
         ⊎ ((I.told source.new).faults ≡ (I.told source.old).faults) }
-    ensures too_long { result ≡ Status.TooLong → WasTooLong (limit_of (shape_of (map string_bytes words.now)))
-        (I.told source.old) (I.told source.new) }
-    ensures within { (result ≡ Status.TooLong) ⊎ WasWithin (limit_of (shape_of (map string_bytes words.now)))
-        (I.told source.old) (I.told source.new) }
+    ensures too_long { result ≡ Status.TooLong
+        → WasTooLong (limit_of (shape_of (map string_bytes words.now))) (I.told source.old) (I.told source.new) }
+    ensures within { (result ≡ Status.TooLong)
+        ⊎ WasWithin (limit_of (shape_of (map string_bytes words.now))) (I.told source.old) (I.told source.new) }
     ensures bad_line { result ≡ Status.BadLine
         → WasBad (HasBad (shape_of (map string_bytes words.now))) (I.told source.old) (I.told source.new) }
     ensures write_fault { result ≡ Status.WriteFault
@@ -52,19 +53,19 @@ pub fn run<I: Source, O: Sink, C: Bench>(
         ⊎ ((O.told sink.new).faults ≡ (O.told sink.old).faults) }
     // Where no read or write failed, the input was not too long and no line of it is bad, it is done.
     ensures complete { IsComplete (shape_of (map string_bytes words.now)) result
-        (I.told source.old) (I.told source.new) (O.told sink.old) (O.told sink.new)
-        (C.seen cloud.old) (C.seen cloud.new) }
+        (outside (I.told source.old) (O.told sink.old) (C.seen cloud.old))
+        (outside (I.told source.new) (O.told sink.new) (C.seen cloud.new)) }
     // A load of a dump, where besides no count of the cloud rose and each step was calm, too, unless memory ran out.
     ensures complete_load { LoadCompletes (shape_of (map string_bytes words.now)) result
-        (I.told source.old) (I.told source.new) (O.told sink.old) (O.told sink.new)
-        (C.seen cloud.old) (C.seen cloud.new) }
+        (outside (I.told source.old) (O.told sink.old) (C.seen cloud.old))
+        (outside (I.told source.new) (O.told sink.new) (C.seen cloud.new)) }
     // Where a line of it is bad, it ends by that.
     ensures at_bad_line { StopsAtBadLine (shape_of (map string_bytes words.now)) result
-        (I.told source.old) (I.told source.new) (O.told sink.old) (O.told sink.new)
-        (C.seen cloud.old) (C.seen cloud.new) }
+        (outside (I.told source.old) (O.told sink.old) (C.seen cloud.old))
+        (outside (I.told source.new) (O.told sink.new) (C.seen cloud.new)) }
     ensures ran { Ran (shape_of (map string_bytes words.now)) result
-        (I.told source.old) (I.told source.new) (O.told sink.old) (O.told sink.new)
-        (C.seen cloud.old) (C.seen cloud.new) }
+        (outside (I.told source.old) (O.told sink.old) (C.seen cloud.old))
+        (outside (I.told source.new) (O.told sink.new) (C.seen cloud.new)) }
 {
     match shape(alloc, words) {
         Ok(asked) => run_asked(alloc, asked, source, sink, cloud),
@@ -88,15 +89,19 @@ fn run_asked<I: Source, O: Sink, C: Bench>(
         → (I.told source.old).faults < (I.told source.new).faults }
     ensures reads { (result ≡ Status.ReadFault)
         ⊎ ((I.told source.new).faults ≡ (I.told source.old).faults) }
-    ensures too_long { result ≡ Status.TooLong → WasTooLong (limit_of (Some asked)) (I.told source.old) (I.told source.new) }
-    ensures within { (result ≡ Status.TooLong) ⊎ WasWithin (limit_of (Some asked)) (I.told source.old) (I.told source.new) }
-    ensures bad_line { result ≡ Status.BadLine → WasBad (HasBad (Some asked)) (I.told source.old) (I.told source.new) }
+    ensures too_long { result ≡ Status.TooLong → WasTooLong (limit_of (Some asked))
+        (I.told source.old) (I.told source.new) }
+    ensures within { (result ≡ Status.TooLong) ⊎ WasWithin (limit_of (Some asked))
+        (I.told source.old) (I.told source.new) }
+    ensures bad_line { result ≡ Status.BadLine → WasBad (HasBad (Some asked))
+        (I.told source.old) (I.told source.new) }
     ensures write_fault { result ≡ Status.WriteFault
         → (O.told sink.old).faults < (O.told sink.new).faults }
     ensures writes { (result ≡ Status.WriteFault)
         ⊎ ((O.told sink.new).faults ≡ (O.told sink.old).faults) }
-    ensures ran { Ran (Some asked) result (I.told source.old) (I.told source.new) (O.told sink.old) (O.told sink.new)
-        (C.seen cloud.old) (C.seen cloud.new) }
+    ensures ran { Ran (Some asked) result
+        (outside (I.told source.old) (O.told sink.old) (C.seen cloud.old))
+        (outside (I.told source.new) (O.told sink.new) (C.seen cloud.new)) }
 {
     match asked {
         Shape::Replay => replay(alloc, source, sink, cloud),
@@ -120,16 +125,19 @@ fn replay<I: Source, O: Sink, C: Bench>(
         → (I.told source.old).faults < (I.told source.new).faults }
     ensures reads { (result ≡ Status.ReadFault)
         ⊎ ((I.told source.new).faults ≡ (I.told source.old).faults) }
-    ensures too_long { result ≡ Status.TooLong → WasTooLong MAX_LINES (I.told source.old) (I.told source.new) }
-    ensures within { (result ≡ Status.TooLong) ⊎ WasWithin MAX_LINES (I.told source.old) (I.told source.new) }
+    ensures too_long { result ≡ Status.TooLong → WasTooLong MAX_LINES
+        (I.told source.old) (I.told source.new) }
+    ensures within { (result ≡ Status.TooLong) ⊎ WasWithin MAX_LINES
+        (I.told source.old) (I.told source.new) }
     ensures bad_line { result ≡ Status.BadLine
         → WasBad HasBadLine (I.told source.old) (I.told source.new) }
     ensures write_fault { result ≡ Status.WriteFault
         → (O.told sink.old).faults < (O.told sink.new).faults }
     ensures writes { (result ≡ Status.WriteFault)
         ⊎ ((O.told sink.new).faults ≡ (O.told sink.old).faults) }
-    ensures ran { Replays result (I.told source.old) (I.told source.new) (O.told sink.old) (O.told sink.new)
-        (C.seen cloud.old) (C.seen cloud.new) }
+    ensures ran { Replays result
+        (outside (I.told source.old) (O.told sink.old) (C.seen cloud.old))
+        (outside (I.told source.new) (O.told sink.new) (C.seen cloud.new)) }
 {
     match read_whole(alloc, source, MAX_LINES) {
         Ok(input) => match replay_lines(alloc, input.as_slice(), sink, cloud) {
@@ -157,16 +165,19 @@ fn shell<I: Source, O: Sink, C: Bench>(
         → (I.told source.old).faults < (I.told source.new).faults }
     ensures reads { (result ≡ Status.ReadFault)
         ⊎ ((I.told source.new).faults ≡ (I.told source.old).faults) }
-    ensures too_long { result ≡ Status.TooLong → WasTooLong MAX_LINES (I.told source.old) (I.told source.new) }
-    ensures within { (result ≡ Status.TooLong) ⊎ WasWithin MAX_LINES (I.told source.old) (I.told source.new) }
+    ensures too_long { result ≡ Status.TooLong → WasTooLong MAX_LINES
+        (I.told source.old) (I.told source.new) }
+    ensures within { (result ≡ Status.TooLong) ⊎ WasWithin MAX_LINES
+        (I.told source.old) (I.told source.new) }
     ensures bad_line { result ≡ Status.BadLine
         → WasBad HasBadShellLine (I.told source.old) (I.told source.new) }
     ensures write_fault { result ≡ Status.WriteFault
         → (O.told sink.old).faults < (O.told sink.new).faults }
     ensures writes { (result ≡ Status.WriteFault)
         ⊎ ((O.told sink.new).faults ≡ (O.told sink.old).faults) }
-    ensures ran { RunsShell client result (I.told source.old) (I.told source.new) (O.told sink.old) (O.told sink.new)
-        (C.seen cloud.old) (C.seen cloud.new) }
+    ensures ran { RunsShell client result
+        (outside (I.told source.old) (O.told sink.old) (C.seen cloud.old))
+        (outside (I.told source.new) (O.told sink.new) (C.seen cloud.new)) }
 {
     match read_whole(alloc, source, MAX_LINES) {
         Ok(input) => match run_shell(alloc, client, input.as_slice(), sink, cloud) {
@@ -196,8 +207,8 @@ fn generated<O: Sink, C: Bench>(
         → (O.told sink.old).faults < (O.told sink.new).faults }
     ensures writes { (result ≡ Status.WriteFault)
         ⊎ ((O.told sink.new).faults ≡ (O.told sink.old).faults) }
-    ensures ran { Generates number count result (O.told sink.old) (O.told sink.new)
-        (C.seen cloud.old) (C.seen cloud.new) }
+    ensures ran { Generates number count result (effects (O.told sink.old) (C.seen cloud.old))
+        (effects (O.told sink.new) (C.seen cloud.new)) }
 {
     match generate(alloc, number, count, sink, cloud) {
         Ok(()) => Status::Done,
@@ -213,8 +224,8 @@ fn settled<O: Sink, C: Bench>(alloc: Global, sink: &mut O, cloud: &mut C) -> Sta
         → (O.told sink.old).faults < (O.told sink.new).faults }
     ensures writes { (result ≡ Status.WriteFault)
         ⊎ ((O.told sink.new).faults ≡ (O.told sink.old).faults) }
-    ensures ran { RunsSettling result (O.told sink.old) (O.told sink.new)
-        (C.seen cloud.old) (C.seen cloud.new) }
+    ensures ran { RunsSettling result (effects (O.told sink.old) (C.seen cloud.old))
+        (effects (O.told sink.new) (C.seen cloud.new)) }
 {
     match settle(alloc, sink, cloud) {
         Ok(()) => Status::Done,
@@ -231,8 +242,8 @@ fn dumped<O: Sink, C: Bench>(alloc: Global, sink: &mut O, cloud: &mut C) -> Stat
         → (O.told sink.old).faults < (O.told sink.new).faults }
     ensures writes { (result ≡ Status.WriteFault)
         ⊎ ((O.told sink.new).faults ≡ (O.told sink.old).faults) }
-    ensures ran { RunsDump result (O.told sink.old) (O.told sink.new)
-        (C.seen cloud.old) (C.seen cloud.new) }
+    ensures ran { RunsDump result (effects (O.told sink.old) (C.seen cloud.old))
+        (effects (O.told sink.new) (C.seen cloud.new)) }
 {
     match dump(alloc, sink, cloud) {
         Ok(()) => Status::Done,
@@ -255,16 +266,19 @@ fn filled<I: Source, O: Sink, C: Bench>(
         → (I.told source.old).faults < (I.told source.new).faults }
     ensures reads { (result ≡ Status.ReadFault)
         ⊎ ((I.told source.new).faults ≡ (I.told source.old).faults) }
-    ensures too_long { result ≡ Status.TooLong → WasTooLong MAX_DUMP (I.told source.old) (I.told source.new) }
-    ensures within { (result ≡ Status.TooLong) ⊎ WasWithin MAX_DUMP (I.told source.old) (I.told source.new) }
+    ensures too_long { result ≡ Status.TooLong → WasTooLong MAX_DUMP
+        (I.told source.old) (I.told source.new) }
+    ensures within { (result ≡ Status.TooLong) ⊎ WasWithin MAX_DUMP
+        (I.told source.old) (I.told source.new) }
     ensures bad_line { result ≡ Status.BadLine
         → WasBad SpellsNoDump (I.told source.old) (I.told source.new) }
     ensures write_fault { result ≡ Status.WriteFault
         → (O.told sink.old).faults < (O.told sink.new).faults }
     ensures writes { (result ≡ Status.WriteFault)
         ⊎ ((O.told sink.new).faults ≡ (O.told sink.old).faults) }
-    ensures ran { RunsLoad result (I.told source.old) (I.told source.new) (O.told sink.old) (O.told sink.new)
-        (C.seen cloud.old) (C.seen cloud.new) }
+    ensures ran { RunsLoad result
+        (outside (I.told source.old) (O.told sink.old) (C.seen cloud.old))
+        (outside (I.told source.new) (O.told sink.new) (C.seen cloud.new)) }
 {
     match read_whole(alloc, source, MAX_DUMP) {
         Ok(input) => match fill(alloc, input.as_slice(), sink, cloud) {

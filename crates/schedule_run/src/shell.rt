@@ -1,6 +1,7 @@
 ghost use Rattle.std.specs.Prelude.{◌≡◌, ◌<◌, ◌⊎◌, true, Err};
 ghost use Rattle.event_text.specs.declared.event.Event.{Event};
 ghost use Rattle.event_text.specs.Event.{IsShellLine};
+ghost use Rattle.schedule_run.specs.Outside.{effects};
 ghost use Rattle.schedule_run.specs.Play.{IsFresh};
 ghost use Rattle.schedule_run.specs.Shell.{HasBadShellLine, ShellWent, OpeningRan, ClosingRan, LineRan, EventRan, ended, opened_by, shown_by};
 
@@ -45,8 +46,8 @@ pub fn run_shell<O: Sink, C: Bench>(
         → (O.told sink.old).faults < (O.told sink.new).faults }
     ensures writes { (result ≡ Err ShellFault.WriteFault)
         ⊎ ((O.told sink.new).faults ≡ (O.told sink.old).faults) }
-    ensures went { ShellWent client input.now result (O.told sink.old) (O.told sink.new)
-        (C.seen cloud.old) (C.seen cloud.new) }
+    ensures went { ShellWent client input.now result (effects (O.told sink.old) (C.seen cloud.old))
+        (effects (O.told sink.new) (C.seen cloud.new)) }
 {
     match Play::<Session>::unseeing(alloc) {
         Ok(mut play) => run_lines(alloc, &mut play, client, input, sink, cloud),
@@ -69,8 +70,8 @@ fn run_lines<S: SessionCalls, O: Sink, C: Bench>(
         → (O.told sink.old).faults < (O.told sink.new).faults }
     ensures writes { (result ≡ Err ShellFault.WriteFault)
         ⊎ ((O.told sink.new).faults ≡ (O.told sink.old).faults) }
-    ensures went { ShellWent client input.now result (O.told sink.old) (O.told sink.new)
-        (C.seen cloud.old) (C.seen cloud.new) }
+    ensures went { ShellWent client input.now result (effects (O.told sink.old) (C.seen cloud.old))
+        (effects (O.told sink.new) (C.seen cloud.new)) }
 {
     match open(alloc, play, client, sink, cloud) {
         Ok(()) => {}
@@ -103,8 +104,8 @@ fn open<S: SessionCalls, O: Sink, C: Bench>(
     sink: &mut O,
     cloud: &mut C,
 ) -> Result<(), ShellFault>
-    ensures opening { OpeningRan result client (O.told sink.old) (O.told sink.new)
-        (C.seen cloud.old) (C.seen cloud.new) play.old play.new }
+    ensures opening { OpeningRan result client (effects (O.told sink.old) (C.seen cloud.old), play.old)
+        (effects (O.told sink.new) (C.seen cloud.new), play.new) }
     ensures write_fault { result ≡ Err ShellFault.WriteFault
         → (O.told sink.old).faults < (O.told sink.new).faults }
     ensures writes { (result ≡ Err ShellFault.WriteFault)
@@ -147,9 +148,10 @@ fn run_line<S: SessionCalls, O: Sink, C: Bench>(
     n: u64,
     line: &[u8],
 ) -> Result<(), ShellFault>
-    ensures line { LineRan result n line.now (O.told sink.old) (O.told sink.new)
-        (C.seen cloud.old) (C.seen cloud.new) play.old play.new }
-    ensures bad_line { result ≡ Err ShellFault.BadLine → (event : Event) → IsShellLine line.now event → ⊥ }
+    ensures line { LineRan result n line.now (effects (O.told sink.old) (C.seen cloud.old), play.old)
+        (effects (O.told sink.new) (C.seen cloud.new), play.new) }
+    ensures bad_line { result ≡ Err ShellFault.BadLine
+        → (event : Event) → IsShellLine line.now event → ⊥ }
     ensures write_fault { result ≡ Err ShellFault.WriteFault
         → (O.told sink.old).faults < (O.told sink.new).faults }
     ensures writes { (result ≡ Err ShellFault.WriteFault)
@@ -178,8 +180,8 @@ fn close<S: SessionCalls, O: Sink, C: Bench>(
     cloud: &mut C,
     n: u64,
 ) -> Result<(), ShellFault>
-    ensures closing { ClosingRan result n (O.told sink.old) (O.told sink.new)
-        (C.seen cloud.old) (C.seen cloud.new) play.old play.new }
+    ensures closing { ClosingRan result n (effects (O.told sink.old) (C.seen cloud.old))
+        (effects (O.told sink.new) (C.seen cloud.new)) play.old play.new }
     ensures no_bad_line { result ≡ Err ShellFault.BadLine → ⊥ }
     ensures write_fault { result ≡ Err ShellFault.WriteFault
         → (O.told sink.old).faults < (O.told sink.new).faults }
@@ -228,8 +230,8 @@ fn run_event<S: SessionCalls, O: Sink, C: Bench>(
     n: u64,
     event: &Event,
 ) -> Result<Reply, ShellFault>
-    ensures event { EventRan result n event.now (O.told sink.old) (O.told sink.new)
-        (C.seen cloud.old) (C.seen cloud.new) play.old play.new }
+    ensures event { EventRan result n event.now (effects (O.told sink.old) (C.seen cloud.old), play.old)
+        (effects (O.told sink.new) (C.seen cloud.new), play.new) }
     ensures write_fault { result ≡ Err ShellFault.WriteFault
         → (O.told sink.old).faults < (O.told sink.new).faults }
     ensures writes { (result ≡ Err ShellFault.WriteFault)

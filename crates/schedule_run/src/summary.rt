@@ -76,7 +76,8 @@ fn add_summary(
 
 /// Adds how many entries are committed, or the text of a reply that is no report.
 fn add_committed(alloc: Global, text: &mut Blob, reply: &Reply) -> Result<(), Refused>
-    ensures { OnOk result (text.new ≡ text.old ++ labelled (codes "committed") (committed_word reply.now)) }
+    ensures { OnOk result (text.new
+        ≡ text.old ++ labelled (codes "committed") (committed_word reply.now)) }
 {
     match reply {
         Reply::Report(report) => add_number(text, "committed", report.committed.len() as u64),
@@ -96,7 +97,8 @@ fn add_order(alloc: Global, text: &mut Blob, reply: &Reply) -> Result<(), Refuse
 
 /// Adds how many records there are, or the text of a reply that is no report.
 fn add_contents(alloc: Global, text: &mut Blob, reply: &Reply) -> Result<(), Refused>
-    ensures { OnOk result (text.new ≡ text.old ++ labelled (codes "contents") (contents_word reply.now)) }
+    ensures { OnOk result (text.new
+        ≡ text.old ++ labelled (codes "contents") (contents_word reply.now)) }
 {
     match reply {
         Reply::Report(report) => add_number(text, "contents", report.contents.len() as u64),
@@ -125,7 +127,8 @@ fn add_left(alloc: Global, text: &mut Blob, reply: &Reply) -> Result<(), Refused
 
 /// Adds how many heads and messages are left.
 fn add_counts(text: &mut Blob, report: &Report) -> Result<(), Refused>
-    ensures { OnOk result (text.new ≡ text.old ++ labelled (codes "left") (left_words (Reply.Report report.now))) }
+    ensures { OnOk result (text.new
+        ≡ text.old ++ labelled (codes "left") (left_words (Reply.Report report.now))) }
 {
     let mut heads = itoa::Buffer::new();
     let mut messages = itoa::Buffer::new();

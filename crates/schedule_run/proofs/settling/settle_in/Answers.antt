@@ -1,4 +1,5 @@
 use Rattle.std.proofs.Common.{Result, refl, sym, subst, ◌∙◌}
+use Rattle.schedule_run.specs.Outside.{effects}
 use Rattle.schedule_run.specs.declared.settling.SettleFault.{SettleFault}
 use Rattle.schedule_run.specs.Settling.{out_handling, SettleEnded}
 use Rattle.schedule_run.proofs.SettlingLemmas.{settle_shown, settle_stopped}
@@ -7,8 +8,7 @@ use Rattle.schedule_run.proofs.settling.settle_in.Goals as goal
 
 pub returns-in-Ok-clause-went : goal.returns-in-Ok-clause-went
 returns-in-Ok-clause-went g c =
-    let At : Result (Unit {0}) SettleFault → Type 0 = λ r. SettleEnded r (g.O.Sink.told c.args.sink.now) (g.O.Sink.told c.write_reply-written.new.sink) (g.C.Cloud.seen c.args.cloud.now)
-    (g.C.Cloud.seen c.take.new.cloud) in
+    let At : Result (Unit {0}) SettleFault → Type 0 = λ r. SettleEnded r (effects (g.O.Sink.told c.args.sink.now) (g.C.Cloud.seen c.args.cloud.now)) (effects (g.O.Sink.told c.write_reply-written.new.sink) (g.C.Cloud.seen c.take.new.cloud)) in
     subst At (sym c.end_of-end.ensures) (settle_shown _ _ _ _ _ _ _ _ c.requires c.in-Ok.ensures c.write_reply-written.ensures)
 
 pub returns-clause-went : goal.returns-clause-went

@@ -1,6 +1,5 @@
 -- A commit that is answered as committed has a record of each change in the log, under the change's place.
-use Rattle.std.proofs.Common.{◌≡◌, ◌+◌, ℕ, Bool, true, false, List, [], ◌∷◌, ◌++◌, Option, Some, None, Result, Ok, Err, refl, sym, subst}
-use Rattle.std.specs.Prelude.{slice_get}
+use Rattle.std.proofs.Common.{◌≡◌, ◌+◌, ℕ, Bool, true, false, List, Ok, refl, sym, subst}
 use Rattle.client_work.specs.Session.{Acting, StepsSession, StepsCommit, ShowsAt, acting_of}
 use Rattle.client_work.specs.declared.answer.Answer.TheVariants as answer
 use Rattle.client_work.specs.declared.shown.Shown.{Shown}
@@ -15,20 +14,17 @@ use Rattle.cloud_trait.specs.Caller.{Caller}
 use Rattle.cloud_trait.specs.Machine.{Next, Goes, Ends, Stops}
 use Rattle.cloud_trait.specs.Seen.{Seen}
 use Rattle.cloud_trait.specs.State.{CloudState}
-use Rattle.cloud_trait.specs.Views.{sent_of, done_of}
 use Rattle.cloud_trait.specs.declared.answer.Answer.{Answer as Reply}
 use Rattle.cloud_trait.specs.declared.turn.Turn.TheVariants.{Ended}
 use Rattle.commit_run.specs.Draft.{Draft}
 use Rattle.commit_run.specs.Run.{Run, home_of, wrote, walked, next_at as run_next_at, run_next}
 use Rattle.commit_run.specs.declared.hand.Hand.{Hand}
 use Rattle.commit_run.specs.declared.hand.Hand.TheVariants.{Writes, First, Change}
-use Rattle.commit_writes.specs.Writing.{Writing, log_or_open, writing_next, next_at, send_or_settle, send_at, delete_or_end, delete_at, logged_by, not_opened, opened_by, sent_by, settled_by, deleted_by}
-use Rattle.commit_writes.specs.declared.stage.Stage.{Stage}
-use Rattle.commit_writes.specs.declared.stage.Stage.TheVariants.{Waiting, Logging, Opening, Sending, Settling, Deleting, Finished}
+use Rattle.commit_writes.specs.Writing.{Writing, writing_next}
+use Rattle.commit_writes.proofs.Outcomes as written
+use Rattle.commit_writes.proofs.Outcomes.{Comes, comes}
 use Rattle.db_base.specs.declared.trouble.CommitAnswer.{CommitAnswer}
 use Rattle.db_base.specs.declared.trouble.CommitAnswer.TheVariants.{Committed, NotCommitted, InDoubt, CommittedOpen}
-use Rattle.db_base.specs.declared.trouble.Trouble.{Trouble}
-use Rattle.db_base.specs.declared.trouble.Trouble.TheVariants as trouble
 use Rattle.log_codec.specs.declared.record.AtomicRec.{AtomicRec}
 use Rattle.page_cache.specs.Cache.{Cache}
 use Rattle.report_types.specs.declared.entry.Entry.{Entry}
@@ -70,80 +66,38 @@ module _ (log : List AtomicRec) (client : ℕ) (changes : List Noted) where
   Keeps (Ends w a) = HasThese log client changes a
   Keeps (Stops w t) = Unit {0}
 
-  logs : (w : Writing) (o : Option AtomicRec) → Keeps (log_or_open w o)
-  logs w (Some r) = tt
-  logs w None = tt
+has_records : (st : Store) (w : Writing) → HasCommitted st.book.log (attempt_of w) w.changes → HasRecords st.book.log w.home.client w.home.attempt w.changes
+has_records st w committed = record {
+  epoch = w.home.head.epoch;
+  each = λ place n at.
+      let c = committed place n at in
+      record {
+        of = c.of;
+        logged = c.logged;
+        client_is = c.is.client_is;
+        epoch_is = c.is.epoch_is;
+        txn_is = c.is.txn_is;
+        index_is = c.index_is;
+        tree_is = c.tree_is;
+        change_is = c.change_is;
+      };
+}
 
-  logged : (w : Writing) (v : Result ℕ Trouble) → Keeps (logged_by w v)
-  logged w (Ok id) = logs (record w { ids = w.ids ++ id ∷ []; place = w.place + 1 }) (slice_get w.records (w.place + 1))
-  logged w (Err trouble.Memory) = tt
-  logged w (Err t) = tt
-
-  sends : (w : Writing) (o : Option AtomicRec) → Keeps (send_or_settle w o)
-  sends w (Some r) = tt
-  sends w None = tt
-
-  sends_at : (w : Writing) (n : ℕ) → Keeps (send_at w n)
-  sends_at w n = sends (record w { place = n }) (slice_get w.records n)
-
-  not_open : (w : Writing) (t : Trouble) → Keeps (not_opened w t)
-  not_open w (trouble.Late end now) = tt
-  not_open w trouble.Memory = tt
-  not_open w t = tt
-
-  opened : (w : Writing) (v : Result (Unit {0}) Trouble) → Keeps (opened_by w v)
-  opened w (Ok x) = sends_at w 0
-  opened w (Err t) = not_open w t
-
-  sent : (w : Writing) (v : Result ℕ Trouble) → Keeps (sent_by w v)
-  sent w (Ok id) = sends_at w (w.place + 1)
-  sent w (Err trouble.Memory) = tt
-  sent w (Err t) = tt
-
-  -- behind the put that commits
-  module _ (w : Writing) (has : HasRecords log client w.home.attempt changes) where
-    deletes : (n : ℕ) (o : Option ℕ) → Keeps (delete_or_end (record w { place = n }) o)
-    deletes n (Some id) = tt
-    deletes n None = has
-
-    deletes_at : (n : ℕ) → Keeps (delete_at w n)
-    deletes_at n = deletes n (slice_get w.ids n)
-
-    settled : (v : Result (Unit {0}) Trouble) → Keeps (settled_by w v)
-    settled (Ok x) = deletes_at 0
-    settled (Err trouble.Memory) = tt
-    settled (Err t) = tt
-
-    deleted : (v : Result (Unit {0}) Trouble) → Keeps (deleted_by w v)
-    deleted (Err trouble.Memory) = tt
-    deleted v = deletes_at (w.place + 1)
-
-module _ (st : Store) (now : ℕ) (w : Writing) (g : Home) where
-  has_records : HasCommitted st.book.log (attempt_of w) w.changes → HasRecords st.book.log w.home.client w.home.attempt w.changes
-  has_records committed = record {
-    epoch = w.home.head.epoch;
-    each = λ place n at.
-        let c = committed place n at in
-        record {
-          of = c.of;
-          logged = c.logged;
-          client_is = c.is.client_is;
-          epoch_is = c.is.epoch_is;
-          txn_is = c.is.txn_is;
-          index_is = c.index_is;
-          tree_is = c.tree_is;
-          change_is = c.change_is;
-        };
-  }
-
-  keeps_at : (stage : Stage) (a : Reply) → KnowsCommitAt stage st now w g → Keeps st.book.log w.home.client w.changes (next_at stage w a)
-  keeps_at Waiting a never = absurd never
-  keeps_at Logging a k = logged st.book.log w.home.client w.changes w (sent_of a)
-  keeps_at Opening a k = opened st.book.log w.home.client w.changes w (done_of a)
-  keeps_at Sending a k = sent st.book.log w.home.client w.changes w (sent_of a)
-  keeps_at Settling a k = settled st.book.log w.home.client w.changes w (has_records k.committed) (done_of a)
-  keeps_at Deleting a k = deleted st.book.log w.home.client w.changes w (has_records k.committed) (done_of a)
-  keeps_at Finished a never = absurd never
+keeps : (st : Store) (now : ℕ) (g : Home) (w : Writing) (a : Reply) (x : Next Writing CommitAnswer) → KnowsCommitAt w.stage st now w g → Comes w a x → Keeps st.book.log w.home.client w.changes x
+keeps st now g v a x k (written.goes_on w id next (written.logs r e)) = tt
+keeps st now g v a x k (written.goes_on w id next (written.opens e)) = tt
+keeps st now g v a x k (written.not_logged w y failed) = tt
+keeps st now g v a x k (written.late w end over) = tt
+keeps st now g v a x k (written.doubts w y failed) = tt
+keeps st now g w a x k (written.sends n r posts e) = tt
+keeps st now g w a x k (written.settles n posts e) = tt
+keeps st now g w a x k (written.stays_open leaves) = tt
+keeps st now g w a x k (written.deletes n id clears e) = tt
+keeps st now g v a x k (written.ends n (written.settled w) e) = has_records st v k.committed
+keeps st now g v a x k (written.ends n (written.one_tried w y found) e) = has_records st v k.committed
+keeps st now g w a x k (written.lacks v under) = tt
+keeps st now g v a x k (written.waits w y) = tt
+keeps st now g v a x k (written.rests w y) = tt
 
 -- ---- where a run leads
 
@@ -179,7 +133,7 @@ run_keeps st now m part reply k = on m.0.hand k.hand
         (turns w.changes w.home.client first m.0.draft (walk_next (walk, m.1) reply) (record { changes_are = refl; client_is = refl }))
 
     on : (hand : Hand) → KnowsHand hand st now m.0.draft part → RunKeeps log w.home.client w.changes (run_next_at hand m.0.draft m.1 reply)
-    on Writes h = wrote_keeps log w.home.client w.changes m.0.draft m.1 (writing_next w reply) (keeps_at st now w h.home w.stage reply h.at)
+    on Writes h = wrote_keeps log w.home.client w.changes m.0.draft m.1 (writing_next w reply) (keeps st now h.home w reply (writing_next w reply) h.at (comes w reply))
     on (First walk) h = walks true walk
     on (Change walk) h = walks false walk
 

@@ -16,7 +16,7 @@ use Rattle.reply_text.specs.declared.reply.Reply.{Reply}
 use Rattle.session_facts.specs.Lines.Errands.{Errand, session_for}
 use Rattle.session_facts.specs.Lines.Errands as errands
 use Rattle.session_facts.specs.Lines.Facts.{session_at, CloudHolds}
-use Rattle.session_facts.specs.Lines.Shown.{ShowsByLines}
+use Rattle.session_facts.specs.Lines.Shown.{ShowsByLines, moment}
 use Rattle.session_facts.proofs.Lines.Shown.{IsSettler, shown_by_lines, settler_goes, settler_by_lines, checkpoint_by_lines}
 use Rattle.session_facts.proofs.Lines.Outcome.{wish_holds}
 use Rattle.session_facts.proofs.Rows.CallKinds.{HasCheckpoint}
@@ -39,7 +39,7 @@ module _ (lines : List Line) where
   own_shows : (who : Caller) (wish : Wish) (before after : Seen) (old new : World) (turn : Turn Answer) → who.event ≡ length lines + 1 → IsUnderWay lines old before
       → (p : StepsLooked who wish (span_of before after old new) turn) → StepShowsBy lines who wish (span_of before after old new) turn p
   own_shows who wish before after old new turn number way p s under =
-      subst (λ (a : Acting). ShowsByLines lines s who p.under p.to a p.session.after turn) (changed_was who.session _ old.sessions new.sessions p.session)
+      subst (λ (a : Acting). ShowsByLines lines s who (moment p.under a) (moment p.to p.session.after) turn) (changed_was who.session _ old.sessions new.sessions p.session)
       (shown_by_lines (length lines + 1) lines (session_at old.sessions) old.audit old.blind s held who p.under p.to p.session.after turn (way.goes.acts who.session)
       (steps_own lines who wish before after old new turn number way p))
     where

@@ -4,7 +4,7 @@ use Rattle.cloud_trait.specs.State.{CloudState}
 use Rattle.event_text.specs.declared.event.Event.{Event}
 use Rattle.replay_meaning.specs.Standing.{Line}
 use Rattle.reply_text.specs.declared.reply.Reply.{Reply}
-use Rattle.session_facts.specs.Lines.Shown.{ShowsByLines}
+use Rattle.session_facts.specs.Lines.Shown.{ShowsByLines, moment}
 use Rattle.world_core.specs.declared.world.WorldFault.{WorldFault}
 use Rattle.world_core.specs.EachStep.{StepFact, EachStep}
 use Rattle.world_core.specs.Handled.{Handled}
@@ -15,7 +15,7 @@ use Rattle.world_core.specs.Span.{Span}
 -- before the call
 abbrev pub StepShowsBy : List Line → StepFact
 StepShowsBy lines who wish span turn p =
-    (s : CloudState) → p.under.state ≡ Some s → ShowsByLines lines s who p.under p.to p.session.before p.session.after turn
+    (s : CloudState) → p.under.state ≡ Some s → ShowsByLines lines s who (moment p.under p.session.before) (moment p.to p.session.after) turn
 
 -- whatever lines a world and a cloud stood for before a line, each step of it, however it was handled, shows it so by these lines
 abbrev pub ShowsStepsBy : ℕ → Event → Span → Result Reply WorldFault → Type 0

@@ -25,7 +25,7 @@ use Rattle.report_types.specs.declared.entry.Entry.{Entry}
 use Rattle.session_facts.specs.Lines.Facts.{WorksAs, ActsAs, CloudHolds}
 use Rattle.session_facts.specs.Sessions.Knows.{Sessions, IsHome, KnowsWork}
 use Rattle.session_facts.proofs.Rows.CallKinds.{HasCheckpoint}
-use Rattle.session_facts.specs.Lines.Shown.{IsOfCommitted, ScansByLines, LooksByLines, ShowsByLines}
+use Rattle.session_facts.specs.Lines.Shown.{IsOfCommitted, ScansByLines, LooksByLines, ShowsByLines, moment}
 
 module _ (n : ℕ) (lines : List Line) (sessions : Sessions) (audit : Audited) (blind : Bool) (t : CloudState) (h : CloudHolds n lines sessions audit blind t) where
   abbrev st : Store
@@ -60,7 +60,7 @@ module _ (n : ℕ) (lines : List Line) (sessions : Sessions) (audit : Audited) (
     stands_as w is acts = subst (λ (v : Work). WorksAs v s) is acts.work
 
     -- a scan or a look-up
-    lists : ActsAs mine s → ShowsList who before after mine new → ScansByLines lines t who before after mine new ⊎ LooksByLines lines t who before after mine new
+    lists : ActsAs mine s → ShowsList who before after mine new → ScansByLines lines t who (moment before mine) (moment after new) ⊎ LooksByLines lines t who (moment before mine) (moment after new)
     lists acts (inl (home, scan, was, shows)) =
         let stands = stands_as (Scanning home scan) was acts in
         inl (record {
@@ -90,7 +90,7 @@ module _ (n : ℕ) (lines : List Line) (sessions : Sessions) (audit : Audited) (
           };
         })
 
-    pub shown_by_lines : (turn : Turn Answer) → ActsAs mine s → StepsSession who before after mine new (Ok turn) → ShowsByLines lines t who before after mine new turn
+    pub shown_by_lines : (turn : Turn Answer) → ActsAs mine s → StepsSession who before after mine new (Ok turn) → ShowsByLines lines t who (moment before mine) (moment after new) turn
     shown_by_lines (Ended answer.Value) acts p =
         let read = p.whole in
         let stands = stands_as (Reading read.0 read.1) read.2 acts in
@@ -124,7 +124,7 @@ settler_goes who before after w new is p = absurd is
 
 -- it shows neither
 pub settler_by_lines : (lines : List Line) (t : CloudState) (who : Caller) (before after : Seen) (old new : Acting) (turn : Turn Answer) → IsSettler old.work
-    → StepsSession who before after old new (Ok turn) → ShowsByLines lines t who before after old new turn
+    → StepsSession who before after old new (Ok turn) → ShowsByLines lines t who (moment before old) (moment after new) turn
 settler_by_lines lines t who before after old new (Ended answer.Value) settles p = absurd (subst IsSettler p.whole.2 settles)
 settler_by_lines lines t who before after old new (Ended answer.Scan) settles p = absurd (never p.whole)
   where
@@ -135,7 +135,7 @@ settler_by_lines lines t who before after old new turn settles p = tt
 
 -- nor does a checkpoint
 pub checkpoint_by_lines : (lines : List Line) (t : CloudState) (who : Caller) (before after : Seen) (home : Home) (old new : Acting) (turn : Turn Answer) → HasCheckpoint home old.work
-    → StepsSession who before after old new (Ok turn) → ShowsByLines lines t who before after old new turn
+    → StepsSession who before after old new (Ok turn) → ShowsByLines lines t who (moment before old) (moment after new) turn
 checkpoint_by_lines lines t who before after home old new (Ended answer.Value) has p = absurd (subst (HasCheckpoint home) p.whole.2 has)
 checkpoint_by_lines lines t who before after home old new (Ended answer.Scan) has p = absurd (never p.whole)
   where

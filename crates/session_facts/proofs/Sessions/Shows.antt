@@ -44,7 +44,7 @@ held_before who name l a c d b t row v e = absurd (cc)
 
 module _ (who : Caller) (before after : Seen) (s t : CloudState) (told : before.state ≡ Some s) (told_after : after.state ≡ Some t) (held : List Claim) (Spent : CloudState → Counter → Type 0) where
   abbrev pub Shown : Ask → Trouble → Type 0
-  Shown ask k = IsShown ask held Spent before.counts after.counts s t k
+  Shown ask k = IsShown ask held Spent (before.counts, s) (after.counts, t) k
 
   abbrev Call : Ask → Answer → Type 0
   Call ask a = Makes who ask a before after
@@ -215,7 +215,7 @@ IsFree (trouble.BadFence page expected found) = Unit {0}
 IsFree (trouble.Loop page) = Unit {0}
 IsFree t = ⊥
 
-pub free_shown : (ask : Ask) (held : List Claim) (Spent : CloudState → Counter → Type 0) (c d : Counts) (s t : CloudState) (k : Trouble) → IsFree k → IsShown ask held Spent c d s t k
+pub free_shown : (ask : Ask) (held : List Claim) (Spent : CloudState → Counter → Type 0) (c d : Counts) (s t : CloudState) (k : Trouble) → IsFree k → IsShown ask held Spent (c, s) (d, t) k
 free_shown ask held Spent c d s t trouble.Memory is = tt
 free_shown ask held Spent c d s t (trouble.Absent page) is = tt
 free_shown ask held Spent c d s t (trouble.NotALeaf page) is = tt

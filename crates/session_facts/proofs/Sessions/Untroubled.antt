@@ -109,7 +109,7 @@ module _ (ask : Ask) (c d : Counts) (s t : CloudState) (old new : Work) (same : 
   steady count rose = omega (arith, rose, ap count same)
 
   -- what a calm call shows is of no call, but that it waits
-  shown_none : (k : Trouble) → IsShown ask (leases_of old) (spent_for old) c d s t k → IsWait k ⊎ IsOfNoCall (spent_for old) t k
+  shown_none : (k : Trouble) → IsShown ask (leases_of old) (spent_for old) (c, s) (d, t) k → IsWait k ⊎ IsOfNoCall (spent_for old) t k
   shown_none trouble.Failed rose = absurd (steady (λ (x : Counts). x.faults) rose)
   shown_none (trouble.Late end now) late = absurd (late lasting)
   shown_none (trouble.Busy lock until) (inl held) = absurd (held free)

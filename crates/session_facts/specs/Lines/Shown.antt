@@ -42,36 +42,44 @@ pub record IsByLines (lines : List Line) (t : CloudState) (session : ℕ) (task 
   pub noted : buffer ≡ (standing lines session).buffer
   pub pending : (p : Pending) → IsIn home.head.pending p → IsOfCommitted lines t home.client p
 
+-- a session at one moment, and what is seen of the cloud then
+pub record Moment : Type 0 where
+  pub seen : Seen
+  pub session : Acting
+
+abbrev pub moment : Seen → Acting → Moment
+moment seen session = record { seen = seen; session = session }
+
 -- a read ends with the value that its client sees in a leaf that landed, by what the lines say of the client
-pub record ReadsByLines (lines : List Line) (t : CloudState) (who : Caller) (before after : Seen) (old new : Acting) : Type 0 where
+pub record ReadsByLines (lines : List Line) (t : CloudState) (who : Caller) (before after : Moment) : Type 0 where
   pub home : Home
   pub walk : Walk
-  pub was : old.work ≡ work.Reading home walk
-  pub shows : ShowsValue who before after home new.buffer walk (value_of new)
-  pub by : IsByLines lines t who.session (Reading walk.tree (sought walk)) home new.buffer
+  pub was : before.session.work ≡ work.Reading home walk
+  pub shows : ShowsValue who before.seen after.seen home after.session.buffer walk (value_of after.session)
+  pub by : IsByLines lines t who.session (Reading walk.tree (sought walk)) home after.session.buffer
 
 -- the scan of a range, as a task
 abbrev pub scan_task : Range → Task
 scan_task r = Scanning r.tree (unwrap_or r.from []) (unwrap_or r.to [])
 
 -- and a scan with the records that its client sees in its leaves
-pub record ScansByLines (lines : List Line) (t : CloudState) (who : Caller) (before after : Seen) (old new : Acting) : Type 0 where
+pub record ScansByLines (lines : List Line) (t : CloudState) (who : Caller) (before after : Moment) : Type 0 where
   pub home : Home
   pub listing : Listing
-  pub was : old.work ≡ work.Scanning home listing
-  pub shows : ShowsRecords who before after home old.buffer listing old.cache (items_of new)
-  pub by : IsByLines lines t who.session (scan_task (range_of listing.scan)) home old.buffer
+  pub was : before.session.work ≡ work.Scanning home listing
+  pub shows : ShowsRecords who before.seen after.seen home before.session.buffer listing before.session.cache (items_of after.session)
+  pub by : IsByLines lines t who.session (scan_task (range_of listing.scan)) home before.session.buffer
 
 -- and a look-up with the records that it found at the ends of its walks
-pub record LooksByLines (lines : List Line) (t : CloudState) (who : Caller) (before after : Seen) (old new : Acting) : Type 0 where
+pub record LooksByLines (lines : List Line) (t : CloudState) (who : Caller) (before after : Moment) : Type 0 where
   pub home : Home
   pub look : Look
-  pub was : old.work ≡ work.Looking home look
-  pub shows : ShowsFound who before after home old.buffer look old.cache (items_of new)
-  pub by : IsByLines lines t who.session (LookingUp look.query.tree look.query.attr) home old.buffer
+  pub was : before.session.work ≡ work.Looking home look
+  pub shows : ShowsFound who before.seen after.seen home before.session.buffer look before.session.cache (items_of after.session)
+  pub by : IsByLines lines t who.session (LookingUp look.query.tree look.query.attr) home before.session.buffer
 
 -- a step that ends a read, a scan or a look-up shows it so, over the state before its call
-abbrev pub ShowsByLines : List Line → CloudState → Caller → Seen → Seen → Acting → Acting → Turn Answer → Type 0
-ShowsByLines lines t who before after old new (Ended answer.Value) = ReadsByLines lines t who before after old new
-ShowsByLines lines t who before after old new (Ended answer.Scan) = ScansByLines lines t who before after old new ⊎ LooksByLines lines t who before after old new
-ShowsByLines lines t who before after old new turn = Unit {0}
+abbrev pub ShowsByLines : List Line → CloudState → Caller → Moment → Moment → Turn Answer → Type 0
+ShowsByLines lines t who before after (Ended answer.Value) = ReadsByLines lines t who before after
+ShowsByLines lines t who before after (Ended answer.Scan) = ScansByLines lines t who before after ⊎ LooksByLines lines t who before after
+ShowsByLines lines t who before after turn = Unit {0}

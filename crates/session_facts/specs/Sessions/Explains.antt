@@ -198,19 +198,19 @@ spent_for (Broken l) = λ t what. ⊥
 -- it names and that is over; a held lock by the lock, or by the count of what was withheld; records that were not received by that count, or by
 -- a receive from a client's queue when a lease in hand is over; a stale read by the count of stale reads; a spent counter by what the cloud tells behind
 -- it. A page that a line named is not the call's.
-abbrev pub IsShown : Ask → List Claim → (CloudState → Counter → Type 0) → Counts → Counts → CloudState → CloudState → Trouble → Type 0
-IsShown ask held Spent c d s t trouble.Failed = Rose c.faults d.faults
-IsShown ask held Spent c d s t (trouble.Late end now) = NamesLasting ask t.now → ⊥
-IsShown ask held Spent c d s t (trouble.Busy lock until) = (TakesFree ask s t.now → ⊥) ⊎ Rose c.withheld d.withheld
-IsShown ask held Spent c d s t (trouble.Waiting have need) = Rose c.withheld d.withheld ⊎ ReceivesLate ask held t.now
-IsShown ask held Spent c d s t (trouble.Stale page least got) = Rose c.stale d.stale
-IsShown ask held Spent c d s t trouble.Memory = Unit {0}
-IsShown ask held Spent c d s t (trouble.Exhausted what) = Spent t what
-IsShown ask held Spent c d s t (trouble.Absent page) = Unit {0}
-IsShown ask held Spent c d s t (trouble.NotALeaf page) = Unit {0}
-IsShown ask held Spent c d s t (trouble.Damaged place offset) = Unit {0}
-IsShown ask held Spent c d s t (trouble.BadFence page expected found) = Unit {0}
-IsShown ask held Spent c d s t (trouble.Loop page) = Unit {0}
+abbrev pub IsShown : Ask → List Claim → (CloudState → Counter → Type 0) → Counts × CloudState → Counts × CloudState → Trouble → Type 0
+IsShown ask held Spent (c, s) (d, t) trouble.Failed = Rose c.faults d.faults
+IsShown ask held Spent (c, s) (d, t) (trouble.Late end now) = NamesLasting ask t.now → ⊥
+IsShown ask held Spent (c, s) (d, t) (trouble.Busy lock until) = (TakesFree ask s t.now → ⊥) ⊎ Rose c.withheld d.withheld
+IsShown ask held Spent (c, s) (d, t) (trouble.Waiting have need) = Rose c.withheld d.withheld ⊎ ReceivesLate ask held t.now
+IsShown ask held Spent (c, s) (d, t) (trouble.Stale page least got) = Rose c.stale d.stale
+IsShown ask held Spent (c, s) (d, t) trouble.Memory = Unit {0}
+IsShown ask held Spent (c, s) (d, t) (trouble.Exhausted what) = Spent t what
+IsShown ask held Spent (c, s) (d, t) (trouble.Absent page) = Unit {0}
+IsShown ask held Spent (c, s) (d, t) (trouble.NotALeaf page) = Unit {0}
+IsShown ask held Spent (c, s) (d, t) (trouble.Damaged place offset) = Unit {0}
+IsShown ask held Spent (c, s) (d, t) (trouble.BadFence page expected found) = Unit {0}
+IsShown ask held Spent (c, s) (d, t) (trouble.Loop page) = Unit {0}
 
 -- a trouble that was met is kept, and then it is the answer; or memory ran out
 abbrev pub KeepsTrouble : Work → Turn Answer → Trouble → Type 0
@@ -228,6 +228,6 @@ left_told new (Stopped q) = 0
 -- what a step of an operation brings: a trouble that it meets is shown by its call, want of memory and deletions that failed before apart; a
 -- trouble that it met before is its answer; and no more deletions failed than before, unless a call failed
 pub record Explains (ask : Ask) (c d : Counts) (s t : CloudState) (old new : Work) (turn : Turn Answer) : Type 0 where
-  pub shown : trouble_in old ≡ None → left_in old ≡ 0 → (k : Trouble) → k ≢ trouble.Memory → Meets new turn k → IsShown ask (leases_of old) (spent_for old) c d s t k
+  pub shown : trouble_in old ≡ None → left_in old ≡ 0 → (k : Trouble) → k ≢ trouble.Memory → Meets new turn k → IsShown ask (leases_of old) (spent_for old) (c, s) (d, t) k
   pub kept : (k : Trouble) → trouble_in old ≡ Some k → KeepsTrouble new turn k
   pub left : (left_told new turn ≤ left_in old) ⊎ Rose c.faults d.faults

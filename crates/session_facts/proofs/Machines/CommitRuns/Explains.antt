@@ -58,7 +58,7 @@ module _ (book : Book) (order : List Entry) (s : CloudState) (stands : StandsUnd
 
   -- a trouble is shown by this call
   abbrev pub Shown : Ask → Trouble → Type 0
-  Shown ask k = IsShown ask held Spent before.counts after.counts s t k
+  Shown ask k = IsShown ask held Spent (before.counts, s) (after.counts, t) k
 
   -- ---- what is written
 

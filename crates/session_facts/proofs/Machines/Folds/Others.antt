@@ -24,7 +24,7 @@ use Rattle.tree_phases.specs.Read.{tree_held}
 use Rattle.session_facts.specs.Machines.Folds.Knows.{IsDone, KnowsRun, IsAtLeaf, IsNewestLeaf, Reserves, PutsPieces}
 use Rattle.session_facts.specs.Machines.Trees.Leaves.{KnowsRest, IsGetting, IsCome, IsReading, IsPutting}
 use Rattle.cloud_facts.specs.Calls.Links.{SameLinks}
-use Rattle.session_facts.specs.Machines.Trees.Placings.{AreReserved}
+use Rattle.session_facts.specs.Machines.Trees.Placings.{AreReserved, numbered}
 use Rattle.cloud_facts.specs.Calls.Others.{Others}
 use Rattle.session_facts.proofs.Machines.Trees.Others.{root_stays, nodes_stay, links_stay, keeps_nodes, chart_others, way_stays}
 use Rattle.session_facts.proofs.Machines.Trees.Placings.{reserved_stays}
@@ -115,8 +115,8 @@ pieces_others mine st su now later lease f run after held is own own_is clients 
         let same = o.leaf f.lease f.chart.tree f.page own own_is lasts (record { leaf = k.leaf; is = old.is; absent = old.absent }) in
         record { is = ap (λ (ns : List Node). last_or (Leafy empty_leaf) ns) same ∙ old.is; absent = λ none. old.absent (sym same ∙ none) }
 
-    reserves : (p : Option (List ℕ)) → Reserves st now lease f.chart.tree (tree_held f.chart.root) k.first k.placing.middle k.placing.behind p
-        → Reserves su later lease f.chart.tree (tree_held f.chart.root) k.first k.placing.middle k.placing.behind p
+    reserves : (p : Option (List ℕ)) → Reserves st (Lasts now lease) f.chart.tree (tree_held f.chart.root) (numbered k.first k.placing.middle k.placing.behind) p
+        → Reserves su (Lasts later lease) f.chart.tree (tree_held f.chart.root) (numbered k.first k.placing.middle k.placing.behind) p
     reserves (Some bytes) r = r
     reserves None r = λ lasts.
         reserved_others mine st su later lease f.chart.tree k.first k.placing.middle k.placing.behind held is lasts o (r (omega (arith, lasts, after)))

@@ -9,7 +9,7 @@ use Rattle.cloud_facts.proofs.Meanings.Keys.{few_records}
 use Rattle.cloud_facts.specs.Chains.Chain.{IsChained}
 use Rattle.cloud_facts.specs.Chains.Links.{top_of}
 use Rattle.cloud_facts.specs.Calls.Standing.{StandsUnder}
-use Rattle.cloud_trait.specs.Claim.{Claim}
+use Rattle.cloud_trait.specs.Claim.{Claim, Lasts}
 use Rattle.cloud_trait.specs.State.{CloudState}
 use Rattle.db_base.specs.Change.{key_of}
 use Rattle.db_base.specs.declared.names.ObjName.TheVariants as object
@@ -50,7 +50,7 @@ use Rattle.tree_phases.specs.Read.{tree_held}
 use Rattle.tree_phases.specs.Reserve.{version_spent, reservation}
 use Rattle.session_facts.specs.Machines.Folds.Knows.{IsDone, AreDoneTo, KnowsRun, IsLeast, IsAtLeaf, Reserves, PutsPieces}
 use Rattle.session_facts.specs.Machines.Trees.Leaves.{IsPutting}
-use Rattle.session_facts.specs.Machines.Trees.Placings.{AreReserved, IsReservation}
+use Rattle.session_facts.specs.Machines.Trees.Placings.{AreReserved, IsReservation, numbered}
 use Rattle.session_facts.specs.Machines.Risings.Knows.{AreApart}
 use Rattle.session_facts.proofs.Machines.Folds.Reads.{Reserving, none, some, reservation_is}
 use Rattle.session_facts.proofs.Machines.Folds.Leaves.{leaf_newest, leaf_low, leaf_absent, leaf_linked, nothing_lacked}
@@ -213,7 +213,7 @@ module _ (book : Book) (order : List Entry) (s : CloudState) (stands : StandsUnd
           (none_reserved leaf_node (book.chain tree) (nodes_of s tree) (gone_of s tree) (top_of (roots_of s tree)).next f.page page_below))
 
       reserved : (q : Reserved) → Reserving (tree_held f.chart.root) f.page (count_of (length whole.records) - 1) q
-          → Reserves st now lease tree (tree_held f.chart.root) q.first (pieces_placed f.page q.first whole).placing.middle (pieces_placed f.page q.first whole).placing.behind q.put
+          → Reserves st (Lasts now lease) tree (tree_held f.chart.root) (numbered q.first (pieces_placed f.page q.first whole).placing.middle (pieces_placed f.page q.first whole).placing.behind) q.put
       reserved q (none e) = λ lasts.
           alone (pieces_placed f.page f.page whole).placing.middle (pieces_placed f.page f.page whole).placing.behind (let n = middle_count f.page in omega (arith, n, e))
           (pieces_placed f.page f.page whole).none

@@ -37,7 +37,7 @@ use Rattle.cloud_facts.specs.Tellings.Told.{store_of}
 use Rattle.tree_phases.specs.Placing.{put_next, put_first, puts_after}
 use Rattle.tree_phases.specs.Read.{tree_held}
 use Rattle.session_facts.specs.Machines.Folds.Knows.{IsDone, AreDoneTo, Reserves, PutsPieces}
-use Rattle.session_facts.specs.Machines.Trees.Placings.{AreReserved}
+use Rattle.session_facts.specs.Machines.Trees.Placings.{AreReserved, numbered}
 use Rattle.session_facts.proofs.Machines.Folds.Pieces.{taken, piece_landing, piece_version, leaf_landing, is_taken, run_applied, still_applied}
 use Rattle.session_facts.proofs.Machines.Trees.Placings.{puts_more, piece_landed}
 
@@ -76,7 +76,7 @@ module _ (book : Book) (order : List Entry) (s : CloudState) (stands : StandsUnd
   same = ap leaf_in (sym (k.newest leaf_lasts).is)
 
   reserved : AreReserved leaf_node (book.chain tree) (nodes_of s tree) (gone_of s tree) (top_of (roots_of s tree)).next k.first k.placing.middle behind
-  reserved = subst (λ (o : Option (List ℕ)). Reserves st now lease tree (tree_held f.chart.root) k.first k.placing.middle behind o) none k.reserves lasts
+  reserved = subst (λ (o : Option (List ℕ)). Reserves st (Lasts now lease) tree (tree_held f.chart.root) (numbered k.first k.placing.middle behind) o) none k.reserves lasts
 
   pub fit : AllByRecursion IsLeafPart (leaf_pieces k.first (applied old 0 run))
   fit = subst (λ (l : Leaf). AllByRecursion IsLeafPart (leaf_pieces k.first (applied l 0 run))) same k.fit

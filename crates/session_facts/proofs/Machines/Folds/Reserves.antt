@@ -6,7 +6,7 @@ use Rattle.cloud_facts.specs.Chains.Links.{top_of}
 use Rattle.cloud_facts.specs.Calls.Standing.{StandsUnder}
 use Rattle.cloud_trait.specs.Ask.{PutHeld}
 use Rattle.cloud_trait.specs.Caller.{Caller}
-use Rattle.cloud_trait.specs.Claim.{Claim}
+use Rattle.cloud_trait.specs.Claim.{Claim, Lasts}
 use Rattle.cloud_trait.specs.State.{CloudState}
 use Rattle.db_base.specs.Ids.{IsTree}
 use Rattle.db_base.specs.declared.names.ObjName.TheVariants as object
@@ -27,7 +27,7 @@ use Rattle.tree_phases.specs.Placing.{root_after, puts_after}
 use Rattle.tree_phases.specs.Read.{tree_held}
 use Rattle.session_facts.specs.Machines.Trees.Charts.{KnowsRoot}
 use Rattle.session_facts.specs.Machines.Folds.Knows.{Reserves, PutsPieces}
-use Rattle.session_facts.specs.Machines.Trees.Placings.{AreReserved, IsReservation, reserving}
+use Rattle.session_facts.specs.Machines.Trees.Placings.{AreReserved, IsReservation, reserving, numbered}
 use Rattle.session_facts.proofs.Machines.TreeCheckpoints.EntryCounts.{pieces_more}
 use Rattle.session_facts.proofs.Machines.TreeCheckpoints.RunLengths.{applied_records}
 use Rattle.session_facts.proofs.Machines.Folds.Cuts.{pieces_count}
@@ -48,7 +48,7 @@ module _ (book : Book) (order : List Entry) (s : CloudState) (stands : StandsUnd
   count = length k.placing.middle
 
   pub planned : (k.placing.behind ≡ []) × IsReservation root count k.first bytes
-  planned = subst (λ (o : Option (List ℕ)). Reserves st now lease tree root k.first k.placing.middle k.placing.behind o) some k.reserves
+  planned = subst (λ (o : Option (List ℕ)). Reserves st (Lasts now lease) tree root (numbered k.first k.placing.middle k.placing.behind) o) some k.reserves
 
   abbrev pub reserving_after : Store
   reserving_after = after_root tree (reserving count root) st

@@ -23,7 +23,7 @@ use Rattle.tree_walk.specs.Walk.{walk_next}
 pub look_shown : (book : Book) (order : List Entry) (s : CloudState) → StandsUnder book order s → (who : Caller) (before after : Seen) (t : CloudState) → before.state ≡ Some s
     → after.state ≡ Some t → (held : List Claim) (Spent : CloudState → Counter → Type 0) (own : Own) (l : Look) (c : Cache) → KnowsLooking (store_of book order s) l c
     → (a : Answer) → Makes who (look_ask l) a before after
-    → LookLeads (store_of book order s) (λ trouble. IsShown (look_ask l) held Spent before.counts after.counts s t trouble) (look_next own (l, c) a)
+    → LookLeads (store_of book order s) (λ trouble. IsShown (look_ask l) held Spent (before.counts, s) (after.counts, t) trouble) (look_next own (l, c) a)
 look_shown book order s stands who before after t told told_after held Spent own l c k a made =
-    look_leads (store_of book order s) stands.holds.chains (λ trouble. IsShown (look_ask l) held Spent before.counts after.counts s t trouble) l own (walk_next (l.walk, c) a) k.look.tree
+    look_leads (store_of book order s) stands.holds.chains (λ trouble. IsShown (look_ask l) held Spent (before.counts, s) (after.counts, t) trouble) l own (walk_next (l.walk, c) a) k.look.tree
     (walk_shown book order s stands who before after t told told_after held Spent l.walk c (record { walk = k.look.walk; cache = k.cache }) a made)

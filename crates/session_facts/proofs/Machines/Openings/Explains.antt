@@ -48,7 +48,7 @@ module _ (who : Caller) (before after : Seen) (s t : CloudState) (book : Book) (
 
   module _ (r : Recovery) (is : old ≡ Opening r) (sound : IsSound r) where
     abbrev Shown : Trouble → Type 0
-    Shown k = IsShown (recovery_ask r) (leases_of_recovery r) IsSpentToOpen before.counts after.counts s t k
+    Shown k = IsShown (recovery_ask r) (leases_of_recovery r) IsSpentToOpen (before.counts, s) (after.counts, t) k
 
     -- the step of an answer
     step_shows : (reply : Reply) → Makes who (recovery_ask r) reply before after → trouble_of_recovery r ≡ None → (next : Step) → recovery_next r reply ≡ next → (k : Trouble)

@@ -152,7 +152,7 @@ module _ (who : Caller) (before after : Seen) (s t : CloudState) (book : Book) (
 
   -- where the call was made and had this answer, it shows the trouble
   abbrev By : List Claim → Ask → Answer → Trouble → Type 0
-  By held ask a k = Makes who ask a before after → IsShown ask held Spent before.counts after.counts s t k
+  By held ask a k = Makes who ask a before after → IsShown ask held Spent (before.counts, s) (after.counts, t) k
 
   abbrev Shown : Recovery → Answer → Trouble → Type 0
   Shown r a k = By (leases_of_recovery r) (recovery_ask r) a k
@@ -210,7 +210,7 @@ module _ (who : Caller) (before after : Seen) (s t : CloudState) (book : Book) (
         (row_of who before after s t told told_after (leases_of_recovery r) Spent (receive r) (Received ms) made) ms refl)
       where
         on : (t.now < g.read.held.now.end) ⊎ (g.read.held.now.end ≤ t.now) → IsDelivering (st.tally.logged r.client) 256 ms ⊎ Rose before.counts.withheld after.counts.withheld
-            → IsShown (receive r) (leases_of_recovery r) Spent before.counts after.counts s t (trouble.Waiting (length (kept_with r.wanted r.gathered.kept items)) r.wanted.count)
+            → IsShown (receive r) (leases_of_recovery r) Spent (before.counts, s) (after.counts, t) (trouble.Waiting (length (kept_with r.wanted r.gathered.kept items)) r.wanted.count)
         on (inl lasts) (inl delivers) = absurd (fewer (whole lasts delivers (none_some _ stale)))
         on (inl lasts) (inr rose) = inl rose
         on (inr over) delivered = inr (g.read.held.now, lease_in_hand r.former r.lease g.read.held.now g.read.held.is, over)
@@ -258,7 +258,7 @@ module _ (who : Caller) (before after : Seen) (s t : CloudState) (book : Book) (
     (made : Makes who (recovery_ask r) reply before after) (knows : KnowsOpening (store_of book order s) t.now r part) (sound : IsSound r)
     (Spent : CloudState → Counter → Type 0) (own : HasLastEpoch t → Spent t counter.Epoch) where
   pub recovery_shows : trouble_of_recovery r ≡ None → (next : Step) → recovery_next r reply ≡ next → (k : Trouble) → MeetsNext trouble_of_recovery next k
-      → IsShown (recovery_ask r) (leases_of_recovery r) Spent before.counts after.counts s t k
+      → IsShown (recovery_ask r) (leases_of_recovery r) Spent (before.counts, s) (after.counts, t) k
   recovery_shows none next e k meets =
       step_shown who before after s t book order told told_after cloud part holds Spent own (comes_to r reply next e) knows.client knows.at sound none k meets made
 

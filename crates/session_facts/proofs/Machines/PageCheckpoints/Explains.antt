@@ -194,7 +194,7 @@ waiting_kept p reply waits k kept next leads = step_keeps (comes p reply next le
 module _ (who : Caller) (before after : Seen) (s t : CloudState) (told : before.state ≡ Some s) (told_after : after.state ≡ Some t) (held : List Claim) (Spent : CloudState → Counter → Type 0) (st : Store) (now : ℕ)
     (tells : IsToldBy st s t) where
   abbrev Shown : Ask → Trouble → Type 0
-  Shown ask k = IsShown ask held Spent before.counts after.counts s t k
+  Shown ask k = IsShown ask held Spent (before.counts, s) (after.counts, t) k
 
   -- where the call was made and had this answer, it shows the trouble
   abbrev By : Ask → Answer → Trouble → Type 0
@@ -272,7 +272,7 @@ module _ (who : Caller) (before after : Seen) (s t : CloudState) (told : before.
     (own : (what : Counter) → IsSpentInPages p.tree t what → Spent t what) where
   -- a trouble that it keeps or stops with is shown by the call, where none was kept before
   pub paging_shown : p.trouble ≡ None → (next : Step) → PagingLeads p reply next → (k : Trouble) → MeetsNext (λ (m : Paging). m.trouble) next k
-      → IsShown (paging_ask p) held Spent before.counts after.counts s t k
+      → IsShown (paging_ask p) held Spent (before.counts, s) (after.counts, t) k
   paging_shown none next leads k meets = step_shown who before after s t told told_after held Spent st now tells (comes p reply next leads) knows.at own none made k meets
 
   -- no more deletions failed than before, unless this one did

@@ -17,8 +17,8 @@ use Rattle.cloud_facts.specs.Book.Tally.{Store}
 use Rattle.cloud_facts.specs.Book.Telling.{nodes_of, gone_of, roots_of}
 use Rattle.cloud_facts.specs.Tellings.Told.{store_of}
 use Rattle.session_facts.proofs.Machines.TreeCheckpoints.Guards.{reserved_page}
-use Rattle.session_facts.specs.Machines.Trees.Placings.{AreReserved}
-use Rattle.session_facts.specs.Machines.Risings.Knows.{ReservesNodes, PutsNode, ReservesRoot, PutsCut, PutsRoot, PutsOf, KnowsRising, whole, cut}
+use Rattle.session_facts.specs.Machines.Trees.Placings.{AreReserved, numbered}
+use Rattle.session_facts.specs.Machines.Risings.Knows.{ReservesNodes, PutsNode, PutsCut, PutsRoot, PutsOf, KnowsRising, whole, cut}
 use Rattle.cloud_facts.specs.Calls.Pages.{IsTreePage}
 use Rattle.session_facts.proofs.Machines.Trees.Placings.{last_cases, puts_more}
 use Rattle.session_facts.proofs.Machines.Risings.Effects.{reserving_asked, page_asked, last_asked}
@@ -55,7 +55,7 @@ module _ (book : Book) (order : List Entry) (s : CloudState) (stands : StandsUnd
         → AreReserved inner_node (book.chain tree) (nodes_of s tree) (gone_of s tree) (top_of (roots_of s tree)).next p.first (middle ++ last ∷ []) p.placing.behind
     free middle last is lasts =
         subst (λ (m : List NodePart). AreReserved inner_node (book.chain tree) (nodes_of s tree) (gone_of s tree) (top_of (roots_of s tree)).next p.first m p.placing.behind) is
-        (subst (λ (o : Option (List ℕ)). ReservesNodes st now lease tree (tree_held r.chart.root) p.first p.placing.middle p.placing.behind o) none p.reserves lasts)
+        (subst (λ (o : Option (List ℕ)). ReservesNodes st (Lasts now lease) tree (tree_held r.chart.root) (numbered p.first p.placing.middle p.placing.behind) o) none p.reserves lasts)
 
     node_guarded : (p.placing.middle ≡ []) ⊎ ((front : List NodePart) × (last : NodePart) × (p.placing.middle ≡ front ++ last ∷ [])) → Guarded
     node_guarded (inl is) =
@@ -84,7 +84,7 @@ module _ (book : Book) (order : List Entry) (s : CloudState) (stands : StandsUnd
           → AreReserved inner_node (book.chain tree) (nodes_of s tree) (gone_of s tree) (top_of (roots_of s tree)).next c.first middle c.behind
       root_free middle is lasts =
           subst (λ (m : List NodePart). AreReserved inner_node (book.chain tree) (nodes_of s tree) (gone_of s tree) (top_of (roots_of s tree)).next c.first m c.behind) is
-          ((subst (λ (o : Option (List ℕ)). ReservesRoot r.is_spent st now lease tree (tree_held r.chart.root) c.root c.first c.middle c.behind o) none c.reserves).2 lasts)
+          (subst (ReservesNodes st (Lasts now lease) tree (tree_held r.chart.root) (numbered c.first c.middle c.behind)) none c.reserves lasts)
 
       at_piece : (front : List NodePart) (last : NodePart) → c.middle ≡ front ++ last ∷ [] → Guarded
       at_piece [] last is =

@@ -40,8 +40,8 @@ use Rattle.tree_phases.specs.Read.{tree_held}
 use Rattle.tree_phases.specs.declared.rising.Rising.{Rising}
 use Rattle.tree_phases.specs.Rising.{landed, put_landed}
 use Rattle.tree_phases.specs.Root.{new_pages}
-use Rattle.session_facts.specs.Machines.Trees.Placings.{AreReserved}
-use Rattle.session_facts.specs.Machines.Risings.Knows.{IsLastVersion, ReservesRoot, IsRaised, PutsWhole, PutsCut, cut, PutsOf, KnowsRising, RisesOn}
+use Rattle.session_facts.specs.Machines.Trees.Placings.{AreReserved, numbered}
+use Rattle.session_facts.specs.Machines.Risings.Knows.{IsLastVersion, IsRaised, PutsWhole, PutsCut, cut, PutsOf, KnowsRising, RisesOn, Succeeds, ReservesNodes}
 use Rattle.session_facts.proofs.Machines.Risings.LastRoot.{last_landing, raise_landing, may_delete}
 use Rattle.session_facts.proofs.Machines.Risings.Pieces.{pieces_name}
 use Rattle.session_facts.proofs.Machines.Trees.Placings.{puts_more, on_range, piece_landed}
@@ -110,7 +110,9 @@ module _ (book : Book) (order : List Entry) (s : CloudState) (stands : StandsUnd
     Free ps qs = AreReserved inner_node (book.chain tree) (nodes_of s tree) (gone_of s tree) (top_of (roots_of s tree)).next p.first ps qs
 
     planned : (r.is_spent ≡ false → p.root.version ≡ root.version + 1) × (p.root.next ≡ root.next) × (Lasts now lease → Free p.middle p.behind)
-    planned = subst (λ (o : Option (List ℕ)). ReservesRoot r.is_spent st now lease tree root p.root p.first p.middle p.behind o) none p.reserves
+    planned =
+        let next = subst (Succeeds r.is_spent root p.root (length p.middle)) none p.succeeds in
+        (next.0, next.1, subst (ReservesNodes st (Lasts now lease) tree root (numbered p.first p.middle p.behind)) none p.reserves)
 
     abbrev node : NodePart
     node = part_of_node (node_of_root p.root)
@@ -208,13 +210,10 @@ module _ (book : Book) (order : List Entry) (s : CloudState) (stands : StandsUnd
         fit = p.fit;
         left = left;
         spent = λ e. ap (λ (t : Tree). t.version) same_root ∙ subst (IsLastVersion root) none (p.spent e);
-        reserves = (
-          λ whole. planned.0 whole ∙ ap (λ (t : Tree). t.version + 1) (sym same_root),
-          planned.1 ∙ ap (λ (t : Tree). t.next) (sym same_root),
-          λ still.
-              piece_landed inner_node (book.chain tree) (nodes_of s tree) (su.tally.nodes tree) (gone_of s tree) (top_of (roots_of s tree)).next p.first middle last p.behind
-              (at2_same tree number (nodes_of s tree number ++ inner_node last ∷ []) (nodes_of s) tree number refl refl) page_stays reserved_last,
-        );
+        succeeds = (λ whole. planned.0 whole ∙ ap (λ (t : Tree). t.version + 1) (sym same_root), planned.1 ∙ ap (λ (t : Tree). t.next) (sym same_root));
+        reserves = λ still.
+            piece_landed inner_node (book.chain tree) (nodes_of s tree) (su.tally.nodes tree) (gone_of s tree) (top_of (roots_of s tree)).next p.first middle last p.behind
+            (at2_same tree number (nodes_of s tree number ++ inner_node last ∷ []) (nodes_of s) tree number refl refl) page_stays reserved_last;
       }
 
       full : has_nothing r.placing ≡ false

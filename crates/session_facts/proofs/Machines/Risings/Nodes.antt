@@ -6,7 +6,7 @@ use Rattle.byte_format.specs.Format.{greatest}
 use Rattle.cloud_facts.specs.Chains.Cuts.{inner_node}
 use Rattle.cloud_facts.specs.Chains.Links.{top_of}
 use Rattle.cloud_facts.specs.Calls.Standing.{StandsUnder}
-use Rattle.cloud_trait.specs.Claim.{Claim}
+use Rattle.cloud_trait.specs.Claim.{Claim, Lasts}
 use Rattle.cloud_trait.specs.State.{CloudState}
 use Rattle.db_base.specs.declared.trouble.Trouble.{Trouble}
 use Rattle.node_codec.specs.Inner.{Inner, HasInnerSpelling}
@@ -32,7 +32,7 @@ use Rattle.tree_phases.specs.declared.rising.Rising.{Rising}
 use Rattle.tree_phases.specs.Nodes.{touched_at, in_pieces, planned_by, planned_of, linked_by, node_plan}
 use Rattle.tree_phases.specs.Rising.{next_touched, touched_node, put_node}
 use Rattle.session_facts.specs.Machines.Trees.Charts.{KnowsNode}
-use Rattle.session_facts.specs.Machines.Trees.Placings.{AreReserved, IsReservation}
+use Rattle.session_facts.specs.Machines.Trees.Placings.{AreReserved, IsReservation, numbered}
 use Rattle.session_facts.specs.Machines.Risings.Knows.{AreApart, KnowsUpward, ReservesNodes, PutsOf, RisesOn, risen_node}
 use Rattle.session_facts.proofs.Machines.Folds.Reads.{Reserving, none, some, reservation_is}
 use Rattle.session_facts.proofs.Machines.Trees.Placings.{none_reserved}
@@ -113,8 +113,7 @@ module _ (book : Book) (order : List Entry) (s : CloudState) (stands : StandsUnd
         (subst (λ (l : List NodePart). Free [] l) (sym g) (none_reserved inner_node (book.chain tree) (nodes_of s tree) (gone_of s tree) (top_of (roots_of s tree)).next kept.page page_below))
 
     reserved : (q : Reserved) → Reserving root kept.page count q
-        → ReservesNodes st now lease tree root q.first (all_placed entry_key node_bytes kept.page q.first (part_of_node risen)).placing.middle
-        (all_placed entry_key node_bytes kept.page q.first (part_of_node risen)).placing.behind q.put
+        → ReservesNodes st (Lasts now lease) tree root (numbered q.first (all_placed entry_key node_bytes kept.page q.first (part_of_node risen)).placing.middle (all_placed entry_key node_bytes kept.page q.first (part_of_node risen)).placing.behind) q.put
     reserved q (none e) = λ lasts.
         alone (all_placed entry_key node_bytes kept.page kept.page (part_of_node risen)).placing.middle
         (all_placed entry_key node_bytes kept.page kept.page (part_of_node risen)).placing.behind (middle_count kept.page ∙ e)

@@ -21,8 +21,8 @@ use Rattle.tree_phases.specs.Read.{tree_held}
 use Rattle.tree_phases.specs.declared.rising.Rising.{Rising}
 use Rattle.session_facts.specs.Machines.Trees.Charts.{KnowsNode}
 use Rattle.cloud_facts.specs.Calls.Links.{SameLinks}
-use Rattle.session_facts.specs.Machines.Trees.Placings.{AreReserved}
-use Rattle.session_facts.specs.Machines.Risings.Knows.{AppliesRun, ReservesNodes, PutsNode, IsRaised, PutsCut, PutsRoot, whole, cut, ReservesRoot, PutsOf, KnowsRising}
+use Rattle.session_facts.specs.Machines.Trees.Placings.{AreReserved, numbered}
+use Rattle.session_facts.specs.Machines.Risings.Knows.{AppliesRun, ReservesNodes, PutsNode, IsRaised, PutsCut, PutsRoot, whole, cut, PutsOf, KnowsRising}
 use Rattle.cloud_facts.specs.Calls.Others.{Others}
 use Rattle.session_facts.proofs.Machines.Trees.Others.{root_stays, KeepsNodes, nodes_stay, links_stay, keeps_nodes}
 use Rattle.session_facts.proofs.Machines.Folds.Others.{done_stays}
@@ -121,8 +121,8 @@ module _ (st su : Store) (now later : ℕ) (lease : Claim) (r : Rising) (ids : L
     reserves = reserves r.placing.reserved k.reserves;
   }
     where
-      reserves : (o : Option (List ℕ)) → ReservesNodes st now lease tree root k.first k.placing.middle k.placing.behind o
-          → ReservesNodes su later lease tree root k.first k.placing.middle k.placing.behind o
+      reserves : (o : Option (List ℕ)) → ReservesNodes st (Lasts now lease) tree root (numbered k.first k.placing.middle k.placing.behind) o
+          → ReservesNodes su (Lasts later lease) tree root (numbered k.first k.placing.middle k.placing.behind) o
       reserves (Some bytes) e = e
       reserves None e = λ lasts. free k.first k.placing.middle k.placing.behind lasts (e (before lasts))
 
@@ -140,12 +140,14 @@ module _ (st su : Store) (now later : ℕ) (lease : Claim) (r : Rising) (ids : L
     fit = k.fit;
     left = k.left;
     spent = k.spent;
+    succeeds = k.succeeds;
     reserves = reserves r.placing.reserved k.reserves;
   }
     where
-      reserves : (o : Option (List ℕ)) → ReservesRoot r.is_spent st now lease tree root k.root k.first k.middle k.behind o → ReservesRoot r.is_spent su later lease tree root k.root k.first k.middle k.behind o
+      reserves : (o : Option (List ℕ)) → ReservesNodes st (Lasts now lease) tree root (numbered k.first k.middle k.behind) o
+          → ReservesNodes su (Lasts later lease) tree root (numbered k.first k.middle k.behind) o
       reserves (Some bytes) e = e
-      reserves None e = (e.0, e.1, λ lasts. free k.first k.middle k.behind lasts (e.2 (before lasts)))
+      reserves None e = λ lasts. free k.first k.middle k.behind lasts (e (before lasts))
 
   root_puts : (bytes : List ℕ) → PutsRoot st now lease r bytes → PutsRoot su later lease r bytes
   root_puts bytes (whole k) =

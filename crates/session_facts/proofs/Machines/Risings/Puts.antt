@@ -46,7 +46,7 @@ use Rattle.tree_phases.specs.Read.{tree_held}
 use Rattle.tree_phases.specs.declared.rising.Rising.{Rising}
 use Rattle.tree_phases.specs.Rising.{rise, landed, put_landed}
 use Rattle.session_facts.specs.Machines.Trees.Charts.{KnowsRoot, IsFound, AreFound}
-use Rattle.session_facts.specs.Machines.Trees.Placings.{AreReserved}
+use Rattle.session_facts.specs.Machines.Trees.Placings.{AreReserved, numbered}
 use Rattle.session_facts.specs.Machines.Risings.Knows.{AppliesRun, KnowsUpward, ReservesNodes, PutsNode, PutsOf, KnowsRising, RisesOn, risen_node, piece_links}
 use Rattle.session_facts.proofs.Machines.Trees.Others.{root_stays, KeepsNodes, nodes_stay, links_stay}
 use Rattle.session_facts.proofs.Machines.Risings.Pieces.{risen_names, risen_lands}
@@ -131,7 +131,7 @@ module _ (book : Book) (order : List Entry) (s : CloudState) (stands : StandsUnd
   Free ps qs = AreReserved inner_node (book.chain tree) (nodes_of s tree) (gone_of s tree) (top_of (roots_of s tree)).next p.first ps qs
 
   reserved : Free p.placing.middle behind
-  reserved = subst (λ (o : Option (List ℕ)). ReservesNodes st now lease tree (tree_held r.chart.root) p.first p.placing.middle behind o) none p.reserves lasts
+  reserved = subst (λ (o : Option (List ℕ)). ReservesNodes st (Lasts now lease) tree (tree_held r.chart.root) (numbered p.first p.placing.middle behind) o) none p.reserves lasts
 
   chained : IsChained (book.chain tree) (nodes_of s tree) (roots_of s tree) (st.tally.done tree) (st.tally.cursor tree 0)
   chained = stands.holds.chains tree k.tree

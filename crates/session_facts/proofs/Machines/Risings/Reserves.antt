@@ -9,7 +9,7 @@ use Rattle.cloud_facts.specs.Calls.Standing.{StandsUnder}
 use Rattle.cloud_facts.proofs.Calls.Passing.{landing_passes}
 use Rattle.cloud_trait.specs.Ask.{PutHeld}
 use Rattle.cloud_trait.specs.Caller.{Caller}
-use Rattle.cloud_trait.specs.Claim.{Claim}
+use Rattle.cloud_trait.specs.Claim.{Claim, Lasts}
 use Rattle.cloud_trait.specs.Machine.{Goes}
 use Rattle.cloud_trait.specs.State.{CloudState}
 use Rattle.db_base.specs.declared.names.ObjName.TheVariants as object
@@ -34,8 +34,8 @@ use Rattle.tree_phases.specs.declared.rising.Rising.{Rising}
 use Rattle.tree_phases.specs.Nodes.{with_links}
 use Rattle.tree_phases.specs.Rising.{landed, put_landed}
 use Rattle.session_facts.specs.Machines.Trees.Charts.{KnowsRoot}
-use Rattle.session_facts.specs.Machines.Trees.Placings.{AreReserved, IsReservation, reserving}
-use Rattle.session_facts.specs.Machines.Risings.Knows.{IsLastVersion, AppliesRun, ReservesNodes, ReservesRoot, PutsNode, IsRaised, PutsCut, cut, PutsOf, risen_node, KnowsRising, RisesOn}
+use Rattle.session_facts.specs.Machines.Trees.Placings.{AreReserved, IsReservation, reserving, numbered}
+use Rattle.session_facts.specs.Machines.Risings.Knows.{IsLastVersion, AppliesRun, ReservesNodes, PutsNode, IsRaised, PutsCut, cut, PutsOf, risen_node, KnowsRising, RisesOn, Succeeds}
 use Rattle.session_facts.proofs.Machines.TreeCheckpoints.EntryCounts.{few_entries, few_known, pieces_more}
 use Rattle.session_facts.proofs.Machines.Trees.Others.{nodes_stay}
 use Rattle.session_facts.proofs.Machines.Folds.Others.{done_stays}
@@ -134,13 +134,10 @@ module _ (book : Book) (order : List Entry) (s : CloudState) (stands : StandsUnd
       fit = p.fit;
       left = p.left;
       spent = λ e. ap (λ (t : Tree). t.version) held ∙ subst (IsLastVersion root) some (p.spent e);
-      reserves = (
-        λ whole. version whole ∙ ap (λ (t : Tree). t.version + 1) (sym held),
-        next ∙ ap (λ (t : Tree). t.next) (sym held),
-        λ still.
-            subst (λ (b : List NodePart). AreReserved inner_node (su.book.chain tree) (su.tally.nodes tree) (su.tally.gone tree) (top_of (su.tally.roots tree)).next p.first p.middle b) (sym none)
-            (subst (λ (n : ℕ). AreReserved inner_node (su.book.chain tree) (su.tally.nodes tree) (su.tally.gone tree) (top_of (su.tally.roots tree)).next n p.middle []) (sym at) (free p.middle many)),
-      );
+      succeeds = (λ whole. version whole ∙ ap (λ (t : Tree). t.version + 1) (sym held), next ∙ ap (λ (t : Tree). t.next) (sym held));
+      reserves = λ still.
+          subst (λ (b : List NodePart). AreReserved inner_node (su.book.chain tree) (su.tally.nodes tree) (su.tally.gone tree) (top_of (su.tally.roots tree)).next p.first p.middle b) (sym none)
+          (subst (λ (n : ℕ). AreReserved inner_node (su.book.chain tree) (su.tally.nodes tree) (su.tally.gone tree) (top_of (su.tally.roots tree)).next n p.middle []) (sym at) (free p.middle many));
     }
 
     known : PutsOf su now lease (landed r) r.last → KnowsRising su now lease (landed r) ids
@@ -165,7 +162,7 @@ module _ (book : Book) (order : List Entry) (s : CloudState) (stands : StandsUnd
   node_reserves p none = effect (length p.placing.middle) p.first planned.1 may (subst (RisesOn after now lease ids) (sym leads) then_known)
     where
       planned : (p.placing.behind ≡ []) × IsReservation root (length p.placing.middle) p.first bytes
-      planned = subst (λ (o : Option (List ℕ)). ReservesNodes st now lease tree root p.first p.placing.middle p.placing.behind o) some p.reserves
+      planned = subst (λ (o : Option (List ℕ)). ReservesNodes st (Lasts now lease) tree root (numbered p.first p.placing.middle p.placing.behind) o) some p.reserves
 
       -- the entries of its pieces are links of the level below
       may : MayReserve st tree (length p.placing.middle)
@@ -197,7 +194,9 @@ module _ (book : Book) (order : List Entry) (s : CloudState) (stands : StandsUnd
   root_reserves last p is_last = effect (length p.middle) p.first planned.1 may (subst (RisesOn after now lease ids) (sym leads) then_known)
     where
       planned : (p.behind ≡ []) × IsReservation root (length p.middle) p.first bytes × (r.is_spent ≡ false → p.root.version ≡ root.version + 1 + 1) × (p.root.next ≡ root.next + length p.middle)
-      planned = subst (λ (o : Option (List ℕ)). ReservesRoot r.is_spent st now lease tree root p.root p.first p.middle p.behind o) some p.reserves
+      planned =
+          let own = subst (ReservesNodes st (Lasts now lease) tree root (numbered p.first p.middle p.behind)) some p.reserves in
+          let next = subst (Succeeds r.is_spent root p.root (length p.middle)) some p.succeeds in (own.0, own.1, next.0, next.1)
 
       may : MayReserve st tree (length p.middle)
       may =

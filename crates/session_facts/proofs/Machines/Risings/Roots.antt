@@ -143,12 +143,11 @@ module _ (book : Book) (order : List Entry) (s : CloudState) (stands : StandsUnd
     fit = root_pieces_fit whole_root.next cut_root room fits;
     left = λ is_spent. let some : 1 ≤ count = omega arith in omega (arith, counted, some);
     spent = last;
-    reserves = (
-      refl,
-      record { first_is = rest.next; bytes_are = reserved.bytes_are; fits = reserved.fits },
+    succeeds = (
       λ put. versions put ∙ ap (λ (n : ℕ). n + 1) rest.version,
       nexts ∙ ap (λ (n : ℕ). n + count) rest.next ∙ ap (λ (n : ℕ). root.next + n) (sym counted),
     );
+    reserves = (refl, record { first_is = rest.next; bytes_are = reserved.bytes_are; fits = reserved.fits });
   }
     where
       counted : length (root_pieces whole_root.next cut_root) ≡ count

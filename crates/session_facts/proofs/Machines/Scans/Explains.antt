@@ -33,11 +33,11 @@ module _ (book : Book) (order : List Entry) (s : CloudState) (stands : StandsUnd
 
   -- a trouble is shown by the get of this object
   abbrev pub Shown : ObjName → Trouble → Type 0
-  Shown name trouble = IsShown (Get name) held Spent before.counts after.counts s t trouble
+  Shown name trouble = IsShown (Get name) held Spent (before.counts, s) (after.counts, t) trouble
 
   -- a scan stops for nothing that its get does not show
   pub scan_shown : (m : Scan) (c : Cache) → KnowsScanning st m c → (a : Answer) → Makes who (scan_ask m) a before after
-      → ScanLeads st (λ trouble. IsShown (scan_ask m) held Spent before.counts after.counts s t trouble) (scan_next (m, c) a)
+      → ScanLeads st (λ trouble. IsShown (scan_ask m) held Spent (before.counts, s) (after.counts, t) trouble) (scan_next (m, c) a)
   scan_shown m c k a made =
       scan_leads st stands.holds.chains (Shown (scan_object m)) (m, c) k a
       (call_answers book order s stands who (scan_object m) a t (call_of who (scan_ask m) a before after s t made told told_after))

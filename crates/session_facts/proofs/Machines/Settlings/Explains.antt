@@ -65,7 +65,7 @@ module _ (who : Caller) (before after : Seen) (s t : CloudState) (book : Book) (
   FaultsRose = Rose before.counts.faults after.counts.faults
 
   abbrev Shows : AtWork → Trouble → Type 0
-  Shows w k = IsShown (part_ask w) (leases_at_work w) IsSpentToSettle before.counts after.counts s t k
+  Shows w k = IsShown (part_ask w) (leases_at_work w) IsSpentToSettle (before.counts, s) (after.counts, t) k
 
   -- what a step of a part brings
   pub record PartExplains (w : AtWork) (next : Next AtWork ℕ) : Type 0 where
@@ -189,7 +189,7 @@ module _ (who : Caller) (before after : Seen) (s t : CloudState) (book : Book) (
       explained x leads = part_explains m.part knows sound made x leads
 
       pub settle_shows : (next : Step) → SettleLeads m reply next → trouble_of_part m.part ≡ None → left_of_part m.part ≡ 0 → (k : Trouble) → MeetsNext trouble_by next k
-          → IsShown (settle_ask m) (leases_at_work m.part) IsSpentToSettle before.counts after.counts s t k
+          → IsShown (settle_ask m) (leases_at_work m.part) IsSpentToSettle (before.counts, s) (after.counts, t) k
       settle_shows next (x, leads, to) none clean k meets = shows_by (came_by m x next to) (explained x leads) none clean k meets
 
       pub settle_keeps : (next : Step) → SettleLeads m reply next → (k : Trouble) → trouble_of_part m.part ≡ Some k → MeetsNext trouble_by next k

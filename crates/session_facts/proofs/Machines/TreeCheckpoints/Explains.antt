@@ -127,7 +127,7 @@ module _ (who : Caller) (before after : Seen) (s t : CloudState) (told : before.
   Call ask a = Makes who ask a before after
 
   abbrev Shows : Ask → Trouble → Type 0
-  Shows ask k = IsShown ask held Spent before.counts after.counts s t k
+  Shows ask k = IsShown ask held Spent (before.counts, s) (after.counts, t) k
 
   free_shows : (ask : Ask) (k : Trouble) → IsFree k → Shows ask k
   free_shows ask k is = free_shown ask held Spent before.counts after.counts s t k is

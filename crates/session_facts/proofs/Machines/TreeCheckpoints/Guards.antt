@@ -18,7 +18,7 @@ use Rattle.cloud_facts.specs.Book.Telling.{nodes_of, gone_of, roots_of}
 use Rattle.cloud_facts.specs.Tellings.Told.{store_of}
 use Rattle.session_facts.specs.Machines.Trees.Leaves.{IsPutting}
 use Rattle.session_facts.specs.Machines.Folds.Knows.{Reserves, PutsPieces}
-use Rattle.session_facts.specs.Machines.Trees.Placings.{AreReserved}
+use Rattle.session_facts.specs.Machines.Trees.Placings.{AreReserved, numbered}
 use Rattle.cloud_facts.specs.Calls.Pages.{IsTreePage}
 use Rattle.session_facts.proofs.Machines.Folds.Puts.{page_asked, root_asked}
 use Rattle.session_facts.proofs.Machines.Trees.Placings.{last_cases, puts_more}
@@ -79,7 +79,7 @@ module _ (book : Book) (order : List Entry) (s : CloudState) (stands : StandsUnd
           reserved : Lasts now lease → AreReserved leaf_node (book.chain tree) (nodes_of s tree) (gone_of s tree) (top_of (roots_of s tree)).next k.first (middle ++ last ∷ []) k.placing.behind
           reserved lasts =
               subst (λ (m : List LeafPart). AreReserved leaf_node (book.chain tree) (nodes_of s tree) (gone_of s tree) (top_of (roots_of s tree)).next k.first m k.placing.behind) is
-              (subst (λ (o : Option (List ℕ)). Reserves (store_of book order s) now lease tree (tree_held f.chart.root) k.first k.placing.middle k.placing.behind o) none k.reserves lasts)
+              (subst (λ (o : Option (List ℕ)). Reserves (store_of book order s) (Lasts now lease) tree (tree_held f.chart.root) (numbered k.first k.placing.middle k.placing.behind) o) none k.reserves lasts)
 
       by_pieces : f.placing.reserved ≡ None → (k.placing.middle ≡ []) ⊎ ((front : List LeafPart) × (last : LeafPart) × (k.placing.middle ≡ front ++ last ∷ []))
           → IsGuarded s now (folding_ask f lease)

@@ -140,7 +140,7 @@ module _ (book : Book) (order : List Entry) (s : CloudState) (stands : StandsUnd
       (w : Walk) (c : Cache) (k : KnowsWalking st w c) (a : Answer) (made : Makes who (walk_ask w) a before after) where
     -- a trouble is shown by the get
     abbrev pub Shown : Trouble → Type 0
-    Shown trouble = IsShown (walk_ask w) held Spent before.counts after.counts s t trouble
+    Shown trouble = IsShown (walk_ask w) held Spent (before.counts, s) (after.counts, t) trouble
 
     by_row : (got : Option (List ℕ)) (trouble : Trouble) → Weather who (walk_ask w) (Got got) before.counts after.counts (called who t.now s) t
         → IsOld c (object_of w) (is_leaf w) got trouble → Rose before.counts.stale after.counts.stale

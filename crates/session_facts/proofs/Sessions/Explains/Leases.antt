@@ -26,7 +26,7 @@ never_some o k none some = absurd (cc (none, some))
 
 module _ (who : Caller) (before after : Seen) (s t : CloudState) (told : before.state ≡ Some s) (told_after : after.state ≡ Some t) where
   abbrev Shows : Ask → Work → Trouble → Type 0
-  Shows ask old k = IsShown ask (leases_of old) (spent_for old) before.counts after.counts s t k
+  Shows ask old k = IsShown ask (leases_of old) (spent_for old) (before.counts, s) (after.counts, t) k
 
   -- an operation of one call, in which no trouble waits: it explains itself where a trouble that it answers is shown
   one_call : (ask : Ask) (old work : Work) (a : Answer) → trouble_in old ≡ None → trouble_in work ≡ None → ((k : Trouble) → trouble_of_turn (Ended a) ≡ Some k → Shows ask old k)

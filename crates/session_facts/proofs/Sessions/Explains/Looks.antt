@@ -40,7 +40,7 @@ module _ (who : Caller) (before after : Seen) (s t : CloudState) (book : Book) (
   Explained work turn = Explains (look_ask l) before.counts after.counts s t (Looking home l) work turn
 
   abbrev ShowsLook : Trouble → Type 0
-  ShowsLook k = IsShown (look_ask l) (leases_of (Looking home l)) (spent_for (Looking home l)) before.counts after.counts s t k
+  ShowsLook k = IsShown (look_ask l) (leases_of (Looking home l)) (spent_for (Looking home l)) (before.counts, s) (after.counts, t) k
 
   pub looking_explains : (buffer : List Noted) (d : Cache) (work : Work) (shown : Shown) (turn : Turn Answer) → LooksBy who before after (in_hand home l kept) (acting_of buffer work d shown) turn → Explained work turn
   looking_explains buffer d work shown More (m, steps, work_is, none, less) =

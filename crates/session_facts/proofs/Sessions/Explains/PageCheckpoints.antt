@@ -45,7 +45,7 @@ module _ (who : Caller) (before after : Seen) (s t : CloudState) (told : before.
         (paging_left who before after s t told told_after (leases_of (PagingOn home p)) (IsSpentInPages p.tree) st now p steps.answer knows steps.made tells (λ what is. is) found (Goes m) steps.took);
   }
     where
-      on : p.trouble ≡ None → (k : Trouble) → Meets work More k → IsShown (paging_ask p) (leases_of (PagingOn home p)) (IsSpentInPages p.tree) before.counts after.counts s t k
+      on : p.trouble ≡ None → (k : Trouble) → Meets work More k → IsShown (paging_ask p) (leases_of (PagingOn home p)) (IsSpentInPages p.tree) (before.counts, s) (after.counts, t) k
       on none k (inl e) =
           paging_shown who before after s t told told_after (leases_of (PagingOn home p)) (IsSpentInPages p.tree) st now p steps.answer knows steps.made tells (λ what is. is) none (Goes m) steps.took k (ap trouble_in (sym is) ∙ e)
       on none k (inr e) = absurd (cc (e))
@@ -57,7 +57,7 @@ module _ (who : Caller) (before after : Seen) (s t : CloudState) (told : before.
     left = paging_left who before after s t told told_after (leases_of (PagingOn home p)) (IsSpentInPages p.tree) st now p steps.answer knows steps.made tells (λ what is. is) found (Ends m n) steps.took;
   }
     where
-      on : (k : Trouble) → Meets work (Ended (answer.Done n)) k → IsShown (paging_ask p) (leases_of (PagingOn home p)) (IsSpentInPages p.tree) before.counts after.counts s t k
+      on : (k : Trouble) → Meets work (Ended (answer.Done n)) k → IsShown (paging_ask p) (leases_of (PagingOn home p)) (IsSpentInPages p.tree) (before.counts, s) (after.counts, t) k
       on k (inl e) = absurd (let none = ap trouble_in is in cc (none, e))
       on k (inr e) = absurd (cc (e))
 
@@ -68,7 +68,7 @@ module _ (who : Caller) (before after : Seen) (s t : CloudState) (told : before.
     left = inl (omega arith);
   }
     where
-      on : p.trouble ≡ None → (k : Trouble) → k ≢ trouble.Memory → q ≡ k → IsShown (paging_ask p) (leases_of (PagingOn home p)) (IsSpentInPages p.tree) before.counts after.counts s t k
+      on : p.trouble ≡ None → (k : Trouble) → k ≢ trouble.Memory → q ≡ k → IsShown (paging_ask p) (leases_of (PagingOn home p)) (IsSpentInPages p.tree) (before.counts, s) (after.counts, t) k
       on none k other same =
           paging_shown who before after s t told told_after (leases_of (PagingOn home p)) (IsSpentInPages p.tree) st now p steps.answer knows steps.made tells (λ what is. is) none (Stops m q)
           (steps.took.0 (λ memory. other (sym same ∙ memory))) k same

@@ -67,7 +67,7 @@ module _ (who : Caller) (before after : Seen) (s t : CloudState) (book : Book) (
       }
         where
           shown : trouble_of_part m.part ≡ None → left_of_part m.part ≡ 0 → (k : Trouble) → k ≢ trouble.Memory → Meets (Settling n) More k
-              → IsShown (settle_ask m) (leases_of (Settling m)) IsSpentToSettle before.counts after.counts s t k
+              → IsShown (settle_ask m) (leases_of (Settling m)) IsSpentToSettle (before.counts, s) (after.counts, t) k
           shown none clean k other (inl e) =
               settle_shows who before after s t book order told told_after stand.cloud (stand.parts who.session) holds reply found (told_later book order s t stand.cloud grown) m knows.work sound made (Goes n) leads none clean k e
           shown none clean k other (inr e) = absurd (cc)
@@ -80,7 +80,7 @@ module _ (who : Caller) (before after : Seen) (s t : CloudState) (book : Book) (
         left = inl (omega arith);
       }
         where
-          never : (k : Trouble) → Meets Closed (Ended (answer.Settled x)) k → IsShown (settle_ask m) (leases_of (Settling m)) IsSpentToSettle before.counts after.counts s t k
+          never : (k : Trouble) → Meets Closed (Ended (answer.Settled x)) k → IsShown (settle_ask m) (leases_of (Settling m)) IsSpentToSettle (before.counts, s) (after.counts, t) k
           never k (inl e) = absurd (cc)
           never k (inr e) = absurd (cc)
 
@@ -95,7 +95,7 @@ module _ (who : Caller) (before after : Seen) (s t : CloudState) (book : Book) (
       }
         where
           shown : trouble_of_part m.part ≡ None → left_of_part m.part ≡ 0 → (k : Trouble) → k ≢ trouble.Memory → q ≡ k
-              → IsShown (settle_ask m) (leases_of (Settling m)) IsSpentToSettle before.counts after.counts s t k
+              → IsShown (settle_ask m) (leases_of (Settling m)) IsSpentToSettle (before.counts, s) (after.counts, t) k
           shown none clean k other same =
               settle_shows who before after s t book order told told_after stand.cloud (stand.parts who.session) holds reply found (told_later book order s t stand.cloud grown) m knows.work sound made (Stops n q)
               (leads (λ memory. other (sym same ∙ memory))) none clean k same

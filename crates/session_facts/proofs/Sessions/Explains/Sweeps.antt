@@ -43,7 +43,7 @@ none_some x o none some = absurd (cc (none, some))
 
 module _ (who : Caller) (before after : Seen) (s t : CloudState) (told : before.state ≡ Some s) (told_after : after.state ≡ Some t) (m : Sweeping) where
   abbrev Shown : Ask → Trouble → Type 0
-  Shown ask k = IsShown ask (leases_of (SweepingOn m)) (λ u what. ⊥) before.counts after.counts s t k
+  Shown ask k = IsShown ask (leases_of (SweepingOn m)) (λ u what. ⊥) (before.counts, s) (after.counts, t) k
 
   busy_shown : (lock : Lock) (until : ℕ) (a : Heard) → Makes who (sweep_ask m) a before after → (sweep_ask m ≡ Take lock 60) × (a ≡ Held until)
       → Shown (sweep_ask m) (trouble.Busy lock until)

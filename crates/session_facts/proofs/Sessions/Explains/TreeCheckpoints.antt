@@ -45,7 +45,7 @@ module _ (who : Caller) (before after : Seen) (s t : CloudState) (told : before.
       left = making_left who before after s t told told_after (leases_of (Folding home m)) (IsSpentInTree m.tree) reply st now m knows made tells (λ what is. is) (Goes n) leads found;
     }
       where
-        shown : trouble_of_making m ≡ None → (k : Trouble) → Meets (Folding home n) More k → IsShown (making_ask m) (leases_of (Folding home m)) (IsSpentInTree m.tree) before.counts after.counts s t k
+        shown : trouble_of_making m ≡ None → (k : Trouble) → Meets (Folding home n) More k → IsShown (making_ask m) (leases_of (Folding home m)) (IsSpentInTree m.tree) (before.counts, s) (after.counts, t) k
         shown none k (inl e) = making_shows who before after s t told told_after (leases_of (Folding home m)) (IsSpentInTree m.tree) reply st now m knows made tells (λ what is. is) (Goes n) leads none k e
         shown none k (inr e) = absurd (cc)
 
@@ -56,7 +56,7 @@ module _ (who : Caller) (before after : Seen) (s t : CloudState) (told : before.
       left = making_left who before after s t told told_after (leases_of (Folding home m)) (IsSpentInTree m.tree) reply st now m knows made tells (λ what is. is) (Ends n done) leads found;
     }
       where
-        never : (k : Trouble) → Meets (Idle home) (Ended (answer.Done done)) k → IsShown (making_ask m) (leases_of (Folding home m)) (IsSpentInTree m.tree) before.counts after.counts s t k
+        never : (k : Trouble) → Meets (Idle home) (Ended (answer.Done done)) k → IsShown (making_ask m) (leases_of (Folding home m)) (IsSpentInTree m.tree) (before.counts, s) (after.counts, t) k
         never k (inl e) = absurd (cc)
         never k (inr e) = absurd (cc)
 
@@ -67,7 +67,7 @@ module _ (who : Caller) (before after : Seen) (s t : CloudState) (told : before.
       left = inl (omega arith);
     }
       where
-        shown : trouble_of_making m ≡ None → (k : Trouble) → k ≢ trouble.Memory → q ≡ k → IsShown (making_ask m) (leases_of (Folding home m)) (IsSpentInTree m.tree) before.counts after.counts s t k
+        shown : trouble_of_making m ≡ None → (k : Trouble) → k ≢ trouble.Memory → q ≡ k → IsShown (making_ask m) (leases_of (Folding home m)) (IsSpentInTree m.tree) (before.counts, s) (after.counts, t) k
         shown none k other same =
             making_shows who before after s t told told_after (leases_of (Folding home m)) (IsSpentInTree m.tree) reply st now m knows made tells (λ what is. is) (Stops n q) (leads (λ memory. other (sym same ∙ memory))) none k same
 

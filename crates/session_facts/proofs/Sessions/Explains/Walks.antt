@@ -74,7 +74,7 @@ module _ (ask : Ask) (c d : Counts) (s t : CloudState) (old new : Work) (before 
       on k (inr e) = no_trouble None k refl e
 
   -- and one that ends: the trouble of its answer is shown
-  pub ends_explains : (a : Answer) → left_told new (Ended a) ≡ 0 → ((k : Trouble) → trouble_of_answer a ≡ Some k → k ≢ trouble.Memory → IsShown ask (leases_of old) (spent_for old) c d s t k)
+  pub ends_explains : (a : Answer) → left_told new (Ended a) ≡ 0 → ((k : Trouble) → trouble_of_answer a ≡ Some k → k ≢ trouble.Memory → IsShown ask (leases_of old) (spent_for old) (c, s) (d, t) k)
       → Explains ask c d s t old new (Ended a)
   ends_explains a none shows = record {
     shown = λ plain clean k other meets. on k other meets;
@@ -82,7 +82,7 @@ module _ (ask : Ask) (c d : Counts) (s t : CloudState) (old new : Work) (before 
     left = inl (omega (arith, none));
   }
     where
-      on : (k : Trouble) → k ≢ trouble.Memory → Meets new (Ended a) k → IsShown ask (leases_of old) (spent_for old) c d s t k
+      on : (k : Trouble) → k ≢ trouble.Memory → Meets new (Ended a) k → IsShown ask (leases_of old) (spent_for old) (c, s) (d, t) k
       on k other (inl e) = absurd (no_trouble (trouble_in new) k behind e)
       on k other (inr e) = shows k e other
 
@@ -98,7 +98,7 @@ module _ (who : Caller) (before after : Seen) (s t : CloudState) (book : Book) (
     Explained work turn = Explains (walk_ask w) before.counts after.counts s t (Reading home w) work turn
 
     abbrev ShowsRead : Trouble → Type 0
-    ShowsRead k = IsShown (walk_ask w) (leases_of (Reading home w)) (spent_for (Reading home w)) before.counts after.counts s t k
+    ShowsRead k = IsShown (walk_ask w) (leases_of (Reading home w)) (spent_for (Reading home w)) (before.counts, s) (after.counts, t) k
 
     pub reading_explains : (buffer : List Noted) (d : Cache) (work : Work) (shown : Shown) (turn : Turn Answer) → ReadsBy who before after (in_hand home w kept) (acting_of buffer work d shown) turn → Explained work turn
     reading_explains buffer d work shown More (m, steps, work_is, none) =
@@ -130,7 +130,7 @@ module _ (who : Caller) (before after : Seen) (s t : CloudState) (book : Book) (
     ScanExplained work turn = Explains (scan_ask l.scan) before.counts after.counts s t (Scanning home l) work turn
 
     abbrev ShowsScan : Trouble → Type 0
-    ShowsScan k = IsShown (scan_ask l.scan) (leases_of (Scanning home l)) (spent_for (Scanning home l)) before.counts after.counts s t k
+    ShowsScan k = IsShown (scan_ask l.scan) (leases_of (Scanning home l)) (spent_for (Scanning home l)) (before.counts, s) (after.counts, t) k
 
     -- at the end of a leaf memory alone runs out
     lists : (buffer : List Noted) (m : Listing) (d : Cache) (work : Work) (shown : Shown) (turn : Turn Answer) → ListsLeaf home m (acting_of buffer work d shown) turn → ScanExplained work turn
@@ -179,7 +179,7 @@ module _ (who : Caller) (before after : Seen) (s t : CloudState) (book : Book) (
     CommitExplained work turn = Explains (run_ask r) before.counts after.counts s t (Committing r) work turn
 
     abbrev ShowsCommit : Trouble → Type 0
-    ShowsCommit k = IsShown (run_ask r) (leases_of (Committing r)) (spent_for (Committing r)) before.counts after.counts s t k
+    ShowsCommit k = IsShown (run_ask r) (leases_of (Committing r)) (spent_for (Committing r)) (before.counts, s) (after.counts, t) k
 
     -- where its call leads
     leads : (reply : Reply) → Makes who (run_ask r) reply before after → reply ≢ Memory → EndsWell ShowsCommit (run_next (r, kept) reply)

@@ -14,7 +14,7 @@ use Rattle.cloud_facts.specs.Calls.Standing.{StandsUnder}
 use Rattle.cloud_facts.specs.Chains.Chain.{IsChained}
 use Rattle.cloud_facts.specs.Chains.Links.{top_of}
 use Rattle.cloud_facts.specs.Tellings.Told.{store_of}
-use Rattle.cloud_trait.specs.Claim.{Claim}
+use Rattle.cloud_trait.specs.Claim.{Claim, Lasts}
 use Rattle.cloud_trait.specs.State.{CloudState, newest, newest_of}
 use Rattle.cloud_trait.specs.declared.state.Version.{Version}
 use Rattle.db_base.specs.Ids.{IsTree}
@@ -33,8 +33,8 @@ use Rattle.session_facts.specs.Machines.TreeCheckpoints.Counting.{next_of, HasRo
 use Rattle.session_facts.specs.Machines.Trees.Charts.{KnowsNodes}
 use Rattle.session_facts.specs.Machines.Folds.Knows.{Reserves}
 use Rattle.session_facts.specs.Machines.Trees.Leaves.{KnowsRest, IsCome, IsPutting, KnowsLeaf}
-use Rattle.session_facts.specs.Machines.Trees.Placings.{reserving, IsReservation}
-use Rattle.session_facts.specs.Machines.Risings.Knows.{AreApart, ReservesNodes, ReservesRoot, whole, cut, PutsOf}
+use Rattle.session_facts.specs.Machines.Trees.Placings.{reserving, IsReservation, numbered}
+use Rattle.session_facts.specs.Machines.Risings.Knows.{AreApart, ReservesNodes, whole, cut, PutsOf}
 use Rattle.session_facts.specs.Machines.Trees.Ways.{IsOnWay}
 use Rattle.split_plan.specs.Part.{LeafPart, NodePart}
 use Rattle.split_plan.specs.Plan.{leaf_bytes, node_bytes}
@@ -143,23 +143,23 @@ module _ (book : Book) (order : List Entry) (s : CloudState) (stands : StandsUnd
 -- ---- what is put
 
 leaf_reserves : (st : Store) (now : ℕ) (lease : Claim) (tree : ℕ) (c : Chart) (page first : ℕ) (front : LeafPart) (middle behind : List LeafPart) (placing : Placing)
-    → length placing.puts ≡ length (front ∷ middle) → Reserves st now lease tree (tree_held c.root) first middle behind placing.reserved → Reserving 1 c placing
+    → length placing.puts ≡ length (front ∷ middle) → Reserves st (Lasts now lease) tree (tree_held c.root) (numbered first middle behind) placing.reserved → Reserving 1 c placing
 leaf_reserves st now lease tree c page first front middle behind placing many reserves bytes e =
-    let r = subst (Reserves st now lease tree (tree_held c.root) first middle behind) e reserves in
+    let r = subst (Reserves st (Lasts now lease) tree (tree_held c.root) (numbered first middle behind)) e reserves in
     let next = reserved_next (tree_held c.root) (length middle) first bytes r.1 in
     omega (arith, many, next)
 
 node_reserves : (st : Store) (now : ℕ) (lease : Claim) (tree : ℕ) (c : Chart) (first : ℕ) (front : NodePart) (middle behind : List NodePart) (placing : Placing)
-    → length placing.puts ≡ length (front ∷ middle) → ReservesNodes st now lease tree (tree_held c.root) first middle behind placing.reserved → Reserving 1 c placing
+    → length placing.puts ≡ length (front ∷ middle) → ReservesNodes st (Lasts now lease) tree (tree_held c.root) (numbered first middle behind) placing.reserved → Reserving 1 c placing
 node_reserves st now lease tree c first front middle behind placing many reserves bytes e =
-    let r = subst (ReservesNodes st now lease tree (tree_held c.root) first middle behind) e reserves in
+    let r = subst (ReservesNodes st (Lasts now lease) tree (tree_held c.root) (numbered first middle behind)) e reserves in
     let next = reserved_next (tree_held c.root) (length middle) first bytes r.1 in
     omega (arith, many, next)
 
-root_reserves : (spent : Bool) (st : Store) (now : ℕ) (lease : Claim) (tree : ℕ) (c : Chart) (t : Tree) (first : ℕ) (middle behind : List NodePart) (placing : Placing)
-    → length placing.puts ≡ length middle → ReservesRoot spent st now lease tree (tree_held c.root) t first middle behind placing.reserved → Reserving 0 c placing
-root_reserves spent st now lease tree c t first middle behind placing many reserves bytes e =
-    let r = subst (ReservesRoot spent st now lease tree (tree_held c.root) t first middle behind) e reserves in
+root_reserves : (st : Store) (still : Type 0) (tree : ℕ) (c : Chart) (first : ℕ) (middle behind : List NodePart) (placing : Placing)
+    → length placing.puts ≡ length middle → ReservesNodes st still tree (tree_held c.root) (numbered first middle behind) placing.reserved → Reserving 0 c placing
+root_reserves st still tree c first middle behind placing many reserves bytes e =
+    let r = subst (ReservesNodes st still tree (tree_held c.root) (numbered first middle behind)) e reserves in
     let next = reserved_next (tree_held c.root) (length middle) first bytes r.1 in
     omega (arith, many, next)
 
@@ -184,7 +184,7 @@ up_fits st now lease r None k =
     (ap length k.placing.puts_are ∙ puts_as_many node_bytes k.kept.page k.first (k.placing.front ∷ k.placing.middle)) k.reserves
 up_fits st now lease r (Some bytes) (whole k) = λ b e. absurd (let none : Some b ≡ None = sym e ∙ k.nothing_reserved in cc)
 up_fits st now lease r (Some bytes) (cut k) =
-    root_reserves r.is_spent st now lease r.chart.tree r.chart k.root k.first k.middle k.behind r.placing
+    root_reserves st (Lasts now lease) r.chart.tree r.chart k.first k.middle k.behind r.placing
     (ap length k.puts_are ∙ puts_as_many node_bytes k.first (k.first + 1) k.middle) k.reserves
 
 -- ---- wherever it stands

@@ -23,7 +23,7 @@ use Rattle.cloud_facts.specs.Tellings.Taking.{IsLinked}
 use Rattle.tree_phases.specs.declared.chart.Chart.{Chart}
 use Rattle.tree_phases.specs.Read.{tree_held}
 use Rattle.session_facts.specs.Machines.Trees.Charts.{KnowsChart}
-use Rattle.session_facts.specs.Machines.Trees.Placings.{IsPlacing, AreReserved, IsReservation}
+use Rattle.session_facts.specs.Machines.Trees.Placings.{IsPlacing, AreReserved, IsReservation, Numbered, numbered}
 use Rattle.session_facts.specs.Machines.Trees.Ways.{IsOnWay}
 
 -- ---- the run
@@ -59,11 +59,11 @@ pub record IsNewestLeaf (nodes : ℕ → List Node) (page : ℕ) (l : Leaf) : Ty
   pub is : newest_node nodes page ≡ Leafy l
   pub absent : nodes page ≡ [] → page ≡ 1
 
--- the numbers of the pieces are reserved by the put in hand, or they were while the tree's lease lasts
-abbrev pub Reserves : Store → ℕ → Claim → ℕ → Tree → ℕ → List LeafPart → List LeafPart → Option (List ℕ) → Type 0
-Reserves st now lease tree root first middle behind (Some bytes) = (behind ≡ []) × IsReservation root (length middle) first bytes
-Reserves st now lease tree root first middle behind None =
-    Lasts now lease → AreReserved leaf_node (st.book.chain tree) (st.tally.nodes tree) (st.tally.gone tree) (top_of (st.tally.roots tree)).next first middle behind
+-- the numbers of the pieces are reserved by the put in hand, or they were while this holds
+abbrev pub Reserves : Store → Type 0 → ℕ → Tree → Numbered LeafPart → Option (List ℕ) → Type 0
+Reserves st still tree root new (Some bytes) = (new.behind ≡ []) × IsReservation root (length new.middle) new.first bytes
+Reserves st still tree root new None =
+    still → AreReserved leaf_node (st.book.chain tree) (st.tally.nodes tree) (st.tally.gone tree) (top_of (st.tally.roots tree)).next new.first new.middle new.behind
 
 -- a leaf that was read is the newest of its page while its lease lasts, and what is put are its pieces with the run applied
 pub record PutsPieces (st : Store) (now : ℕ) (lease : Claim) (f : Folding) (run : List PuItem) : Type 0 where
@@ -75,7 +75,7 @@ pub record PutsPieces (st : Store) (now : ℕ) (lease : Claim) (f : Folding) (ru
   pub first : ℕ
   pub fit : AllByRecursion IsLeafPart (leaf_pieces first (applied leaf 0 run))
   pub placing : IsPlacing leaf_bytes f.page first (leaf_pieces first (applied leaf 0 run)) f.placing.puts
-  pub reserves : Reserves st now lease f.chart.tree (tree_held f.chart.root) first placing.middle placing.behind f.placing.reserved
+  pub reserves : Reserves st (Lasts now lease) f.chart.tree (tree_held f.chart.root) (numbered first placing.middle placing.behind) f.placing.reserved
   pub lacks : f.lacked ≡ lacked leaf 0 run
   -- of the records that are handled then, those that are not applied are in its range
   pub rest : (x : PuItem) → IsIn run x → below_bound (key_of x.rec.change) f.chart.from ≡ true → IsDone st f.chart.tree x ⊎ (holds leaf (key_of x.rec.change) ≡ true)

@@ -27,7 +27,7 @@ use Rattle.tree_phases.specs.Nodes.{with_links}
 use Rattle.tree_phases.specs.Root.{new_pages}
 use Rattle.session_facts.specs.Machines.Trees.Charts.{KnowsRoot, KnowsNode, KnowsNodes, AreFound}
 use Rattle.session_facts.specs.Machines.Folds.Knows.{IsDone}
-use Rattle.session_facts.specs.Machines.Trees.Placings.{IsPlacing, AreReserved, IsReservation}
+use Rattle.session_facts.specs.Machines.Trees.Placings.{IsPlacing, AreReserved, IsReservation, Numbered, numbered}
 
 -- ---- nodes that were got
 
@@ -62,11 +62,11 @@ risen_node n links = record n { version = n.version + 1; entries = with_links n 
 abbrev pub piece_links : KeptNode → ℕ → Inner → List Found
 piece_links k first n = links_at (k.level + 1) (drop 1 (map entry_of (on_pages k.page first (node_pieces first n))))
 
--- the numbers of pieces are reserved by the put in hand, or they were while the tree's lease lasts
-abbrev pub ReservesNodes : Store → ℕ → Claim → ℕ → Tree → ℕ → List NodePart → List NodePart → Option (List ℕ) → Type 0
-ReservesNodes st now lease tree root first middle behind (Some bytes) = (behind ≡ []) × IsReservation root (length middle) first bytes
-ReservesNodes st now lease tree root first middle behind None =
-    Lasts now lease → AreReserved inner_node (st.book.chain tree) (st.tally.nodes tree) (st.tally.gone tree) (top_of (st.tally.roots tree)).next first middle behind
+-- the numbers of pieces are reserved by the put in hand, or they were while this holds
+abbrev pub ReservesNodes : Store → Type 0 → ℕ → Tree → Numbered NodePart → Option (List ℕ) → Type 0
+ReservesNodes st still tree root new (Some bytes) = (new.behind ≡ []) × IsReservation root (length new.middle) new.first bytes
+ReservesNodes st still tree root new None =
+    still → AreReserved inner_node (st.book.chain tree) (st.tally.nodes tree) (st.tally.gone tree) (top_of (st.tally.roots tree)).next new.first new.middle new.behind
 
 -- what is put are the pieces of a node that was got, with the links that were known; those of its new pieces are noted for the level above
 pub record PutsNode (st : Store) (now : ℕ) (lease : Claim) (r : Rising) : Type 0 where
@@ -80,7 +80,7 @@ pub record PutsNode (st : Store) (now : ℕ) (lease : Claim) (r : Rising) : Type
   pub links_are : r.chart.links ≡ known ++ piece_links kept first (risen_node node.inner known)
   pub fit : AllByRecursion IsNodePart (node_pieces first (risen_node node.inner known))
   pub placing : IsPlacing node_bytes kept.page first (node_pieces first (risen_node node.inner known)) r.placing.puts
-  pub reserves : ReservesNodes st now lease r.chart.tree (tree_held r.chart.root) first placing.middle placing.behind r.placing.reserved
+  pub reserves : ReservesNodes st (Lasts now lease) r.chart.tree (tree_held r.chart.root) (numbered first placing.middle placing.behind) r.placing.reserved
 
 -- ---- the last put
 
@@ -102,13 +102,10 @@ pub record PutsWhole (st : Store) (r : Rising) (bytes : List ℕ) : Type 0 where
   pub nothing_reserved : r.placing.reserved ≡ None
   pub no_page : r.placing.puts ≡ []
 
--- so many numbers are reserved for its pieces by the put in hand, or they were while the tree's lease lasts
-abbrev pub ReservesRoot : Bool → Store → ℕ → Claim → ℕ → Tree → Tree → ℕ → List NodePart → List NodePart → Option (List ℕ) → Type 0
-ReservesRoot spent st now lease tree root t first middle behind (Some bytes) =
-    (behind ≡ []) × IsReservation root (length middle) first bytes × (spent ≡ false → t.version ≡ root.version + 1 + 1) × (t.next ≡ root.next + length middle)
-ReservesRoot spent st now lease tree root t first middle behind None =
-    (spent ≡ false → t.version ≡ root.version + 1) × (t.next ≡ root.next)
-    × (Lasts now lease → AreReserved inner_node (st.book.chain tree) (st.tally.nodes tree) (st.tally.gone tree) (top_of (st.tally.roots tree)).next first middle behind)
+-- it is the root's next version, or the next but one with so many numbers where the put in hand reserves them
+abbrev pub Succeeds : Bool → Tree → Tree → ℕ → Option (List ℕ) → Type 0
+Succeeds spent root t count (Some bytes) = (spent ≡ false → t.version ≡ root.version + 1 + 1) × (t.next ≡ root.next + count)
+Succeeds spent root t count None = (spent ≡ false → t.version ≡ root.version + 1) × (t.next ≡ root.next)
 
 -- The reservation of a cut takes the last version of the tree object: before it lands the tree object stands at the last but one, and behind it at
 -- the last.
@@ -130,7 +127,8 @@ pub record PutsCut (st : Store) (now : ℕ) (lease : Claim) (r : Rising) (bytes 
   pub fit : AllByRecursion IsNodePart (root_pieces first root)
   pub left : r.is_spent ≡ true → 1 ≤ length middle
   pub spent : r.is_spent ≡ true → IsLastVersion (tree_held r.chart.root) r.placing.reserved
-  pub reserves : ReservesRoot r.is_spent st now lease r.chart.tree (tree_held r.chart.root) root first middle behind r.placing.reserved
+  pub succeeds : Succeeds r.is_spent (tree_held r.chart.root) root (length middle) r.placing.reserved
+  pub reserves : ReservesNodes st (Lasts now lease) r.chart.tree (tree_held r.chart.root) (numbered first middle behind) r.placing.reserved
 
 pub data PutsRoot (st : Store) (now : ℕ) (lease : Claim) (r : Rising) (bytes : List ℕ) : Type 0 where
   whole : PutsWhole st r bytes → PutsRoot st now lease r bytes

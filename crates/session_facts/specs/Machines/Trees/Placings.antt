@@ -17,6 +17,15 @@ pub record IsPlacing {A X : Type 0} (bytes : Part A X → List ℕ) (page first 
   pub pieces_are : pieces ≡ front ∷ (middle ++ behind)
   pub puts_are : puts ≡ reverse (map (put_of bytes) (on_pages page first (front ∷ middle)))
 
+-- the new pieces of a node: their numbers go from `first` on, some are still to be put, and those behind them were
+pub record Numbered (Piece : Type 0) : Type 0 where
+  pub first : ℕ
+  pub middle : List Piece
+  pub behind : List Piece
+
+abbrev pub numbered : {Piece : Type 0} → ℕ → List Piece → List Piece → Numbered Piece
+numbered first middle behind = record { first = first; middle = middle; behind = behind }
+
 -- the numbers from `first` on are these pieces': reserved, in no chain and not removed; those that landed did so once, and the others have no version
 pub record AreReserved {A X : Type 0} (node : Part A X → Node) (chain : ℕ → List Link) (nodes : ℕ → List Node) (gone : ℕ → Bool) (next first : ℕ)
     (middle behind : List (Part A X)) : Type 0 where

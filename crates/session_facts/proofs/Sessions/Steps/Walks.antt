@@ -20,6 +20,7 @@ use Rattle.cloud_trait.specs.Weather.{Makes}
 use Rattle.db_base.specs.declared.trouble.Trouble.{Trouble}
 use Rattle.db_base.specs.declared.trouble.Trouble.TheVariants as trouble
 use Rattle.cloud_facts.specs.Homes.Homes.{Parts}
+use Rattle.txn_buffer.specs.Noted.{Noted}
 use Rattle.page_cache.specs.Cache.{Cache}
 use Rattle.recover_run.specs.declared.home.Home.{Home}
 use Rattle.report_types.specs.declared.entry.Entry.{Entry}

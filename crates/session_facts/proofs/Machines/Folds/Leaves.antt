@@ -1,8 +1,9 @@
 -- A leaf that is read under its lease, where a way stands: it has the low key that led there, and leads on to the right or has the key.
-use Rattle.std.proofs.Common.{◌≡◌, ◌+◌, ◌≤◌, ◌==◌, ◌⊎◌, inl, inr, ℕ, zero, suc, Bool, true, false, cond, nat_lt, ◌&&◌, ◌||◌, List, [], ◌∷◌, ◌++◌, Option, Some, None, Ok, refl, sym, ap, subst, ◌∙◌, arith}
+use Rattle.std.proofs.Common.{◌≡◌, ◌+◌, ◌≤◌, ◌==◌, ◌⊎◌, inl, inr, ℕ, zero, suc, Bool, true, false, cond, nat_lt, ◌&&◌, ◌||◌, List, [], ◌∷◌, ◌++◌, Option, Some, None, Result, Ok, refl, sym, ap, subst, ◌∙◌, arith}
 use Rattle.std.specs.Prelude.{slice_get}
 use Rattle.std.proofs.lemmas.Bool.{eqb-true, ltb-false}
 use Rattle.byte_format.specs.Order.{bytes_below}
+use Rattle.byte_format.specs.Whole.{whole, offset}
 use Rattle.cloud_facts.specs.Chains.Chain.{IsChained}
 use Rattle.cloud_facts.proofs.Chains.GoneLemmas.{links_kept}
 use Rattle.cloud_facts.specs.Chains.Links.{newest_node, EndsBefore, IsOfLevel}
@@ -15,10 +16,11 @@ use Rattle.cloud_trait.specs.State.{CloudState, newest}
 use Rattle.db_base.specs.Change.{key_of}
 use Rattle.db_base.specs.Ids.{IsTree}
 use Rattle.db_base.specs.declared.names.ObjName.TheVariants as object
+use Rattle.db_base.specs.declared.trouble.Trouble.{Trouble}
 use Rattle.cloud_facts.specs.Decoding.Kinds.{IsNode}
 use Rattle.cloud_facts.proofs.Decoding.Values.{newest_page_decodes}
 use Rattle.leaf_edit.specs.Lacked.{is_lacked, lacked}
-use Rattle.leaf_view.specs.Leaf.{Leaf, IsLeaf}
+use Rattle.leaf_view.specs.Leaf.{Leaf, IsLeaf, leaf as leaf_format}
 use Rattle.leaf_view.specs.Lookup.{empty_leaf, holds, page_at, number_of as done_number}
 use Rattle.log_codec.specs.declared.record.PuItem.{PuItem}
 use Rattle.report_types.specs.declared.entry.Entry.{Entry}
@@ -32,7 +34,8 @@ use Rattle.cloud_facts.specs.Tellings.Taking.{IsLinked}
 use Rattle.cloud_facts.specs.Tellings.Told.{store_of}
 use Rattle.cloud_facts.proofs.Tellings.Finding.{found_before}
 use Rattle.tree_phases.proofs.Reading.{leaf_is}
-use Rattle.tree_phases.specs.Read.{leaf_read}
+use Rattle.tree_phases.specs.Read.{leaf_or, leaf_read}
+use Rattle.tree_ckpt.specs.Working.{HoldsLeaf}
 use Rattle.session_facts.specs.Machines.Trees.Ways.{IsOnWay}
 use Rattle.session_facts.proofs.Machines.Trees.Forks.{in_more}
 use Rattle.cloud_facts.proofs.Calls.Pages.{none_landed}
@@ -100,6 +103,16 @@ module _ (book : Book) (order : List Entry) (s : CloudState) (stands : StandsUnd
   spelled_is bytes e =
       let spells : IsLeaf bytes leaf = subst (λ (n : Node). IsNode bytes n) leaf_newest (newest_page_decodes s tree page bytes stands.decodes e) in
       sym (leaf_is tree page bytes leaf spells)
+
+  pub whole_is : (bytes : List ℕ) → newest s (object.Page tree page) ≡ Some bytes → (r : Result Leaf ℕ) → whole leaf_format bytes ≡ r → leaf_or tree page (offset leaf_format bytes) r ≡ Ok leaf
+  whole_is bytes e r is = subst (λ (x : Result Leaf ℕ). leaf_or tree page (offset leaf_format bytes) x ≡ Ok leaf) is (spelled_is bytes e)
+
+  pub held_is : (got : Option (List ℕ)) (l : Leaf) → newest s (object.Page tree page) ≡ got → HoldsLeaf page l got → l ≡ leaf
+  held_is (Some bytes) l e holds = same l (whole_is bytes e (Ok l) holds)
+    where
+      same : (m : Leaf) → ◌≡◌ {A = Result Leaf Trouble} (Ok m) (Ok leaf) → m ≡ leaf
+      same m e = cc
+  held_is None l e holds = holds.1 ∙ sym (absent_is e).1
 
   -- ---- to the right
 

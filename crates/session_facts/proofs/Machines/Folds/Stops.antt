@@ -1,25 +1,23 @@
 -- A leaf under its lease stops a checkpoint for no damage: it is the leaf that its link promised, and no page is come to twice.
-use Rattle.std.proofs.Common.{◌≡◌, ◌≤◌, ◌==◌, ◌&&◌, ℕ, Bool, true, false, cond, List, ◌∷◌, length, map, Option, Some, None, Result, Ok, Err, refl, sym, ap, subst, ◌∙◌, arith}
-use Rattle.std.specs.Prelude.{is_none}
-use Rattle.std.proofs.lemmas.Bool.{eq-eqb, eqb-true}
+use Rattle.std.proofs.Common.{◌≡◌, ◌<◌, ◌==◌, ℕ, Bool, true, false, cond, List, ◌∷◌, length, map, Option, Some, None, Result, Ok, Err, refl, sym, ap, subst, ◌∙◌, arith}
+use Rattle.std.proofs.lemmas.Bool.{eq-eqb}
 use Rattle.std.proofs.lemmas.List.{length-reverse, length-map}
 use Rattle.byte_format.specs.Order.{bytes_below, bytes_same}
-use Rattle.byte_format.specs.Whole.{whole, offset}
 use Rattle.byte_format.proofs.OrderLemmas.{same_itself}
 use Rattle.cloud_facts.specs.Calls.Standing.{StandsUnder}
 use Rattle.cloud_trait.specs.declared.answer.Answer.{Answer}
 use Rattle.cloud_trait.specs.Claim.{Claim}
 use Rattle.cloud_trait.specs.State.{CloudState, newest}
-use Rattle.cloud_trait.specs.Views.{got_of, done_of}
+use Rattle.cloud_trait.specs.Views.{got_of}
 use Rattle.db_base.specs.declared.names.ObjName.TheVariants as object
 use Rattle.db_base.specs.declared.trouble.Trouble.{Trouble}
 use Rattle.leaf_edit.specs.Applied.{applied}
 use Rattle.tree_phases.specs.declared.folding.Folding.{Folding}
-use Rattle.tree_phases.specs.declared.page_plan.PagePlan.{PagePlan}
-use Rattle.tree_phases.specs.Folding.{FoldingStep, leaf_got, leaf_put, folding_next}
+use Rattle.tree_phases.specs.declared.plan.LeafPlan.{LeafPlan}
+use Rattle.tree_phases.specs.Folding.{FoldingStep, folding_next}
 use Rattle.tree_phases.specs.Plan.{planned_by, leaf_plan}
 use Rattle.tree_phases.specs.Plan as plan
-use Rattle.leaf_view.specs.Leaf.{Leaf, leaf as leaf_format}
+use Rattle.leaf_view.specs.Leaf.{Leaf}
 use Rattle.leaf_view.specs.Lookup.{page_at}
 use Rattle.log_codec.specs.declared.record.PuItem.{PuItem}
 use Rattle.node_codec.specs.Tree.{Tree}
@@ -31,16 +29,17 @@ use Rattle.cloud_facts.specs.Book.Tally.{Store}
 use Rattle.cloud_facts.specs.Book.Telling.{nodes_of, newest_leaf}
 use Rattle.cloud_facts.specs.Tellings.Told.{store_of}
 use Rattle.session_facts.specs.Machines.TreeCheckpoints.Knows.{MayStopTree}
-use Rattle.session_facts.proofs.Machines.TreeCheckpoints.Stops.{StopsWell, IsFair, spent_may, done_may, reservation_fair}
+use Rattle.session_facts.proofs.Machines.TreeCheckpoints.Stops.{StopsWell, IsFair, spent_may, got_may, done_may, reservation_fair}
 use Rattle.session_facts.specs.Machines.Trees.Leaves.{IsReading, IsPutting}
-use Rattle.session_facts.proofs.Machines.Folds.Leaves.{leaf_low, absent_is, spelled_is, leaf_right, right_fresh}
+use Rattle.session_facts.proofs.Machines.Folds.Leaves.{leaf_low, absent_is, whole_is, held_is, leaf_right, right_fresh}
 use Rattle.tree_ckpt.specs.Causes.{GoesRight}
 use Rattle.tree_ckpt.specs.Working.{HoldsLeaf}
-use Rattle.tree_ckpt.proofs.LeafOutcomes.{Reads, Lands, came_to, reads, put_lands}
+use Rattle.tree_ckpt.proofs.Tours.{page_left}
+use Rattle.tree_ckpt.proofs.LeafOutcomes.{Reads, Lands, Works, came_to, reads, works}
 use Rattle.tree_ckpt.proofs.LeafOutcomes as step
 use Rattle.tree_phases.specs.declared.reserve.Reserved.{Reserved}
 use Rattle.tree_phases.specs.Placing.{has_nothing}
-use Rattle.tree_phases.specs.Read.{leaf_or, tree_held}
+use Rattle.tree_phases.specs.Read.{tree_held}
 use Rattle.tree_phases.specs.Reserve.{version_spent}
 
 -- ---- the plan of a leaf
@@ -67,17 +66,8 @@ module _ (book : Book) (order : List Entry) (s : CloudState) (stands : StandsUnd
   leaf = newest_leaf (nodes_of s) tree f.page
 
   -- what the get brought is the newest leaf
-  whole_is : (bytes : List ℕ) → Some bytes ≡ newest s (object.Page tree f.page) → (r : Result Leaf ℕ) → whole leaf_format bytes ≡ r → leaf_or tree f.page (offset leaf_format bytes) r ≡ Ok leaf
-  whole_is bytes seen r e =
-      subst (λ (x : Result Leaf ℕ). leaf_or tree f.page (offset leaf_format bytes) x ≡ Ok leaf) e
-      (spelled_is book order s stands tree k.at.chart.tree f.page f.low f.chart.key f.visited k.at.way bytes (sym seen))
-
   read_is : (got : Option (List ℕ)) (l : Leaf) → got ≡ newest s (object.Page tree f.page) → HoldsLeaf f.page l got → l ≡ leaf
-  read_is (Some bytes) l seen holds = same l (whole_is bytes seen (Ok l) holds)
-    where
-      same : (m : Leaf) → ◌≡◌ {A = Result Leaf Trouble} (Ok m) (Ok leaf) → m ≡ leaf
-      same m e = cc
-  read_is None l seen holds = holds.1 ∙ sym (absent_is book order s stands tree k.at.chart.tree f.page f.low f.chart.key f.visited k.at.way (sym seen)).1
+  read_is got l seen holds = held_is book order s stands tree k.at.chart.tree f.page f.low f.chart.key f.visited k.at.way got l (sym seen) holds
 
   low_same : (l : Leaf) → l ≡ leaf → bytes_same l.low f.low ≡ true
   low_same l is =
@@ -96,7 +86,8 @@ module _ (book : Book) (order : List Entry) (s : CloudState) (stands : StandsUnd
   reads_may seen refused (step.refused t) = refused t refl
   reads_may seen refused (step.absent other) =
       let here = eq-eqb f.page 1 (absent_is book order s stands tree k.at.chart.tree f.page f.low f.chart.key f.visited k.at.way (sym (seen None refl))).0 in absurd (cc (other, here))
-  reads_may seen refused (step.wrong bytes left e) = let none = whole_is bytes (seen (Some bytes) refl) (Err left) e in absurd (cc (none))
+  reads_may seen refused (step.wrong bytes left e) =
+      let none = whole_is book order s stands tree k.at.chart.tree f.page f.low f.chart.key f.visited k.at.way bytes (sym (seen (Some bytes) refl)) (Err left) e in absurd (cc (none))
   reads_may seen refused (step.misled got l holds e) = let same = low_same l (read_is got l (seen got refl) holds) in absurd (cc (e, same))
   reads_may seen refused (step.loops got l high right behind e) =
       let new = fresh l high right (read_is got l (seen got refl) behind.holds) behind.goes behind.beyond in absurd (cc (e, new))
@@ -104,9 +95,12 @@ module _ (book : Book) (order : List Entry) (s : CloudState) (stands : StandsUnd
       spent_may t (subst (λ (p : Result PagePlan Trouble). IsFair p) e (plan_fair (tree_held f.chart.root) f.page l f.chart.run.items))
   reads_may seen refused c = tt
 
-  pub leaf_may : (g : Result (Option (List ℕ)) Trouble) → ((v : Option (List ℕ)) → g ≡ Ok v → v ≡ newest s (object.Page tree f.page)) → ((t : Trouble) → g ≡ Err t → MayStopTree t)
-      → StopsWell (leaf_got f g)
-  leaf_may g seen refused = reads_may seen refused (reads f g)
+  read_may : {a : Answer} {next : FoldingStep} → ((v : Option (List ℕ)) → got_of a ≡ Ok v → v ≡ newest s (object.Page tree f.page)) → Works f a next → StopsWell next
+  read_may {a = a} seen (step.gets nothing r) = reads_may seen (got_may a) r
+  read_may seen (step.puts some l) = let none : has_nothing f.placing ≡ true = ap has_nothing k.placing_is in absurd (cc (some, none))
+
+  pub leaf_may : (a : Answer) → ((v : Option (List ℕ)) → got_of a ≡ Ok v → v ≡ newest s (object.Page tree f.page)) → StopsWell (folding_next f a)
+  leaf_may a seen = read_may seen (works f a)
 
 -- ---- the puts
 
@@ -114,25 +108,16 @@ lands_may : {f : Folding} {g : Result (Unit {0}) Trouble} {next : FoldingStep} �
 lands_may refused (step.not_put t) = refused t refl
 lands_may refused c = tt
 
--- a put is in hand
-some_put : (reserved : Option (List ℕ)) (puts : List PagePut) → 1 ≤ length puts → (is_none reserved && (length puts == 0)) ≡ false
-some_put (Some bytes) puts some = refl
-some_put None puts some = on (length puts == 0) refl
-  where
-    on : (b : Bool) → (length puts == 0) ≡ b → b ≡ false
-    on true e = let none : length puts ≡ 0 = eqb-true (length puts) 0 e in absurd (omega (arith, none, some))
-    on false e = refl
+works_may : {f : Folding} {a : Answer} {next : FoldingStep} → 0 < length f.placing.puts → Works f a next → StopsWell next
+works_may {f = f} some (step.gets nothing r) = let full = page_left f.placing some in absurd (cc (nothing, full))
+works_may {a = a} some (step.puts full l) = lands_may (done_may a) l
 
 pub put_may : (st : Store) (now : ℕ) (lease : Claim) (f : Folding) (ids : List ℕ) → IsPutting st now lease f ids → (reply : Answer) → StopsWell (folding_next f reply)
-put_may st now lease f ids k reply =
-    subst (λ (b : Bool). StopsWell (cond b (leaf_got f (got_of reply)) (leaf_put f (done_of reply)))) (sym full) (lands_may (done_may reply) (put_lands f (done_of reply)))
+put_may st now lease f ids k reply = works_may some (works f reply)
   where
-    some : 1 ≤ length f.placing.puts
+    some : 0 < length f.placing.puts
     some =
         let pages = on_pages f.page k.puts.first (k.puts.placing.front ∷ k.puts.placing.middle) in
         let e : length f.placing.puts ≡ length pages =
         ap (λ (xs : List PagePut). length xs) k.puts.placing.puts_are ∙ (length-reverse (map (put_of leaf_bytes) pages) ∙ length-map pages (put_of leaf_bytes)) in
         omega (arith, e)
-
-    full : has_nothing f.placing ≡ false
-    full = some_put f.placing.reserved f.placing.puts some

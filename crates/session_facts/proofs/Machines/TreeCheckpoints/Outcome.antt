@@ -1,5 +1,5 @@
 -- What each call of a checkpoint leaves, whether it landed or not.
-use Rattle.std.proofs.Common.{◌≡◌, ◌⊎◌, inl, inr, ℕ, zero, suc, cond, List, [], ◌∷◌, Option, Some, None, Result, Ok, Err, refl, sym, ap, subst}
+use Rattle.std.proofs.Common.{◌≡◌, ◌⊎◌, inl, inr, ℕ, zero, suc, List, [], ◌∷◌, Option, Some, None, Result, Ok, Err, refl, sym, ap, subst}
 use Rattle.std.specs.Prelude.{unwrap_or}
 use Rattle.std.proofs.lemmas.List.{append-nil}
 use Rattle.ckpt_parts.specs.Deleting.{next_id}
@@ -17,7 +17,7 @@ use Rattle.cloud_trait.specs.Ask.{Ask, Get, GetHeld, PutHeld, ListHeld, RemoveHe
 use Rattle.cloud_trait.specs.Caller.{Caller}
 use Rattle.cloud_trait.specs.Claim.{Claim}
 use Rattle.cloud_trait.specs.Machine.{Goes, Ends, Stops}
-use Rattle.cloud_trait.specs.State.{CloudState, called}
+use Rattle.cloud_trait.specs.State.{CloudState, called, newest}
 use Rattle.cloud_trait.specs.Views.{given_of, got_of, received_of, done_of}
 use Rattle.db_base.specs.Ids.{IsTree}
 use Rattle.db_base.specs.declared.names.Lock.{Lock}
@@ -30,7 +30,7 @@ use Rattle.cloud_facts.specs.Homes.Homes.{Part, Parts, HomesHold}
 use Rattle.cloud_facts.proofs.Homes.HomeLemmas.{keeps_part, aside_keeps}
 use Rattle.cloud_facts.specs.Landings.Landing.{Landing, marks_post}
 use Rattle.tree_phases.specs.declared.folding.Folding.{Folding}
-use Rattle.tree_phases.specs.Folding.{folding_ask, folding_next, leaf_got, leaf_put}
+use Rattle.tree_phases.specs.Folding.{folding_ask, folding_next}
 use Rattle.report_types.specs.declared.entry.Entry.{Entry}
 use Rattle.session_facts.specs.Machines.Runs.Knows.{MayDelete}
 use Rattle.session_facts.proofs.Machines.Runs.Marks.{delete_stays, may_mark}
@@ -70,7 +70,7 @@ use Rattle.tree_ckpt.specs.declared.work.Work.TheVariants as work
 use Rattle.tree_ckpt.specs.Moves.{Step, Leads}
 use Rattle.tree_ckpt.specs.Work.{take_tree, delete_ask, release_ask, work_ask, claims_in}
 use Rattle.tree_phases.specs.declared.placing.Placing.{Placing}
-use Rattle.tree_phases.specs.Placing.{put_in_hand, has_nothing}
+use Rattle.tree_phases.specs.Placing.{put_in_hand}
 use Rattle.tree_phases.specs.declared.rising.Rising.{Rising}
 use Rattle.tree_phases.specs.Rising.{rising_ask, rising_next}
 
@@ -181,18 +181,14 @@ module _ (who : Caller) (s t : CloudState) (book : Book) (order : List Entry) (p
         got : IsCall who get reply s t
         got = subst (λ (q : Ask). IsCall who q reply s t) asked call
 
-        reads : folding_next f reply ≡ leaf_got f (got_of reply)
-        reads = ap (λ (p : Placing). cond (has_nothing p) (leaf_got f (got_of reply)) (leaf_put f (done_of reply))) k.placing_is
+        seen : (v : Option (List ℕ)) → got_of reply ≡ Ok v → v ≡ newest s (object.Page f.chart.tree f.page)
+        seen v = held_seen who (object.Page f.chart.tree f.page) f.lease reply s t got v
 
         may : StopsWell (folding_next f reply)
-        may =
-            subst StopsWell (sym reads)
-            (leaf_may book order s setting.cloud t.now h.lease f h.deletions.ids k (got_of reply) (λ v. held_seen who (object.Page f.chart.tree f.page) f.lease reply s t got v) (got_may reply))
+        may = leaf_may book order s setting.cloud t.now h.lease f h.deletions.ids k reply seen
 
         known : KnowsStep st t.now h.lease h.deletions.ids (folding_next f reply)
-        known =
-            subst (KnowsStep st t.now h.lease h.deletions.ids) (sym reads)
-            (leaf_leads book order s setting.cloud t.now h.lease f h.deletions.ids k (got_of reply) (λ v. held_seen who (object.Page f.chart.tree f.page) f.lease reply s t got v))
+        known = leaf_leads book order s setting.cloud t.now h.lease f h.deletions.ids k reply seen
 
     at_putting : IsIn mine h.lease → IsPutting st t.now h.lease f h.deletions.ids → IsCall who (folding_ask f h.lease) reply s t → OutBy (work.Folding h f) (folding_ask f h.lease)
     at_putting held k call =

@@ -13,7 +13,7 @@ use Rattle.db_base.specs.declared.trouble.Trouble.{Trouble}
 use Rattle.leaf_edit.specs.Lacked.{lacked}
 use Rattle.tree_phases.specs.declared.folding.Folding.{Folding}
 use Rattle.tree_phases.specs.declared.folding.Left.TheVariants.{Handled}
-use Rattle.tree_phases.specs.declared.plan.LeafPlan.{LeafPlan}
+use Rattle.tree_phases.specs.declared.page_plan.PagePlan.{PagePlan}
 use Rattle.tree_phases.specs.Folding.{FoldingStep, turned, handled_to, put_planned, folding_next}
 use Rattle.tree_phases.specs.Plan.{leaf_plan}
 use Rattle.leaf_view.specs.Leaf.{Leaf}
@@ -101,7 +101,7 @@ module _ (book : Book) (order : List Entry) (s : CloudState) (stands : StandsUnd
   })
 
   -- to the puts of its pieces
-  planned_leads : (l : Leaf) → l ≡ leaf → (plan : LeafPlan) → leaf_plan (tree_held f.chart.root) f.page l items ≡ Ok plan
+  planned_leads : (l : Leaf) → l ≡ leaf → (plan : PagePlan) → leaf_plan (tree_held f.chart.root) f.page l items ≡ Ok plan
       → IsPutting st now lease (put_planned (handled_to f l.high) (lacked l 0 items) plan) ids
   planned_leads l is plan = subst (λ (m : Leaf). leaf_plan (tree_held f.chart.root) f.page m items ≡ Ok plan
       → IsPutting st now lease (put_planned (handled_to f m.high) (lacked m 0 items) plan) ids) (sym is)

@@ -13,7 +13,7 @@ use Rattle.db_base.specs.declared.names.ObjName.TheVariants as object
 use Rattle.db_base.specs.declared.trouble.Trouble.{Trouble}
 use Rattle.leaf_edit.specs.Applied.{applied}
 use Rattle.tree_phases.specs.declared.folding.Folding.{Folding}
-use Rattle.tree_phases.specs.declared.plan.LeafPlan.{LeafPlan}
+use Rattle.tree_phases.specs.declared.page_plan.PagePlan.{PagePlan}
 use Rattle.tree_phases.specs.Folding.{FoldingStep, folding_next}
 use Rattle.tree_phases.specs.Plan.{planned_by, leaf_plan}
 use Rattle.tree_phases.specs.Plan as plan

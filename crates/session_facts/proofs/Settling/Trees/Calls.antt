@@ -1,5 +1,5 @@
 -- How many calls of a tree checkpoint are left, where its tree has so many pages: each step that goes on leaves fewer.
-use Rattle.std.proofs.Common.{◌≡◌, ◌<◌, ◌≤◌, ◌+◌, ◌-◌, ◌*◌, ◌⊎◌, inl, inr, ℕ, Bool, true, false, cond, List, [], ◌∷◌, ◌++◌, length, length-append, Option, Some, None, Result, Ok, Err, refl, sym, ap, subst, ◌∙◌, arith, add-mul, mul-add, mul-le-mul_right}
+use Rattle.std.proofs.Common.{◌≡◌, ◌<◌, ◌≤◌, ◌+◌, ◌-◌, ◌*◌, ◌⊎◌, inl, inr, ℕ, Bool, true, false, cond, List, [], ◌∷◌, ◌++◌, length, length-append, Option, Some, None, Result, Ok, refl, sym, ap, subst, ◌∙◌, arith, add-mul, mul-add, mul-le-mul_right}
 use Rattle.std.specs.Prelude.{◌==◌}
 use Rattle.std.proofs.lemmas.Option.{slice_get_within}
 use Rattle.ckpt_parts.specs.declared.intake.Intake.{Intake}
@@ -23,11 +23,13 @@ use Rattle.log_codec.specs.declared.record.PuItem.{PuItem}
 use Rattle.run_cursor.specs.Run.{Taken}
 use Rattle.split_plan.specs.declared.put_list.PagePut.{PagePut}
 use Rattle.tree_ckpt.proofs.Charts.{GoesFurther, arrive_further, descent_further}
-use Rattle.tree_ckpt.proofs.Folds.{not_empty, GetLeaves, PutLeaves, got_leaves, put_leaves}
+use Rattle.tree_ckpt.proofs.Folds.{not_empty, GetLeaves, got_leaves}
 use Rattle.tree_ckpt.proofs.Keys.{next_fewer, from_most}
 use Rattle.tree_ckpt.proofs.Tours.{page_left as has_page}
 use Rattle.tree_ckpt.proofs.Outcomes.{Seeks, Descends, Ascends, Clears, Fails, Comes, comes}
 use Rattle.tree_ckpt.proofs.Outcomes as step
+use Rattle.tree_ckpt.proofs.LeafOutcomes.{works}
+use Rattle.tree_ckpt.proofs.LeafOutcomes as leaf
 use Rattle.tree_ckpt.proofs.RiseOutcomes.{Rises, Lands, rises, lands}
 use Rattle.tree_ckpt.proofs.RiseOutcomes as climb
 use Rattle.tree_ckpt.specs.End.{from_on, from_on_or_none, above, unhandled, behind_key, ids_in}
@@ -298,19 +300,24 @@ same_root p root e = on p.reserved p.puts e where
   on (Some bytes) puts e = absurd (cc (e))
   on None puts e = refl
 
-below_put : (p : ℕ) (h : Held) (f : Folding) (done : Result (Unit {0}) Trouble) → 0 < length f.placing.puts → Reserving 1 f.chart f.placing
-    → Below p (around p h f.chart + for_keys p (unhandled f.chart) + piece_calls 2 f.placing + 2) (folding_on h (fold.leaf_put f done))
+more_left : (p : Placing) → has_one_page p ≡ false → 0 < length p.puts → 0 < length (landed_placing p).puts
+more_left p e some = on p.reserved p.puts e some where
+  on : (reserved : Option (List ℕ)) (puts : List PagePut) → has_one_page (record { reserved = reserved; puts = puts }) ≡ false → 0 < length puts
+      → 0 < length (landed_placing (record { reserved = reserved; puts = puts })).puts
+  on (Some bytes) puts e some = some
+  on None [] e some = absurd (omega (arith, some))
+  on None (x ∷ []) e some = absurd (cc (e))
+  on None (x ∷ y ∷ ys) e some = omega arith
+
+lands_below : {f : Folding} {done : Result (Unit {0}) Trouble} {next : Next Folding Left} (p : ℕ) (h : Held) → 0 < length f.placing.puts → Reserving 1 f.chart f.placing → leaf.Lands f done next
+    → Below p (around p h f.chart + for_keys p (unhandled f.chart) + piece_calls 2 f.placing + 2) (folding_on h next)
 unfolding Below
-below_put p h f (Ok x) some reserves = on (has_one_page f.placing) refl (put_leaves f (Ok x) some) where
-  on : (last : Bool) → has_one_page f.placing ≡ last → PutLeaves f (cond last (Ends (fold.counted (fold.landed f)) Handled) (Goes (fold.landed f)))
-      → Below p (around p h f.chart + for_keys p (unhandled f.chart) + piece_calls 2 f.placing + 2)
-      (folding_on h (cond last (Ends (fold.counted (fold.landed f)) Handled) (Goes (fold.landed f))))
-  on true e put = λ room. let next = next_same f.chart (fold.landed f).chart (same_root f.placing f.chart.root e) in omega (arith, next)
-  on false e put = λ room.
-      let at = calls_at p h (fold.landed f) put.6 in
-      let fewer = landed_fewer p 1 (next_of f.chart) f.chart.root f.placing (has_page f.placing some) refl reserves room.0.next in
-      omega (arith, at, fewer)
-below_put p h f (Err t) some reserves = λ room. omega arith
+lands_below {f = f} p h some reserves (leaf.is_put x e) = λ room. let next = next_same f.chart (fold.landed f).chart (same_root f.placing f.chart.root e) in omega (arith, next)
+lands_below {f = f} p h some reserves (leaf.lands x e) = λ room.
+    let at = calls_at p h (fold.landed f) (more_left f.placing e some) in
+    let fewer = landed_fewer p 1 (next_of f.chart) f.chart.root f.placing (has_page f.placing some) refl reserves room.0.next in
+    omega (arith, at, fewer)
+lands_below p h some reserves (leaf.not_put t) = λ room. omega arith
 
 below_folded : (p : ℕ) (h : Held) (f : Folding) (a : Answer) → FitsLeaf p f → Below p (calls_left p (work.Folding h f)) (folding_on h (fold.folding_next f a))
 below_folded p h f a (inl reading) =
@@ -319,11 +326,10 @@ below_folded p h f a (inl reading) =
     (sym reading.0)
     (below_got p h (record f { placing = no_placing }) (fold.leaf_got (record f { placing = no_placing }) (got_of a))
     (got_leaves (record f { placing = no_placing }) (got_of a)) (got_leaf (record f { placing = no_placing }) (got_of a)))
-below_folded p h f a (inr putting) = on (has_nothing f.placing) (has_page f.placing putting.0) where
-  on : (b : Bool) → b ≡ false → Below p (calls_left p (work.Folding h f)) (folding_on h (cond b (fold.leaf_got f (got_of a)) (fold.leaf_put f (done_of a))))
-  on true e = absurd (cc (e))
-  on false e =
-      subst (λ (n : ℕ). Below p n (folding_on h (fold.leaf_put f (done_of a)))) (sym (calls_at p h f putting.0)) (below_put p h f (done_of a) putting.0 putting.1)
+below_folded p h f a (inr putting) = on (works f a) where
+  on : {next : Next Folding Left} → leaf.Works f a next → Below p (calls_left p (work.Folding h f)) (folding_on h next)
+  on (leaf.gets nothing r) = let some = has_page f.placing putting.0 in absurd (cc (nothing, some))
+  on {next = next} (leaf.puts some l) = subst (λ (n : ℕ). Below p n (folding_on h next)) (sym (calls_at p h f putting.0)) (lands_below p h putting.0 putting.1 l)
 
 folded_below : (p : ℕ) (h : Held) (f : Folding) (a : Answer) (next : Next Folding Left) → FitsLeaf p f → fold.folding_next f a ≡ next → Below p (calls_left p (work.Folding h f)) (folding_on h next)
 folded_below p h f a next fits e = subst (λ (x : Next Folding Left). Below p (calls_left p (work.Folding h f)) (folding_on h x)) e (below_folded p h f a fits)

@@ -208,24 +208,6 @@ pub(crate) fn told(trouble: Trouble) -> Result<Trouble, WorldFault>
 {
     match trouble {
         Trouble::Memory => Err(WorldFault::Memory),
-        Trouble::Failed => Ok(Trouble::Failed),
-        Trouble::Late { end, now } => Ok(Trouble::Late { end, now }),
-        Trouble::Busy { lock, until } => Ok(Trouble::Busy { lock, until }),
-        Trouble::Waiting { have, need } => Ok(Trouble::Waiting { have, need }),
-        Trouble::Stale { page, least, got } => Ok(Trouble::Stale { page, least, got }),
-        Trouble::Absent { page } => Ok(Trouble::Absent { page }),
-        Trouble::NotALeaf { page } => Ok(Trouble::NotALeaf { page }),
-        Trouble::Damaged { place, offset } => Ok(Trouble::Damaged { place, offset }),
-        Trouble::BadFence {
-            page,
-            expected,
-            found,
-        } => Ok(Trouble::BadFence {
-            page,
-            expected,
-            found,
-        }),
-        Trouble::Loop { page } => Ok(Trouble::Loop { page }),
-        Trouble::Exhausted { what } => Ok(Trouble::Exhausted { what }),
+        trouble => Ok(trouble),
     }
 }

@@ -45,11 +45,11 @@ impl<S: SessionCalls> World<S> {
         ensures spends { SpendsQuota (C.seen cloud.old) (C.seen cloud.new) quota.old quota.new }
     {
         match self.step_within(alloc, cloud, quota, who, wish) {
-            Ok(turn) => Ok(turn),
             Err(fault) => {
                 self.break_off(who.session);
                 Err(fault)
             }
+            stepped => stepped,
         }
     }
 

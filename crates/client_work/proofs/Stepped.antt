@@ -1,5 +1,5 @@
 -- What one machine did, what is in hand did.
-use Rattle.std.proofs.Common.{◌≡◌, ℕ, false, List, Some, Ok, sym, subst}
+use Rattle.std.proofs.Common.{◌≡◌, ◌∙◌, ℕ, false, List, Some, Ok, sym, subst, ap₂}
 use Rattle.txn_buffer.specs.Noted.{Noted}
 use Rattle.cloud_trait.specs.Caller.{Caller}
 use Rattle.cloud_trait.specs.Seen.{Seen}
@@ -16,7 +16,7 @@ use Rattle.client_work.specs.declared.shown.Shown.TheVariants.{Nothing}
 use Rattle.client_work.specs.declared.work.Work.{Work}
 use Rattle.client_work.specs.declared.work.Work.TheVariants.{Idle}
 use Rattle.client_work.specs.Causes.{MachineSteps}
-use Rattle.client_work.specs.Session.{StepsAt, ShowsAt, ReadsOf, acting_of, Begins}
+use Rattle.client_work.specs.Session.{StepsAt, ShowsAt, ReadsOf, acting_of, ended_by, Begins}
 
 pub steps_by : (who : Caller) (before after : Seen) (old was new left : Work) (turn : Turn Answer) → old ≡ was → new ≡ left → StepsAt who before after was left turn → StepsAt who before after old new turn
 steps_by who before after old was new left turn is_was is_left steps =
@@ -32,6 +32,24 @@ pub machine_by : (who : Caller) (before after : Seen) (old was new left : Work) 
     → MachineSteps who before after (was, c) (left, d) turn → MachineSteps who before after (old, c) (new, d) turn
 machine_by who before after old was new left c d turn is_was is_left steps =
     subst (λ (w : Work). MachineSteps who before after (w, c) (new, d) turn) (sym is_was) (subst (λ (w : Work). MachineSteps who before after (was, c) (w, d) turn) (sym is_left) steps)
+
+-- the same where the machine's step left something in hand, and what that is behind this answer is had then
+module _ (who : Caller) (before after reached : Seen) (old was left mid new : Work) (turn answered : Turn Answer) (is_after : after ≡ reached) (is_was : old ≡ was) (is_left : mid ≡ left) (is_answer : turn ≡ answered)
+    (ends : new ≡ ended_by mid turn) where
+  is_ended : new ≡ ended_by left answered
+  is_ended = ends ∙ ap₂ ended_by is_left is_answer
+
+  pub steps_ended : StepsAt who before reached was (ended_by left answered) answered → StepsAt who before after old new turn
+  steps_ended steps =
+      subst (λ (s : Seen). StepsAt who before s old new turn) (sym is_after)
+      (subst (λ (t : Turn Answer). StepsAt who before reached old new t) (sym is_answer) (steps_by who before reached old was new (ended_by left answered) answered is_was is_ended steps))
+
+  pub machine_ended : (c d e : Cache) → d ≡ e → MachineSteps who before reached (was, c) (ended_by left answered, e) answered → MachineSteps who before after (old, c) (new, d) turn
+  machine_ended c d e is_cache steps =
+      subst (λ (s : Seen). MachineSteps who before s (old, c) (new, d) turn) (sym is_after)
+      (subst (λ (t : Turn Answer). MachineSteps who before reached (old, c) (new, d) t) (sym is_answer)
+      (subst (λ (z : Cache). MachineSteps who before reached (old, c) (new, z) answered) (sym is_cache)
+      (machine_by who before reached old was new (ended_by left answered) c e answered is_was is_ended steps)))
 
 -- a read that begins beside an open client begins an operation
 pub reads_by : (o : Op) (tree : ℕ) (key : List ℕ) (buffer noted : List Noted) (old new left : Work) (home : Home) (start : Walk) (c d : Cache) (shown : Shown) (begun : Begun)

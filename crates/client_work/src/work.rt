@@ -348,44 +348,16 @@ impl Hand for Work {
         shown: &mut Shown,
     ) -> Turn<Answer> {
         shown.clear();
-        match self {
-            Work::Committing(machine) => match advance(alloc, cloud, who, machine, cache) {
-                Turn::More => Turn::More,
-                turn => {
-                    self.end(&turn);
-                    turn
-                }
-            },
-            Work::Paging(_, machine) => match page(alloc, cloud, who, machine) {
-                Turn::More => Turn::More,
-                turn => {
-                    self.end(&turn);
-                    turn
-                }
-            },
-            Work::Folding(_, machine) => match fold(alloc, cloud, who, machine) {
-                Turn::More => Turn::More,
-                turn => {
-                    self.end(&turn);
-                    turn
-                }
-            },
-            Work::Settling(machine) => match machine.step(alloc, cloud, who) {
-                Turn::More => Turn::More,
-                turn => {
-                    self.end(&turn);
-                    turn
-                }
-            },
-            Work::Sweeping(machine) => match machine.step(alloc, cloud, who) {
-                Turn::More => Turn::More,
-                turn => {
-                    self.end(&turn);
-                    turn
-                }
-            },
-            _ => self.step_apart(alloc, cloud, who, cache, buffer, shown),
-        }
+        let turn = match self {
+            Work::Committing(machine) => advance(alloc, cloud, who, machine, cache),
+            Work::Paging(_, machine) => page(alloc, cloud, who, machine),
+            Work::Folding(_, machine) => fold(alloc, cloud, who, machine),
+            Work::Settling(machine) => machine.step(alloc, cloud, who),
+            Work::Sweeping(machine) => machine.step(alloc, cloud, who),
+            _ => return self.step_apart(alloc, cloud, who, cache, buffer, shown),
+        };
+        self.end(&turn);
+        turn
     }
 }
 
@@ -404,8 +376,18 @@ impl Work {
         }
     }
 
-    /// Has in hand what the last step of a commit, a checkpoint, a settling or a sweep leaves.
+    /// Has in hand what a step of a commit, a checkpoint, a settling or a sweep leaves, which stays where it goes on.
     fn end(&mut self, turn: &Turn<Answer>)
+        ensures { self.new ≡ ended_by self.old turn.now }
+    {
+        match turn {
+            Turn::More => {}
+            _ => self.end_last(turn),
+        }
+    }
+
+    /// Has in hand what the last step of a commit, a checkpoint, a settling or a sweep leaves.
+    fn end_last(&mut self, turn: &Turn<Answer>)
         ensures { self.new ≡ ended_by self.old turn.now }
     {
         let work = mem::replace(self, Work::Closed);

@@ -1,10 +1,13 @@
 -- Where the answer to a call of a sweep leads, by what was known before it and by what it brought.
-use Rattle.std.proofs.Common.{◌≡◌, ◌≤◌, inl, inr, ℕ, Bool, cond, [], length, Option, Some, None, Result, Err, refl, sym, subst, ◌∙◌, arith}
+use Rattle.std.proofs.Common.{◌≡◌, ◌≤◌, ◌⊎◌, inl, inr, ℕ, length, Option, Some, None, Result, Err, refl, sym, ap, subst, ◌∙◌, arith}
 use Rattle.cloud_facts.specs.Book.Tally.{Store}
-use Rattle.cloud_facts.specs.Homes.Homes.{Part, Away}
+use Rattle.cloud_facts.specs.Calls.Call.{IsCall}
+use Rattle.cloud_facts.specs.Homes.Homes.{Part}
 use Rattle.cloud_trait.specs.declared.answer.Answer.{Answer}
 use Rattle.cloud_trait.specs.declared.answer.Answer.TheVariants.{Got, Sent, Received, Listed, Done, Given, Held, Renewed, Late, Failed, Memory}
-use Rattle.cloud_trait.specs.Claim.{Claim, Lasts}
+use Rattle.cloud_trait.specs.Caller.{Caller}
+use Rattle.cloud_trait.specs.Claim.{Claim}
+use Rattle.cloud_trait.specs.State.{CloudState}
 use Rattle.cloud_trait.specs.Views.{trouble_of, given_of, got_of, listed_of, done_of}
 use Rattle.db_base.specs.Ids.{IsTree}
 use Rattle.db_base.specs.declared.names.Lock.{Lock}
@@ -12,9 +15,11 @@ use Rattle.db_base.specs.declared.names.Lock.TheVariants as lock
 use Rattle.db_base.specs.declared.trouble.Trouble.{Trouble}
 use Rattle.db_base.specs.declared.trouble.Trouble.TheVariants as trouble
 use Rattle.orphan_sweep.proofs.Lists.{past}
+use Rattle.orphan_sweep.proofs.Outcomes.{leased, Onward, Clears, Fails, Comes}
+use Rattle.orphan_sweep.proofs.Outcomes as step
 use Rattle.orphan_sweep.specs.declared.spot.Spot.{Spot}
-use Rattle.orphan_sweep.specs.declared.stage.Stage.TheVariants.{GettingTree}
-use Rattle.orphan_sweep.specs.Sweeping.{Sweeping, next_orphan, stopping, to_page, goes_on, removes_by, finished_by}
+use Rattle.orphan_sweep.specs.declared.stage.Stage.TheVariants.{TakingTree, Releasing}
+use Rattle.orphan_sweep.specs.Sweeping.{Sweeping, Step, sweep_ask}
 use Rattle.session_facts.specs.Machines.Sweeps.Knows.{IsClearing, Under, MayStopSweep, KnowsSweep, KnowsNext}
 use Rattle.session_facts.proofs.Machines.Sweeps.Onward.{GoesOnTo}
 
@@ -56,61 +61,89 @@ given_may k (Given l) t e = absurd (cc (e))
 given_may k (Held until) t e = refusal (trouble.Busy k until) t (given_of k (Held until)) tt refl e
 given_may k a t e = refusal (trouble_of a) t (given_of k a) (refused_may a) refl e
 
--- ---- where it leads, under a lease of the tree
+-- ---- where it leads
 
-module _ (st : Store) (now : ℕ) (part : Part) (away : part ≡ Away) where
-  module _ (s : Sweeping) (of_tree : IsTree s.tree) (l : Claim) (held : s.held ≡ Some l) (is : l.lock ≡ lock.Tree s.tree) where
-    -- what holds while the lease lasts
-    under : (K : Type 0) → (Lasts now l → K) → Under s.tree now s.held K
-    under K k = subst (λ (o : Option Claim). Under s.tree now o K) (sym held) (is, k)
+-- so many of the orphans are removed, and the others can be
+abbrev pub Stands : Store → Sweeping → Type 0
+Stands u q = (q.removed ≤ length q.orphans) × IsClearing u q.tree q.visited q.orphans q.removed
 
-    -- the lease is given back, and then it stops for this
-    pub stops_for : (t : Trouble) → MayStopSweep t → KnowsNext (stopping s t) st now part
-    stops_for t may = record {
-      tree = of_tree;
-      away = away;
-      may = λ u e. let same : t ≡ u = cc (e) in subst MayStopSweep same may;
-      quiet = inl refl;
-      at = under _ (λ lasts none. absurd (cc (none)));
-    }
+-- the tree's lease is in hand, and no trouble is kept
+abbrev IsCalm : ℕ → Sweeping → Type 0
+IsCalm now m = IsTree m.tree × Under m.tree now m.held (Unit {0}) × (m.trouble ≡ None)
 
-    -- no trouble is kept
-    module _ (calm : s.trouble ≡ None) where
-      none_kept : (t : Trouble) → s.trouble ≡ Some t → MayStopSweep t
-      none_kept t e = absurd (cc (calm, e))
+-- what holds anyway holds while the lease lasts
+under : (tree now : ℕ) (held : Option Claim) (K L : Type 0) → Under tree now held K → L → Under tree now held L
+under tree now (Some l) K L is k = (is.0, λ lasts. k)
+under tree now None K L never k = absurd never
 
-      -- a page is read next, or the pages are listed
-      pub reads_on : Lasts now l → (o : Option Spot) → GoesOnTo (st.book.chain s.tree) s.visited o → KnowsNext (goes_on s o) st now part
-      reads_on lasts None all = record { tree = of_tree; away = away; may = none_kept; quiet = inr calm; at = under _ (λ still. all) }
-      reads_on lasts (Some spot) (reading, new) =
-          subst (λ (b : Bool). KnowsNext (cond b (stopping s (trouble.Loop spot.page)) (to_page s spot)) st now part) (sym new) (record {
-            tree = of_tree;
-            away = away;
-            may = none_kept;
-            quiet = inr calm;
-            at = under _ (λ still. reading);
-          })
+module _ (who : Caller) (s t : CloudState) (st u : Store) (part : Part) where
+  abbrev now : ℕ
+  now = t.now
 
-      -- an orphan is removed next, or all are removed
-      pub clears_on : (o : Option ℕ) → next_orphan s ≡ o → s.removed ≤ length s.orphans → IsClearing st s.tree s.visited s.orphans s.removed
-          → KnowsNext (removes_by s o) st now part
-      clears_on (Some page) e few k = record { tree = of_tree; away = away; may = none_kept; quiet = inr calm; at = (under _ (λ still. k), (page, e)) }
-      clears_on None e few k =
-          let end = past s.orphans s.removed e in
-          record { tree = of_tree; away = away; may = none_kept; quiet = inl refl; at = under _ (λ still none. (k, omega (arith, few, end))) }
+  no_trouble : (m : Sweeping) → KnowsSweep st now m part → (m.stage ≡ Releasing → ⊥) → m.trouble ≡ None
+  no_trouble m k never = on k.quiet
+    where
+      on : (m.stage ≡ Releasing) ⊎ (m.trouble ≡ None) → m.trouble ≡ None
+      on (inl e) = absurd (never e)
+      on (inr none) = none
 
-  -- the lease was taken, or it was not
-  pub takes : (s : Sweeping) → IsTree s.tree → s.visited ≡ [] → s.trouble ≡ None → (l : Claim) → l.lock ≡ lock.Tree s.tree
-      → KnowsSweep st now (record s { stage = GettingTree; held = Some l }) part
-  takes s of_tree none calm l is = record {
-    tree = of_tree;
-    away = away;
-    may = λ t e. absurd (cc (calm, e));
-    quiet = inr calm;
-    at = ((is, λ lasts. tt), none);
+  calm : (m : Sweeping) (K : Type 0) → KnowsSweep st now m part → (m.stage ≡ Releasing → ⊥) → Under m.tree now m.held K → IsCalm now m
+  calm m K k never is = (k.tree, under m.tree now m.held K _ is tt, no_trouble m k never)
+
+  onward_calm : {m : Sweeping} {a : Answer} {o : Option Spot} → KnowsSweep st now m part → Onward m a o → IsCalm now m
+  onward_calm {m = m} k (step.from_root n held got root e) = calm m _ k (λ e. cc (e)) k.at.0
+  onward_calm {m = m} k (step.from_page n held got paths e) = calm m _ k (λ e. cc (e)) k.at
+
+  fails_calm : {m : Sweeping} {a : Answer} {why : Trouble} → KnowsSweep st now m part → Fails m a why → IsCalm now m
+  fails_calm {m = m} k (step.no_root n held a why e) = calm m _ k (λ e. cc (e)) k.at.0
+  fails_calm {m = m} k (step.no_page n held a why e) = calm m _ k (λ e. cc (e)) k.at
+  fails_calm {m = m} k (step.no_list n held a why e) = calm m _ k (λ e. cc (e)) k.at
+  fails_calm {m = m} k (step.not_removed n held a why e) = calm m _ k (λ e. cc (e)) k.at.0
+  fails_calm {m = m} k (step.bad_root n held got why e) = calm m _ k (λ e. cc (e)) k.at.0
+  fails_calm {m = m} k (step.bad_page n held got why e) = calm m _ k (λ e. cc (e)) k.at
+  fails_calm k (step.round spot on seen) = onward_calm k on
+
+  clears_calm : {m q : Sweeping} {a : Answer} → KnowsSweep st now m part → Clears m a q → IsCalm now q
+  clears_calm {m = m} k (step.listed n held pages) = calm m _ k (λ e. cc (e)) k.at
+  clears_calm {m = m} k (step.removed n held) = calm m _ k (λ e. cc (e)) k.at.0
+
+  pub leads : {m : Sweeping} {a : Answer} {next : Step} → KnowsSweep st now m part → IsCall who (sweep_ask m) a s t → ((why : Trouble) → Fails m a why → MayStopSweep why)
+      → ((o : Option Spot) → Onward m a o → GoesOnTo (u.book.chain m.tree) m.visited o) → ((q : Sweeping) → Clears m a q → Stands u q) → Comes m a next
+      → KnowsNext next u now part
+  leads k call fails goes clears (step.takes m None l) = record {
+    tree = k.tree;
+    away = k.away;
+    may = k.may;
+    quiet = inr (no_trouble (leased m TakingTree None) k (λ e. cc (e)));
+    at = ((ap (λ (x : Claim). x.lock) call.row.1, λ lasts. tt), k.at.1);
   }
-
-  -- the lease was given back
-  pub finishes : (s : Sweeping) → ((t : Trouble) → s.trouble ≡ Some t → MayStopSweep t) → (o : Option Trouble) → s.trouble ≡ o → KnowsNext (finished_by s o) st now part
-  finishes s may (Some t) e = (away, may t e)
-  finishes s may None e = away
+  leads k call fails goes clears (step.takes m (Some other) l) = absurd k.at.0
+  leads k call fails goes clears (step.refused m held a t e) = (k.away, given_may (lock.Tree m.tree) a t e)
+  leads {m = m} k call fails goes clears (step.stops why f) = record {
+    tree = k.tree;
+    away = k.away;
+    may = λ other e. let same : why ≡ other = cc (e) in subst MayStopSweep same (fails why f);
+    quiet = inl refl;
+    at = under m.tree now m.held _ _ (fails_calm k f).1 (λ none. absurd (cc (none)));
+  }
+  leads {m = m} k call fails goes clears (step.reads_on spot on new) =
+      let is = onward_calm k on in record { tree = k.tree; away = k.away; may = k.may; quiet = inr is.2; at = under m.tree now m.held _ _ is.1 (goes (Some spot) on).0 }
+  leads {m = m} k call fails goes clears (step.has_read on) =
+      let is = onward_calm k on in record { tree = k.tree; away = k.away; may = k.may; quiet = inr is.2; at = under m.tree now m.held _ _ is.1 (goes None on) }
+  leads k call fails goes clears (step.removes q page c e) =
+      let is = clears_calm k c in
+      record { tree = is.0; away = k.away; may = λ why some. absurd (let none = is.2 in cc (none, some)); quiet = inr is.2; at = (under q.tree now q.held _ _ is.1 (clears q c).1, (page, e)) }
+  leads k call fails goes clears (step.rests q c e) =
+      let is = clears_calm k c in
+      let few = (clears q c).0 in
+      let end = past q.orphans q.removed e in
+      record {
+        tree = is.0;
+        away = k.away;
+        may = λ why some. absurd (let none = is.2 in cc (none, some));
+        quiet = inl refl;
+        at = under q.tree now q.held _ _ is.1 (λ none. ((clears q c).1, omega (arith, few, end)));
+      }
+  leads k call fails goes clears (step.ends m held a e) = k.away
+  leads k call fails goes clears (step.stopped m held a why e) = (k.away, k.may why e)
+  leads k call fails goes clears (step.nothing m held a) = absurd k.at

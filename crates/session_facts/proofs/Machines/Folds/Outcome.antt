@@ -1,5 +1,5 @@
 -- What each put of a leaf and its pieces leaves, whether it landed or not.
-use Rattle.std.proofs.Common.{◌≡◌, ◌+◌, ◌==◌, ◌⊎◌, inl, inr, ℕ, Bool, true, false, cond, ◌&&◌, nat_lt, List, [], ◌∷◌, ◌++◌, length, map, filter, reverse, Option, Some, None, Result, Ok, Err, refl, sym, ap, subst, ◌∙◌, arith}
+use Rattle.std.proofs.Common.{◌≡◌, ◌+◌, ◌<◌, ◌==◌, ◌⊎◌, inl, inr, ℕ, Bool, true, false, cond, ◌&&◌, nat_lt, List, [], ◌∷◌, ◌++◌, length, map, filter, reverse, Option, Some, None, Result, Ok, refl, sym, ap, subst, ◌∙◌, arith}
 use Rattle.std.specs.Prelude.{is_none}
 use Rattle.std.proofs.lemmas.Bool.{ne_eqb}
 use Rattle.std.proofs.lemmas.List.{append-nil, length-reverse}
@@ -15,7 +15,7 @@ use Rattle.cloud_trait.specs.Ask.{Ask, PutHeld, Lands}
 use Rattle.cloud_trait.specs.Caller.{Caller}
 use Rattle.cloud_trait.specs.Claim.{Claim, Lasts}
 use Rattle.cloud_trait.specs.State.{CloudState, called}
-use Rattle.cloud_trait.specs.Views.{done_of, got_of}
+use Rattle.cloud_trait.specs.Views.{done_of}
 use Rattle.db_base.specs.Change.{key_of}
 use Rattle.db_base.specs.Ids.{IsClient, IsTree}
 use Rattle.db_base.specs.declared.names.Lock.TheVariants as lock
@@ -27,9 +27,7 @@ use Rattle.cloud_facts.specs.Homes.Homes.{Part, Parts, HomesHold}
 use Rattle.cloud_facts.proofs.Homes.HomeLemmas.{keeps_part, aside_keeps}
 use Rattle.leaf_edit.specs.Lacked.{is_lacked, lacked}
 use Rattle.tree_phases.specs.declared.folding.Folding.{Folding}
-use Rattle.tree_phases.specs.Folding.{folding_ask, folding_next, leaf_got, leaf_put, placed, landed, counted}
-use Rattle.tree_phases.specs.declared.folding.Left.TheVariants.{Handled}
-use Rattle.cloud_trait.specs.Machine.{Goes, Ends}
+use Rattle.tree_phases.specs.Folding.{FoldingStep, folding_ask, folding_next, landed, counted}
 use Rattle.leaf_view.specs.Leaf.{Leaf}
 use Rattle.leaf_view.specs.Lookup.{holds, number_of as done_number}
 use Rattle.log_codec.specs.declared.record.PuItem.{PuItem}
@@ -44,12 +42,15 @@ use Rattle.cloud_facts.specs.Book.Tally.{Store, at}
 use Rattle.cloud_facts.specs.Book.Telling.{leaf_in, nodes_of, roots_of, newest_leaf, newest_root}
 use Rattle.cloud_facts.proofs.Tellings.Finding.{found_before}
 use Rattle.cloud_facts.specs.Tellings.Told.{store_of}
+use Rattle.tree_ckpt.proofs.LeafOutcomes.{works}
+use Rattle.tree_ckpt.proofs.LeafOutcomes as step
+use Rattle.tree_ckpt.proofs.Tours.{page_left}
 use Rattle.tree_phases.specs.Placing.{has_nothing, has_one_page}
 use Rattle.tree_phases.specs.Read.{tree_held}
 use Rattle.session_facts.specs.Machines.Folds.Knows.{PutsPieces}
 use Rattle.session_facts.specs.Machines.Folds.Nexts.{fold_note, KnowsStep}
 use Rattle.cloud_facts.specs.Calls.Links.{HasTreeLease}
-use Rattle.session_facts.specs.Machines.Trees.Leaves.{IsPutting}
+use Rattle.session_facts.specs.Machines.Trees.Leaves.{KnowsRest, IsPutting}
 use Rattle.session_facts.proofs.Machines.Folds.Puts.{page_asked, root_asked, piece_lands, piece_is_new, piece_after, left_lands, left_taken, left_after}
 use Rattle.session_facts.proofs.Machines.Folds.Landed.{reserving_putting, piece_putting, left_rest}
 use Rattle.session_facts.proofs.Machines.TreeCheckpoints.RunLengths.{run_length}
@@ -100,14 +101,23 @@ module _ (who : Caller) (s t : CloudState) (book : Book) (order : List Entry) (p
   call_at : (ask : Ask) → folding_ask f lease ≡ ask → IsCall who ask reply s t
   call_at ask is = subst (λ (q : Ask). IsCall who q reply s t) is call
 
-  -- where a put leads, by whether it was done
-  put_leads : (u : Store) → has_nothing f.placing ≡ false → (done_of reply ≡ Ok tt → KnowsStep u t.now lease ids (placed f)) → KnowsStep u t.now lease ids (folding_next f reply)
-  put_leads u some knows =
-      subst (λ (b : Bool). KnowsStep u t.now lease ids (cond b (leaf_got f (got_of reply)) (leaf_put f (done_of reply)))) (sym some) (on (done_of reply) refl)
+  -- where a put leads, by whether it was done and whether it was the last
+  put_leads : (u : Store) → has_nothing f.placing ≡ false → (done_of reply ≡ Ok tt → has_one_page f.placing ≡ false → IsPutting u t.now lease (landed f) ids)
+      → (done_of reply ≡ Ok tt → has_one_page f.placing ≡ true → KnowsRest u t.now lease (counted (landed f)).chart ids) → KnowsStep u t.now lease ids (folding_next f reply)
+  put_leads u some goes ends = on (works f reply)
     where
-      on : (g : Result (Unit {0}) Trouble) → done_of reply ≡ g → KnowsStep u t.now lease ids (leaf_put f g)
-      on (Ok tt) e = knows e
-      on (Err trouble) e = tt
+      lands : {g : Result (Unit {0}) Trouble} {next : FoldingStep} → done_of reply ≡ g → step.Lands f g next → KnowsStep u t.now lease ids next
+      lands e (step.not_put trouble) = tt
+      lands e (step.lands x more) = goes e more
+      lands e (step.is_put x last) = ends e last
+
+      on : {next : FoldingStep} → step.Works f reply next → KnowsStep u t.now lease ids next
+      on (step.gets nothing r) = absurd (cc (some, nothing))
+      on (step.puts full l) = lands refl l
+
+  -- it was not done
+  not_put : (u : Store) → has_nothing f.placing ≡ false → (done_of reply ≡ Ok tt → ⊥) → KnowsStep u t.now lease ids (folding_next f reply)
+  not_put u some never = put_leads u some (λ done. absurd (never done)) (λ done. absurd (never done))
 
   has_lease : Lasts t.now lease → HasTreeLease mine t.now tree
   has_lease lasts = record { lease = lease; held = held; lock_is = lock_is; lasts = lasts }
@@ -121,8 +131,8 @@ module _ (who : Caller) (s t : CloudState) (book : Book) (order : List Entry) (p
     full : has_nothing f.placing ≡ false
     full = ap (λ (o : Option (List ℕ)). is_none o && (length f.placing.puts == 0)) some
 
-    goes : placed f ≡ Goes (landed f)
-    goes = ap (λ (b : Bool). cond b (Ends (counted (landed f)) Handled) (Goes (landed f))) (ap (λ (o : Option (List ℕ)). is_none o && (length f.placing.puts == 1)) some)
+    more : has_one_page f.placing ≡ false
+    more = ap (λ (o : Option (List ℕ)). is_none o && (length f.placing.puts == 1)) some
 
     pub reserving_outcome : OutAt root_put
     reserving_outcome = on (put_cases who (object.Tree tree) bytes lease None reply s t (call_at root_put (root_asked f lease bytes some)))
@@ -138,14 +148,14 @@ module _ (who : Caller) (s t : CloudState) (book : Book) (order : List Entry) (p
             (record {
               part_is = refl;
               heads = λ client. refl;
-              knows = put_leads su full (λ done. subst (KnowsStep su t.now lease ids) (sym goes) (reserving_putting book order s stands t.now lease f ids p root bytes some));
+              knows = put_leads su full (λ done one. reserving_putting book order s stands t.now lease f ids p root bytes some) (λ done last. absurd (cc (more, last)));
             })
             refl
 
         on : ((t ≡ called who t.now s) × (done_of reply ≡ Ok tt → ⊥)) ⊎ Lands who root_put (called who t.now s) t → OutAt root_put
         on (inl q) =
             stays who book order s t parts mine root_put (fold_note f root_put) Known q.0 stands own still
-            (record { part_is = refl; heads = λ client. refl; knows = put_leads st full (λ done. absurd (q.1 done)) })
+            (record { part_is = refl; heads = λ client. refl; knows = not_put st full q.1 })
         on (inr lands) = landed_so lands
 
   -- ---- the pages
@@ -155,11 +165,7 @@ module _ (who : Caller) (s t : CloudState) (book : Book) (order : List Entry) (p
   both_last name bytes lands = (permitted who (PutHeld name bytes lease (Some f.lease)) (called who t.now s) t lands)
 
   full_with : (x : PagePut) (xs : List PagePut) → f.placing.puts ≡ x ∷ xs → has_nothing f.placing ≡ false
-  full_with x xs puts = ap (λ (l : List PagePut). is_none f.placing.reserved && (length l == 0)) puts ∙ on (is_none f.placing.reserved)
-    where
-      on : (b : Bool) → (b && (length (x ∷ xs) == 0)) ≡ false
-      on true = ne_eqb (length (x ∷ xs)) 0 (λ e. absurd (omega (arith, e)))
-      on false = refl
+  full_with x xs puts = page_left f.placing (subst (λ (l : List PagePut). 0 < length l) (sym puts) (omega arith))
 
   module _ (none : f.placing.reserved ≡ None) where
     -- more than one page is to be put
@@ -193,9 +199,6 @@ module _ (who : Caller) (s t : CloudState) (book : Book) (order : List Entry) (p
               absurd (omega (arith, n))
           on (y ∷ ys) e = one_page (record { page = number; bytes = leaf_bytes last }) y ys (puts ∙ ap (λ (l : List PagePut). record { page = number; bytes = leaf_bytes last } ∷ l) e)
 
-      goes_on : placed f ≡ Goes (landed f)
-      goes_on = ap (λ (b : Bool). cond b (Ends (counted (landed f)) Handled) (Goes (landed f))) not_last
-
       pub piece_outcome : OutAt piece_put
       piece_outcome =
           on (put_cases who (object.Page tree number) (leaf_bytes last) lease (Some f.lease) reply s t
@@ -220,15 +223,14 @@ module _ (who : Caller) (s t : CloudState) (book : Book) (order : List Entry) (p
               (record {
                 part_is = refl;
                 heads = λ client. refl;
-                knows = put_leads su full (λ done. subst (KnowsStep su t.now lease ids) (sym goes_on)
-                    (piece_putting book order s stands t.now lease f ids p none both.0 both.1 middle last is));
+                knows = put_leads su full (λ done one. piece_putting book order s stands t.now lease f ids p none both.0 both.1 middle last is) (λ done one. absurd (cc (not_last, one)));
               })
               noted
 
           on : ((t ≡ called who t.now s) × (done_of reply ≡ Ok tt → ⊥)) ⊎ Lands who piece_put (called who t.now s) t → OutAt piece_put
           on (inl q) =
               stays who book order s t parts mine piece_put (fold_note f piece_put) Known q.0 stands own still
-              (record { part_is = refl; heads = λ client. refl; knows = put_leads st full (λ done. absurd (q.1 done)) })
+              (record { part_is = refl; heads = λ client. refl; knows = not_put st full q.1 })
           on (inr lands) = landed_so lands
 
     module _ (is : k.placing.middle ≡ []) where
@@ -248,9 +250,6 @@ module _ (who : Caller) (s t : CloudState) (book : Book) (order : List Entry) (p
       at_last =
           ap (λ (o : Option (List ℕ)). is_none o && (length f.placing.puts == 1)) none
           ∙ ap (λ (l : List PagePut). length l == 1) lone_put
-
-      ends : placed f ≡ Ends (counted (landed f)) Handled
-      ends = ap (λ (b : Bool). cond b (Ends (counted (landed f)) Handled) (Goes (landed f))) at_last
 
       -- what the store says is lacked is what the leaf lacks
       lacking_is : lacking st.tally (taken book order s stands tree f.page of_tree run clients k.linked k.first) ≡ lacked old 0 run
@@ -289,8 +288,7 @@ module _ (who : Caller) (s t : CloudState) (book : Book) (order : List Entry) (p
               (record {
                 part_is = refl;
                 heads = λ client. refl;
-                knows = put_leads su full (λ done. subst (KnowsStep su t.now lease ids) (sym ends)
-                    (left_rest book order s stands t.now lease f ids p none both.0 both.1 is));
+                knows = put_leads su full (λ done more. absurd (cc (at_last, more))) (λ done one. left_rest book order s stands t.now lease f ids p none both.0 both.1 is);
               })
               (noted both.1)
             where
@@ -304,7 +302,7 @@ module _ (who : Caller) (s t : CloudState) (book : Book) (order : List Entry) (p
           on : ((t ≡ called who t.now s) × (done_of reply ≡ Ok tt → ⊥)) ⊎ Lands who left_put (called who t.now s) t → OutAt left_put
           on (inl q) =
               stays who book order s t parts mine left_put (fold_note f left_put) Known q.0 stands own still
-              (record { part_is = refl; heads = λ client. refl; knows = put_leads st full (λ done. absurd (q.1 done)) })
+              (record { part_is = refl; heads = λ client. refl; knows = not_put st full q.1 })
           on (inr lands) = landed_so lands
 
   -- ---- the put in hand
